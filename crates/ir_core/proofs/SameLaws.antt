@@ -1,0 +1,207 @@
+-- The tests of specs/Same are true exactly of equal things: two laws for each. Where a test takes the test of its elements
+-- or registers, its laws take theirs.
+use Rattle.std.proofs.Common.{◌≡◌, Bool, true, false, ◌&&◌, ℕ, List, [], ◌∷◌, refl, ap}
+use Rattle.std.specs.Prelude.{nat_eq}
+use Rattle.std.proofs.lemmas.Bool.{eqb-true, eq-eqb}
+use Rattle.ir_core.specs.declared.names.Name.{Name}
+use Rattle.ir_core.specs.declared.names.Name.TheVariants as name
+use Rattle.ir_core.specs.declared.operands.Ty.{Ty}
+use Rattle.ir_core.specs.declared.operands.Ty.TheVariants as ty
+use Rattle.ir_core.specs.declared.operands.Const.{Const}
+use Rattle.ir_core.specs.declared.operands.Const.TheVariants as constant
+use Rattle.ir_core.specs.declared.operands.Atom.{Atom}
+use Rattle.ir_core.specs.declared.operands.Atom.TheVariants as atom
+use Rattle.ir_core.specs.declared.operands.Operand.{Operand}
+use Rattle.ir_core.specs.declared.operands.BinOp.{BinOp}
+use Rattle.ir_core.specs.declared.operands.BinOp.TheVariants as op
+use Rattle.ir_core.specs.declared.operands.Flags.{Flags}
+use Rattle.ir_core.specs.declared.expressions.Reg.{Reg}
+use Rattle.ir_core.specs.declared.expressions.Reg.TheVariants as reg
+use Rattle.ir_core.specs.declared.expressions.BinaryExpr.{BinaryExpr}
+use Rattle.ir_core.specs.declared.expressions.Expr0.{Expr0}
+use Rattle.ir_core.specs.declared.expressions.Expr0.TheVariants as expr
+use Rattle.ir_core.specs.Same.{same_list, same_bool, same_name, same_ty, same_const, same_atom, same_operand, same_op, same_flags, same_reg, same_binary, same_expr}
+
+pub left_true : (a b : Bool) → (a && b) ≡ true → a ≡ true
+left_true true b h = refl
+left_true false b h = h
+
+pub right_true : (a b : Bool) → (a && b) ≡ true → b ≡ true
+right_true true b h = h
+right_true false b h = cc
+
+pub all_true : {a b : Bool} → a ≡ true → b ≡ true → (a && b) ≡ true
+all_true p q = rw (p, q) refl
+
+pub same_list_true : {A : Type 0} (same : A → A → Bool) → ((a b : A) → same a b ≡ true → a ≡ b) → (a b : List A) → same_list same a b ≡ true → a ≡ b
+same_list_true same law [] [] h = refl
+same_list_true same law (x ∷ xs) (y ∷ ys) h =
+    cc (law x y (left_true (same x y) (same_list same xs ys) h), same_list_true same law xs ys (right_true (same x y) (same_list same xs ys) h))
+same_list_true same law [] (y ∷ ys) h = cc
+same_list_true same law (x ∷ xs) [] h = cc
+
+pub same_list_refl : {A : Type 0} (same : A → A → Bool) → ((a : A) → same a a ≡ true) → (a : List A) → same_list same a a ≡ true
+same_list_refl same law [] = refl
+same_list_refl same law (x ∷ xs) = all_true (law x) (same_list_refl same law xs)
+
+pub same_nat_true : (a b : ℕ) → nat_eq a b ≡ true → a ≡ b
+same_nat_true a b h = eqb-true a b h
+
+pub same_nat_refl : (a : ℕ) → nat_eq a a ≡ true
+same_nat_refl a = eq-eqb a a refl
+
+pub same_bool_true : (a b : Bool) → same_bool a b ≡ true → a ≡ b
+same_bool_true true true h = refl
+same_bool_true true false h = cc
+same_bool_true false true h = cc
+same_bool_true false false h = refl
+
+pub same_bool_refl : (a : Bool) → same_bool a a ≡ true
+same_bool_refl true = refl
+same_bool_refl false = refl
+
+pub same_name_true : (a b : Name) → same_name a b ≡ true → a ≡ b
+same_name_true (name.Text a) (name.Text b) h = ap name.Text (same_list_true nat_eq same_nat_true a b h)
+same_name_true (name.Number m) (name.Number n) h = ap name.Number (same_nat_true m n h)
+same_name_true (name.Text a) (name.Number n) h = cc
+same_name_true (name.Number m) (name.Text b) h = cc
+
+pub same_name_refl : (a : Name) → same_name a a ≡ true
+same_name_refl (name.Text a) = same_list_refl nat_eq same_nat_refl a
+same_name_refl (name.Number n) = same_nat_refl n
+
+pub same_ty_true : (a b : Ty) → same_ty a b ≡ true → a ≡ b
+same_ty_true (ty.Int v) (ty.Int w) h = ap ty.Int (same_nat_true v w h)
+same_ty_true ty.Void ty.Void h = refl
+same_ty_true (ty.Int v) ty.Void h = cc
+same_ty_true ty.Void (ty.Int w) h = cc
+
+pub same_ty_refl : (a : Ty) → same_ty a a ≡ true
+same_ty_refl (ty.Int v) = same_nat_refl v
+same_ty_refl ty.Void = refl
+
+pub same_const_true : (a b : Const) → same_const a b ≡ true → a ≡ b
+same_const_true (constant.Number m) (constant.Number n) h = ap constant.Number (same_nat_true m n h)
+same_const_true constant.Undef constant.Undef h = refl
+same_const_true (constant.Number m) constant.Undef h = cc
+same_const_true constant.Undef (constant.Number n) h = cc
+
+pub same_const_refl : (a : Const) → same_const a a ≡ true
+same_const_refl (constant.Number n) = same_nat_refl n
+same_const_refl constant.Undef = refl
+
+pub same_atom_true : {R : Type 0} (same : R → R → Bool) → ((a b : R) → same a b ≡ true → a ≡ b) → (a b : Atom R) → same_atom same a b ≡ true → a ≡ b
+same_atom_true same law (atom.Constant c) (atom.Constant d) h = ap atom.Constant (same_const_true c d h)
+same_atom_true same law (atom.Register x) (atom.Register y) h = ap atom.Register (law x y h)
+same_atom_true same law (atom.Constant c) (atom.Register y) h = cc
+same_atom_true same law (atom.Register x) (atom.Constant d) h = cc
+
+pub same_atom_refl : {R : Type 0} (same : R → R → Bool) → ((a : R) → same a a ≡ true) → (a : Atom R) → same_atom same a a ≡ true
+same_atom_refl same law (atom.Constant c) = same_const_refl c
+same_atom_refl same law (atom.Register x) = law x
+
+pub same_operand_true : {R : Type 0} (same : R → R → Bool) → ((a b : R) → same a b ≡ true → a ≡ b) → (a b : Operand R) → same_operand same a b ≡ true → a ≡ b
+same_operand_true {R = R} same law a b h =
+    let pair : ((a.ty, a.atom) ≡ (b.ty, b.atom)) = cc (
+      same_ty_true a.ty b.ty (left_true (same_ty a.ty b.ty) (same_atom same a.atom b.atom) h),
+      same_atom_true same law a.atom b.atom (right_true (same_ty a.ty b.ty) (same_atom same a.atom b.atom) h),
+    ) in
+    ap (λ (p : Ty × Atom R). record { ty = p.0; atom = p.1 }) pair
+
+pub same_operand_refl : {R : Type 0} (same : R → R → Bool) → ((a : R) → same a a ≡ true) → (a : Operand R) → same_operand same a a ≡ true
+same_operand_refl same law a = all_true (same_ty_refl a.ty) (same_atom_refl same law a.atom)
+
+pub same_op_true : (a b : BinOp) → same_op a b ≡ true → a ≡ b
+same_op_true op.Add op.Add h = refl
+same_op_true op.Sub op.Sub h = refl
+same_op_true op.Add op.Sub h = cc
+same_op_true op.Sub op.Add h = cc
+
+pub same_op_refl : (a : BinOp) → same_op a a ≡ true
+same_op_refl op.Add = refl
+same_op_refl op.Sub = refl
+
+pub same_flags_true : (a b : Flags) → same_flags a b ≡ true → a ≡ b
+same_flags_true a b h =
+    let pair : ((a.nuw, a.nsw) ≡ (b.nuw, b.nsw)) = cc (
+      same_bool_true a.nuw b.nuw (left_true (same_bool a.nuw b.nuw) (same_bool a.nsw b.nsw) h),
+      same_bool_true a.nsw b.nsw (right_true (same_bool a.nuw b.nuw) (same_bool a.nsw b.nsw) h),
+    ) in
+    ap (λ (p : Bool × Bool). record { nuw = p.0; nsw = p.1 }) pair
+
+pub same_flags_refl : (a : Flags) → same_flags a a ≡ true
+same_flags_refl a = all_true (same_bool_refl a.nuw) (same_bool_refl a.nsw)
+
+pub same_reg_true : (a b : Reg) → same_reg a b ≡ true → a ≡ b
+same_reg_true (reg.Now x) (reg.Now y) h = ap reg.Now (same_name_true x y h)
+same_reg_true (reg.Old x) (reg.Old y) h = ap reg.Old (same_name_true x y h)
+same_reg_true (reg.Ghost x) (reg.Ghost y) h = ap reg.Ghost (same_name_true x y h)
+same_reg_true (reg.Now x) (reg.Old y) h = cc
+same_reg_true (reg.Now x) (reg.Ghost y) h = cc
+same_reg_true (reg.Old x) (reg.Now y) h = cc
+same_reg_true (reg.Old x) (reg.Ghost y) h = cc
+same_reg_true (reg.Ghost x) (reg.Now y) h = cc
+same_reg_true (reg.Ghost x) (reg.Old y) h = cc
+
+pub same_reg_refl : (a : Reg) → same_reg a a ≡ true
+same_reg_refl (reg.Now x) = same_name_refl x
+same_reg_refl (reg.Old x) = same_name_refl x
+same_reg_refl (reg.Ghost x) = same_name_refl x
+
+pub same_binary_true : (a b : BinaryExpr) → same_binary a b ≡ true → a ≡ b
+same_binary_true a b h =
+    let o = same_op a.op b.op in
+    let f = same_flags a.flags b.flags in
+    let t = same_ty a.ty b.ty in
+    let l = same_atom same_reg a.left b.left in
+    let r = same_atom same_reg a.right b.right in
+    let h1 : (o && f && t && l) ≡ true = left_true (o && f && t && l) r h in
+    let h2 : (o && f && t) ≡ true = left_true (o && f && t) l h1 in
+    let h3 : (o && f) ≡ true = left_true (o && f) t h2 in
+    let parts : ((a.op, a.flags, a.ty, a.left, a.right) ≡ (b.op, b.flags, b.ty, b.left, b.right)) = cc (
+      same_op_true a.op b.op (left_true o f h3),
+      same_flags_true a.flags b.flags (right_true o f h3),
+      same_ty_true a.ty b.ty (right_true (o && f) t h2),
+      same_atom_true same_reg same_reg_true a.left b.left (right_true (o && f && t) l h1),
+      same_atom_true same_reg same_reg_true a.right b.right (right_true (o && f && t && l) r h),
+    ) in
+    ap (λ (p : BinOp × Flags × Ty × Atom Reg × Atom Reg). record { op = p.0; flags = p.1; ty = p.2; left = p.3; right = p.4 }) parts
+
+pub same_binary_refl : (a : BinaryExpr) → same_binary a a ≡ true
+same_binary_refl a = all_true (all_true (all_true (all_true (same_op_refl a.op) (same_flags_refl a.flags)) (same_ty_refl a.ty))
+    (same_atom_refl same_reg same_reg_refl a.left)) (same_atom_refl same_reg same_reg_refl a.right)
+
+pub same_expr_true : (a b : Expr0) → same_expr a b ≡ true → a ≡ b
+same_expr_true (expr.Plain a) (expr.Plain b) h = ap expr.Plain (same_operand_true same_reg same_reg_true a b h)
+same_expr_true (expr.Binary a) (expr.Binary b) h = ap expr.Binary (same_binary_true a b h)
+same_expr_true (expr.Plain a) (expr.Binary b) h = cc
+same_expr_true (expr.Binary a) (expr.Plain b) h = cc
+
+pub same_expr_refl : (a : Expr0) → same_expr a a ≡ true
+same_expr_refl (expr.Plain a) = same_operand_refl same_reg same_reg_refl a
+same_expr_refl (expr.Binary a) = same_binary_refl a
+
+-- at the registers of functions, and at those of the logic
+pub same_name_atom_true : (a b : Atom Name) → same_atom same_name a b ≡ true → a ≡ b
+same_name_atom_true a b h = same_atom_true same_name same_name_true a b h
+
+pub same_name_atom_refl : (a : Atom Name) → same_atom same_name a a ≡ true
+same_name_atom_refl a = same_atom_refl same_name same_name_refl a
+
+pub same_reg_atom_true : (a b : Atom Reg) → same_atom same_reg a b ≡ true → a ≡ b
+same_reg_atom_true a b h = same_atom_true same_reg same_reg_true a b h
+
+pub same_reg_atom_refl : (a : Atom Reg) → same_atom same_reg a a ≡ true
+same_reg_atom_refl a = same_atom_refl same_reg same_reg_refl a
+
+pub same_name_operand_true : (a b : Operand Name) → same_operand same_name a b ≡ true → a ≡ b
+same_name_operand_true a b h = same_operand_true same_name same_name_true a b h
+
+pub same_name_operand_refl : (a : Operand Name) → same_operand same_name a a ≡ true
+same_name_operand_refl a = same_operand_refl same_name same_name_refl a
+
+pub same_reg_operand_true : (a b : Operand Reg) → same_operand same_reg a b ≡ true → a ≡ b
+same_reg_operand_true a b h = same_operand_true same_reg same_reg_true a b h
+
+pub same_reg_operand_refl : (a : Operand Reg) → same_operand same_reg a a ≡ true
+same_reg_operand_refl a = same_operand_refl same_reg same_reg_refl a

@@ -1,0 +1,90 @@
+-- Whether two parts of a syntax tree are the same, as tests that compute. The law beside each (in
+-- proofs/SameLaws) is that the test is true exactly of equal things.
+use Rattle.std.specs.Prelude.{Bool, true, false, ◌&&◌, List, [], ◌∷◌, nat_eq}
+use Rattle.ir_core.specs.declared.names.Name.{Name}
+use Rattle.ir_core.specs.declared.names.Name.TheVariants as name
+use Rattle.ir_core.specs.declared.operands.Ty.{Ty}
+use Rattle.ir_core.specs.declared.operands.Ty.TheVariants as ty
+use Rattle.ir_core.specs.declared.operands.Const.{Const}
+use Rattle.ir_core.specs.declared.operands.Const.TheVariants as constant
+use Rattle.ir_core.specs.declared.operands.Atom.{Atom}
+use Rattle.ir_core.specs.declared.operands.Atom.TheVariants as atom
+use Rattle.ir_core.specs.declared.operands.Operand.{Operand}
+use Rattle.ir_core.specs.declared.operands.BinOp.{BinOp}
+use Rattle.ir_core.specs.declared.operands.BinOp.TheVariants as op
+use Rattle.ir_core.specs.declared.operands.Flags.{Flags}
+use Rattle.ir_core.specs.declared.expressions.Reg.{Reg}
+use Rattle.ir_core.specs.declared.expressions.Reg.TheVariants as reg
+use Rattle.ir_core.specs.declared.expressions.BinaryExpr.{BinaryExpr}
+use Rattle.ir_core.specs.declared.expressions.Expr0.{Expr0}
+use Rattle.ir_core.specs.declared.expressions.Expr0.TheVariants as expr
+
+abbrev pub same_list : {A : Type 0} → (A → A → Bool) → List A → List A → Bool
+same_list same [] [] = true
+same_list same (x ∷ xs) (y ∷ ys) = same x y && same_list same xs ys
+same_list same [] (y ∷ ys) = false
+same_list same (x ∷ xs) [] = false
+
+abbrev pub same_bool : Bool → Bool → Bool
+same_bool true b = b
+same_bool false true = false
+same_bool false false = true
+
+abbrev pub same_name : Name → Name → Bool
+same_name (name.Text a) (name.Text b) = same_list nat_eq a b
+same_name (name.Number m) (name.Number n) = nat_eq m n
+same_name (name.Text a) (name.Number n) = false
+same_name (name.Number m) (name.Text b) = false
+
+abbrev pub same_ty : Ty → Ty → Bool
+same_ty (ty.Int v) (ty.Int w) = nat_eq v w
+same_ty ty.Void ty.Void = true
+same_ty (ty.Int v) ty.Void = false
+same_ty ty.Void (ty.Int w) = false
+
+abbrev pub same_const : Const → Const → Bool
+same_const (constant.Number m) (constant.Number n) = nat_eq m n
+same_const constant.Undef constant.Undef = true
+same_const (constant.Number m) constant.Undef = false
+same_const constant.Undef (constant.Number n) = false
+
+-- registers are compared by the test that is given
+abbrev pub same_atom : {R : Type 0} → (R → R → Bool) → Atom R → Atom R → Bool
+same_atom same (atom.Constant c) (atom.Constant d) = same_const c d
+same_atom same (atom.Register x) (atom.Register y) = same x y
+same_atom same (atom.Constant c) (atom.Register y) = false
+same_atom same (atom.Register x) (atom.Constant d) = false
+
+abbrev pub same_operand : {R : Type 0} → (R → R → Bool) → Operand R → Operand R → Bool
+same_operand same a b = same_ty a.ty b.ty && same_atom same a.atom b.atom
+
+abbrev pub same_op : BinOp → BinOp → Bool
+same_op op.Add op.Add = true
+same_op op.Sub op.Sub = true
+same_op op.Add op.Sub = false
+same_op op.Sub op.Add = false
+
+abbrev pub same_flags : Flags → Flags → Bool
+same_flags a b = same_bool a.nuw b.nuw && same_bool a.nsw b.nsw
+
+abbrev pub same_reg : Reg → Reg → Bool
+same_reg (reg.Now x) (reg.Now y) = same_name x y
+same_reg (reg.Old x) (reg.Old y) = same_name x y
+same_reg (reg.Ghost x) (reg.Ghost y) = same_name x y
+same_reg (reg.Now x) (reg.Old y) = false
+same_reg (reg.Now x) (reg.Ghost y) = false
+same_reg (reg.Old x) (reg.Now y) = false
+same_reg (reg.Old x) (reg.Ghost y) = false
+same_reg (reg.Ghost x) (reg.Now y) = false
+same_reg (reg.Ghost x) (reg.Old y) = false
+
+abbrev pub same_binary : BinaryExpr → BinaryExpr → Bool
+same_binary a b =
+    same_op a.op b.op && same_flags a.flags b.flags && same_ty a.ty b.ty
+    && same_atom same_reg a.left b.left && same_atom same_reg a.right b.right
+
+abbrev pub same_expr : Expr0 → Expr0 → Bool
+same_expr (expr.Plain a) (expr.Plain b) = same_operand same_reg a b
+same_expr (expr.Binary a) (expr.Binary b) = same_binary a b
+same_expr (expr.Plain a) (expr.Binary b) = false
+same_expr (expr.Binary a) (expr.Plain b) = false

@@ -1,0 +1,71 @@
+use crate::{Atom, BinOp, Flags, Name, Operand, Ty};
+use contents::Seq;
+
+/// `name = op flags ty left, right`.
+#[derive(Debug, Drop)]
+pub struct Binary {
+    pub name: Name,
+    pub op: BinOp,
+    pub flags: Flags,
+    pub ty: Ty,
+    pub left: Atom<Name>,
+    pub right: Atom<Name>,
+}
+
+/// A body line.
+#[derive(Debug, Drop)]
+pub enum Instr {
+    Binary(Binary),
+}
+
+/// A phi node: for each edge into its block, what the register gets.
+#[derive(Debug, Drop)]
+pub struct Phi {
+    pub name: Name,
+    pub ty: Ty,
+    pub entries: Seq<Entry>,
+}
+
+/// `[ value, %from ]` of a phi node.
+#[derive(Debug, Drop)]
+pub struct Entry {
+    pub value: Atom<Name>,
+    pub from: Name,
+}
+
+/// The last line of a block.
+#[derive(Debug, Drop)]
+pub enum Term {
+    Ret(Operand<Name>),
+}
+
+/// A basic block.
+#[derive(Debug, Drop)]
+pub struct Block {
+    pub name: Name,
+    pub phis: Seq<Phi>,
+    pub body: Seq<Instr>,
+    pub term: Term,
+}
+
+/// A parameter of a definition.
+#[derive(Debug, Drop)]
+pub struct Param {
+    pub name: Name,
+    pub ty: Ty,
+}
+
+/// A definition. Its first block is the entry.
+#[derive(Debug, Drop)]
+pub struct Function {
+    pub name: Name,
+    pub result: Ty,
+    pub params: Seq<Param>,
+    pub blocks: Seq<Block>,
+}
+
+/// A module: its definitions in the order of the file.
+#[derive(Debug, Drop)]
+pub struct Module {
+    pub functions: Seq<Function>,
+}

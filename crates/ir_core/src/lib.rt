@@ -1,0 +1,22 @@
+//! The syntax tree of textual LLVM IR (Language Reference 3.7), as far as it is built: integer `add` and
+//! `sub` and `ret`, and the expressions over them that facts of the logic speak of.
+//!
+//! A value of these types is plain data to a contract: two are equal exactly where `Exact::is` says so.
+#![tactic(auto)]
+
+mod expressions;
+mod functions;
+mod names;
+mod operands;
+mod same;
+mod values;
+
+pub use expressions::{BinaryExpr, Expr0, Reg};
+pub use functions::{Binary, Block, Entry, Function, Instr, Module, Param, Phi, Term};
+pub use names::{Name, Sigil};
+pub use operands::{Atom, BinOp, Const, Flags, Operand, Ty};
+pub use same::{
+    same_binary, same_const, same_expr, same_flags, same_name, same_name_atom, same_name_operand,
+    same_op, same_reg, same_reg_atom, same_reg_operand, same_ty,
+};
+pub use values::{Kind, Value};

@@ -1,0 +1,135 @@
+use crate::Name;
+use contents::Exact;
+use std::alloc::{AllocError, Global};
+
+/// A type (LangRef 3.7, Type System).
+#[derive(Debug, Drop)]
+pub enum Ty {
+    /// `iN`, of that many bits.
+    Int(u32),
+    Void,
+}
+
+/// A constant (LangRef 3.7, Constants). What it is worth depends on the type that stands beside it.
+#[derive(Debug, Drop)]
+pub enum Const {
+    /// A number of `iN`, kept as it is modulo 2 to the N.
+    Number(u64),
+    Undef,
+}
+
+/// What an operand names: a constant or a register. The registers of functions are names; those of
+/// expressions are a `Reg`.
+#[derive(Debug, Drop)]
+pub enum Atom<R> {
+    Constant(Const),
+    Register(R),
+}
+
+/// An operand with the type that is stated for it.
+#[derive(Debug, Drop)]
+pub struct Operand<R> {
+    pub ty: Ty,
+    pub atom: Atom<R>,
+}
+
+/// The operator of a binary line (LangRef 3.7, Binary Operations).
+#[derive(Debug, Drop, Clone, Copy)]
+pub enum BinOp {
+    Add,
+    Sub,
+}
+
+/// `nuw` and `nsw` of a binary line: no unsigned and no signed wrap.
+#[derive(Debug, Drop, Clone, Copy)]
+pub struct Flags {
+    pub nuw: bool,
+    pub nsw: bool,
+}
+
+impl Exact for Ty {
+    fn is(&self, other: &Ty) -> bool {
+        match (self, other) {
+            (Ty::Int(mine), Ty::Int(theirs)) => *mine == *theirs,
+            (Ty::Void, Ty::Void) => true,
+            _ => false,
+        }
+    }
+
+    fn copy(&self, _alloc: Global) -> Result<Ty, AllocError> {
+        match self {
+            Ty::Int(width) => Ok(Ty::Int(*width)),
+            Ty::Void => Ok(Ty::Void),
+        }
+    }
+}
+
+impl Exact for Const {
+    fn is(&self, other: &Const) -> bool {
+        match (self, other) {
+            (Const::Number(mine), Const::Number(theirs)) => *mine == *theirs,
+            (Const::Undef, Const::Undef) => true,
+            _ => false,
+        }
+    }
+
+    fn copy(&self, _alloc: Global) -> Result<Const, AllocError> {
+        match self {
+            Const::Number(number) => Ok(Const::Number(*number)),
+            Const::Undef => Ok(Const::Undef),
+        }
+    }
+}
+
+impl<R: Exact> Exact for Atom<R> {
+    fn is(&self, other: &Atom<R>) -> bool {
+        match (self, other) {
+            (Atom::Constant(mine), Atom::Constant(theirs)) => mine.is(theirs),
+            (Atom::Register(mine), Atom::Register(theirs)) => mine.is(theirs),
+            _ => false,
+        }
+    }
+
+    fn copy(&self, alloc: Global) -> Result<Atom<R>, AllocError> {
+        match self {
+            Atom::Constant(constant) => Ok(Atom::Constant(constant.copy(alloc)?)),
+            Atom::Register(register) => Ok(Atom::Register(register.copy(alloc)?)),
+        }
+    }
+}
+
+impl<R: Exact> Exact for Operand<R> {
+    fn is(&self, other: &Operand<R>) -> bool {
+        self.ty.is(&other.ty) && self.atom.is(&other.atom)
+    }
+
+    fn copy(&self, alloc: Global) -> Result<Operand<R>, AllocError> {
+        Ok(Operand {
+            ty: self.ty.copy(alloc)?,
+            atom: self.atom.copy(alloc)?,
+        })
+    }
+}
+
+impl Exact for BinOp {
+    fn is(&self, other: &BinOp) -> bool {
+        match (self, other) {
+            (BinOp::Add, BinOp::Add) | (BinOp::Sub, BinOp::Sub) => true,
+            _ => false,
+        }
+    }
+
+    fn copy(&self, _alloc: Global) -> Result<BinOp, AllocError> {
+        Ok(*self)
+    }
+}
+
+impl Exact for Flags {
+    fn is(&self, other: &Flags) -> bool {
+        self.nuw == other.nuw && self.nsw == other.nsw
+    }
+
+    fn copy(&self, _alloc: Global) -> Result<Flags, AllocError> {
+        Ok(*self)
+    }
+}

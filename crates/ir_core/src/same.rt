@@ -1,0 +1,93 @@
+//! Exact comparison, said as the tests of `specs/Same.antt`, with which definitions compute.
+ghost use Rattle.std.specs.Prelude.{◌≡◌};
+ghost use Rattle.ir_core.specs.Same as same;
+
+use crate::{Atom, BinOp, BinaryExpr, Const, Expr0, Flags, Name, Operand, Reg, Ty};
+use contents::Exact;
+
+#[tactic(auto, using(crate::proofs::SameLaws::same_name_true, crate::proofs::SameLaws::same_name_refl))]
+pub fn same_name(a: &Name, b: &Name) -> bool
+    ensures { result ≡ same.same_name a.now b.now }
+{
+    a.is(b)
+}
+
+#[tactic(auto, using(crate::proofs::SameLaws::same_ty_true, crate::proofs::SameLaws::same_ty_refl))]
+pub fn same_ty(a: &Ty, b: &Ty) -> bool
+    ensures { result ≡ same.same_ty a.now b.now }
+{
+    a.is(b)
+}
+
+#[tactic(auto, using(crate::proofs::SameLaws::same_const_true, crate::proofs::SameLaws::same_const_refl))]
+pub fn same_const(a: &Const, b: &Const) -> bool
+    ensures { result ≡ same.same_const a.now b.now }
+{
+    a.is(b)
+}
+
+#[tactic(auto, using(crate::proofs::SameLaws::same_op_true, crate::proofs::SameLaws::same_op_refl))]
+pub fn same_op(a: &BinOp, b: &BinOp) -> bool
+    ensures { result ≡ same.same_op a.now b.now }
+{
+    a.is(b)
+}
+
+#[tactic(auto, using(crate::proofs::SameLaws::same_flags_true, crate::proofs::SameLaws::same_flags_refl))]
+pub fn same_flags(a: &Flags, b: &Flags) -> bool
+    ensures { result ≡ same.same_flags a.now b.now }
+{
+    a.is(b)
+}
+
+#[tactic(auto, using(crate::proofs::SameLaws::same_reg_true, crate::proofs::SameLaws::same_reg_refl))]
+pub fn same_reg(a: &Reg, b: &Reg) -> bool
+    ensures { result ≡ same.same_reg a.now b.now }
+{
+    a.is(b)
+}
+
+pub fn same_binary(a: &BinaryExpr, b: &BinaryExpr) -> bool
+    ensures { result ≡ same.same_binary a.now b.now }
+{
+    same_op(&a.op, &b.op)
+        && same_flags(&a.flags, &b.flags)
+        && same_ty(&a.ty, &b.ty)
+        && same_reg_atom(&a.left, &b.left)
+        && same_reg_atom(&a.right, &b.right)
+}
+
+#[tactic(auto, using(crate::proofs::SameLaws::same_expr_true, crate::proofs::SameLaws::same_expr_refl))]
+pub fn same_expr(a: &Expr0, b: &Expr0) -> bool
+    ensures { result ≡ same.same_expr a.now b.now }
+{
+    a.is(b)
+}
+
+#[tactic(auto, using(crate::proofs::SameLaws::same_name_atom_true, crate::proofs::SameLaws::same_name_atom_refl))]
+pub fn same_name_atom(a: &Atom<Name>, b: &Atom<Name>) -> bool
+    ensures { result ≡ same.same_atom same.same_name a.now b.now }
+{
+    a.is(b)
+}
+
+#[tactic(auto, using(crate::proofs::SameLaws::same_reg_atom_true, crate::proofs::SameLaws::same_reg_atom_refl))]
+pub fn same_reg_atom(a: &Atom<Reg>, b: &Atom<Reg>) -> bool
+    ensures { result ≡ same.same_atom same.same_reg a.now b.now }
+{
+    a.is(b)
+}
+
+#[tactic(auto, using(crate::proofs::SameLaws::same_name_operand_true, crate::proofs::SameLaws::same_name_operand_refl))]
+pub fn same_name_operand(a: &Operand<Name>, b: &Operand<Name>) -> bool
+    ensures { result ≡ same.same_operand same.same_name a.now b.now }
+{
+    a.is(b)
+}
+
+#[tactic(auto, using(crate::proofs::SameLaws::same_reg_operand_true, crate::proofs::SameLaws::same_reg_operand_refl))]
+pub fn same_reg_operand(a: &Operand<Reg>, b: &Operand<Reg>) -> bool
+    ensures { result ≡ same.same_operand same.same_reg a.now b.now }
+{
+    a.is(b)
+}
