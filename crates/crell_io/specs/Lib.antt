@@ -1,0 +1,5 @@
+pub mod Count
+pub mod Shelf
+pub mod Sink
+pub mod MemShelf
+pub mod MemSink

@@ -1,0 +1,20 @@
+-- What a shelf tells of its contents.
+use Rattle.std.specs.Prelude.{ℕ, List}
+
+-- what a shelf tells of a name: nothing, that it holds none such, or the bytes that it holds under it
+pub data Told : Type 0 where
+  Untold : Told
+  NoSuch : Told
+  Bytes : List ℕ → Told
+
+-- if contents are told, they are such
+abbrev pub IfBytes : Told → (List ℕ → Type 0) → Type 0
+IfBytes Untold P = Unit {0}
+IfBytes NoSuch P = Unit {0}
+IfBytes (Bytes held) P = P held
+
+-- contents are told, and they are such
+abbrev pub IsBytesAnd : Told → (List ℕ → Type 0) → Type 0
+IsBytesAnd Untold P = ⊥
+IsBytesAnd NoSuch P = ⊥
+IsBytesAnd (Bytes held) P = P held

@@ -1,0 +1,36 @@
+// What text is written to.
+ghost use Rattle.std.specs.Prelude.{◌≡◌, ◌≢◌, ◌≤◌, ℕ, List, [], length, take, Option, IfOk, OnErr};
+ghost use Rattle.crell_io.specs.Count.{HasRisen};
+ghost use Rattle.crell_io.specs.Sink.{appended};
+
+use thiserror::Error;
+
+/// Why a sink takes nothing.
+#[derive(Clone, Copy, Debug, PartialEq, Eq, Error)]
+pub enum SinkFault {
+    #[error("writing failed")]
+    Failed,
+}
+
+pub trait Sink {
+    /// The bytes written, where it tells them.
+    ghost written: { Self → Option (List ℕ) };
+
+    /// How often it has failed. A count that stands at its last value counts as risen.
+    ghost faults: { Self → ℕ };
+
+    /// Takes some first bytes of the piece, and answers how many. It takes no memory.
+    fn put(&mut self, piece: &[u8]) -> Result<usize, SinkFault>
+        ensures faults { faults self.old ≤ faults self.new }
+
+        ensures within { IfOk result (λ count. count ≤ length piece.now) }
+        ensures appends { IfOk result
+            (λ count. written self.new ≡ appended (written self.old) (take count piece.now)) }
+
+        // A piece that isn't empty and of which nothing is taken is a fault.
+        ensures none_taken { IfOk result
+            (λ count. count ≡ 0 → piece.now ≢ [] → HasRisen (faults self.old) (faults self.new)) }
+
+        ensures failed { OnErr result (HasRisen (faults self.old) (faults self.new)) }
+        ensures nothing { OnErr result (written self.new ≡ written self.old) };
+}
