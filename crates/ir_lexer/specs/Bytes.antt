@@ -1,0 +1,30 @@
+-- The bytes of a text, by what they can be in it.
+use Rattle.std.specs.Prelude.{ℕ, Bool, false, ◌||◌, ◌==◌, List, [], ◌∷◌, codes}
+use Rattle.std.specs.List.{list_any, list_all}
+use Rattle.std.specs.Char.{is_ascii_alphabetic, is_ascii_digit}
+
+-- space, tab, line feed, carriage return
+abbrev pub is_blank : ℕ → Bool
+is_blank b = b == 32 || b == 9 || b == 10 || b == 13
+
+-- A-Z a-z 0-9 - $ . _
+abbrev pub is_run_byte : ℕ → Bool
+is_run_byte b = is_ascii_alphabetic b || is_ascii_digit b || b == 45 || b == 36 || b == 46 || b == 95
+
+-- what is a token by itself
+abbrev pub is_mark : ℕ → Bool
+is_mark b = list_any (λ c. c == b) (codes "=,(){}[]*<>|")
+
+-- a word begins with a letter, `_`, `.` or `$`
+abbrev pub begins_word : ℕ → Bool
+begins_word b = is_ascii_alphabetic b || b == 95 || b == 46 || b == 36
+
+-- one or more decimal digits
+abbrev pub are_digits : List ℕ → Bool
+are_digits [] = false
+are_digits (b ∷ bytes) = list_all is_ascii_digit (b ∷ bytes)
+
+-- the text goes on with a colon
+abbrev pub begins_with_colon : List ℕ → Bool
+begins_with_colon [] = false
+begins_with_colon (b ∷ rest) = b == 58

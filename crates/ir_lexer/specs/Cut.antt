@@ -1,0 +1,49 @@
+-- The tokens of a text, or its first fault.
+use Rattle.std.specs.Prelude.{ℕ, suc, zero, ◌+◌, ◌-◌, ◌^◌, ◌≡◌, List, [], ◌∷◌, ◌++◌, length, Result, Ok, Err, nat_lt, if◌then◌else◌}
+use Rattle.ir_lexer.specs.declared.pieces.Piece.{Piece}
+use Rattle.ir_lexer.specs.declared.pieces.Piece.TheVariants as piece
+use Rattle.ir_lexer.specs.declared.token.LexFault.{LexFault}
+use Rattle.ir_lexer.specs.declared.token.LexFault.TheVariants.{BadByte, BadString, BadNumber, Memory, Limit}
+use Rattle.ir_lexer.specs.declared.token.Token.{Token}
+use Rattle.ir_lexer.specs.declared.token.TokenKind.{TokenKind}
+use Rattle.ir_lexer.specs.Pieces.{piece, piece_len}
+
+abbrev pub Cut : Type 0
+Cut = Result (List Token) LexFault
+
+-- a token and the bytes that spell it
+abbrev pub token : TokenKind → ℕ → ℕ → Token
+token kind start end = record { kind = kind; start = start; end = end }
+
+-- these tokens, and then what is cut behind them
+abbrev pub behind : List Token → Cut → Cut
+behind tokens (Ok more) = Ok (tokens ++ more)
+behind tokens (Err fault) = Err fault
+
+-- the piece that begins at place, and then what is cut behind it
+abbrev pub joined : ℕ → Piece → Cut → Cut
+joined place piece.End more = Ok []
+joined place (piece.Gap len) more = more
+joined place (piece.Token kind len) more = behind (token kind place (place + len) ∷ []) more
+joined place piece.BadByte more = Err (BadByte place)
+joined place (piece.BadString offset) more = Err (BadString (place + offset))
+joined place piece.BadNumber more = Err (BadNumber place)
+
+-- what a text is cut into whose first byte is at place, where the first `skip` bytes belong to what came before
+unfoldable pub cut : ℕ → ℕ → List ℕ → Cut
+cut skip place [] = Ok []
+cut (suc skip) place (b ∷ rest) = cut skip (place + 1) rest
+cut zero place (b ∷ rest) =
+    joined place (piece (b ∷ rest)) (cut (piece_len (piece (b ∷ rest)) - 1) (place + 1) rest)
+
+-- A text has tokens only up to 2 to the 24 bytes.
+abbrev pub lexed : List ℕ → Cut
+lexed text = if nat_lt (2 ^ 24) (length text) then Err Limit else cut 0 0 text
+
+-- the fault is that of the text; want of memory says nothing of it
+abbrev pub IsFaultOf : LexFault → Cut → Type 0
+IsFaultOf (BadByte place) cut = cut ≡ Err (BadByte place)
+IsFaultOf (BadString place) cut = cut ≡ Err (BadString place)
+IsFaultOf (BadNumber place) cut = cut ≡ Err (BadNumber place)
+IsFaultOf Limit cut = cut ≡ Err Limit
+IsFaultOf Memory cut = Unit {0}

@@ -1,0 +1,7 @@
+pub mod Bytes
+pub mod Cut
+pub mod Names
+pub mod Numbers
+pub mod Pieces
+pub mod Runs
+pub mod Strings

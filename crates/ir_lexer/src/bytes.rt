@@ -1,0 +1,74 @@
+ghost use Rattle.std.specs.Prelude.{◌≡◌};
+ghost use Rattle.std.specs.Char.{is_ascii_digit};
+ghost use Rattle.std.specs.List.{list_all};
+ghost use Rattle.std.specs.Str.{bytes_eq};
+ghost use Rattle.ir_lexer.specs.Bytes.{is_blank, is_run_byte, is_mark, begins_word, are_digits, begins_with_colon};
+
+use crate::runs;
+
+/// Space, tab, line feed, carriage return.
+pub fn is_blank(byte: u8) -> bool
+    ensures { result ≡ is_blank byte }
+{
+    byte == b' ' || byte == b'\t' || byte == b'\n' || byte == b'\r'
+}
+
+/// A byte of a run.
+pub fn is_run_byte(byte: u8) -> bool
+    ensures { result ≡ is_run_byte byte }
+{
+    byte.is_ascii_alphabetic()
+        || byte.is_ascii_digit()
+        || byte == b'-'
+        || byte == b'$'
+        || byte == b'.'
+        || byte == b'_'
+}
+
+/// A byte that is a token by itself.
+pub fn is_mark(byte: u8) -> bool
+    ensures { result ≡ is_mark byte }
+{
+    b"=,(){}[]*<>|".contains(&byte)
+}
+
+/// A byte that begins a word.
+pub fn begins_word(byte: u8) -> bool
+    ensures { result ≡ begins_word byte }
+{
+    byte.is_ascii_alphabetic() || byte == b'_' || byte == b'.' || byte == b'$'
+}
+
+/// Whether the bytes are those of the text.
+pub fn are(bytes: &[u8], text: &[u8]) -> bool
+    ensures { result ≡ bytes_eq bytes.now text.now }
+{
+    bytes == text
+}
+
+fn are_all_digits(bytes: &[u8]) -> bool
+    ensures { result ≡ list_all is_ascii_digit bytes.now }
+{
+    bytes.iter().all(|byte| byte.is_ascii_digit())
+}
+
+/// Whether there is at least one byte, and each is a decimal digit.
+pub fn are_digits(bytes: &[u8]) -> bool
+    ensures { result ≡ are_digits bytes.now }
+{
+    if bytes.is_empty() {
+        false
+    } else {
+        are_all_digits(bytes)
+    }
+}
+
+/// Whether a colon stands first.
+pub fn begins_with_colon(text: &[u8]) -> bool
+    ensures { result ≡ begins_with_colon text.now }
+{
+    match runs::split(text) {
+        Some((first, _)) => first == b':',
+        None => false,
+    }
+}

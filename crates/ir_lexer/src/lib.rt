@@ -1,0 +1,19 @@
+//! The tokens of textual LLVM IR (Language Reference 3.7, Identifiers and String constants).
+//!
+//! A text is cut from the left: a gap (blanks, a comment), a token, or a fault, each by what stands first
+//! and by the longest run from there. `lex` gives the tokens with their places, or the first fault.
+#![tactic(auto)]
+
+mod bytes;
+mod cut;
+mod names;
+mod numbers;
+mod pieces;
+mod runs;
+mod strings;
+#[cfg(test)]
+mod tests;
+mod token;
+
+pub use cut::lex;
+pub use token::{LexFault, Number, Token, TokenKind};
