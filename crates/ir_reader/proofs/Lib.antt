@@ -1,0 +1,9 @@
+pub mod Again
+pub mod Eaches
+pub mod FlagSteps
+pub mod Grammar
+pub mod Inserts
+pub mod Order
+pub mod Repeats
+pub mod Takes
+pub mod Tools

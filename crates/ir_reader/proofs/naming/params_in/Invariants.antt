@@ -1,0 +1,12 @@
+-- The parameters so far, and then those of the rest.
+use Rattle.std.proofs.Common.{◌≡◌, length}
+use Rattle.ir_reader.specs.Definitions.{behind}
+use Rattle.ir_reader.specs.Modules.{param_in}
+use Rattle.ir_reader.specs.Scopes.{each_in}
+use Rattle.ir_reader.proofs.naming.params_in.Given as goal
+
+abbrev pub invariant-loop-text : goal.invariant-loop-text
+invariant-loop-text l = behind l.done.items (each_in param_in l.scope l.rest) ≡ each_in param_in l.fn.scope l.params
+
+abbrev pub decreases-loop-text : goal.decreases-loop-text
+decreases-loop-text l = length l.rest

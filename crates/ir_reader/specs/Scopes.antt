@@ -1,0 +1,53 @@
+-- The names of a function: its parameters, its block and its registers share one name space and one count.
+use Rattle.std.specs.Prelude.{ℕ, ◌+◌, ◌^◌, ◌==◌, Bool, false, ◌||◌, List, [], ◌∷◌, ◌++◌, Option, Some, None, nat_lt, if◌then◌else◌}
+use Rattle.std.specs.List.{list_any}
+use Rattle.std.specs.Str.{bytes_eq}
+use Rattle.ir_core.specs.declared.names.Name.{Name}
+use Rattle.ir_core.specs.declared.names.Name.TheVariants.{Text, Number}
+use Rattle.ir_reader.specs.declared.scopes.Scope.{Scope}
+use Rattle.ir_reader.specs.Definitions.{behind}
+use Rattle.ir_reader.specs.Reading.{◌>>=◌}
+
+abbrev pub same_name : Name → Name → Bool
+same_name (Text a) (Text b) = bytes_eq a b
+same_name (Number m) (Number n) = m == n
+same_name (Text a) (Number n) = false
+same_name (Number m) (Text b) = false
+
+abbrev pub is_among : Name → List Name → Bool
+is_among name names = list_any (same_name name) names
+
+abbrev pub is_block : Name → Option Name → Bool
+is_block name None = false
+is_block name (Some block) = same_name name block
+
+-- something of the function has the name already
+abbrev pub is_taken : Scope → Name → Bool
+is_taken scope name = is_among name scope.registers || is_block name scope.block
+
+abbrev pub start : Scope
+start = record { next = 0; registers = []; block = None }
+
+-- The name of what is defined, `next` being the number that is due, and the number that is due behind it:
+-- what has no name takes the due number, a number that is written has to be it, and a text takes none.
+unfoldable pub due : ℕ → Option Name → Option (Name × ℕ)
+due next None = if nat_lt next (2 ^ 32) then Some (Number next, next + 1) else None
+due next (Some (Text bytes)) = Some (Text bytes, next)
+due next (Some (Number n)) = if n == next then Some (Number n, next + 1) else None
+
+-- a parameter or a register is defined
+unfoldable pub with_register : Scope → Option Name → Option (Name × Scope)
+with_register scope written = do
+  name ← due scope.next written
+  if is_taken scope name.0 then None else Some (name.0, record { next = name.1; registers = scope.registers ++ name.0 ∷ []; block = scope.block })
+
+-- the block is defined
+unfoldable pub with_block : Scope → Option Name → Option (Name × Scope)
+with_block scope written = do
+  name ← due scope.next written
+  if is_taken scope name.0 then None else Some (name.0, record { next = name.1; registers = scope.registers; block = Some name.0 })
+
+-- what each item of a list is, one after another
+unfoldable pub each_in : {T X : Type 0} → (Scope → T → Option (X × Scope)) → Scope → List T → Option (List X × Scope)
+each_in step scope [] = Some ([], scope)
+each_in step scope (item ∷ rest) = step scope item >>= λ first. behind (first.0 ∷ []) (each_in step first.1 rest)

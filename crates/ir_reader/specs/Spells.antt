@@ -1,0 +1,13 @@
+-- What module a text spells.
+use Rattle.std.specs.Prelude.{◌≡◌, ℕ, List, Some}
+use Rattle.ir_core.specs.declared.functions.Module.{Module}
+use Rattle.ir_reader.specs.declared.texts.DefinitionText.{DefinitionText}
+use Rattle.ir_reader.specs.Grammar.{written}
+use Rattle.ir_reader.specs.Modules.{module_of}
+use Rattle.ir_reader.specs.Reading.{kinds_of}
+
+-- The tokens of the text are those of a definition, and the module is what it names.
+pub record Spells (bytes : List ℕ) (m : Module) : Type 0 where
+  pub definition : DefinitionText
+  pub tokens : kinds_of bytes ≡ Some (written definition)
+  pub names : module_of definition ≡ Some m

@@ -1,0 +1,27 @@
+//! Textual LLVM IR (Language Reference 3.7) read as data, as far as it is built: a module of one function
+//! of one block with `add`, `sub` and `ret` of `i32`, and the expressions and names of the logic.
+//!
+//! A text is cut into tokens, the tokens are read as a tree of what is written, and the tree is given names.
+#![tactic(auto)]
+
+mod definitions;
+mod expressions;
+mod fault;
+mod index;
+mod indexed;
+mod modules;
+mod names;
+mod naming;
+mod operations;
+mod scopes;
+mod terminals;
+#[cfg(test)]
+mod tests;
+mod texts;
+mod tokens;
+mod values;
+
+pub use expressions::read_expr;
+pub use fault::TextFault;
+pub use modules::read_module;
+pub use names::read_name;

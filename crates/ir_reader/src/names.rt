@@ -1,0 +1,46 @@
+ghost use Rattle.std.specs.Prelude.{◌≡◌, IfOk, IfErr, Some, None};
+ghost use Rattle.ir_reader.specs.Names.{name_in, only_name, name_of};
+ghost use Rattle.ir_reader.specs.Reading.{Reads};
+
+use crate::TextFault;
+use crate::terminals::split;
+use crate::tokens::kinds_of;
+use contents::Exact;
+use ir_core::{Name, Sigil};
+use ir_lexer::TokenKind;
+use std::alloc::{AllocError, Global};
+
+fn name_in(alloc: Global, sigil: Sigil, kind: &TokenKind) -> Result<Option<Name>, AllocError>
+    ensures { IfOk result (λ name. name ≡ name_in sigil kind.now) }
+{
+    match (sigil, kind) {
+        (Sigil::Local, TokenKind::Local(name)) => Ok(Some(name.copy(alloc)?)),
+        (Sigil::Global, TokenKind::Global(name)) => Ok(Some(name.copy(alloc)?)),
+        _ => Ok(None),
+    }
+}
+
+#[tactic(auto, unfolding(crate::specs::Names::only_name))]
+fn only_name(alloc: Global, sigil: Sigil, kinds: &[TokenKind]) -> Result<Name, TextFault>
+    ensures { Reads (λ name. name) result (only_name sigil kinds.now) }
+{
+    let Some((kind, rest)) = split(kinds) else {
+        return Err(TextFault::NotOfTheFirstForm);
+    };
+    if !rest.is_empty() {
+        return Err(TextFault::NotOfTheFirstForm);
+    }
+    match name_in(alloc, sigil, kind)? {
+        Some(name) => Ok(name),
+        None => Err(TextFault::NotOfTheFirstForm),
+    }
+}
+
+/// The name that the text spells, with its sigil and nothing else.
+pub fn read_name(alloc: Global, sigil: Sigil, text: &[u8]) -> Result<Name, TextFault>
+    ensures spelled { IfOk result (λ name. name_of sigil text.now ≡ Some name) }
+    ensures none { IfErr result (λ fault. fault ≡ TextFault.NotOfTheFirstForm → name_of sigil text.now ≡ None) }
+{
+    let kinds = kinds_of(alloc, text)?;
+    only_name(alloc, sigil, kinds.as_slice())
+}

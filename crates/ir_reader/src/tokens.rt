@@ -1,0 +1,32 @@
+ghost use Rattle.std.specs.Prelude.{◌≡◌, IfOk, map};
+ghost use Rattle.ir_lexer.specs.declared.token.Token.{Token};
+ghost use Rattle.ir_reader.specs.Reading.{Reads, kinds_of};
+
+use crate::TextFault;
+use ir_lexer::{LexFault, Token, TokenKind, lex};
+use std::alloc::{AllocError, Global};
+
+fn kinds(alloc: Global, tokens: Vec<Token>) -> Result<Vec<TokenKind>, AllocError>
+    ensures { IfOk result (λ kinds. kinds.items ≡ map (λ (t : Token). t.kind) tokens.items) }
+{
+    let mut kinds = Vec::new(alloc);
+    for token in tokens {
+        let Token { kind, .. } = token;
+        kinds.push(kind)?;
+    }
+    Ok(kinds)
+}
+
+/// The tokens of a text, without their places.
+pub fn kinds_of(alloc: Global, text: &[u8]) -> Result<Vec<TokenKind>, TextFault>
+    ensures { Reads (λ kinds. kinds.items) result (kinds_of text.now) }
+{
+    match lex(alloc, text) {
+        Ok(tokens) => Ok(kinds(alloc, tokens)?),
+        Err(LexFault::Memory) => Err(TextFault::Memory),
+        Err(LexFault::BadByte(_)) => Err(TextFault::NotOfTheFirstForm),
+        Err(LexFault::BadString(_)) => Err(TextFault::NotOfTheFirstForm),
+        Err(LexFault::BadNumber(_)) => Err(TextFault::NotOfTheFirstForm),
+        Err(LexFault::Limit) => Err(TextFault::NotOfTheFirstForm),
+    }
+}
