@@ -1,0 +1,163 @@
+-- Each printed text is of ASCII bytes alone.
+use Rattle.std.proofs.Common.{◌≡◌, ℕ, zero, suc, ◌-◌, ◌/◌, ◌%◌, ◌^◌, ◌<◌, ◌&&◌, Bool, true, false, true≢false, not, cond, List, [], ◌∷◌, ◌++◌, codes, arith, rules, refl, sym}
+use Rattle.std.specs.Prelude.{◌==◌, nat_le}
+use Rattle.std.proofs.lemmas.Bool.Decides.{nat_tests}
+use Rattle.std.proofs.lemmas.Str.{IsAscii-append}
+use Rattle.std.proofs.lemmas.Str.Ascii.{IsAscii-nil, IsAscii-cons}
+use Rattle.std.specs.Str.{IsAscii}
+use Rattle.std.specs.List.{list_all, flat_map}
+use Rattle.std.specs.Fmt.{digits_onto, digits, decimal, digit_glyph}
+use Rattle.ir_core.specs.declared.names.Name.{Name}
+use Rattle.ir_core.specs.declared.names.Name.TheVariants.{Text, Number}
+use Rattle.ir_core.specs.declared.names.Sigil.TheVariants.{Local}
+use Rattle.ir_core.specs.declared.operands.Ty.{Ty}
+use Rattle.ir_core.specs.declared.operands.Ty.TheVariants.{Int, Void}
+use Rattle.ir_core.specs.declared.operands.Const.{Const}
+use Rattle.ir_core.specs.declared.operands.Const.TheVariants as const
+use Rattle.ir_core.specs.declared.operands.Atom.{Atom}
+use Rattle.ir_core.specs.declared.operands.Atom.TheVariants.{Constant, Register}
+use Rattle.ir_core.specs.declared.operands.Operand.{Operand}
+use Rattle.ir_core.specs.declared.operands.BinOp.{BinOp}
+use Rattle.ir_core.specs.declared.operands.BinOp.TheVariants.{Add, Sub}
+use Rattle.ir_core.specs.declared.operands.Flags.{Flags}
+use Rattle.ir_core.specs.declared.expressions.Reg.{Reg}
+use Rattle.ir_core.specs.declared.expressions.Reg.TheVariants.{Now, Old, Ghost}
+use Rattle.ir_core.specs.declared.expressions.Expr0.{Expr0}
+use Rattle.ir_core.specs.declared.expressions.Expr0.TheVariants.{Plain, Binary}
+use Rattle.ir_core.specs.declared.expressions.BinaryExpr.{BinaryExpr}
+use Rattle.ir_printer.specs.Printed.{is_name_byte, is_plain, hexadecimal_digit, escaped, quoted, name_text, printed_name, printed_type, is_negative, signed_text, number_text, printed_constant, printed_register, printed_atom, printed_operand, printed_op, printed_flags, printed_operands, printed_expr}
+
+record Ascii (bs : List ℕ) : Type 0 where
+  bytes : IsAscii bs
+
+empty : Ascii []
+empty = record { bytes = IsAscii-nil }
+
+begun : (b : ℕ) (bs : List ℕ) → b < 128 → Ascii bs → Ascii (b ∷ bs)
+begun b bs h a = record { bytes = IsAscii-cons b bs h a.bytes }
+
+append : (xs ys : List ℕ) → Ascii xs → Ascii ys → Ascii (xs ++ ys)
+append xs ys a b = record { bytes = IsAscii-append xs ys a.bytes b.bytes }
+
+both : (a b : Bool) → (a && b) ≡ true → (a ≡ true) × (b ≡ true)
+both true true h = (refl, refl)
+both true false h = absurd (true≢false (sym h))
+both false b h = absurd (true≢false (sym h))
+
+-- a choice between two such texts is one
+of_choice : (b : Bool) (x y : List ℕ) → (b ≡ true → Ascii x) → Ascii y → Ascii (cond b x y)
+of_choice true x y h k = h refl
+of_choice false x y h k = k
+
+glyph_is_ascii : (upper : Bool) (d : ℕ) → d < 16 → digit_glyph upper d < 128
+glyph_is_ascii true d h = grind (arith, nat_tests)
+glyph_is_ascii false d h = grind (arith, nat_tests)
+
+of_digits_onto : (k n : ℕ) (acc : List ℕ) → Ascii acc → Ascii (digits_onto k 10 false n acc)
+of_digits_onto zero n acc h = h
+of_digits_onto (suc k) n acc h =
+    let small : n % 10 < 16 = omega arith in
+    let last : Ascii (digit_glyph false (n % 10) ∷ acc) = begun (digit_glyph false (n % 10)) acc (glyph_is_ascii false (n % 10) small) h in
+    of_choice (n / 10 == 0) _ _ (λ _. last) (of_digits_onto k (n / 10) (digit_glyph false (n % 10) ∷ acc) last)
+
+of_decimal : (n : ℕ) → Ascii (decimal n)
+unfolding digits
+of_decimal n = of_digits_onto 64 n [] empty
+
+of_name_byte : (b : ℕ) → is_name_byte b ≡ true → b < 128
+of_name_byte b h = grind (arith, nat_tests)
+
+of_name_bytes : (bs : List ℕ) → list_all is_name_byte bs ≡ true → Ascii bs
+of_name_bytes [] h = empty
+of_name_bytes (b ∷ bs) h = let p = both (is_name_byte b) (list_all is_name_byte bs) h in begun b bs (of_name_byte b p.0) (of_name_bytes bs p.1)
+
+hexadecimal_is_ascii : (n : ℕ) → hexadecimal_digit n < 128
+hexadecimal_is_ascii n = let small : n % 16 < 16 = omega arith in glyph_is_ascii true (n % 16) small
+
+shown_is_ascii : (b : ℕ) → (nat_le 32 b && nat_le b 126 && not (b == 34) && not (b == 92)) ≡ true → b < 128
+shown_is_ascii b h = grind (arith, nat_tests)
+
+of_escaped : (b : ℕ) → Ascii (escaped b)
+of_escaped b =
+    let rest = begun (hexadecimal_digit (b / 16)) (hexadecimal_digit b ∷ []) (hexadecimal_is_ascii (b / 16)) (begun (hexadecimal_digit b) [] (hexadecimal_is_ascii b) empty) in
+    of_choice (nat_le 32 b && nat_le b 126 && not (b == 34) && not (b == 92)) (b ∷ []) _ (λ h. begun b [] (shown_is_ascii b h) empty) (begun 92 _ (omega arith) rest)
+
+of_all_escaped : (bs : List ℕ) → Ascii (flat_map escaped bs)
+of_all_escaped [] = empty
+of_all_escaped (b ∷ bs) = append (escaped b) (flat_map escaped bs) (of_escaped b) (of_all_escaped bs)
+
+of_quoted : (bs : List ℕ) → Ascii (quoted bs)
+of_quoted bs = begun 34 _ (omega arith) (append (flat_map escaped bs) (34 ∷ []) (of_all_escaped bs) (begun 34 [] (omega arith) empty))
+
+of_name_text : (name : Name) → Ascii (name_text name)
+of_name_text (Text bs) = of_choice (is_plain bs) bs (quoted bs) (λ h. of_name_bytes bs (both _ (list_all is_name_byte bs) h).1) (of_quoted bs)
+of_name_text (Number n) = of_decimal n
+
+of_name : (name : Name) → Ascii (printed_name Local name)
+of_name name = begun 37 (name_text name) (omega arith) (of_name_text name)
+
+of_type : (ty : Ty) → Ascii (printed_type ty)
+of_type (Int width) = begun 105 (decimal width) (omega arith) (of_decimal width)
+of_type Void = search (rules, begun, empty)
+
+of_false : Ascii (codes "false")
+of_false = search (rules, begun, empty)
+
+of_true : Ascii (codes "true")
+of_true = search (rules, begun, empty)
+
+of_signed : (width n : ℕ) → Ascii (signed_text width n)
+of_signed width n = of_choice (is_negative width n) _ _ (λ _. begun 45 _ (omega arith) (of_decimal (2 ^ width - n))) (of_decimal n)
+
+of_number : (ty : Ty) (n : ℕ) → Ascii (number_text ty n)
+of_number (Int width) n = of_choice (width == 1) _ _ (λ _. of_choice (n == 0) _ _ (λ _. of_false) of_true) (of_signed width n)
+of_number Void n = of_decimal n
+
+of_constant : (ty : Ty) (c : Const) → Ascii (printed_constant ty c)
+of_constant ty (const.Number n) = of_number ty n
+of_constant ty const.Undef = search (rules, begun, empty)
+
+of_old : Ascii (codes "old ")
+of_old = search (rules, begun, empty)
+
+of_ghost : Ascii (codes "ghost ")
+of_ghost = search (rules, begun, empty)
+
+of_register : (r : Reg) → Ascii (printed_register r)
+of_register (Now name) = of_name name
+of_register (Old name) = append (codes "old ") (printed_name Local name) of_old (of_name name)
+of_register (Ghost name) = append (codes "ghost ") (printed_name Local name) of_ghost (of_name name)
+
+of_atom : (ty : Ty) (atom : Atom Reg) → Ascii (printed_atom ty atom)
+of_atom ty (Constant c) = of_constant ty c
+of_atom ty (Register r) = of_register r
+
+of_operand : (o : Operand Reg) → Ascii (printed_operand o)
+of_operand o = append (printed_type o.ty) (32 ∷ printed_atom o.ty o.atom) (of_type o.ty) (begun 32 _ (omega arith) (of_atom o.ty o.atom))
+
+of_op : (op : BinOp) → Ascii (printed_op op)
+of_op Add = search (rules, begun, empty)
+of_op Sub = search (rules, begun, empty)
+
+of_nuw : Ascii (codes "nuw ")
+of_nuw = search (rules, begun, empty)
+
+of_nsw : Ascii (codes "nsw ")
+of_nsw = search (rules, begun, empty)
+
+of_flags : (flags : Flags) → Ascii (printed_flags flags)
+of_flags flags = append _ _ (of_choice flags.nuw (codes "nuw ") [] (λ _. of_nuw) empty) (of_choice flags.nsw (codes "nsw ") [] (λ _. of_nsw) empty)
+
+of_comma : Ascii (codes ", ")
+of_comma = search (rules, begun, empty)
+
+of_operands : (b : BinaryExpr) → Ascii (printed_operands b)
+of_operands b = append (printed_type b.ty) _ (of_type b.ty) (begun 32 _ (omega arith)
+    (append (printed_atom b.ty b.left) _ (of_atom b.ty b.left) (append (codes ", ") _ of_comma (of_atom b.ty b.right))))
+
+of_expr_text : (e : Expr0) → Ascii (printed_expr e)
+of_expr_text (Plain operand) = of_operand operand
+of_expr_text (Binary b) = append (printed_op b.op) _ (of_op b.op) (append (printed_flags b.flags) (printed_operands b) (of_flags b.flags) (of_operands b))
+
+pub of_expr : (e : Expr0) → IsAscii (printed_expr e)
+of_expr e = (of_expr_text e).bytes

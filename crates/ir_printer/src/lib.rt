@@ -1,0 +1,15 @@
+//! Prints names, types and expressions as text of LLVM IR (Language Reference 3.7).
+//!
+//! Each call gives exactly the text that `specs/Printed.antt` says, and can fail only for want of memory.
+#![tactic(auto)]
+
+mod expressions;
+mod names;
+mod values;
+
+pub use expressions::{print_expr, print_register, print_value};
+pub use names::print_name;
+pub use values::print_type;
+
+#[cfg(test)]
+mod tests;
