@@ -1,0 +1,3 @@
+pub mod Numbers
+pub mod OperationLaws
+pub mod KindLaws

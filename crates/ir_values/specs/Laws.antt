@@ -1,0 +1,28 @@
+-- The laws that operations meet.
+use Rattle.std.specs.Prelude.{◌≡◌, ℕ, Bool, true, not, ◌&&◌, ◌||◌}
+use Rattle.ir_core.specs.declared.values.Value.{Value}
+use Rattle.ir_core.specs.declared.values.Kind.TheVariants.{Int}
+use Rattle.ir_core.specs.declared.operands.BinOp.{BinOp}
+use Rattle.ir_core.specs.declared.operands.Flags.{Flags}
+use Rattle.ir_values.specs.Values.{IsInKind, IsLessDefined}
+use Rattle.ir_values.specs.Operations.{IsOutcomeLessDefined, binary_value, binary_outcome}
+
+abbrev pub LessDefinedIsReflexive : Type 0
+LessDefinedIsReflexive = (a : Value) → IsLessDefined a a
+
+abbrev pub LessDefinedIsTransitive : Type 0
+LessDefinedIsTransitive = (a b c : Value) → IsLessDefined a b → IsLessDefined b c → IsLessDefined a c
+
+-- each flag of the first is one of the second's
+abbrev pub flags_among : Flags → Flags → Bool
+flags_among few many = (not few.nuw || many.nuw) && (not few.nsw || many.nsw)
+
+-- More defined operands and fewer flags give a more defined outcome.
+abbrev pub OperationsAreMonotone : Type 0
+OperationsAreMonotone = (op : BinOp) (many few : Flags) (width : ℕ) (a b c d : Value) → flags_among few many ≡ true
+    → IsLessDefined a c → IsLessDefined b d
+    → IsOutcomeLessDefined (binary_outcome op many width a b) (binary_outcome op few width c d)
+
+-- The value of an operation on iN is one of iN, whatever its operands are.
+abbrev pub OperationsStayInKind : Type 0
+OperationsStayInKind = (op : BinOp) (flags : Flags) (width : ℕ) (a b : Value) → IsInKind (Int width) (binary_value op flags width a b)

@@ -1,0 +1,24 @@
+-- What a register may hold, and when one value is less defined than another.
+use Rattle.std.specs.Prelude.{◌≡◌, ◌<◌, ◌^◌, Bool, nat_eq}
+use Rattle.ir_core.specs.declared.values.Value.{Value}
+use Rattle.ir_core.specs.declared.values.Value.TheVariants.{Num, Undef, Poison}
+use Rattle.ir_core.specs.declared.values.Kind.{Kind}
+use Rattle.ir_core.specs.declared.values.Kind.TheVariants.{Int}
+
+-- a number of iN lies below 2 to the N; undef and poison lie in every kind
+abbrev pub IsInKind : Kind → Value → Type 0
+IsInKind (Int width) (Num n) = n < 2 ^ width
+IsInKind (Int width) Undef = Unit {0}
+IsInKind (Int width) Poison = Unit {0}
+
+abbrev pub same_kind : Kind → Kind → Bool
+same_kind (Int v) (Int w) = nat_eq v w
+
+-- a is less defined than b (Crellvm's lessdef): poison than every value, undef than every value but poison, a number
+-- than itself alone. Where a program may give a, one that gives b refines it.
+abbrev pub IsLessDefined : Value → Value → Type 0
+IsLessDefined Poison b = Unit {0}
+IsLessDefined Undef (Num n) = Unit {0}
+IsLessDefined Undef Undef = Unit {0}
+IsLessDefined Undef Poison = ⊥
+IsLessDefined (Num m) b = b ≡ Num m

@@ -1,0 +1,20 @@
+ghost use Rattle.ir_values.specs.Laws.{LessDefinedIsReflexive, LessDefinedIsTransitive, OperationsAreMonotone, OperationsStayInKind};
+
+/// More defined operands and fewer flags give a more defined outcome.
+#[tactic(auto, using(crate::proofs::OperationLaws::binary_monotone))]
+pub fn operations_are_monotone()
+    ensures { OperationsAreMonotone }
+{}
+
+/// The value of an operation on iN is one of iN.
+#[tactic(auto, using(crate::proofs::OperationLaws::binary_value_in_kind))]
+pub fn operations_stay_in_kind()
+    ensures { OperationsStayInKind }
+{}
+
+/// To be less defined is an order.
+#[tactic(auto, using(crate::proofs::OperationLaws::less_defined_refl, crate::proofs::OperationLaws::less_defined_trans))]
+pub fn less_defined_is_an_order()
+    ensures reflexive { LessDefinedIsReflexive }
+    ensures transitive { LessDefinedIsTransitive }
+{}
