@@ -1,0 +1,143 @@
+-- Every state that a run comes to holds values of their kinds.
+use Rattle.std.proofs.Common.{◌≡◌, ℕ, ◌<◌, ◌^◌, Bool, true, false, cond, List, [], ◌∷◌, Option, None, Some, refl, subst}
+use Rattle.std.specs.Prelude.{nat_lt, option_and_then}
+use Rattle.std.proofs.lemmas.Bool.{ltb-true}
+use Rattle.ir_core.specs.declared.names.Name.{Name}
+use Rattle.ir_core.specs.declared.values.Value.{Value}
+use Rattle.ir_core.specs.declared.values.Value.TheVariants as value
+use Rattle.ir_core.specs.declared.values.Kind.{Kind}
+use Rattle.ir_core.specs.declared.values.Kind.TheVariants.{Int}
+use Rattle.ir_core.specs.declared.operands.Const.{Const}
+use Rattle.ir_core.specs.declared.operands.Const.TheVariants as constant
+use Rattle.ir_core.specs.declared.operands.Atom.{Atom}
+use Rattle.ir_core.specs.declared.operands.Atom.TheVariants as atom
+use Rattle.ir_core.specs.declared.operands.Operand.{Operand}
+use Rattle.ir_core.specs.declared.operands.BinOp.{BinOp}
+use Rattle.ir_core.specs.declared.operands.Flags.{Flags}
+use Rattle.ir_core.specs.declared.functions.Instr.{Instr}
+use Rattle.ir_core.specs.declared.functions.Instr.TheVariants as line
+use Rattle.ir_core.specs.declared.functions.Term.{Term}
+use Rattle.ir_core.specs.declared.functions.Term.TheVariants.{Ret}
+use Rattle.ir_core.specs.declared.functions.Param.{Param}
+use Rattle.ir_core.specs.declared.functions.Block.{Block}
+use Rattle.ir_core.specs.declared.functions.Function.{Function}
+use Rattle.ir_core.specs.declared.functions.Module.{Module}
+use Rattle.ir_values.specs.declared.operations.Outcome.{Outcome}
+use Rattle.ir_values.specs.Values.{IsInKind}
+use Rattle.ir_values.proofs.KindLaws.{poison_in_kind}
+use Rattle.ir_values.proofs.OperationLaws.{binary_value_in_kind}
+use Rattle.ir_machine.specs.declared.items.Item.{Item}
+use Rattle.ir_machine.specs.declared.items.Shown.{Shown}
+use Rattle.ir_machine.specs.declared.items.Shown.TheVariants as shown
+use Rattle.ir_machine.specs.declared.items.Input.{Input}
+use Rattle.ir_machine.specs.Registers.{Registers, no_registers, read, set, AreInKind, kind_of, constant_value, atom_at, atom_value, operand_value, binary_at}
+use Rattle.ir_machine.specs.State.{Frame, Pending, World, State, Running, Over}
+use Rattle.ir_machine.specs.Machine.{Made, Follows, asks, frame_step, term_step, return_step, binary_result, fits_kind, shown_value, entered, at_entry, started, start, function_named}
+pub use Rattle.ir_machine.specs.Kept.{GivesInKind}
+use Rattle.ir_machine.proofs.Trees.{AllDo, all_do_made, all_do_show, all_do_set_to}
+use Rattle.ir_machine.proofs.Runs.{IsInKindOf, set_in_kind}
+
+number_in_kind : (n width : ℕ) (below : Bool) → (below ≡ true → n < 2 ^ width) → IsInKind (Int width) (cond below (value.Num n) value.Poison)
+number_in_kind n width true h = h refl
+number_in_kind n width false h = tt
+
+pub constant_in_kind : (k : Kind) (c : Const) → IsInKind k (constant_value k c)
+constant_in_kind (Int width) (constant.Number n) = number_in_kind n width (nat_lt n (2 ^ width)) (ltb-true n (2 ^ width))
+constant_in_kind (Int width) constant.Undef = tt
+
+pub atom_at_in_kind : {R : Type 0} (reading : Kind → R → Value) → ((k : Kind) (r : R) → IsInKind k (reading k r)) → (k : Kind) (a : Atom R) → IsInKind k (atom_at reading k a)
+atom_at_in_kind reading h k (atom.Constant c) = constant_in_kind k c
+atom_at_in_kind reading h k (atom.Register r) = h k r
+
+pub atom_value_in_kind : {R : Type 0} (reading : Kind → R → Value) → ((k : Kind) (r : R) → IsInKind k (reading k r)) → (k : Option Kind) (a : Atom R) → IsInKindOf k (atom_value reading k a)
+atom_value_in_kind reading h None a = tt
+atom_value_in_kind reading h (Some k) a = atom_at_in_kind reading h k a
+
+pub operand_in_kind : {R : Type 0} (reading : Kind → R → Value) → ((k : Kind) (r : R) → IsInKind k (reading k r)) → (o : Operand R) → IsInKindOf (kind_of o.ty) (operand_value reading o)
+operand_in_kind reading h o = atom_value_in_kind reading h (kind_of o.ty) o.atom
+
+pub binary_in_kind : (op : BinOp) (flags : Flags) (k : Option Kind) (a b : Value) → GivesInKind k (binary_at op flags k a b)
+binary_in_kind op flags None a b = tt
+binary_in_kind op flags (Some (Int width)) a b = binary_value_in_kind op flags width a b
+
+abbrev pub AllInKind : List Pending → Type 0
+AllInKind [] = Unit {0}
+AllInKind (p ∷ ps) = AreInKind p.frame.registers × AllInKind ps
+
+abbrev pub StateInKind : State → Type 0
+StateInKind (Running frame rest world) = AreInKind frame.registers × AllInKind rest
+StateInKind Over = Unit {0}
+
+abbrev LeadsInKind : List Item → State → Type 0
+LeadsInKind items after = StateInKind after
+
+return_in_kind : (k : Option Kind) (v : Value) (rest : List Pending) (world : World) → IsInKindOf k v → AllInKind rest → AllDo LeadsInKind (return_step k v rest world)
+return_in_kind k v [] world p h = all_do_show LeadsInKind k v _ _ tt (λ s. tt)
+return_in_kind k v (q ∷ qs) world p h = (set_in_kind q.frame.registers q.into k v h.0 p, h.1)
+
+term_in_kind : (t : Term) (frame : Frame) (rest : List Pending) (world : World) → AreInKind frame.registers → AllInKind rest → AllDo LeadsInKind (term_step t frame rest world)
+term_in_kind (Ret o) frame rest world h w =
+    return_in_kind (kind_of o.ty) (operand_value (read frame.registers) o) rest world (operand_in_kind (read frame.registers) (λ k r. h r k) o) w
+
+frame_in_kind : (lines : List Instr) (frame : Frame) (rest : List Pending) (world : World) → AreInKind frame.registers → AllInKind rest → AllDo LeadsInKind (frame_step lines frame rest world)
+frame_in_kind (line.Binary b ∷ left) frame rest world h w =
+    all_do_set_to LeadsInKind (kind_of b.ty) b.name (binary_result frame.registers b) (record frame { lines = left }) rest world
+    (λ v e. (
+      set_in_kind frame.registers b.name (kind_of b.ty) v h (subst (λ (o : Outcome). GivesInKind (kind_of b.ty) o) e
+          (binary_in_kind b.op b.flags (kind_of b.ty) (atom_value (read frame.registers) (kind_of b.ty) b.left) (atom_value (read frame.registers) (kind_of b.ty) b.right))),
+      w,
+    ))
+    tt
+frame_in_kind [] frame rest world h w = term_in_kind frame.term frame rest world h w
+
+pub step_in_kind : (m : Module) (s : State) → StateInKind s → AllDo LeadsInKind (asks m s)
+step_in_kind m (Running frame rest world) h = frame_in_kind frame.lines frame rest world h.0 h.1
+step_in_kind m Over h = tt
+
+-- every step leads from such a state to another
+pub made_in_kind : (m : Module) (s : State) (made : Made) → StateInKind s → Follows (asks m s) made → StateInKind made.after
+made_in_kind m s made h f = all_do_made LeadsInKind (asks m s) made (step_in_kind m s h) f
+
+pub no_registers_in_kind : AreInKind no_registers
+no_registers_in_kind x k = poison_in_kind k
+
+pub argument_in_kind : (k : Option Kind) (a : Shown) → fits_kind k a ≡ true → IsInKindOf k (shown_value a)
+argument_in_kind None a h = tt
+argument_in_kind (Some (Int width)) (shown.Num n) h = ltb-true n (2 ^ width) h
+
+abbrev pub EntersInKind : Option Registers → Type 0
+EntersInKind None = Unit {0}
+EntersInKind (Some registers) = AreInKind registers
+
+fitting_in_kind : (fits : Bool) (entering : Option Registers) → (fits ≡ true → EntersInKind entering) → EntersInKind (cond fits entering None)
+fitting_in_kind true entering h = h refl
+fitting_in_kind false entering h = tt
+
+pub entered_in_kind : (ps : List Param) (args : List Shown) (registers : Registers) → AreInKind registers → EntersInKind (entered ps args registers)
+entered_in_kind [] [] registers h = h
+entered_in_kind [] (a ∷ args) registers h = tt
+entered_in_kind (p ∷ ps) [] registers h = tt
+entered_in_kind (p ∷ ps) (a ∷ args) registers h =
+    fitting_in_kind (fits_kind (kind_of p.ty) a) (entered ps args (set registers p.name (kind_of p.ty) (shown_value a)))
+    (λ e. entered_in_kind ps args (set registers p.name (kind_of p.ty) (shown_value a))
+    (set_in_kind registers p.name (kind_of p.ty) (shown_value a) h (argument_in_kind (kind_of p.ty) a e)))
+
+abbrev pub StartsInKind : Option State → Type 0
+StartsInKind None = Unit {0}
+StartsInKind (Some s) = StateInKind s
+
+entry_in_kind : (f : Name) (blocks : List Block) (entering : Option Registers) → EntersInKind entering → StartsInKind (at_entry f blocks entering)
+entry_in_kind f (b ∷ bs) (Some registers) h = (h, tt)
+entry_in_kind f (b ∷ bs) None h = tt
+entry_in_kind f [] entering h = tt
+
+function_in_kind : (o : Option Function) (input : Input) → StartsInKind (option_and_then (λ f. started f input) o)
+function_in_kind None input = tt
+function_in_kind (Some f) input = entry_in_kind f.name f.blocks (entered f.params input.args no_registers) (entered_in_kind f.params input.args no_registers no_registers_in_kind)
+
+-- every run starts in such a state
+pub start_in_kind : (m : Module) (x : Name) (input : Input) → StartsInKind (start m x input)
+start_in_kind m x input = function_in_kind (function_named x m.functions) input
+
+pub file_atom_in_kind : (registers : Registers) (k : Option Kind) (a : Atom Name) → AreInKind registers → IsInKindOf k (atom_value (read registers) k a)
+file_atom_in_kind registers k a h = atom_value_in_kind (read registers) (λ j x. h x j) k a

@@ -1,0 +1,11 @@
+pub mod Trees
+pub mod Runs
+pub mod WrongLast
+pub mod Order
+pub mod InKind
+pub mod Entries
+pub mod Widths
+pub mod Telling
+pub mod Standing
+pub mod Steps
+pub mod Starts

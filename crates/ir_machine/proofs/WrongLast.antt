@@ -1,0 +1,103 @@
+-- Nothing comes after undefined behaviour.
+use Rattle.std.proofs.Common.{◌≡◌, ◌⊎◌, inl, inr, ℕ, zero, suc, List, [], ◌∷◌, ◌++◌, Option, None, Some, refl, sym, ap, ◌∙◌, subst}
+use Rattle.std.specs.Prelude.{MatchOption}
+use Rattle.std.proofs.lemmas.List.{append-nil}
+use Rattle.ir_core.specs.declared.values.Value.{Value}
+use Rattle.ir_core.specs.declared.values.Kind.{Kind}
+use Rattle.ir_core.specs.declared.functions.Instr.{Instr}
+use Rattle.ir_core.specs.declared.functions.Instr.TheVariants as line
+use Rattle.ir_core.specs.declared.functions.Term.{Term}
+use Rattle.ir_core.specs.declared.functions.Term.TheVariants.{Ret}
+use Rattle.ir_core.specs.declared.functions.Module.{Module}
+use Rattle.ir_machine.specs.declared.items.Item.{Item}
+use Rattle.ir_machine.specs.declared.items.Item.TheVariants.{Turn, Returned, Wrong}
+use Rattle.ir_machine.specs.Registers.{kind_of, read, operand_value}
+use Rattle.ir_machine.specs.State.{Frame, Pending, World, State, Running, Over}
+use Rattle.ir_machine.specs.Machine.{Made, asks, start, ShowsFrom, frame_step, term_step, return_step, binary_result}
+use Rattle.ir_machine.specs.Refinement.{WrongIsLast}
+use Rattle.ir_machine.proofs.Trees.{AllDo, all_do_made, all_do_show, all_do_set_to}
+use Rattle.ir_machine.proofs.Runs.{over_shows}
+
+-- undefined behaviour isn't among the items
+abbrev pub IsCalm : List Item → Type 0
+IsCalm items = (before after : List Item) → items ≡ before ++ Wrong ∷ after → ⊥
+
+-- nothing comes after it
+abbrev pub EndsWrong : List Item → Type 0
+EndsWrong items = (before after : List Item) → items ≡ before ++ Wrong ∷ after → after ≡ []
+
+calm_none : IsCalm []
+calm_none [] after e = cc
+calm_none (x ∷ xs) after e = cc
+
+calm_more : (x : Item) (xs : List Item) → (x ≡ Wrong → ⊥) → IsCalm xs → IsCalm (x ∷ xs)
+calm_more x xs other h [] after e = other cc
+calm_more x xs other h (y ∷ ys) after e = h ys after cc
+
+calm_rest : (x : Item) (xs : List Item) → IsCalm (x ∷ xs) → IsCalm xs
+calm_rest x xs h before after e = h (x ∷ before) after (ap (λ (l : List Item). x ∷ l) e)
+
+ends_here : EndsWrong (Wrong ∷ [])
+ends_here [] after e = cc
+ends_here (y ∷ ys) after e = absurd (calm_none ys after cc)
+
+ends_later : (x : Item) (xs : List Item) → (x ≡ Wrong → ⊥) → EndsWrong xs → EndsWrong (x ∷ xs)
+ends_later x xs other h [] after e = absurd (other cc)
+ends_later x xs other h (y ∷ ys) after e = h ys after cc
+
+turn_other : Turn ≡ Wrong → ⊥
+turn_other e = cc
+
+returned_calm : (x : Option _) → IsCalm (Returned x ∷ [])
+returned_calm x = calm_more (Returned x) [] (λ e. cc) calm_none
+
+-- past items that are calm
+past_calm : (items rest before after : List Item) → IsCalm items → before ++ Wrong ∷ after ≡ items ++ rest → (left : List Item) × (rest ≡ left ++ Wrong ∷ after)
+past_calm [] rest before after calm e = (before, sym e)
+past_calm (x ∷ xs) rest [] after calm e = absurd (calm [] xs (let x_is : x ≡ Wrong = cc in cc))
+past_calm (x ∷ xs) rest (y ∷ ys) after calm e = past_calm xs rest ys after (calm_rest x xs calm) cc
+
+-- a step shows no undefined behaviour, or ends with it, and the run is over
+abbrev pub WrongOnlyLast : List Item → State → Type 0
+WrongOnlyLast items after = IsCalm items ⊎ ((after ≡ Over) × EndsWrong items)
+
+return_ends : (k : Option Kind) (v : Value) (rest : List Pending) (world : World) → AllDo WrongOnlyLast (return_step k v rest world)
+return_ends k v [] world = all_do_show WrongOnlyLast k v _ _
+    (inr (refl, ends_later Turn (Wrong ∷ []) turn_other ends_here))
+    (λ s. inl (calm_more Turn (Returned (Some s) ∷ []) turn_other (returned_calm (Some s))))
+return_ends k v (p ∷ ps) world = inl (calm_more Turn [] turn_other calm_none)
+
+term_ends : (t : Term) (frame : Frame) (rest : List Pending) (world : World) → AllDo WrongOnlyLast (term_step t frame rest world)
+term_ends (Ret o) frame rest world = return_ends (kind_of o.ty) (operand_value (read frame.registers) o) rest world
+
+frame_ends : (lines : List Instr) (frame : Frame) (rest : List Pending) (world : World) → AllDo WrongOnlyLast (frame_step lines frame rest world)
+frame_ends (line.Binary b ∷ left) frame rest world = all_do_set_to WrongOnlyLast (kind_of b.ty) b.name (binary_result frame.registers b) (record frame { lines = left }) rest world
+    (λ v e. inl calm_none) (inr (refl, ends_here))
+frame_ends [] frame rest world = term_ends frame.term frame rest world
+
+pub step_ends : (m : Module) (s : State) → AllDo WrongOnlyLast (asks m s)
+step_ends m (Running frame rest world) = frame_ends frame.lines frame rest world
+step_ends m Over = tt
+
+run_ends_in : (m : Module) (n : ℕ) (made : Made) (rest before after : List Item) → ((left : List Item) → ShowsFrom m n made.after (left ++ Wrong ∷ after) → after ≡ [])
+    → WrongOnlyLast made.items made.after → before ++ Wrong ∷ after ≡ made.items ++ rest → ShowsFrom m n made.after rest → after ≡ []
+run_ends_in m n made rest before after hypothesis (inl calm) e more =
+    let past : (left : List Item) × (rest ≡ left ++ Wrong ∷ after) = past_calm made.items rest before after calm e in
+    hypothesis past.0 (subst (λ (shown : List Item). ShowsFrom m n made.after shown) past.1 more)
+run_ends_in m n made rest before after hypothesis (inr ends) e more =
+    let nothing : rest ≡ [] = over_shows m n rest (subst (λ (s : State). ShowsFrom m n s rest) ends.0 more) in
+    ends.1 before after (sym (e ∙ ap (λ (l : List Item). made.items ++ l) nothing ∙ append-nil made.items))
+
+pub run_ends : (m : Module) (n : ℕ) (s : State) (before after : List Item) → ShowsFrom m n s (before ++ Wrong ∷ after) → after ≡ []
+run_ends m zero s before after h = absurd (calm_none before after (sym h))
+run_ends m (suc n) s before after (inl e) = absurd (calm_none before after (sym e))
+run_ends m (suc n) s before after (inr h) =
+    run_ends_in m n h.0 h.1 before after (λ left more. run_ends m n h.0.after left after more)
+    (all_do_made WrongOnlyLast (asks m s) h.0 (step_ends m s) h.2) h.3 h.4
+
+wrong_is_last_from : (m : Module) (o : Option State) (n : ℕ) (before after : List Item) → MatchOption o ⊥ (λ s. ShowsFrom m n s (before ++ Wrong ∷ after)) → after ≡ []
+wrong_is_last_from m None n before after h = absurd h
+wrong_is_last_from m (Some s) n before after h = run_ends m n s before after h
+
+pub wrong_is_last : WrongIsLast
+wrong_is_last m f input n before after h = wrong_is_last_from m (start m f input) n before after h

@@ -1,0 +1,7 @@
+pub mod Machine
+pub mod Refinement
+pub mod Registers
+pub mod State
+pub mod Choices
+pub mod Kept
+pub mod Places

@@ -1,0 +1,62 @@
+-- The state of a run, of which the code keeps the place in the module.
+use Rattle.std.specs.Prelude.{◌≤◌, ◌+◌, ℕ, List, [], ◌∷◌, Option, None, Some, slice_get, drop, All}
+use Rattle.ir_core.specs.declared.operands.Ty.{Ty}
+use Rattle.ir_core.specs.declared.operands.Ty.TheVariants.{Int, Void}
+use Rattle.ir_core.specs.declared.functions.Instr.{Instr}
+use Rattle.ir_core.specs.declared.functions.Instr.TheVariants as line
+use Rattle.ir_core.specs.declared.functions.Block.{Block}
+use Rattle.ir_core.specs.declared.functions.Function.{Function}
+use Rattle.ir_core.specs.declared.functions.Module.{Module}
+use Rattle.ir_machine.specs.declared.items.Item.{Item}
+use Rattle.ir_machine.specs.declared.items.Item.TheVariants as item
+use Rattle.ir_machine.specs.declared.machine.Place.{Place}
+use Rattle.ir_machine.specs.declared.machine.RunState.{RunState}
+use Rattle.ir_machine.specs.declared.machine.Progress.{Progress}
+use Rattle.ir_machine.specs.declared.machine.Progress.TheVariants as progress
+use Rattle.ir_machine.specs.declared.registers.RegisterFile.{RegisterFile}
+use Rattle.ir_machine.specs.Registers.{Registers}
+use Rattle.ir_machine.specs.State.{State, Running, Over}
+use Rattle.ir_machine.specs.Kept.{registers_of}
+
+abbrev pub in_block : Function → Option Block → ℕ → Registers → State
+in_block f (Some b) line registers =
+    Running (record { function = f.name; block = b.name; lines = drop line b.body; term = b.term; registers = registers }) [] tt
+in_block f None line registers = Over
+
+abbrev pub in_function : Option Function → ℕ → ℕ → Registers → State
+in_function (Some f) block line registers = in_block f (slice_get f.blocks block) line registers
+in_function None block line registers = Over
+
+-- a run that stands nowhere in the module is over
+abbrev pub state_at : Module → Option Place → Registers → State
+state_at m None registers = Over
+state_at m (Some p) registers = in_function (slice_get m.functions p.function) p.block p.line registers
+
+abbrev pub next_line : Place → Place
+next_line p = record { function = p.function; block = p.block; line = p.line + 1 }
+
+abbrev pub registers_in : RegisterFile → Registers
+registers_in file = registers_of file.entries.items
+
+-- THE state that the code keeps
+abbrev pub state_of : Module → RunState → State
+state_of m kept = state_at m kept.place (registers_in kept.registers)
+
+-- how a run stands that showed these items last and is in this state
+abbrev pub progress_of : List Item → State → Progress
+progress_of items (Running frame rest world) = progress.Goes
+progress_of [] Over = progress.Ended
+progress_of (item.Wrong ∷ items) Over = progress.IsWrong
+progress_of (item.Turn ∷ items) Over = progress_of items Over
+progress_of (item.Returned s ∷ items) Over = progress_of items Over
+
+abbrev pub IsWidth : Ty → Type 0
+IsWidth (Int width) = (1 ≤ width) × (width ≤ 64)
+IsWidth Void = Unit {0}
+
+abbrev pub HasWidth : Instr → Type 0
+HasWidth (line.Binary b) = IsWidth b.ty
+
+-- every line is on integers of 1 to 64 bits
+abbrev pub HasWidths : Module → Type 0
+HasWidths m = All (λ f. All (λ b. All HasWidth b.body) f.blocks) m.functions

@@ -1,0 +1,46 @@
+-- What a module can show, and when one module refines another.
+use Rattle.std.specs.Prelude.{◌≡◌, ◌⊎◌, ℕ, List, [], ◌∷◌, ◌++◌, MatchOption}
+use Rattle.ir_core.specs.declared.names.Name.{Name}
+use Rattle.ir_core.specs.declared.functions.Function.{Function}
+use Rattle.ir_core.specs.declared.functions.Module.{Module}
+use Rattle.ir_machine.specs.declared.items.Item.{Item}
+use Rattle.ir_machine.specs.declared.items.Item.TheVariants.{Wrong}
+use Rattle.ir_machine.specs.declared.items.Input.{Input}
+use Rattle.ir_machine.specs.Machine.{start, started, ShowsFrom}
+
+-- Some run of at most n steps, from the start of that function on that input, shows exactly these items.
+abbrev pub Shows : Module → Name → Input → ℕ → List Item → Type 0
+Shows m f input n items = MatchOption (start m f input) ⊥ (λ s. ShowsFrom m n s items)
+
+-- the module can show these items, or undefined behaviour after a first part of them
+abbrev pub MayShow : Module → Name → Input → List Item → Type 0
+MayShow m f input items = ((n : ℕ) × Shows m f input n items)
+    ⊎ ((n : ℕ) × (seen : List Item) × (rest : List Item) × (items ≡ seen ++ rest) × Shows m f input n (seen ++ Wrong ∷ []))
+
+-- The target refines the source: whatever function is entered, on whatever input, what the target can show the source can
+-- show too, unless it has undefined behaviour first.
+abbrev pub Refines : Module → Module → Type 0
+Refines source target = (f : Name) (input : Input) (n : ℕ) (items : List Item) → Shows target f input n items → MayShow source f input items
+
+-- refinement leads from each module to itself
+abbrev pub IsReflexive : Type 0
+IsReflexive = (m : Module) → Refines m m
+
+abbrev pub IsTransitive : Type 0
+IsTransitive = (a b c : Module) → Refines a b → Refines b c → Refines a c
+
+-- nothing comes after undefined behaviour
+abbrev pub WrongIsLast : Type 0
+WrongIsLast = (m : Module) (f : Name) (input : Input) (n : ℕ) (before after : List Item) → Shows m f input n (before ++ Wrong ∷ after) → after ≡ []
+
+-- the same, of one function that is entered in its module
+abbrev pub ShowsOn : Module → Function → Input → ℕ → List Item → Type 0
+ShowsOn m f input n items = MatchOption (started f input) ⊥ (λ s. ShowsFrom m n s items)
+
+abbrev pub MayShowOn : Module → Function → Input → List Item → Type 0
+MayShowOn m f input items = ((n : ℕ) × ShowsOn m f input n items)
+    ⊎ ((n : ℕ) × (seen : List Item) × (rest : List Item) × (items ≡ seen ++ rest) × ShowsOn m f input n (seen ++ Wrong ∷ []))
+
+-- the target's function g refines the source's function f
+abbrev pub FunctionRefines : Module → Function → Module → Function → Type 0
+FunctionRefines source f target g = (input : Input) (n : ℕ) (items : List Item) → ShowsOn target g input n items → MayShowOn source f input items

@@ -1,0 +1,80 @@
+-- Registers, and what operands are worth over them.
+use Rattle.std.specs.Prelude.{◌^◌, cond, nat_lt, Option, None, Some}
+use Rattle.ir_core.specs.declared.names.Name.{Name}
+use Rattle.ir_core.specs.declared.values.Value.{Value}
+use Rattle.ir_core.specs.declared.values.Value.TheVariants.{Num, Undef, Poison}
+use Rattle.ir_core.specs.declared.values.Kind.{Kind}
+use Rattle.ir_core.specs.declared.values.Kind.TheVariants as kind
+use Rattle.ir_core.specs.declared.operands.Ty.{Ty}
+use Rattle.ir_core.specs.declared.operands.Ty.TheVariants as ty
+use Rattle.ir_core.specs.declared.operands.Const.{Const}
+use Rattle.ir_core.specs.declared.operands.Const.TheVariants as constant
+use Rattle.ir_core.specs.declared.operands.Atom.{Atom}
+use Rattle.ir_core.specs.declared.operands.Atom.TheVariants as atom
+use Rattle.ir_core.specs.declared.operands.Operand.{Operand}
+use Rattle.ir_core.specs.declared.operands.BinOp.{BinOp}
+use Rattle.ir_core.specs.declared.operands.Flags.{Flags}
+use Rattle.ir_core.specs.Same.{same_name}
+use Rattle.ir_values.specs.declared.operations.Outcome.{Outcome}
+use Rattle.ir_values.specs.declared.operations.Outcome.TheVariants.{Gives}
+use Rattle.ir_values.specs.Values.{IsInKind, same_kind}
+use Rattle.ir_values.specs.Operations.{binary_outcome}
+
+-- what a register that is set holds: the kind of the line or parameter that set it, and a value
+pub record Held : Type 0 where
+  pub kind : Kind
+  pub value : Value
+
+-- which registers are set, and what they hold
+abbrev pub Registers : Type 0
+Registers = Name → Option Held
+
+abbrev pub no_registers : Registers
+no_registers x = None
+
+abbrev pub held_at : Kind → Option Held → Value
+held_at k None = Poison
+held_at k (Some held) = cond (same_kind held.kind k) held.value Poison
+
+-- a register that isn't set, or is read at another kind than its own, reads as poison
+abbrev pub read : Registers → Kind → Name → Value
+read registers k x = held_at k (registers x)
+
+abbrev pub holding : Option Kind → Value → Option Held
+holding None v = None
+holding (Some k) v = Some (record { kind = k; value = v })
+
+-- a register of no kind isn't set
+abbrev pub set : Registers → Name → Option Kind → Value → Registers
+set registers x k v = λ y. cond (same_name x y) (holding k v) (registers y)
+
+-- every register holds a value of its kind
+abbrev pub AreInKind : Registers → Type 0
+AreInKind registers = (x : Name) (k : Kind) → IsInKind k (read registers k x)
+
+abbrev pub kind_of : Ty → Option Kind
+kind_of (ty.Int width) = Some (kind.Int width)
+kind_of ty.Void = None
+
+-- a number that isn't of its type is worth poison
+abbrev pub constant_value : Kind → Const → Value
+constant_value (kind.Int width) (constant.Number n) = cond (nat_lt n (2 ^ width)) (Num n) Poison
+constant_value (kind.Int width) constant.Undef = Undef
+
+-- what an atom is worth at a kind, where registers are read by the function given
+abbrev pub atom_at : {R : Type 0} → (Kind → R → Value) → Kind → Atom R → Value
+atom_at reading k (atom.Constant c) = constant_value k c
+atom_at reading k (atom.Register r) = reading k r
+
+-- what it is worth at a type: poison at a type without values
+abbrev pub atom_value : {R : Type 0} → (Kind → R → Value) → Option Kind → Atom R → Value
+atom_value reading None a = Poison
+atom_value reading (Some k) a = atom_at reading k a
+
+abbrev pub operand_value : {R : Type 0} → (Kind → R → Value) → Operand R → Value
+operand_value reading o = atom_value reading (kind_of o.ty) o.atom
+
+-- the outcome of a binary operator on values of a kind: poison at a type without values
+abbrev pub binary_at : BinOp → Flags → Option Kind → Value → Value → Outcome
+binary_at op flags None a b = Gives Poison
+binary_at op flags (Some (kind.Int width)) a b = binary_outcome op flags width a b

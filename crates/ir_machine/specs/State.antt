@@ -1,0 +1,27 @@
+-- The state of a run, as data.
+use Rattle.std.specs.Prelude.{List}
+use Rattle.ir_core.specs.declared.names.Name.{Name}
+use Rattle.ir_core.specs.declared.functions.Instr.{Instr}
+use Rattle.ir_core.specs.declared.functions.Term.{Term}
+use Rattle.ir_machine.specs.Registers.{Registers}
+
+-- An activation of a function, at a place of one of its blocks: the lines that are left there, and the terminator.
+pub record Frame : Type 0 where
+  pub function : Name
+  pub block : Name
+  pub lines : List Instr
+  pub term : Term
+  pub registers : Registers
+
+-- a frame that waits for a call to return: the register that the call sets, and the frame with the lines after the call
+pub record Pending : Type 0 where
+  pub into : Name
+  pub frame : Frame
+
+-- What all frames share: memory, and the names that the outside knows its blocks by, once lines reach them.
+abbrev pub World : Type 0
+World = Unit {0}
+
+pub data State : Type 0 where
+  Running : Frame → List Pending → World → State
+  Over : State

@@ -1,0 +1,66 @@
+ghost use Rattle.std.specs.Prelude.{◌≡◌, List};
+ghost use Rattle.ir_machine.specs.declared.items.Choice.{Choice};
+ghost use Rattle.ir_machine.specs.declared.items.Shown.{Shown};
+ghost use Rattle.ir_machine.specs.Registers as registers;
+ghost use Rattle.ir_machine.specs.Machine as machine;
+ghost use Rattle.ir_machine.specs.Choices.{TakesNext, ShowingComesTo};
+
+use crate::operands::fits_width;
+use crate::{Choice, Shown};
+use ir_core::{Kind, Value};
+
+/// Who chooses where a step leaves a choice.
+pub trait Chooser {
+    /// The choices that are still to be told, the next first.
+    ghost script: { Self → List Choice };
+
+    /// The next choice, or none.
+    fn take(&mut self) -> Option<Choice>
+        ensures { TakesNext result (script self.old) (script self.new) };
+}
+
+/// What showing a value to the outside leads to.
+#[derive(Debug, Drop, Clone, Copy)]
+pub enum Showing {
+    Shows(Shown),
+    IsPoison,
+    LacksChoice,
+}
+
+fn is_pick(kind: &Kind, choice: &Choice) -> bool
+    ensures { result ≡ machine.is_pick kind.now choice.now }
+{
+    let Kind::Int(width) = kind;
+    let Choice::Pick(Shown::Num(n)) = choice;
+    fits_width(*n, *width)
+}
+
+fn picked(choice: &Choice) -> Shown
+    ensures { result ≡ machine.picked choice.now }
+{
+    let Choice::Pick(shown) = choice;
+    *shown
+}
+
+#[tactic(auto, using(crate::proofs::Telling::show_number, crate::proofs::Telling::show_poison, crate::proofs::Telling::show_kindless, crate::proofs::Telling::show_picks, crate::proofs::Telling::show_lacks, crate::proofs::Telling::show_misfits))]
+pub(crate) fn show<C: Chooser>(kind: Option<Kind>, value: Value, chooser: &mut C) -> Showing
+    ensures { (poison : machine.Asks) (next : Shown → machine.Asks)
+        → ShowingComesTo result (machine.show kind value poison next) (C.script chooser.old) poison next (C.script chooser.new) }
+{
+    let own = match (value, kind) {
+        (Value::Num(n), _) => return Showing::Shows(Shown::Num(n)),
+        (Value::Poison, _) => return Showing::IsPoison,
+        (Value::Undef, None) => return Showing::IsPoison,
+        (Value::Undef, Some(own)) => own,
+    };
+    match chooser.take() {
+        Some(choice) => {
+            if is_pick(&own, &choice) {
+                Showing::Shows(picked(&choice))
+            } else {
+                Showing::LacksChoice
+            }
+        }
+        None => Showing::LacksChoice,
+    }
+}

@@ -1,0 +1,30 @@
+use contents::Seq;
+
+/// A value as the outside sees it: a number.
+#[derive(Debug, Drop, Clone, Copy)]
+pub enum Shown {
+    Num(u64),
+}
+
+/// What is chosen at a step that leaves a choice: what an undef that is shown is taken for.
+#[derive(Debug, Drop, Clone, Copy)]
+pub enum Choice {
+    Pick(Shown),
+}
+
+/// What a run shows.
+#[derive(Debug, Drop, Clone, Copy)]
+pub enum Item {
+    /// A terminator was executed.
+    Turn,
+    /// The entry function returned this, or nothing where its result is `void`.
+    Returned(Option<Shown>),
+    /// Undefined behaviour. It is the last item of a run.
+    Wrong,
+}
+
+/// What a run is started on: one argument for each parameter.
+#[derive(Debug, Drop)]
+pub struct Input {
+    pub args: Seq<Shown>,
+}

@@ -1,0 +1,25 @@
+//! The machine: what a module can show, step by step, and when one module refines another.
+//!
+//! The definitions know nothing of assertions, alignment or hints.
+#![tactic(auto)]
+
+mod choosing;
+mod ends;
+mod items;
+mod machine;
+mod operands;
+mod reading;
+mod refinement;
+mod registers;
+mod starting;
+mod stepping;
+#[cfg(test)]
+mod tests;
+
+pub use choosing::{Chooser, Showing};
+pub use items::{Choice, Input, Item, Shown};
+pub use machine::{Place, Progress, RunState, StartEnd, StepEnd, Stepped};
+pub use refinement::refinement_is_an_order;
+pub use registers::{Assigned, RegisterFile};
+pub use starting::start;
+pub use stepping::step;

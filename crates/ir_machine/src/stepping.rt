@@ -1,0 +1,147 @@
+ghost use Rattle.std.specs.Prelude.{◌≡◌, ◌≢◌, ◌+◌, ◌<◌, [], ◌∷◌, Some, None, IfOk, OnErr, IsErr, IsErrOf};
+ghost use Rattle.ir_values.specs.declared.operations.Outcome.TheVariants as outcome;
+ghost use Rattle.ir_machine.specs.declared.items.Item.TheVariants as item;
+ghost use Rattle.ir_machine.specs.declared.machine.Progress.TheVariants as progress;
+ghost use Rattle.ir_machine.specs.Registers as registers;
+ghost use Rattle.ir_machine.specs.State.{Over};
+ghost use Rattle.ir_machine.specs.Machine as machine;
+ghost use Rattle.ir_machine.specs.Choices.{ComesTo, LacksChoice, IsStep};
+ghost use Rattle.ir_machine.specs.Places.{registers_in, state_of, progress_of, next_line, IsWidth, HasWidths};
+
+use crate::choosing::{Showing, show};
+use crate::operands::{binary_result, kind_of, operand_value};
+use crate::{Chooser, Item, Place, Progress, RunState, StepEnd, Stepped};
+use contents::Seq;
+use ir_core::{Binary, Instr, Kind, Module, Term, Value};
+use ir_values::Outcome;
+use std::alloc::{AllocError, Global};
+
+fn one_item(alloc: Global, first: Item) -> Result<Seq<Item>, AllocError>
+    ensures { IfOk result (λ items. items ≡ first ∷ []) }
+{
+    let mut items = Seq::new(alloc);
+    items.push(first)?;
+    Ok(items)
+}
+
+fn two_items(alloc: Global, first: Item, second: Item) -> Result<Seq<Item>, AllocError>
+    ensures { IfOk result (λ items. items ≡ first ∷ second ∷ []) }
+{
+    let mut items = Seq::new(alloc);
+    items.push(first)?;
+    items.push(second)?;
+    Ok(items)
+}
+
+/// The last return of a run: the result is shown.
+fn last_return<C: Chooser>(
+    alloc: Global,
+    kind: Option<Kind>,
+    value: Value,
+    chooser: &mut C,
+) -> Result<Stepped, StepEnd>
+    ensures made { IfOk result (λ stepped. ComesTo (machine.return_step kind value [] tt) (C.script chooser.old)
+        (machine.Does stepped.items Over) (C.script chooser.new)) }
+    ensures progress { IfOk result (λ stepped. stepped.progress ≡ progress_of stepped.items Over) }
+    ensures no_choice { IsErrOf result StepEnd.NoChoice → LacksChoice (machine.return_step kind value [] tt) (C.script chooser.old) }
+{
+    match show(kind, value, chooser) {
+        Showing::LacksChoice => Err(StepEnd::NoChoice),
+        Showing::IsPoison => Ok(Stepped {
+            items: two_items(alloc, Item::Turn, Item::Wrong)?,
+            progress: Progress::IsWrong,
+        }),
+        Showing::Shows(shown) => Ok(Stepped {
+            items: two_items(alloc, Item::Turn, Item::Returned(Some(shown)))?,
+            progress: Progress::Ended,
+        }),
+    }
+}
+
+/// A line is done: its register is set, and the run stands after it; or the run is wrong.
+fn do_line(
+    alloc: Global,
+    binary: &Binary,
+    place: Place,
+    state: &mut RunState,
+) -> Result<Stepped, StepEnd>
+    requires width { IsWidth binary.now.ty }
+    requires room { place.line < usize.MAX }
+    ensures gives { (v : _) → machine.binary_result (registers_in state.old.registers) binary.now ≡ outcome.Gives v → IfOk result (λ stepped.
+        (stepped.items ≡ []) × (stepped.progress ≡ progress.Goes) × (state.new.place ≡ Some (next_line place))
+        × (registers_in state.new.registers ≡ registers.set (registers_in state.old.registers) binary.now.name (registers.kind_of binary.now.ty) v)) }
+    ensures traps { machine.binary_result (registers_in state.old.registers) binary.now ≡ outcome.Trap → IfOk result (λ stepped.
+        (stepped.items ≡ item.Wrong ∷ []) × (stepped.progress ≡ progress.IsWrong) × (state.new.place ≡ None)) }
+    ensures same_place { OnErr result (state.new.place ≡ state.old.place) }
+    ensures same_registers { OnErr result (registers_in state.new.registers ≡ registers_in state.old.registers) }
+    ensures memory { IsErr result → IsErrOf result StepEnd.Memory }
+{
+    match binary_result(&state.registers, binary) {
+        Outcome::Gives(value) => {
+            state
+                .registers
+                .set(alloc, &binary.name, kind_of(&binary.ty), value)?;
+            state.place = Some(Place {
+                function: place.function,
+                block: place.block,
+                line: place.line + 1,
+            });
+            Ok(Stepped {
+                items: Seq::new(alloc),
+                progress: Progress::Goes,
+            })
+        }
+        Outcome::Trap => {
+            let items = one_item(alloc, Item::Wrong)?;
+            state.place = None;
+            Ok(Stepped {
+                items,
+                progress: Progress::IsWrong,
+            })
+        }
+    }
+}
+
+/// One step of a run on the module that it was started on, which isn't over.
+#[tactic(auto, using(crate::proofs::Steps::over_never_goes))]
+pub fn step<C: Chooser>(
+    alloc: Global,
+    module: &Module,
+    state: &mut RunState,
+    chooser: &mut C,
+) -> Result<Stepped, StepEnd>
+    requires running { state_of «module».now state.old ≢ Over }
+    requires widths { HasWidths «module».now }
+    ensures made { IfOk result (λ stepped. IsStep (machine.asks «module».now (state_of «module».now state.old))
+        (C.script chooser.old) (C.script chooser.new) stepped.items (state_of «module».now state.new)) }
+    ensures progress { IfOk result (λ stepped. stepped.progress ≡ progress_of stepped.items (state_of «module».now state.new)) }
+    ensures goes_on { IfOk result (λ stepped. stepped.progress ≡ progress.Goes → state_of «module».now state.new ≢ Over) }
+    ensures no_choice { IsErrOf result StepEnd.NoChoice
+        → LacksChoice (machine.asks «module».now (state_of «module».now state.old)) (C.script chooser.old) }
+    ensures lacking { LacksChoice (machine.asks «module».now (state_of «module».now state.old)) (C.script chooser.old) → IsErr result }
+    ensures as_before { OnErr result (state_of «module».now state.new ≡ state_of «module».now state.old) }
+{
+    let Some(place) = state.place else {
+        unreachable!()
+    };
+    let Some(function) = module.functions.get(place.function) else {
+        unreachable!()
+    };
+    let Some(block) = function.blocks.get(place.block) else {
+        unreachable!()
+    };
+    let lines = block.body.as_slice();
+    if place.line < lines.len() {
+        return match &lines[place.line] {
+            Instr::Binary(binary) => do_line(alloc, binary, place, state),
+        };
+    }
+    let stepped = match &block.term {
+        Term::Ret(operand) => {
+            let value = operand_value(&state.registers, operand);
+            last_return(alloc, kind_of(&operand.ty), value, chooser)?
+        }
+    };
+    state.place = None;
+    Ok(stepped)
+}
