@@ -1,0 +1,105 @@
+-- What the checker says of two functions, and of two modules: the first test that fails decides.
+use Rattle.std.specs.Prelude.{◌≡◌, ℕ, ◌+◌, Bool, ◌&&◌, cond, List, [], ◌∷◌, map, Option, None, Some, find}
+use Rattle.ir_core.specs.declared.names.Name.{Name}
+use Rattle.ir_core.specs.declared.functions.Term.{Term}
+use Rattle.ir_core.specs.declared.functions.Term.TheVariants.{Ret}
+use Rattle.ir_core.specs.declared.functions.Block.{Block}
+use Rattle.ir_core.specs.declared.functions.Function.{Function}
+use Rattle.ir_core.specs.declared.functions.Module.{Module}
+use Rattle.ir_core.specs.Same.{same_list, same_name, same_ty}
+use Rattle.erhl_assert.specs.declared.facts.Fact.{Fact}
+use Rattle.erhl_assert.specs.declared.facts.Assertion.{Assertion}
+use Rattle.erhl_assert.specs.declared.hints.PlacedStep.{PlacedStep}
+use Rattle.erhl_assert.specs.declared.hints.Hint.{Hint}
+use Rattle.erhl_assert.specs.declared.hints.FunctionHint.{FunctionHint}
+use Rattle.erhl_assert.specs.declared.hints.Hints.{Hints}
+use Rattle.erhl_assert.specs.declared.verdict.Reason.TheVariants.{AlignmentDiffers, Unmatched, MissingFact}
+use Rattle.erhl_assert.specs.declared.verdict.Spot.TheVariants as spot
+use Rattle.erhl_assert.specs.declared.verdict.Verdict.{Verdict}
+use Rattle.erhl_assert.specs.declared.verdict.Verdict.TheVariants as verdict
+use Rattle.erhl_assert.specs.declared.verdict.Difference.TheVariants as difference
+use Rattle.erhl_assert.specs.declared.verdict.ModuleVerdict.{ModuleVerdict}
+use Rattle.erhl_assert.specs.declared.verdict.ModuleVerdict.TheVariants as modules
+use Rattle.erhl_assert.specs.Matched.{matched}
+use Rattle.erhl_assert.specs.Alignment.{Line, block_hint, block_lines, alignment_fault}
+use Rattle.erhl_assert.specs.Postcondition.{after_line}
+use Rattle.erhl_assert.specs.Steps.{Rules, Stepped, Refuses, Knows, after_steps, steps_at}
+
+-- both return, of operands that are matched
+abbrev pub term_verdict : Name → ℕ → Term → Term → Assertion → Verdict
+term_verdict block k (Ret a) (Ret b) known =
+    cond (matched known a b) verdict.Valid (verdict.Refused block (spot.Line k) (Unmatched a b))
+
+-- where the steps before line k succeed, what follows them decides
+abbrev pub after_steps_at : Name → ℕ → Stepped → (Assertion → Verdict) → Verdict
+after_steps_at block k (Refuses r) next = verdict.Refused block (spot.Line k) r
+after_steps_at block k (Knows known) next = next known
+
+-- Along a block from line k on: the steps before the line, then the line; at the end the steps before the terminator, then
+-- the terminator.
+abbrev pub lines_verdict : Rules → Module → Name → List PlacedStep → ℕ → List Line → Term → Term → Assertion → Verdict
+lines_verdict rules m block steps k [] s t known =
+    after_steps_at block k (after_steps rules m (steps_at k steps) known) (term_verdict block k s t)
+lines_verdict rules m block steps k (l ∷ ls) s t known =
+    after_steps_at block k (after_steps rules m (steps_at k steps) known)
+    (λ after. lines_verdict rules m block steps (k + 1) ls s t (after_line after l))
+
+abbrev pub on_lines : Rules → Module → Hint → Block → Block → Option (List Line) → Verdict
+on_lines rules m hint b c None = verdict.Refused b.name spot.Start AlignmentDiffers
+on_lines rules m hint b c (Some ls) =
+    let h = block_hint hint b.name in lines_verdict rules m b.name h.steps 0 ls b.term c.term h.entry
+
+-- nothing is known of registers on entry, so the entry's facts must be none
+abbrev pub from_entry : Rules → Module → Hint → Block → Block → List Fact → List Fact → Verdict
+from_entry rules m hint b c (f ∷ fs) gs = verdict.Refused b.name spot.Start (MissingFact f)
+from_entry rules m hint b c [] (g ∷ gs) = verdict.Refused b.name spot.Start (MissingFact g)
+from_entry rules m hint b c [] [] = on_lines rules m hint b c (block_lines hint b c)
+
+-- No terminator leads to another block yet, so the entry alone is reached.
+abbrev pub reached_verdict : Rules → Module → Hint → List Block → List Block → Verdict
+reached_verdict rules m hint (b ∷ bs) (c ∷ cs) =
+    let h = block_hint hint b.name in from_entry rules m hint b c h.entry.src h.entry.tgt
+reached_verdict rules m hint [] cs = verdict.Valid
+reached_verdict rules m hint (b ∷ bs) [] = verdict.Valid
+
+abbrev pub unless_unaligned : Option Name → Verdict → Verdict
+unless_unaligned (Some block) rest = verdict.Refused block spot.Start AlignmentDiffers
+unless_unaligned None rest = rest
+
+-- THE verdict on a function pair: the alignment of all blocks, then the blocks that are reached
+abbrev pub function_verdict : Rules → Module → Function → Function → Hint → Verdict
+function_verdict rules m f g hint = unless_unaligned (alignment_fault hint f g) (reached_verdict rules m hint f.blocks g.blocks)
+
+-- the pair is accepted
+abbrev pub Accepts : Rules → Module → Function → Function → Hint → Type 0
+Accepts rules m f g hint = function_verdict rules m f g hint ≡ verdict.Valid
+
+-- the function's hint: the first of its name, or an empty one
+abbrev pub hint_or_empty : Option FunctionHint → Hint
+hint_or_empty (Some h) = h.hint
+hint_or_empty None = record { blocks = [] }
+
+abbrev pub hint_for : Hints → Name → Hint
+hint_for hints x = hint_or_empty (find (λ h. same_name h.function x) hints.functions)
+
+-- name, return type and parameter types are equal
+abbrev pub same_signature : Function → Function → Bool
+same_signature f g = same_name f.name g.name && same_ty f.result g.result && same_list same_ty (map (λ p. p.ty) f.params) (map (λ p. p.ty) g.params)
+
+-- the first function that isn't valid decides
+abbrev pub of_function : Name → Verdict → ModuleVerdict → ModuleVerdict
+of_function x verdict.Valid rest = rest
+of_function x (verdict.Refused block where_ why) rest = modules.Refused x block where_ why
+
+abbrev pub functions_verdict : Rules → Module → Hints → List Function → List Function → ModuleVerdict
+functions_verdict rules m hints (f ∷ fs) (g ∷ gs) =
+    of_function f.name (function_verdict rules m f g (hint_for hints f.name)) (functions_verdict rules m hints fs gs)
+functions_verdict rules m hints [] gs = modules.Valid
+functions_verdict rules m hints (f ∷ fs) [] = modules.Valid
+
+-- THE verdict on two modules: their functions have equal names, return and parameter types; then each pair in its order
+abbrev pub module_verdict : Rules → Module → Module → Hints → ModuleVerdict
+module_verdict rules source target hints =
+    cond (same_list same_signature source.functions target.functions)
+    (functions_verdict rules source hints source.functions target.functions)
+    (modules.Differs difference.Functions)

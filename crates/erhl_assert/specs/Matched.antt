@@ -1,0 +1,78 @@
+-- When the source's operand a and the target's operand b are known to be related.
+use Rattle.std.specs.Prelude.{Bool, true, false, ◌&&◌, ◌||◌, not, List, Option, None, Some}
+use Rattle.std.specs.List.{list_any}
+use Rattle.ir_core.specs.declared.names.Name.{Name}
+use Rattle.ir_core.specs.declared.values.Kind.{Kind}
+use Rattle.ir_core.specs.declared.operands.Ty.{Ty}
+use Rattle.ir_core.specs.declared.operands.Atom.{Atom}
+use Rattle.ir_core.specs.declared.operands.Atom.TheVariants as atom
+use Rattle.ir_core.specs.declared.operands.Operand.{Operand}
+use Rattle.ir_core.specs.declared.expressions.Reg.{Reg}
+use Rattle.ir_core.specs.declared.expressions.Reg.TheVariants.{Now}
+use Rattle.ir_core.specs.declared.expressions.Expr0.{Expr0}
+use Rattle.ir_core.specs.declared.expressions.Expr0.TheVariants.{Plain, Binary}
+use Rattle.ir_core.specs.Same.{same_ty, same_const, same_reg, same_expr}
+use Rattle.ir_values.specs.Values.{same_kind}
+use Rattle.ir_machine.specs.Registers.{kind_of}
+use Rattle.erhl_assert.specs.declared.facts.Fact.{Fact}
+use Rattle.erhl_assert.specs.declared.facts.Fact.TheVariants.{LessDef}
+use Rattle.erhl_assert.specs.declared.facts.Assertion.{Assertion}
+use Rattle.erhl_assert.specs.Sides.{has_reg}
+
+-- an atom of a function, as the logic names it
+abbrev pub now_atom : Atom Name → Atom Reg
+now_atom (atom.Constant c) = atom.Constant c
+now_atom (atom.Register x) = atom.Register (Now x)
+
+abbrev pub now_operand : Operand Name → Operand Reg
+now_operand o = record { ty = o.ty; atom = now_atom o.atom }
+
+abbrev pub of_plain : (Operand Reg → Bool) → Expr0 → Bool
+of_plain p (Plain o) = p o
+of_plain p (Binary e) = false
+
+-- p of the operand c of a fact that says a is less defined than c
+abbrev pub from_fact : (Operand Reg → Bool) → Operand Reg → Fact → Bool
+from_fact p a (LessDef x y) = same_expr x (Plain a) && of_plain p y
+
+-- p of the operand c of a fact that says c is less defined than b
+abbrev pub into_fact : (Operand Reg → Bool) → Operand Reg → Fact → Bool
+into_fact p b (LessDef x y) = same_expr y (Plain b) && of_plain p x
+
+-- p of a itself, or of some c that a is known to be less defined than
+abbrev pub some_from : (Operand Reg → Bool) → Operand Reg → List Fact → Bool
+some_from p a fs = p a || list_any (from_fact p a) fs
+
+-- p of b itself, or of some c that is known to be less defined than b
+abbrev pub some_into : (Operand Reg → Bool) → Operand Reg → List Fact → Bool
+some_into p b fs = p b || list_any (into_fact p b) fs
+
+abbrev pub have_kind : Option Kind → Option Kind → Bool
+have_kind None None = true
+have_kind (Some j) (Some k) = same_kind j k
+have_kind None (Some k) = false
+have_kind (Some j) None = false
+
+-- one constant of one stated type, or one register that doesn't differ
+abbrev pub meet_at : List Reg → Operand Reg → Operand Reg → Atom Reg → Atom Reg → Bool
+meet_at diff c d (atom.Constant m) (atom.Constant n) = same_ty c.ty d.ty && same_const m n
+meet_at diff c d (atom.Register x) (atom.Register y) = same_reg x y && not (has_reg x diff)
+meet_at diff c d (atom.Constant m) (atom.Register y) = false
+meet_at diff c d (atom.Register x) (atom.Constant n) = false
+
+-- the two are one c of that kind
+abbrev pub meet : List Reg → Option Kind → Operand Reg → Operand Reg → Bool
+meet diff k c d = have_kind (kind_of c.ty) k && have_kind (kind_of d.ty) k && meet_at diff c d c.atom d.atom
+
+-- a and b have one type, and there is a c, a constant or a register that doesn't differ, such that a is c or is known on the
+-- source to be less defined than c, and b is c or c is known on the target to be less defined than b
+abbrev pub matched_reg : Assertion → Operand Reg → Operand Reg → Bool
+matched_reg known a b =
+    same_ty a.ty b.ty && some_from (λ c. some_into (λ d. meet known.diff (kind_of a.ty) c d) b known.tgt) a known.src
+
+abbrev pub matched : Assertion → Operand Name → Operand Name → Bool
+matched known a b = matched_reg known (now_operand a) (now_operand b)
+
+-- the same, of two atoms at their types
+abbrev pub atoms_matched : Assertion → Ty → Atom Name → Ty → Atom Name → Bool
+atoms_matched known s a t b = matched known (record { ty = s; atom = a }) (record { ty = t; atom = b })

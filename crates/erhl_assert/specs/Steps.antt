@@ -1,0 +1,79 @@
+-- Inference rules by their meanings, and the steps of a hint that name them.
+use Rattle.std.specs.Prelude.{◌≡◌, ℕ, Bool, true, false, not, cond, List, [], ◌∷◌, nat_eq, filter, find, Option, None, Some}
+use Rattle.ir_core.specs.declared.functions.Module.{Module}
+use Rattle.ir_core.specs.Same.{same_list}
+use Rattle.erhl_assert.specs.declared.facts.Fact.{Fact}
+use Rattle.erhl_assert.specs.declared.facts.Assertion.{Assertion}
+use Rattle.erhl_assert.specs.declared.facts.Schema.{Schema}
+use Rattle.erhl_assert.specs.declared.facts.Side.{Side}
+use Rattle.erhl_assert.specs.declared.facts.Side.TheVariants.{Src, Tgt}
+use Rattle.erhl_assert.specs.declared.hints.RuleStep.{RuleStep}
+use Rattle.erhl_assert.specs.declared.hints.HintStep.{HintStep}
+use Rattle.erhl_assert.specs.declared.hints.HintStep.TheVariants.{Rule}
+use Rattle.erhl_assert.specs.declared.hints.PlacedStep.{PlacedStep}
+use Rattle.erhl_assert.specs.declared.verdict.Reason.{Reason}
+use Rattle.erhl_assert.specs.declared.verdict.Reason.TheVariants.{UnknownRule, RuleUnfit, MissingPremise}
+use Rattle.erhl_assert.specs.Facts.{IsSound, has_fact, with_fact}
+
+-- a rule: its name, and which schemas it takes beside a module
+pub record Meaning : Type 0 where
+  pub name : List ℕ
+  pub takes : Module → Schema → Bool
+
+abbrev pub Rules : Type 0
+Rules = List Meaning
+
+-- the rule of that name: of two the first
+abbrev pub rule_named : Rules → List ℕ → Option Meaning
+rule_named rules name = find (λ r. same_list nat_eq r.name name) rules
+
+abbrev pub rule_takes : Option Meaning → Module → Schema → Bool
+rule_takes None m schema = false
+rule_takes (Some r) m schema = r.takes m schema
+
+-- whatever the rules take is sound
+abbrev pub AreSound : Rules → Type 0
+AreSound rules = (name : List ℕ) (m : Module) (schema : Schema) → rule_takes (rule_named rules name) m schema ≡ true → IsSound m schema
+
+abbrev pub facts_of : Side → Assertion → List Fact
+facts_of Src known = known.src
+facts_of Tgt known = known.tgt
+
+-- the first premise that isn't there
+abbrev pub first_missing : List Fact → List Fact → Option Fact
+first_missing fs premises = find (λ p. not (has_fact p fs)) premises
+
+abbrev pub with_conclusion : Side → Fact → Assertion → Assertion
+with_conclusion Src f known = record known { src = with_fact f known.src }
+with_conclusion Tgt f known = record known { tgt = with_fact f known.tgt }
+
+-- what a step leads to: a refusal, or what is known after it
+pub data Stepped : Type 0 where
+  Refuses : Reason → Stepped
+  Knows : Assertion → Stepped
+
+abbrev pub concluded : Option Fact → RuleStep → Assertion → Stepped
+concluded (Some f) step known = Refuses (MissingPremise f)
+concluded None step known = Knows (with_conclusion step.side step.schema.to known)
+
+-- The rule is in the book, it takes the step, and each premise is there, tested in this order; then the conclusion is added.
+abbrev pub after_rule : Option Meaning → Module → RuleStep → Assertion → Stepped
+after_rule None m step known = Refuses (UnknownRule step.rule)
+after_rule (Some r) m step known =
+    cond (r.takes m step.schema) (concluded (first_missing (facts_of step.side known) step.schema.from) step known) (Refuses (RuleUnfit step.rule))
+
+abbrev pub after_step : Rules → Module → HintStep → Assertion → Stepped
+after_step rules m (Rule step) known = after_rule (rule_named rules step.rule) m step known
+
+abbrev pub and_then : Stepped → (Assertion → Stepped) → Stepped
+and_then (Refuses r) next = Refuses r
+and_then (Knows known) next = next known
+
+-- the steps in their order
+abbrev pub after_steps : Rules → Module → List PlacedStep → Assertion → Stepped
+after_steps rules m [] known = Knows known
+after_steps rules m (s ∷ ss) known = and_then (after_step rules m s.step known) (after_steps rules m ss)
+
+-- the steps that stand before the aligned line of that number
+abbrev pub steps_at : ℕ → List PlacedStep → List PlacedStep
+steps_at k steps = filter (λ s. nat_eq s.at k) steps

@@ -1,0 +1,53 @@
+use contents::{Exact, Seq};
+use ir_core::{Expr0, Reg};
+use std::alloc::{AllocError, Global};
+
+/// An expression of the logic.
+pub type Expr = Expr0;
+
+/// The source or the target.
+#[derive(Debug, Drop, Clone, Copy)]
+pub enum Side {
+    Src,
+    Tgt,
+}
+
+/// A fact of one side.
+#[derive(Debug, Drop)]
+pub enum Fact {
+    /// The first expression is less defined than the second: its value refines to the second's (`ge`).
+    LessDef(Expr0, Expr0),
+}
+
+/// What is known at a place: facts of the source, facts of the target, and the registers that may differ between the
+/// two sides (Crellvm's maydiff).
+#[derive(Debug, Drop)]
+pub struct Assertion {
+    pub src: Seq<Fact>,
+    pub tgt: Seq<Fact>,
+    pub diff: Seq<Reg>,
+}
+
+/// What an inference rule is asked to conclude: where all of `from` holds, so does `to`.
+#[derive(Debug, Drop)]
+pub struct Schema {
+    pub from: Seq<Fact>,
+    pub to: Fact,
+}
+
+impl Exact for Fact {
+    fn is(&self, other: &Fact) -> bool {
+        match (self, other) {
+            (Fact::LessDef(a, b), Fact::LessDef(c, d)) => a.is(c) && b.is(d),
+        }
+    }
+
+    fn copy(&self, alloc: Global) -> Result<Fact, AllocError> {
+        match self {
+            Fact::LessDef(a, b) => {
+                let a = a.copy(alloc)?;
+                Ok(Fact::LessDef(a, b.copy(alloc)?))
+            }
+        }
+    }
+}

@@ -1,0 +1,69 @@
+use crate::{Assertion, Schema, Side};
+use contents::Seq;
+use ir_core::Name;
+
+/// A step that names a rule: what it concludes is added to the side's facts.
+#[derive(Debug, Drop)]
+pub struct RuleStep {
+    /// The rule's name.
+    pub rule: Seq<u8>,
+    pub side: Side,
+    pub schema: Schema,
+}
+
+/// One step of a hint.
+#[derive(Debug, Drop)]
+pub enum HintStep {
+    Rule(RuleStep),
+}
+
+/// A step that is done before the aligned line of that number; at the number of aligned lines, before the terminator.
+#[derive(Debug, Drop)]
+pub struct PlacedStep {
+    pub at: u64,
+    pub step: HintStep,
+}
+
+/// Which sides an aligned line stands on.
+#[derive(Debug, Drop, Clone, Copy)]
+pub enum Letter {
+    Both,
+    Source,
+    Target,
+}
+
+/// The hint of one block.
+#[derive(Debug, Drop)]
+pub struct HintBlock {
+    pub at: Name,
+    /// One letter for each aligned line. Without it all lines stand on both sides.
+    pub lines: Option<Seq<Letter>>,
+    /// What holds at the block's start.
+    pub entry: Assertion,
+    pub steps: Seq<PlacedStep>,
+}
+
+/// The hint of one function. Of two entries for one block the first counts; a block without one has an empty hint.
+#[derive(Debug, Drop)]
+pub struct Hint {
+    pub blocks: Seq<HintBlock>,
+}
+
+/// A function's name with its hint.
+#[derive(Debug, Drop)]
+pub struct FunctionHint {
+    pub function: Name,
+    pub hint: Hint,
+}
+
+/// The hints of a module. Of two for one function the first counts; a function without one has an empty hint.
+#[derive(Debug, Drop)]
+pub struct Hints {
+    pub functions: Seq<FunctionHint>,
+}
+
+/// The loops of a module's functions that a pass may use. None is read yet.
+#[derive(Debug, Drop)]
+pub struct LoopHints {
+    pub functions: Seq<Name>,
+}

@@ -1,0 +1,13 @@
+//! The relational Hoare logic of the checker, after Crellvm (Kang et al., PLDI 2018): facts of one side, assertions on
+//! two sides, the hints that steps are read from, and the verdict.
+#![tactic(auto)]
+
+mod facts;
+mod hints;
+mod verdict;
+
+pub use facts::{Assertion, Expr, Fact, Schema, Side};
+pub use hints::{
+    FunctionHint, Hint, HintBlock, HintStep, Hints, Letter, LoopHints, PlacedStep, RuleStep,
+};
+pub use verdict::{Difference, ModuleVerdict, Reason, Spot, Verdict};

@@ -1,0 +1,59 @@
+use crate::Fact;
+use contents::Seq;
+use ir_core::{Name, Operand};
+
+/// Where in a block a test failed.
+#[derive(Debug, Drop)]
+pub enum Spot {
+    /// At the block's start.
+    Start,
+    /// At the aligned line of that number, or a step before it; at the number of aligned lines, at the terminator.
+    Line(u64),
+}
+
+/// Why a test failed.
+#[derive(Debug, Drop)]
+pub enum Reason {
+    /// The headers differ, or the block's lines don't give back both bodies.
+    AlignmentDiffers,
+    /// These operands, the source's and the target's, aren't known to be related.
+    Unmatched(Operand<Name>, Operand<Name>),
+    /// The book has no rule of that name.
+    UnknownRule(Seq<u8>),
+    /// The rule of that name doesn't take the step.
+    RuleUnfit(Seq<u8>),
+    /// The step wants a fact that isn't there.
+    MissingPremise(Fact),
+    /// The place wants a fact that isn't there.
+    MissingFact(Fact),
+}
+
+/// What the checker says of two functions.
+#[derive(Debug, Drop)]
+pub enum Verdict {
+    Valid,
+    Refused {
+        block: Name,
+        spot: Spot,
+        reason: Reason,
+    },
+}
+
+/// In which list two modules differ.
+#[derive(Debug, Drop, Clone, Copy)]
+pub enum Difference {
+    Functions,
+}
+
+/// What the checker says of two modules.
+#[derive(Debug, Drop)]
+pub enum ModuleVerdict {
+    Valid,
+    Differs(Difference),
+    Refused {
+        function: Name,
+        block: Name,
+        spot: Spot,
+        reason: Reason,
+    },
+}
