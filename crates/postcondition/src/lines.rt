@@ -1,0 +1,194 @@
+//! What is known after an aligned line.
+ghost use Rattle.std.specs.Prelude.{◌≡◌, ◌&&◌, IfOk, None, Some, cond};
+ghost use Rattle.ir_core.specs.Same.{same_name};
+ghost use Rattle.std.specs.Option.{option_copied};
+ghost use Rattle.ir_core.specs.declared.expressions.Reg.TheVariants.{Now};
+ghost use Rattle.ir_core.specs.declared.functions.Instr.TheVariants as line;
+ghost use Rattle.erhl_assert.specs.Matched.{now_atom};
+ghost use Rattle.erhl_assert.specs.Postcondition.{right_side, register_of, facts_after_line, flags_among, lines_agree, without_reg, with_reg, after_line};
+
+use crate::facts::expr_names;
+use crate::{atoms_matched, with_reg, without_naming, without_reg};
+use contents::{Exact, Seq};
+use erhl_assert::{Assertion, Fact};
+use ir_core::{
+    Atom, Binary, BinaryExpr, Expr0, Flags, Instr, Name, Operand, Reg, same_name, same_op, same_ty,
+};
+use std::alloc::{AllocError, Global};
+
+fn now_atom(alloc: Global, atom: &Atom<Name>) -> Result<Atom<Reg>, AllocError>
+    ensures { IfOk result (λ named. named ≡ now_atom atom.now) }
+{
+    match atom {
+        Atom::Constant(constant) => Ok(Atom::Constant(constant.copy(alloc)?)),
+        Atom::Register(name) => Ok(Atom::Register(Reg::Now(name.copy(alloc)?))),
+    }
+}
+
+/// The right side of a line, as an expression.
+fn right_side(alloc: Global, line: &Binary) -> Result<Expr0, AllocError>
+    ensures { IfOk result (λ right. right ≡ right_side line.now) }
+{
+    Ok(Expr0::Binary(BinaryExpr {
+        op: line.op,
+        flags: line.flags,
+        ty: line.ty.copy(alloc)?,
+        left: now_atom(alloc, &line.left)?,
+        right: now_atom(alloc, &line.right)?,
+    }))
+}
+
+/// The register of a line, as an expression.
+fn register_of(alloc: Global, line: &Binary) -> Result<Expr0, AllocError>
+    ensures { IfOk result (λ register. register ≡ register_of line.now) }
+{
+    Ok(Expr0::Plain(Operand {
+        ty: line.ty.copy(alloc)?,
+        atom: Atom::Register(Reg::Now(line.name.copy(alloc)?)),
+    }))
+}
+
+/// What is known of a side after its line: the register and the right side are less defined than each other.
+#[tactic(auto, using(crate::proofs::Fresh::facts_added))]
+fn facts_after(alloc: Global, line: &Binary, facts: Seq<Fact>) -> Result<Seq<Fact>, AllocError>
+    ensures { IfOk result (λ after. after ≡ facts_after_line line.now facts) }
+{
+    let register = Reg::Now(line.name.copy(alloc)?);
+    let mut kept = without_naming(&register, facts);
+    let right = right_side(alloc, line)?;
+    if expr_names(&register, &right) {
+        return Ok(kept);
+    }
+    // No fact that is left names the register, so neither of these is there yet.
+    kept.push(Fact::LessDef(register_of(alloc, line)?, right_side(alloc, line)?))?;
+    kept.push(Fact::LessDef(right, register_of(alloc, line)?))?;
+    Ok(kept)
+}
+
+fn flags_among(source: &Flags, target: &Flags) -> bool
+    ensures { result ≡ flags_among source.now target.now }
+{
+    (!target.nuw || source.nuw) && (!target.nsw || source.nsw)
+}
+
+fn lines_agree(known: &Assertion, s: &Binary, t: &Binary) -> bool
+    ensures { result ≡ lines_agree known.now s.now t.now }
+{
+    same_op(&s.op, &t.op)
+        && same_ty(&s.ty, &t.ty)
+        && flags_among(&s.flags, &t.flags)
+        && atoms_matched(known, &s.ty, &s.left, &t.ty, &t.left)
+        && atoms_matched(known, &s.ty, &s.right, &t.ty, &t.right)
+}
+
+/// Whether the lines define one register, and agree.
+fn define_alike(known: &Assertion, s: &Binary, t: &Binary) -> bool
+    ensures { result ≡ (same_name s.now.name t.now.name && lines_agree known.now s.now t.now) }
+{
+    same_name(&s.name, &t.name) && lines_agree(known, s, t)
+}
+
+fn differing(alloc: Global, name: &Name, diff: Seq<Reg>) -> Result<Seq<Reg>, AllocError>
+    ensures { IfOk result (λ after. after ≡ with_reg (Now name.now) diff) }
+{
+    with_reg(Reg::Now(name.copy(alloc)?), diff)
+}
+
+fn agreeing(alloc: Global, name: &Name, diff: Seq<Reg>) -> Result<Seq<Reg>, AllocError>
+    ensures { IfOk result (λ after. after ≡ without_reg (Now name.now) diff) }
+{
+    Ok(without_reg(&Reg::Now(name.copy(alloc)?), diff))
+}
+
+/// The registers that may differ after a line of both sides.
+fn diff_after_both(
+    alloc: Global,
+    agree: bool,
+    s: &Binary,
+    t: &Binary,
+    diff: Seq<Reg>,
+) -> Result<Seq<Reg>, AllocError>
+    ensures { IfOk result
+        (λ after. after
+        ≡ cond agree (without_reg (Now s.now.name) diff)
+        (with_reg (Now t.now.name) (with_reg (Now s.now.name) diff))) }
+{
+    if agree {
+        agreeing(alloc, &s.name, diff)
+    } else {
+        differing(alloc, &t.name, differing(alloc, &s.name, diff)?)
+    }
+}
+
+fn after_both(
+    alloc: Global,
+    known: Assertion,
+    s: &Binary,
+    t: &Binary,
+) -> Result<Assertion, AllocError>
+    ensures { IfOk result
+        (λ after. after
+        ≡ after_line known (record { source = Some (line.Binary s.now); target = Some (line.Binary t.now) })) }
+{
+    let agree = define_alike(&known, s, t);
+    let Assertion { src, tgt, diff } = known;
+    Ok(Assertion {
+        src: facts_after(alloc, s, src)?,
+        tgt: facts_after(alloc, t, tgt)?,
+        diff: diff_after_both(alloc, agree, s, t, diff)?,
+    })
+}
+
+fn after_source(alloc: Global, known: Assertion, s: &Binary) -> Result<Assertion, AllocError>
+    ensures { IfOk result
+        (λ after. after ≡ after_line known (record { source = Some (line.Binary s.now); target = None })) }
+{
+    let Assertion { src, tgt, diff } = known;
+    Ok(Assertion {
+        src: facts_after(alloc, s, src)?,
+        tgt,
+        diff: differing(alloc, &s.name, diff)?,
+    })
+}
+
+fn after_target(alloc: Global, known: Assertion, t: &Binary) -> Result<Assertion, AllocError>
+    ensures { IfOk result
+        (λ after. after ≡ after_line known (record { source = None; target = Some (line.Binary t.now) })) }
+{
+    let Assertion { src, tgt, diff } = known;
+    Ok(Assertion {
+        src,
+        tgt: facts_after(alloc, t, tgt)?,
+        diff: differing(alloc, &t.name, diff)?,
+    })
+}
+
+fn binary_of(instr: &Instr) -> &Binary
+    ensures { instr.now ≡ line.Binary result.now }
+{
+    let Instr::Binary(binary) = instr;
+    binary
+}
+
+/// What is known after a line of the source and a line of the target, of which one may be absent.
+pub fn after_line(
+    alloc: Global,
+    known: Assertion,
+    source: Option<&Instr>,
+    target: Option<&Instr>,
+) -> Result<Assertion, AllocError>
+    ensures { IfOk result
+        (λ after. after
+        ≡ after_line known (record { source = option_copied source.entry; target = option_copied target.entry })) }
+{
+    match source {
+        Some(s) => match target {
+            Some(t) => after_both(alloc, known, binary_of(s), binary_of(t)),
+            None => after_source(alloc, known, binary_of(s)),
+        },
+        None => match target {
+            Some(t) => after_target(alloc, known, binary_of(t)),
+            None => Ok(known),
+        },
+    }
+}

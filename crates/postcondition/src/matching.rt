@@ -1,0 +1,221 @@
+//! When the source's operand and the target's operand are known to be related. No memory is taken: a function's operand
+//! is compared with those of facts as it stands.
+ghost use Rattle.std.specs.Prelude.{◌≡◌};
+ghost use Rattle.std.specs.List.{list_any};
+ghost use Rattle.ir_core.specs.declared.expressions.Reg.TheVariants.{Now};
+ghost use Rattle.ir_core.specs.declared.expressions.Expr0.TheVariants.{Plain};
+ghost use Rattle.ir_core.specs.Same.{same_reg, same_atom, same_expr};
+ghost use Rattle.ir_machine.specs.Registers.{kind_of};
+ghost use Rattle.erhl_assert.specs.Sides.{has_reg};
+ghost use Rattle.erhl_assert.specs.Matched.{now_atom, now_operand, of_plain, from_fact, some_into, have_kind, meet, matched, atoms_matched};
+ghost use Rattle.postcondition.specs.InLogic.{atom_in_logic};
+
+use contents::Seq;
+use erhl_assert::{Assertion, Fact};
+use ir_core::{Atom, Expr0, Name, Operand, Reg, Ty, same_const, same_name, same_reg, same_ty};
+
+/// A register as the logic names it: that of a function is the register of now.
+trait InLogic {
+    ghost use Rattle.ir_core.specs.declared.expressions.Reg.{Reg};
+
+    ghost in_logic: { Self → Reg };
+
+    fn is_reg(&self, other: &Reg) -> bool
+        ensures { result ≡ same_reg (in_logic self.now) other.now };
+
+    fn is_now(&self, other: &Name) -> bool
+        ensures { result ≡ same_reg (in_logic self.now) (Now other.now) };
+}
+
+impl InLogic for Name {
+    ghost in_logic = { Now };
+
+    fn is_reg(&self, other: &Reg) -> bool {
+        match other {
+            Reg::Now(name) => same_name(self, name),
+            Reg::Old(_) | Reg::Ghost(_) => false,
+        }
+    }
+
+    fn is_now(&self, other: &Name) -> bool {
+        same_name(self, other)
+    }
+}
+
+impl InLogic for Reg {
+    ghost in_logic = { λ r. r };
+
+    fn is_reg(&self, other: &Reg) -> bool {
+        same_reg(self, other)
+    }
+
+    fn is_now(&self, other: &Name) -> bool {
+        match self {
+            Reg::Now(name) => same_name(name, other),
+            Reg::Old(_) | Reg::Ghost(_) => false,
+        }
+    }
+}
+
+fn may_differ<R: InLogic>(register: &R, diff: &Seq<Reg>) -> bool
+    ensures { result ≡ has_reg (R.in_logic register.now) diff.now }
+{
+    for other in diff.as_slice() {
+        if register.is_reg(other) {
+            return true;
+        }
+    }
+    false
+}
+
+/// Whether both types have values of one kind, or neither has values.
+fn have_kind(a: &Ty, b: &Ty) -> bool
+    ensures { result ≡ have_kind (kind_of a.now) (kind_of b.now) }
+{
+    match (a, b) {
+        (Ty::Int(v), Ty::Int(w)) => *v == *w,
+        (Ty::Void, Ty::Void) => true,
+        _ => false,
+    }
+}
+
+/// Whether c and the target's operand are one, of the kind of `like`.
+fn meets_now<R: InLogic>(
+    diff: &Seq<Reg>,
+    like: &Ty,
+    s: &Ty,
+    c: &Atom<R>,
+    t: &Ty,
+    b: &Atom<Name>,
+) -> bool
+    ensures { result
+        ≡ meet diff.now (kind_of like.now) (record { ty = s.now; atom = atom_in_logic R.in_logic c.now })
+        (now_operand (record { ty = t.now; atom = b.now })) }
+{
+    have_kind(s, like)
+        && have_kind(t, like)
+        && match (c, b) {
+            (Atom::Constant(m), Atom::Constant(n)) => same_ty(s, t) && same_const(m, n),
+            (Atom::Register(x), Atom::Register(y)) => x.is_now(y) && !may_differ(x, diff),
+            _ => false,
+        }
+}
+
+/// Whether c and an operand of a fact are one, of the kind of `like`.
+fn meets_reg<R: InLogic>(diff: &Seq<Reg>, like: &Ty, s: &Ty, c: &Atom<R>, d: &Operand<Reg>) -> bool
+    ensures { result
+        ≡ meet diff.now (kind_of like.now) (record { ty = s.now; atom = atom_in_logic R.in_logic c.now }) d.now }
+{
+    have_kind(s, like)
+        && have_kind(&d.ty, like)
+        && match (c, &d.atom) {
+            (Atom::Constant(m), Atom::Constant(n)) => same_ty(s, &d.ty) && same_const(m, n),
+            (Atom::Register(x), Atom::Register(y)) => x.is_reg(y) && !may_differ(x, diff),
+            _ => false,
+        }
+}
+
+fn meets_plain<R: InLogic>(diff: &Seq<Reg>, like: &Ty, s: &Ty, c: &Atom<R>, expr: &Expr0) -> bool
+    ensures { result
+        ≡ of_plain
+        (λ d. meet diff.now (kind_of like.now) (record { ty = s.now; atom = atom_in_logic R.in_logic c.now }) d)
+        expr.now }
+{
+    match expr {
+        Expr0::Plain(d) => meets_reg(diff, like, s, c, d),
+        Expr0::Binary(_) => false,
+    }
+}
+
+fn is_now_atom(a: &Atom<Reg>, b: &Atom<Name>) -> bool
+    ensures { result ≡ same_atom same_reg a.now (now_atom b.now) }
+{
+    match (a, b) {
+        (Atom::Constant(m), Atom::Constant(n)) => same_const(m, n),
+        (Atom::Register(x), Atom::Register(y)) => x.is_now(y),
+        _ => false,
+    }
+}
+
+/// Whether the expression is the function's operand.
+fn is_plain_now(expr: &Expr0, ty: &Ty, atom: &Atom<Name>) -> bool
+    ensures { result ≡ same_expr expr.now (Plain (now_operand (record { ty = ty.now; atom = atom.now }))) }
+{
+    match expr {
+        Expr0::Plain(operand) => is_now_atom(&operand.atom, atom) && same_ty(&operand.ty, ty),
+        Expr0::Binary(_) => false,
+    }
+}
+
+/// Whether c is the target's operand, or is known on the target to be less defined than it.
+fn reaches<R: InLogic>(
+    known: &Assertion,
+    like: &Ty,
+    s: &Ty,
+    c: &Atom<R>,
+    t: &Ty,
+    b: &Atom<Name>,
+) -> bool
+    ensures { result
+        ≡ some_into
+        (λ d. meet known.now.diff (kind_of like.now)
+        (record { ty = s.now; atom = atom_in_logic R.in_logic c.now }) d)
+        (now_operand (record { ty = t.now; atom = b.now })) known.now.tgt }
+{
+    if meets_now(&known.diff, like, s, c, t, b) {
+        return true;
+    }
+    for fact in known.tgt.as_slice() {
+        let Fact::LessDef(x, y) = fact;
+        if is_plain_now(y, t, b) && meets_plain(&known.diff, like, s, c, x) {
+            return true;
+        }
+    }
+    false
+}
+
+fn plain_reaches(known: &Assertion, like: &Ty, expr: &Expr0, t: &Ty, b: &Atom<Name>) -> bool
+    ensures { result
+        ≡ of_plain
+        (λ c. some_into (λ d. meet known.now.diff (kind_of like.now) c d)
+        (now_operand (record { ty = t.now; atom = b.now })) known.now.tgt)
+        expr.now }
+{
+    match expr {
+        Expr0::Plain(c) => reaches(known, like, &c.ty, &c.atom, t, b),
+        Expr0::Binary(_) => false,
+    }
+}
+
+/// Whether the source's operand is known to be less defined than some c that reaches the target's.
+fn reaches_by_fact(known: &Assertion, s: &Ty, a: &Atom<Name>, t: &Ty, b: &Atom<Name>) -> bool
+    ensures { result
+        ≡ list_any
+        (from_fact
+        (λ c. some_into (λ d. meet known.now.diff (kind_of s.now) c d)
+        (now_operand (record { ty = t.now; atom = b.now })) known.now.tgt)
+        (now_operand (record { ty = s.now; atom = a.now })))
+        known.now.src }
+{
+    for fact in known.src.as_slice() {
+        let Fact::LessDef(x, y) = fact;
+        if is_plain_now(x, s, a) && plain_reaches(known, s, y, t, b) {
+            return true;
+        }
+    }
+    false
+}
+
+/// Whether two atoms at their types are matched.
+#[tactic(auto, using(crate::proofs::Atoms::now_in_logic))]
+pub fn atoms_matched(known: &Assertion, s: &Ty, a: &Atom<Name>, t: &Ty, b: &Atom<Name>) -> bool
+    ensures { result ≡ atoms_matched known.now s.now a.now t.now b.now }
+{
+    same_ty(s, t) && (reaches(known, s, s, a, t, b) || reaches_by_fact(known, s, a, t, b))
+}
+
+pub fn matched(known: &Assertion, a: &Operand<Name>, b: &Operand<Name>) -> bool
+    ensures { result ≡ matched known.now a.now b.now }
+{
+    atoms_matched(known, &a.ty, &a.atom, &b.ty, &b.atom)
+}
