@@ -1,0 +1,88 @@
+-- What the shipped rules take, as tests that compute. A fact `a >= b` says that a is less defined than b.
+use Rattle.std.specs.Prelude.{ℕ, ◌^◌, Bool, true, false, ◌&&◌, nat_lt, nat_eq, List, [], ◌∷◌, codes}
+use Rattle.ir_core.specs.declared.operands.Ty.{Ty}
+use Rattle.ir_core.specs.declared.operands.Ty.TheVariants as ty
+use Rattle.ir_core.specs.declared.operands.Const.{Const}
+use Rattle.ir_core.specs.declared.operands.Const.TheVariants as constant
+use Rattle.ir_core.specs.declared.operands.Atom.{Atom}
+use Rattle.ir_core.specs.declared.operands.Atom.TheVariants as atom
+use Rattle.ir_core.specs.declared.functions.Module.{Module}
+use Rattle.ir_core.specs.declared.expressions.Reg.{Reg}
+use Rattle.ir_core.specs.declared.expressions.Expr0.{Expr0}
+use Rattle.ir_core.specs.declared.expressions.Expr0.TheVariants.{Plain, Binary}
+use Rattle.ir_core.specs.Same.{same_ty, same_atom, same_reg, same_expr}
+use Rattle.erhl_assert.specs.declared.facts.Fact.{Fact}
+use Rattle.erhl_assert.specs.declared.facts.Fact.TheVariants.{LessDef}
+use Rattle.erhl_assert.specs.declared.facts.Schema.{Schema}
+use Rattle.erhl_assert.specs.Facts.{type_of}
+use Rattle.rule_base.specs.declared.shipped.Rule.{Rule}
+use Rattle.rule_base.specs.declared.shipped.Rule.TheVariants.{Trans, UndefConst, ZeroRight}
+
+-- a number of iN lies below 2 to the N
+abbrev pub is_constant_of : Ty → Const → Bool
+is_constant_of (ty.Int width) (constant.Number n) = nat_lt n (2 ^ width)
+is_constant_of (ty.Int width) constant.Undef = true
+is_constant_of ty.Void c = false
+
+-- the type has values, and a constant is one of it
+abbrev pub is_atom_of : Ty → Atom Reg → Bool
+is_atom_of t (atom.Constant c) = is_constant_of t c
+is_atom_of (ty.Int width) (atom.Register r) = true
+is_atom_of ty.Void (atom.Register r) = false
+
+-- the expression has a type
+abbrev pub is_typed : Expr0 → Bool
+is_typed (Plain o) = is_atom_of o.ty o.atom
+is_typed (Binary e) = is_atom_of e.ty e.left && is_atom_of e.ty e.right
+
+-- both expressions have a type, and it is one type
+abbrev pub have_one_type : Expr0 → Expr0 → Bool
+have_one_type a b = is_typed a && is_typed b && same_ty (type_of a) (type_of b)
+
+-- `a >= b, b >= c` to `a >= c`
+abbrev pub is_trans : List Fact → Fact → Bool
+is_trans (LessDef a b ∷ LessDef c d ∷ []) (LessDef e f) =
+    have_one_type a b && have_one_type c d && same_expr b c && same_expr e a && same_expr f d
+is_trans [] to = false
+is_trans (x ∷ []) to = false
+is_trans (x ∷ y ∷ z ∷ more) to = false
+
+abbrev pub is_undef : Atom Reg → Bool
+is_undef (atom.Constant (constant.Number n)) = false
+is_undef (atom.Constant constant.Undef) = true
+is_undef (atom.Register r) = false
+
+abbrev pub is_constant : Atom Reg → Bool
+is_constant (atom.Constant c) = true
+is_constant (atom.Register r) = false
+
+abbrev pub is_zero : Atom Reg → Bool
+is_zero (atom.Constant (constant.Number n)) = nat_eq n 0
+is_zero (atom.Constant constant.Undef) = false
+is_zero (atom.Register r) = false
+
+-- `undef >= C`, C a number or undef
+abbrev pub is_undef_const : List Fact → Fact → Bool
+is_undef_const [] (LessDef (Plain a) (Plain b)) = have_one_type (Plain a) (Plain b) && is_undef a.atom && is_constant b.atom
+is_undef_const [] (LessDef (Plain a) (Binary e)) = false
+is_undef_const [] (LessDef (Binary e) b) = false
+is_undef_const (x ∷ more) to = false
+
+-- `op F x 0 >= x`, op add or sub
+abbrev pub is_zero_right : List Fact → Fact → Bool
+is_zero_right [] (LessDef (Binary e) (Plain x)) =
+    have_one_type (Binary e) (Plain x) && is_zero e.right && same_atom same_reg e.left x.atom
+is_zero_right [] (LessDef (Binary e) (Binary f)) = false
+is_zero_right [] (LessDef (Plain a) b) = false
+is_zero_right (x ∷ more) to = false
+
+abbrev pub name_of : Rule → List ℕ
+name_of Trans = codes "trans"
+name_of UndefConst = codes "undef_const"
+name_of ZeroRight = codes "zero_right"
+
+-- no row asks anything of the module, as no type or global can be written yet
+abbrev pub takes_row : Rule → Module → Schema → Bool
+takes_row Trans m schema = is_trans schema.from schema.to
+takes_row UndefConst m schema = is_undef_const schema.from schema.to
+takes_row ZeroRight m schema = is_zero_right schema.from schema.to

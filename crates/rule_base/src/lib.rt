@@ -1,0 +1,16 @@
+//! Inference rules of the logic: what a rule is, books of boxed rules, and the rules that are shipped here. Beside them
+//! what a pass is.
+#![tactic(auto)]
+
+mod infer;
+mod passes;
+mod rule_book;
+mod shipped;
+
+pub use infer::InferRule;
+pub use passes::Pass;
+pub use rule_book::{Answer, RuleBook, book_is_sound};
+pub use shipped::Rule;
+
+#[cfg(test)]
+mod tests;
