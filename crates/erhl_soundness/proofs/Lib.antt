@@ -1,0 +1,10 @@
+mod Lines
+mod Facts
+mod Matched
+mod Related
+mod Steps
+mod Bodies
+mod Returns
+mod Simulation
+mod Entry
+mod Modules

@@ -1,0 +1,144 @@
+-- What is matched is less defined on the source than on the target.
+use Rattle.std.proofs.Common.{◌≡◌, Bool, true, false, ◌&&◌, not, List, [], ◌∷◌, Option, None, Some, refl, sym, ap, subst, subst₂, ⊎_elim}
+use Rattle.std.specs.List.{list_any, AllByRecursion}
+use Rattle.std.proofs.lemmas.Bool.{false≢true, not-true, or_cases}
+use Rattle.ir_core.specs.declared.names.Name.{Name}
+use Rattle.ir_core.specs.declared.values.Value.{Value}
+use Rattle.ir_core.specs.declared.values.Kind.{Kind}
+use Rattle.ir_core.specs.declared.operands.Ty.{Ty}
+use Rattle.ir_core.specs.declared.operands.Const.{Const}
+use Rattle.ir_core.specs.declared.operands.Atom.{Atom}
+use Rattle.ir_core.specs.declared.operands.Atom.TheVariants as atom
+use Rattle.ir_core.specs.declared.operands.Operand.{Operand}
+use Rattle.ir_core.specs.declared.expressions.Reg.{Reg}
+use Rattle.ir_core.specs.declared.expressions.Expr0.{Expr0}
+use Rattle.ir_core.specs.declared.expressions.Expr0.TheVariants.{Plain, Binary}
+use Rattle.ir_core.specs.Same.{same_ty, same_const, same_reg, same_expr}
+use Rattle.ir_core.proofs.SameLaws.{left_true, right_true, same_ty_true, same_const_true, same_reg_true, same_expr_true}
+use Rattle.ir_values.specs.Values.{IsLessDefined}
+use Rattle.ir_values.proofs.KindLaws.{same_kind_true}
+use Rattle.ir_machine.specs.Registers.{Registers, read, kind_of, constant_value, atom_value, operand_value}
+use Rattle.erhl_assert.specs.declared.facts.Fact.{Fact}
+use Rattle.erhl_assert.specs.declared.facts.Fact.TheVariants.{LessDef}
+use Rattle.erhl_assert.specs.declared.facts.Assertion.{Assertion}
+use Rattle.erhl_assert.specs.Sides.{SideState, side_of, read_reg, has_reg, AreRelated}
+use Rattle.erhl_assert.specs.Facts.{Holds, AssertionHolds}
+use Rattle.erhl_assert.specs.Matched.{now_operand, from_fact, into_fact, some_from, some_into, have_kind, meet_at, meet, matched_reg, matched, atoms_matched}
+use Rattle.ir_values.proofs.OperationLaws.{less_defined_refl, less_defined_trans}
+use Rattle.erhl_soundness.proofs.Lines.{now_atom_value}
+
+abbrev pub value_on : SideState → Operand Reg → Value
+value_on side o = operand_value (read_reg side) o
+
+-- some operand that passes the test and is at least as defined on the side
+abbrev pub SomeAbove : SideState → (Operand Reg → Bool) → Operand Reg → Type 0
+SomeAbove side p a = (c : Operand Reg) × (p c ≡ true) × IsLessDefined (value_on side a) (value_on side c)
+
+abbrev pub SomeBelow : SideState → (Operand Reg → Bool) → Operand Reg → Type 0
+SomeBelow side p b = (c : Operand Reg) × (p c ≡ true) × IsLessDefined (value_on side c) (value_on side b)
+
+module _ (side : SideState) (p : Operand Reg → Bool) where
+  above_by_fact : (a : Operand Reg) (x y : Expr0) → from_fact p a (LessDef x y) ≡ true → Holds side (LessDef x y) → SomeAbove side p a
+  above_by_fact a x (Plain c) h known =
+      let same = same_expr_true x (Plain a) (left_true (same_expr x (Plain a)) (p c) h) in
+      let fact = subst (λ z. Holds side (LessDef z (Plain c))) same known in
+      (c, right_true (same_expr x (Plain a)) (p c) h, fact.1)
+  above_by_fact a x (Binary e) h known = absurd (false≢true (right_true (same_expr x (Plain a)) false h))
+
+  above_by_facts : (a : Operand Reg) (fs : List Fact) → list_any (from_fact p a) fs ≡ true → AllByRecursion (Holds side) fs → SomeAbove side p a
+  above_by_facts a [] h all = absurd (false≢true h)
+  above_by_facts a (LessDef x y ∷ fs) h all =
+      ⊎_elim (λ e. above_by_fact a x y e all.0) (λ e. above_by_facts a fs e all.1) (or_cases (from_fact p a (LessDef x y)) (list_any (from_fact p a) fs) h)
+
+  pub some_above : (a : Operand Reg) (fs : List Fact) → some_from p a fs ≡ true → AllByRecursion (Holds side) fs → SomeAbove side p a
+  some_above a fs h all =
+      ⊎_elim (λ e. (a, e, less_defined_refl (value_on side a))) (λ e. above_by_facts a fs e all) (or_cases (p a) (list_any (from_fact p a) fs) h)
+
+  below_by_fact : (b : Operand Reg) (x y : Expr0) → into_fact p b (LessDef x y) ≡ true → Holds side (LessDef x y) → SomeBelow side p b
+  below_by_fact b (Plain c) y h known =
+      let same = same_expr_true y (Plain b) (left_true (same_expr y (Plain b)) (p c) h) in
+      let fact = subst (λ z. Holds side (LessDef (Plain c) z)) same known in
+      (c, right_true (same_expr y (Plain b)) (p c) h, fact.1)
+  below_by_fact b (Binary e) y h known = absurd (false≢true (right_true (same_expr y (Plain b)) false h))
+
+  below_by_facts : (b : Operand Reg) (fs : List Fact) → list_any (into_fact p b) fs ≡ true → AllByRecursion (Holds side) fs → SomeBelow side p b
+  below_by_facts b [] h all = absurd (false≢true h)
+  below_by_facts b (LessDef x y ∷ fs) h all =
+      ⊎_elim (λ e. below_by_fact b x y e all.0) (λ e. below_by_facts b fs e all.1) (or_cases (into_fact p b (LessDef x y)) (list_any (into_fact p b) fs) h)
+
+  pub some_below : (b : Operand Reg) (fs : List Fact) → some_into p b fs ≡ true → AllByRecursion (Holds side) fs → SomeBelow side p b
+  some_below b fs h all =
+      ⊎_elim (λ e. (b, e, less_defined_refl (value_on side b))) (λ e. below_by_facts b fs e all) (or_cases (p b) (list_any (into_fact p b) fs) h)
+
+pub have_kind_true : (j k : Option Kind) → have_kind j k ≡ true → j ≡ k
+have_kind_true None None h = refl
+have_kind_true (Some j) (Some k) h = ap Some (same_kind_true j k h)
+have_kind_true None (Some k) h = absurd (false≢true h)
+have_kind_true (Some j) None h = absurd (false≢true h)
+
+-- a constant is worth the same on both sides
+constant_less : (source target : SideState) (k : Option Kind) (c : Const)
+    → IsLessDefined (atom_value (read_reg source) k (atom.Constant c)) (atom_value (read_reg target) k (atom.Constant c))
+constant_less source target None c = tt
+constant_less source target (Some k) c = less_defined_refl (constant_value k c)
+
+register_less : (diff : List Reg) (source target : SideState) → AreRelated diff source target → (k : Option Kind) (r : Reg) → has_reg r diff ≡ false
+    → IsLessDefined (atom_value (read_reg source) k (atom.Register r)) (atom_value (read_reg target) k (atom.Register r))
+register_less diff source target related None r h = tt
+register_less diff source target related (Some k) r h = related r k h
+
+meet_at_less : (diff : List Reg) (source target : SideState) → AreRelated diff source target → (k : Option Kind) (c d : Operand Reg) (x y : Atom Reg)
+    → meet_at diff c d x y ≡ true → IsLessDefined (atom_value (read_reg source) k x) (atom_value (read_reg target) k y)
+meet_at_less diff source target related k c d (atom.Constant m) (atom.Constant n) h =
+    let same = same_const_true m n (right_true (same_ty c.ty d.ty) (same_const m n) h) in
+    subst (λ i. IsLessDefined (atom_value (read_reg source) k (atom.Constant m)) (atom_value (read_reg target) k (atom.Constant i))) same
+    (constant_less source target k m)
+meet_at_less diff source target related k c d (atom.Register x) (atom.Register y) h =
+    let same = same_reg_true x y (left_true (same_reg x y) (not (has_reg x diff)) h) in
+    let free = not-true (has_reg x diff) (right_true (same_reg x y) (not (has_reg x diff)) h) in
+    subst (λ r. IsLessDefined (atom_value (read_reg source) k (atom.Register x)) (atom_value (read_reg target) k (atom.Register r))) same
+    (register_less diff source target related k x free)
+meet_at_less diff source target related k c d (atom.Constant m) (atom.Register y) h = absurd (false≢true h)
+meet_at_less diff source target related k c d (atom.Register x) (atom.Constant n) h = absurd (false≢true h)
+
+meet_less : (diff : List Reg) (source target : SideState) → AreRelated diff source target → (k : Option Kind) (c d : Operand Reg)
+    → meet diff k c d ≡ true → IsLessDefined (value_on source c) (value_on target d)
+meet_less diff source target related k c d h =
+    let at = meet_at diff c d c.atom d.atom in
+    let kinds = left_true (have_kind (kind_of c.ty) k && have_kind (kind_of d.ty) k) at h in
+    let of_c = have_kind_true (kind_of c.ty) k (left_true (have_kind (kind_of c.ty) k) (have_kind (kind_of d.ty) k) kinds) in
+    let of_d = have_kind_true (kind_of d.ty) k (right_true (have_kind (kind_of c.ty) k) (have_kind (kind_of d.ty) k) kinds) in
+    subst₂ (λ i j. IsLessDefined (atom_value (read_reg source) i c.atom) (atom_value (read_reg target) j d.atom)) (sym of_c) (sym of_d)
+    (meet_at_less diff source target related k c d c.atom d.atom
+    (right_true (have_kind (kind_of c.ty) k && have_kind (kind_of d.ty) k) at h))
+
+pub matched_reg_less : (known : Assertion) (source target : SideState) → AssertionHolds known source target → (a b : Operand Reg)
+    → matched_reg known a b ≡ true → IsLessDefined (value_on source a) (value_on target b)
+matched_reg_less known source target holds a b h =
+    let k = kind_of a.ty in
+    let through = λ (c : Operand Reg). some_into (λ d. meet known.diff k c d) b known.tgt in
+    let found : SomeAbove source through a =
+    some_above source through a known.src (right_true (same_ty a.ty b.ty) (some_from through a known.src) h) holds.source_facts in
+    let back : SomeBelow target (λ d. meet known.diff k found.0 d) b =
+    some_below target (λ d. meet known.diff k found.0 d) b known.tgt found.1 holds.target_facts in
+    less_defined_trans (value_on source a) (value_on source found.0) (value_on target b) found.2
+    (less_defined_trans (value_on source found.0) (value_on target back.0) (value_on target b)
+    (meet_less known.diff source target holds.related k found.0 back.0 back.1) back.2)
+
+-- the operands of two functions
+pub matched_less : (known : Assertion) (source target : Registers) → AssertionHolds known (side_of source) (side_of target) → (a b : Operand Name)
+    → matched known a b ≡ true → IsLessDefined (operand_value (read source) a) (operand_value (read target) b)
+matched_less known source target holds a b h =
+    subst₂ IsLessDefined (now_atom_value source (kind_of a.ty) a.atom) (now_atom_value target (kind_of b.ty) b.atom)
+    (matched_reg_less known (side_of source) (side_of target) holds (now_operand a) (now_operand b) h)
+
+pub matched_type : (known : Assertion) (a b : Operand Name) → matched known a b ≡ true → a.ty ≡ b.ty
+matched_type known a b h =
+    same_ty_true a.ty b.ty
+    (left_true (same_ty a.ty b.ty) (some_from (λ c. some_into (λ d. meet known.diff (kind_of a.ty) c d) (now_operand b) known.tgt) (now_operand a) known.src) h)
+
+pub atoms_matched_less : (known : Assertion) (source target : Registers) → AssertionHolds known (side_of source) (side_of target)
+    → (s : Ty) (a : Atom Name) (t : Ty) (b : Atom Name) → atoms_matched known s a t b ≡ true
+    → IsLessDefined (atom_value (read source) (kind_of s) a) (atom_value (read target) (kind_of t) b)
+atoms_matched_less known source target holds s a t b h =
+    matched_less known source target holds (record { ty = s; atom = a }) (record { ty = t; atom = b }) h
