@@ -1,0 +1,292 @@
+//! Along two blocks, line by line.
+ghost use Rattle.std.specs.Prelude.{◌≡◌, true, None, IfOk};
+ghost use Rattle.ir_core.specs.declared.functions.Term.TheVariants.{Ret};
+ghost use Rattle.erhl_assert.specs.Alignment.{aligned, is_aligned, block_hint, entry_or_empty};
+ghost use Rattle.erhl_assert.specs.Steps.{after_steps, steps_at};
+ghost use Rattle.erhl_assert.specs.Acceptance.{term_verdict, after_steps_at, from_entry};
+ghost use Rattle.rule_base.specs.Book.{meanings_of};
+ghost use Rattle.erhl_checker.specs.Cursor.{line_at};
+ghost use Rattle.erhl_checker.specs.Progress.{stepped, past_line, walked, hinted};
+
+use crate::alignment::{hint_of, is_aligned, letters_of};
+use crate::cursor::{left, on_source, on_target, taken};
+use crate::steps::{Progress, after_steps};
+use contents::{Exact, Seq};
+use erhl_assert::{Assertion, Hint, HintBlock, Letter, PlacedStep, Reason, Spot, Verdict};
+use ir_core::{Block, Instr, Module, Name, Operand, Term};
+use postcondition::{after_line, matched};
+use rule_base::{InferRule, RuleBook};
+use std::alloc::{AllocError, Global};
+
+pub(crate) fn refused(
+    alloc: Global,
+    block: &Name,
+    spot: Spot,
+    reason: Reason,
+) -> Result<Verdict, AllocError>
+    ensures { IfOk result (λ v. v ≡ Verdict.Refused block.now spot reason) }
+{
+    Ok(Verdict::Refused {
+        block: block.copy(alloc)?,
+        spot,
+        reason,
+    })
+}
+
+fn returned(term: &Term) -> &Operand<Name>
+    ensures { term.now ≡ Ret result.now }
+{
+    let Term::Ret(operand) = term;
+    operand
+}
+
+fn at_terms(
+    alloc: Global,
+    block: &Name,
+    k: u64,
+    source: &Term,
+    target: &Term,
+    known: &Assertion,
+) -> Result<Verdict, AllocError>
+    ensures { IfOk result (λ v. v ≡ term_verdict block.now k source.now target.now known.now) }
+{
+    let a = returned(source);
+    let b = returned(target);
+    if matched(known, a, b) {
+        return Ok(Verdict::Valid);
+    }
+    let a = a.copy(alloc)?;
+    let reason = Reason::Unmatched(a, b.copy(alloc)?);
+    refused(alloc, block, Spot::Line(k), reason)
+}
+
+/// The steps before the terminators, and then the terminators.
+fn at_end(
+    alloc: Global,
+    module: &Module,
+    book: &RuleBook,
+    steps: &Seq<PlacedStep>,
+    k: u64,
+    source: &Block,
+    target: &Block,
+    known: Assertion,
+) -> Result<Verdict, AllocError>
+    ensures { IfOk result
+        (λ v. v
+        ≡ after_steps_at source.now.name k
+        (after_steps
+        (meanings_of
+        (λ b. (⟦<dyn InferRule as InferRule>⟧ b.vtable).called b.value)
+        (λ b. (⟦<dyn InferRule as InferRule>⟧ b.vtable).takes b.value)
+        book.now.rules.items)
+        «module».now (steps_at k steps.now) known)
+        (term_verdict source.now.name k source.now.term target.now.term)) }
+{
+    match after_steps(alloc, module, book, k, steps, known)? {
+        Progress::Known(after) => at_terms(
+            alloc,
+            &source.name,
+            k,
+            &source.term,
+            &target.term,
+            &after,
+        ),
+        Progress::Refused(reason) => refused(alloc, &source.name, Spot::Line(k), reason),
+    }
+}
+
+/// The steps before an aligned line, and then the line.
+fn past_line(
+    alloc: Global,
+    module: &Module,
+    book: &RuleBook,
+    steps: &Seq<PlacedStep>,
+    k: u64,
+    letter: Letter,
+    xs: &[Instr],
+    ys: &[Instr],
+    known: Assertion,
+) -> Result<Progress, AllocError>
+    ensures { IfOk result
+        (λ progress. stepped progress
+        ≡ past_line
+        (meanings_of
+        (λ b. (⟦<dyn InferRule as InferRule>⟧ b.vtable).called b.value)
+        (λ b. (⟦<dyn InferRule as InferRule>⟧ b.vtable).takes b.value)
+        book.now.rules.items)
+        «module».now steps.now k (line_at letter xs.now ys.now) known) }
+{
+    match after_steps(alloc, module, book, k, steps, known)? {
+        Progress::Known(after) => {
+            let source = taken(on_source(letter), xs);
+            let target = taken(on_target(letter), ys);
+            Ok(Progress::Known(after_line(alloc, after, source, target)?))
+        }
+        Progress::Refused(reason) => Ok(Progress::Refused(reason)),
+    }
+}
+
+/// Along two blocks whose lines align under the letters.
+#[tactic(auto, using(crate::proofs::Progressing::fits_more, crate::proofs::Progressing::walked_more, crate::proofs::Progressing::walked_refused, crate::proofs::Progressing::walked_end))]
+fn along(
+    alloc: Global,
+    module: &Module,
+    book: &RuleBook,
+    steps: &Seq<PlacedStep>,
+    letters: &[Letter],
+    source: &Block,
+    target: &Block,
+    entry: Assertion,
+) -> Result<Verdict, AllocError>
+    requires { is_aligned (aligned letters.now source.now.body target.now.body) ≡ true }
+    ensures { IfOk result
+        (λ v. v
+        ≡ walked
+        (meanings_of
+        (λ b. (⟦<dyn InferRule as InferRule>⟧ b.vtable).called b.value)
+        (λ b. (⟦<dyn InferRule as InferRule>⟧ b.vtable).takes b.value)
+        book.now.rules.items)
+        «module».now source.now.name steps.now 0 (aligned letters.now source.now.body target.now.body)
+        source.now.term target.now.term entry) }
+{
+    let mut known = entry;
+    let mut xs = source.body.as_slice();
+    let mut ys = target.body.as_slice();
+    for i in 0..letters.len() {
+        let letter = letters[i];
+        match past_line(alloc, module, book, steps, i as u64, letter, xs, ys, known)? {
+            Progress::Known(after) => known = after,
+            Progress::Refused(reason) => {
+                return refused(alloc, &source.name, Spot::Line(i as u64), reason);
+            }
+        }
+        xs = left(on_source(letter), xs);
+        ys = left(on_target(letter), ys);
+    }
+    at_end(
+        alloc,
+        module,
+        book,
+        steps,
+        letters.len() as u64,
+        source,
+        target,
+        known,
+    )
+}
+
+fn copy_of(alloc: Global, known: &Assertion) -> Result<Assertion, AllocError>
+    ensures { IfOk result (λ copy. copy ≡ known.now) }
+{
+    Ok(Assertion {
+        src: known.src.copy(alloc)?,
+        tgt: known.tgt.copy(alloc)?,
+        diff: known.diff.copy(alloc)?,
+    })
+}
+
+/// Two entry blocks with the hint that is given for them. Nothing is known of registers on entry, so the hint may want no fact.
+#[tactic(auto, using(crate::proofs::Progressing::walked_unaligned))]
+fn hinted(
+    alloc: Global,
+    module: &Module,
+    book: &RuleBook,
+    hint: &HintBlock,
+    letters: &[Letter],
+    source: &Block,
+    target: &Block,
+) -> Result<Verdict, AllocError>
+    ensures { IfOk result
+        (λ v. v
+        ≡ hinted
+        (meanings_of
+        (λ b. (⟦<dyn InferRule as InferRule>⟧ b.vtable).called b.value)
+        (λ b. (⟦<dyn InferRule as InferRule>⟧ b.vtable).takes b.value)
+        book.now.rules.items)
+        «module».now hint.now source.now target.now
+        (aligned letters.now source.now.body target.now.body) hint.now.entry.src hint.now.entry.tgt) }
+{
+    if let Some(fact) = hint.entry.src.as_slice().first() {
+        let reason = Reason::MissingFact(fact.copy(alloc)?);
+        return refused(alloc, &source.name, Spot::Start, reason);
+    }
+    if let Some(fact) = hint.entry.tgt.as_slice().first() {
+        let reason = Reason::MissingFact(fact.copy(alloc)?);
+        return refused(alloc, &source.name, Spot::Start, reason);
+    }
+    if !is_aligned(letters, source.body.as_slice(), target.body.as_slice()) {
+        return refused(alloc, &source.name, Spot::Start, Reason::AlignmentDiffers);
+    }
+    let entry = copy_of(alloc, &hint.entry)?;
+    along(
+        alloc,
+        module,
+        book,
+        &hint.steps,
+        letters,
+        source,
+        target,
+        entry,
+    )
+}
+
+fn empty_hint(alloc: Global, block: &Name) -> Result<HintBlock, AllocError>
+    ensures { IfOk result (λ hint. hint ≡ entry_or_empty block.now None) }
+{
+    Ok(HintBlock {
+        at: block.copy(alloc)?,
+        lines: None,
+        entry: Assertion {
+            src: Seq::new(alloc),
+            tgt: Seq::new(alloc),
+            diff: Seq::new(alloc),
+        },
+        steps: Seq::new(alloc),
+    })
+}
+
+/// The verdict on two entry blocks.
+#[tactic(auto, using(crate::proofs::Progressing::entry_hinted))]
+pub(crate) fn entry_verdict(
+    alloc: Global,
+    module: &Module,
+    book: &RuleBook,
+    hint: &Hint,
+    source: &Block,
+    target: &Block,
+) -> Result<Verdict, AllocError>
+    ensures { IfOk result
+        (λ v. v
+        ≡ from_entry
+        (meanings_of
+        (λ b. (⟦<dyn InferRule as InferRule>⟧ b.vtable).called b.value)
+        (λ b. (⟦<dyn InferRule as InferRule>⟧ b.vtable).takes b.value)
+        book.now.rules.items)
+        «module».now hint.now source.now target.now
+        (block_hint hint.now source.now.name).entry.src (block_hint hint.now source.now.name).entry.tgt) }
+{
+    let letters = letters_of(alloc, hint, source)?;
+    match hint_of(hint, &source.name) {
+        Some(entry) => hinted(
+            alloc,
+            module,
+            book,
+            entry,
+            letters.as_slice(),
+            source,
+            target,
+        ),
+        None => {
+            let empty = empty_hint(alloc, &source.name)?;
+            hinted(
+                alloc,
+                module,
+                book,
+                &empty,
+                letters.as_slice(),
+                source,
+                target,
+            )
+        }
+    }
+}

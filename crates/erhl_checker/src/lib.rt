@@ -1,0 +1,23 @@
+//! The checker: whether a target refines a source, by the proof that a hint gives. It says no where it doesn't know, with the
+//! first place and the first reason.
+#![tactic(auto)]
+
+mod alignment;
+mod blocks;
+mod cursor;
+mod functions;
+mod modules;
+mod steps;
+
+pub use functions::check_function;
+pub use modules::check_module;
+
+/// Why a check ended without a verdict.
+#[derive(Debug, Drop, Clone, Copy)]
+pub enum CheckEnd {
+    /// No memory is left.
+    Memory,
+}
+
+#[cfg(test)]
+mod tests;

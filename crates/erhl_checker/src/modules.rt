@@ -1,0 +1,203 @@
+//! The verdict on two modules.
+ghost use Rattle.std.specs.Prelude.{◌≡◌, ◌↔◌, false, map, find, IfOk};
+ghost use Rattle.std.specs.Option.{option_copied};
+ghost use Rattle.ir_core.specs.Same as same;
+ghost use Rattle.ir_machine.specs.Refinement.{Refines};
+ghost use Rattle.erhl_assert.specs.Acceptance as acceptance;
+ghost use Rattle.rule_base.specs.Book.{meanings_of};
+
+use crate::CheckEnd;
+use crate::functions::function_verdict;
+use contents::{Exact, Seq};
+use erhl_assert::{Difference, FunctionHint, Hint, Hints, ModuleVerdict, Verdict};
+use erhl_soundness::accepted_modules_refine;
+use ir_core::{Function, Module, Name, Param, same_name, same_ty};
+use rule_base::{InferRule, RuleBook, book_is_sound};
+use std::alloc::{AllocError, Global};
+
+fn same_param_types(source: &[Param], target: &[Param]) -> bool
+    ensures { result ≡ same.same_list same.same_ty (map (λ p. p.ty) source.now) (map (λ p. p.ty) target.now) }
+{
+    let mut rest = target;
+    for p in source {
+        match rest.split_first() {
+            Some((q, after)) => {
+                if !same_ty(&p.ty, &q.ty) {
+                    return false;
+                }
+                rest = after;
+            }
+            None => return false,
+        }
+    }
+    rest.is_empty()
+}
+
+/// Whether name, return type and parameter types are equal.
+fn same_signature(source: &Function, target: &Function) -> bool
+    ensures { result ≡ acceptance.same_signature source.now target.now }
+{
+    same_name(&source.name, &target.name)
+        && same_ty(&source.result, &target.result)
+        && same_param_types(source.params.as_slice(), target.params.as_slice())
+}
+
+fn same_signatures(source: &[Function], target: &[Function]) -> bool
+    ensures { result ≡ same.same_list acceptance.same_signature source.now target.now }
+{
+    let mut rest = target;
+    for f in source {
+        match rest.split_first() {
+            Some((g, after)) => {
+                if !same_signature(f, g) {
+                    return false;
+                }
+                rest = after;
+            }
+            None => return false,
+        }
+    }
+    rest.is_empty()
+}
+
+/// The function's hint: the first of its name.
+fn hint_of<'a>(hints: &'a Hints, function: &Name) -> Option<&'a FunctionHint>
+    ensures { option_copied result ≡ find (λ h. same.same_name h.function function.now) hints.now.functions }
+{
+    for hint in hints.functions.as_slice() {
+        if same_name(&hint.function, function) {
+            return Some(hint);
+        }
+    }
+    None
+}
+
+/// The verdict on two functions under the hint that the hints have for the source's, or an empty one.
+fn hinted_verdict(
+    alloc: Global,
+    module: &Module,
+    book: &RuleBook,
+    hints: &Hints,
+    source: &Function,
+    target: &Function,
+) -> Result<Verdict, AllocError>
+    ensures { IfOk result
+        (λ v. v
+        ≡ acceptance.function_verdict
+        (meanings_of
+        (λ b. (⟦<dyn InferRule as InferRule>⟧ b.vtable).called b.value)
+        (λ b. (⟦<dyn InferRule as InferRule>⟧ b.vtable).takes b.value)
+        book.now.rules.items)
+        «module».now source.now target.now (acceptance.hint_for hints.now source.now.name)) }
+{
+    match hint_of(hints, &source.name) {
+        Some(found) => function_verdict(alloc, module, book, &found.hint, source, target),
+        None => {
+            let empty = Hint {
+                blocks: Seq::new(alloc),
+            };
+            function_verdict(alloc, module, book, &empty, source, target)
+        }
+    }
+}
+
+/// The first function that isn't valid decides.
+fn functions_verdict(
+    alloc: Global,
+    module: &Module,
+    book: &RuleBook,
+    hints: &Hints,
+    source: &[Function],
+    target: &[Function],
+) -> Result<ModuleVerdict, AllocError>
+    ensures { IfOk result
+        (λ v. v
+        ≡ acceptance.functions_verdict
+        (meanings_of
+        (λ b. (⟦<dyn InferRule as InferRule>⟧ b.vtable).called b.value)
+        (λ b. (⟦<dyn InferRule as InferRule>⟧ b.vtable).takes b.value)
+        book.now.rules.items)
+        «module».now hints.now source.now target.now) }
+{
+    let mut rest = target;
+    for f in source {
+        match rest.split_first() {
+            Some((g, after)) => {
+                let verdict = hinted_verdict(alloc, module, book, hints, f, g)?;
+                if let Verdict::Refused {
+                    block,
+                    spot,
+                    reason,
+                } = verdict
+                {
+                    return Ok(ModuleVerdict::Refused {
+                        function: f.name.copy(alloc)?,
+                        block,
+                        spot,
+                        reason,
+                    });
+                }
+                rest = after;
+            }
+            None => return Ok(ModuleVerdict::Valid),
+        }
+    }
+    Ok(ModuleVerdict::Valid)
+}
+
+fn module_verdict(
+    alloc: Global,
+    book: &RuleBook,
+    hints: &Hints,
+    source: &Module,
+    target: &Module,
+) -> Result<ModuleVerdict, AllocError>
+    ensures { IfOk result
+        (λ v. v
+        ≡ acceptance.module_verdict
+        (meanings_of
+        (λ b. (⟦<dyn InferRule as InferRule>⟧ b.vtable).called b.value)
+        (λ b. (⟦<dyn InferRule as InferRule>⟧ b.vtable).takes b.value)
+        book.now.rules.items)
+        source.now target.now hints.now) }
+{
+    let functions = source.functions.as_slice();
+    let others = target.functions.as_slice();
+    if same_signatures(functions, others) {
+        functions_verdict(alloc, source, book, hints, functions, others)
+    } else {
+        Ok(ModuleVerdict::Differs(Difference::Functions))
+    }
+}
+
+/// Checks one module against another: `Differs` exactly where their functions' names, return types or parameter types differ,
+/// else the first function that isn't valid, with its place and reason. Whatever rules the book holds, a target that is
+/// `Valid` refines its source.
+#[tactic(auto, using(crate::proofs::Differing::differs_exactly))]
+pub fn check_module(
+    alloc: Global,
+    source: &Module,
+    target: &Module,
+    hints: &Hints,
+    book: &RuleBook,
+) -> Result<ModuleVerdict, CheckEnd>
+    ensures verdict { IfOk result
+        (λ v. v
+        ≡ acceptance.module_verdict
+        (meanings_of
+        (λ b. (⟦<dyn InferRule as InferRule>⟧ b.vtable).called b.value)
+        (λ b. (⟦<dyn InferRule as InferRule>⟧ b.vtable).takes b.value)
+        book.now.rules.items)
+        source.now target.now hints.now) }
+    ensures differs { IfOk result
+        (λ v. v ≡ ModuleVerdict.Differs Difference.Functions
+        ↔ same.same_list acceptance.same_signature source.now.functions target.now.functions ≡ false) }
+    ensures refines { IfOk result (λ v. v ≡ ModuleVerdict.Valid → Refines source.now target.now) }
+{
+    book_is_sound(book);
+    accepted_modules_refine();
+    match module_verdict(alloc, book, hints, source, target) {
+        Ok(verdict) => Ok(verdict),
+        Err(_) => Err(CheckEnd::Memory),
+    }
+}
