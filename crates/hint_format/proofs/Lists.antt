@@ -1,0 +1,25 @@
+-- Reading a list item by item: what is read so far, followed by what the rest is read as, is what the whole is read as.
+use Rattle.std.proofs.Common.{◌≡◌, suc, refl, ap, sym, List, [], ◌∷◌, ◌++◌, length, Option, Some, None, option_map, append_assoc}
+use Rattle.serde_json.specs.View.{items_view, members_view}
+use Rattle.serde_json.specs.declared.value.Value.{Value}
+use Rattle.serde_json.proofs.Views.{Entry}
+use Rattle.hint_format.specs.Parts.{items_list, members_list, all_of}
+
+pub item_count : (vs : List Value) → length (items_list (items_view vs)) ≡ length vs
+item_count [] = refl
+item_count (v ∷ vs) = ap (λ n. suc n) (item_count vs)
+
+pub member_count : (es : List Entry) → length (members_list (members_view es)) ≡ length es
+member_count [] = refl
+member_count (e ∷ es) = ap (λ n. suc n) (member_count es)
+
+-- what is read so far, followed by what the rest is read as
+abbrev pub onto : {A : Type 0} → List A → Option (List A) → Option (List A)
+onto found rest = option_map (λ more. found ++ more) rest
+
+onto_one : {A : Type 0} (found : List A) (a : A) (rest : Option (List A)) → onto found (option_map (λ more. a ∷ more) rest) ≡ onto (found ++ a ∷ []) rest
+onto_one found a None = refl
+onto_one found a (Some more) = ap Some (sym (append_assoc found (a ∷ []) more))
+
+pub onto_more : {X A : Type 0} (read : X → Option A) (found : List A) (x : X) (xs : List X) (a : A) → read x ≡ Some a → onto found (all_of read (x ∷ xs)) ≡ onto (found ++ a ∷ []) (all_of read xs)
+onto_more read found x xs a is = rw is (onto_one found a (all_of read xs))
