@@ -1,0 +1,105 @@
+-- What each status says of the answer that is due.
+use Rattle.std.proofs.Common.{◌≡◌, ◌≢◌, ℕ, zero, suc, List, [], Option, None, Some, refl, sym, subst, inl, inr}
+use Rattle.erhl_assert.specs.declared.verdict.ModuleVerdict.{ModuleVerdict}
+use Rattle.erhl_assert.specs.declared.verdict.ModuleVerdict.TheVariants as modules
+use Rattle.erhl_assert.specs.Steps.{Rules}
+use Rattle.erhl_assert.specs.Acceptance.{module_verdict}
+use Rattle.crell_io.specs.Count.{HasRisen}
+use Rattle.crell_io.specs.Shelf.{IfBytes}
+use Rattle.crell_io.specs.Shelf.Told.{NoSuch}
+use Rattle.crell_program.specs.declared.answer.Answer.{Answer}
+use Rattle.crell_program.specs.Answer.{usage, not_of_the_first_form, read_failed, past_limit, absent}
+use Rattle.crell_program.specs.Command.{Files}
+use Rattle.crell_program.specs.VerdictText.{verdict_answer}
+use Rattle.crell_program.specs.Due.{ShelfSeen, Held, Missing, Long, Broken, DueOfFile, DueOfFiles, DueOfTexts, IsDue, text_limit, json_limit}
+use Rattle.crell_program.specs.Statuses.{IsRefusal, AreJudged, OneIsUnfit, SomeFileIsUnfit, SomeFileIsLonger, SomeFileIsMissing, IsLonger}
+use Rattle.crell_program.proofs.Bytes.{if_bytes_three}
+
+-- What a status says: of the words and files; that out is silent, or both are wholly; that a sink failed; that memory was refused.
+abbrev pub Says : Rules → ShelfSeen → Option Files → Type 0 → Type 0 → Type 0 → Type 0 → ℕ → Type 0
+Says rules shelf command silent wholly failed refused zero = command ≢ None
+Says rules shelf command silent wholly failed refused (suc zero) = IsRefusal rules shelf command
+Says rules shelf command silent wholly failed refused (suc (suc zero)) = (command ≡ None) × wholly
+Says rules shelf command silent wholly failed refused (suc (suc (suc zero))) = SomeFileIsUnfit shelf command × silent
+Says rules shelf command silent wholly failed refused (suc (suc (suc (suc zero)))) = ⊥
+Says rules shelf command silent wholly failed refused (suc (suc (suc (suc (suc zero))))) = ⊥
+Says rules shelf command silent wholly failed refused (suc (suc (suc (suc (suc (suc zero)))))) = (command ≢ None) × HasRisen shelf.faults shelf.faults_after × silent
+Says rules shelf command silent wholly failed refused (suc (suc (suc (suc (suc (suc (suc zero))))))) = (command ≢ None) × failed
+Says rules shelf command silent wholly failed refused (suc (suc (suc (suc (suc (suc (suc (suc zero)))))))) = (command ≢ None) × wholly × refused
+Says rules shelf command silent wholly failed refused (suc (suc (suc (suc (suc (suc (suc (suc (suc zero))))))))) = SomeFileIsLonger shelf command × silent
+Says rules shelf command silent wholly failed refused (suc (suc (suc (suc (suc (suc (suc (suc (suc (suc zero)))))))))) = SomeFileIsMissing shelf command × silent
+Says rules shelf command silent wholly failed refused (suc (suc (suc (suc (suc (suc (suc (suc (suc (suc (suc n))))))))))) = ⊥
+
+-- the same, of an answer that isn't delivered yet
+abbrev pub SaysOf : Rules → ShelfSeen → Option Files → Answer → Type 0
+SaysOf rules shelf command answer =
+    Says rules shelf command (answer.out ≡ []) ((answer.out ≡ []) × (answer.err ≡ [])) ⊥ ⊥ answer.status
+
+along : (rules : Rules) (shelf : ShelfSeen) (command : Option Files) (a b : Answer) → a ≡ b → SaysOf rules shelf command b → SaysOf rules shelf command a
+along rules shelf command a b e says = let P : Answer → Type 0 = λ x. SaysOf rules shelf command x in subst P (sym e) says
+
+some_isnt_none : (files : Files) → Some files ≢ None
+some_isnt_none files e = cc
+
+-- the verdict on three texts
+says_verdict : (rules : Rules) (shelf : ShelfSeen) (files : Files) (v : ModuleVerdict)
+    → (v ≢ modules.Valid → IsRefusal rules shelf (Some files)) → SaysOf rules shelf (Some files) (verdict_answer v)
+says_verdict rules shelf files modules.Valid refusal = some_isnt_none files
+says_verdict rules shelf files (modules.Differs what) refusal = refusal (λ e. cc)
+says_verdict rules shelf files (modules.Refused function block spot reason) refusal = refusal (λ e. cc)
+
+says_texts : (rules : Rules) (shelf : ShelfSeen) (files : Files) (answer : Answer) (source target hints : List ℕ)
+    → IfBytes (shelf.told files.source) (λ held. source ≡ held)
+    → IfBytes (shelf.told files.target) (λ held. target ≡ held)
+    → IfBytes (shelf.told files.hints) (λ held. hints ≡ held)
+    → DueOfTexts rules files answer source target hints → SaysOf rules shelf (Some files) answer
+says_texts rules shelf files answer source target hints a b c (inl (unread, e)) =
+    along rules shelf (Some files) answer (not_of_the_first_form files.source) e (
+      if_bytes_three (shelf.told files.source) (shelf.told files.target) (shelf.told files.hints) source target hints
+          OneIsUnfit a b c (inl unread),
+      refl,
+    )
+says_texts rules shelf files answer source target hints a b c (inr (s, sp, inl (unread, e))) =
+    along rules shelf (Some files) answer (not_of_the_first_form files.target) e (
+      if_bytes_three (shelf.told files.source) (shelf.told files.target) (shelf.told files.hints) source target hints
+          OneIsUnfit a b c (inr (inl unread)),
+      refl,
+    )
+says_texts rules shelf files answer source target hints a b c (inr (s, sp, inr (t, tp, inl (unread, e)))) =
+    along rules shelf (Some files) answer (not_of_the_first_form files.hints) e (
+      if_bytes_three (shelf.told files.source) (shelf.told files.target) (shelf.told files.hints) source target hints
+          OneIsUnfit a b c (inr (inr unread)),
+      refl,
+    )
+says_texts rules shelf files answer source target hints a b c (inr (s, sp, inr (t, tp, inr (h, hp, e)))) =
+    along rules shelf (Some files) answer (verdict_answer (module_verdict rules s t h)) e
+    (says_verdict rules shelf files (module_verdict rules s t h) (λ other.
+    if_bytes_three (shelf.told files.source) (shelf.told files.target) (shelf.told files.hints) source target hints
+    (AreJudged rules (λ v. v ≢ modules.Valid))
+    a b c (s, t, h, sp.0, tp.0, hp, other)))
+
+-- A file decides, or leads on with its bytes.
+by_file : (rules : Rules) (shelf : ShelfSeen) (files : Files) (answer : Answer) (limit : ℕ) (limit_name name : List ℕ) (next : List ℕ → Type 0)
+    → (shelf.told name ≡ NoSuch → SomeFileIsMissing shelf (Some files))
+    → (IsLonger shelf limit name → SomeFileIsLonger shelf (Some files))
+    → ((bytes : List ℕ) → IfBytes (shelf.told name) (λ held. bytes ≡ held) → next bytes → SaysOf rules shelf (Some files) answer)
+    → DueOfFile shelf limit limit_name name answer next → SaysOf rules shelf (Some files) answer
+by_file rules shelf files answer limit limit_name name next missing longer leads (Held bytes, m, d) = leads bytes m.2 d
+by_file rules shelf files answer limit limit_name name next missing longer leads (Missing, m, d) =
+    along rules shelf (Some files) answer (absent name) d (missing m, refl)
+by_file rules shelf files answer limit limit_name name next missing longer leads (Long, m, d) =
+    along rules shelf (Some files) answer (past_limit limit_name name) d (longer m, refl)
+by_file rules shelf files answer limit limit_name name next missing longer leads (Broken, m, d) =
+    along rules shelf (Some files) answer (read_failed name) d (some_isnt_none files, m, refl)
+
+says_files : (rules : Rules) (shelf : ShelfSeen) (files : Files) (answer : Answer)
+    → DueOfFiles shelf files answer (DueOfTexts rules files answer) → SaysOf rules shelf (Some files) answer
+says_files rules shelf files answer due =
+    by_file rules shelf files answer text_limit _ files.source _ (λ m. inl m) (λ l. inl l) (λ source a.
+    by_file rules shelf files answer text_limit _ files.target _ (λ m. inr (inl m)) (λ l. inr (inl l)) (λ target b.
+    by_file rules shelf files answer json_limit _ files.hints _ (λ m. inr (inr m)) (λ l. inr (inr l)) (λ hints c.
+    says_texts rules shelf files answer source target hints a b c))) due
+
+pub says : (rules : Rules) (shelf : ShelfSeen) (command : Option Files) (answer : Answer) → IsDue rules shelf command answer → SaysOf rules shelf command answer
+says rules shelf None answer due = along rules shelf None answer usage due (refl, (refl, refl))
+says rules shelf (Some files) answer due = says_files rules shelf files answer due

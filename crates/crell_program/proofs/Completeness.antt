@@ -1,0 +1,127 @@
+-- Where all is well the status is the verdict's.
+use Rattle.std.proofs.Common.{◌≡◌, ◌≢◌, ◌⊎◌, ◌≤◌, ◌<◌, ℕ, List, length, Option, None, Some, refl, sym, ◌∙◌, ap, subst, inl, inr, arith}
+use Rattle.ir_core.specs.declared.functions.Module.{Module}
+use Rattle.ir_reader.specs.Spells.{Spells}
+use Rattle.hint_format.specs.Form.{HintsOf}
+use Rattle.erhl_assert.specs.declared.hints.Hints.{Hints}
+use Rattle.erhl_assert.specs.declared.verdict.ModuleVerdict.{ModuleVerdict}
+use Rattle.erhl_assert.specs.declared.verdict.ModuleVerdict.TheVariants as modules
+use Rattle.erhl_assert.specs.Steps.{Rules}
+use Rattle.erhl_assert.specs.Acceptance.{module_verdict}
+use Rattle.crell_io.specs.Count.{HasRisen}
+use Rattle.crell_io.specs.Shelf.{Told, IfBytes}
+use Rattle.crell_io.specs.Shelf.Told.{NoSuch, Bytes}
+use Rattle.crell_program.specs.declared.answer.Answer.{Answer}
+use Rattle.crell_program.specs.Answer.{not_of_the_first_form}
+use Rattle.crell_program.specs.Command.{Files}
+use Rattle.crell_program.specs.VerdictText.{verdict_status}
+use Rattle.crell_program.specs.Due.{ShelfSeen, Held, Missing, Long, Broken, DueOfFile, DueOfTexts, IsDue, text_limit, json_limit}
+use Rattle.crell_program.specs.Delivery.{SinkSeen, IsDelivered}
+use Rattle.crell_program.specs.Statuses.{IsAnswered, HoldsAll, HasVerdict, AreJudged, OneIsUnfit, NoFault}
+use Rattle.crell_program.proofs.Bytes.{told_bytes}
+
+hints_are_one : (text : List ℕ) (a b : Hints) → HintsOf text a → HintsOf text b → a ≡ b
+hints_are_one text a b p q = cc
+
+isnt_missing : (bytes : List ℕ) → Bytes bytes ≡ NoSuch → ⊥
+isnt_missing bytes e = cc
+
+-- a file that is told and within its limit is held, where no fault is counted
+held : (shelf : ShelfSeen) (limit : ℕ) (limit_name name : List ℕ) (answer : Answer) (next : List ℕ → Type 0) (bytes : List ℕ)
+    → shelf.told name ≡ Bytes bytes → length bytes ≤ limit → (HasRisen shelf.faults shelf.faults_after → ⊥)
+    → DueOfFile shelf limit limit_name name answer next → next bytes
+held shelf limit limit_name name answer next bytes told within fine (Held read, m, d) =
+    let P : Told → Type 0 = λ t. IfBytes t (λ h. read ≡ h) in
+    let e : read ≡ bytes = subst P told m.2 in subst next e d
+held shelf limit limit_name name answer next bytes told within fine (Missing, m, d) = absurd (isnt_missing bytes (sym told ∙ m))
+held shelf limit limit_name name answer next bytes told within fine (Long, m, d) =
+    let P : Told → Type 0 = λ t. IfBytes t (λ h. limit < length h) in
+    let e : limit < length bytes = subst P told m.1 in absurd (omega arith)
+held shelf limit limit_name name answer next bytes told within fine (Broken, m, d) = absurd (fine m)
+
+verdict_of_texts : (rules : Rules) (files : Files) (answer : Answer) (source target hints : List ℕ) (s t : Module) (h : Hints)
+    → Spells source s → Spells target t → HintsOf hints h → DueOfTexts rules files answer source target hints
+    → answer.status ≡ verdict_status (module_verdict rules s t h)
+verdict_of_texts rules files answer source target hints s t h sp tp hp (inl (unread, e)) = absurd (unread s sp)
+verdict_of_texts rules files answer source target hints s t h sp tp hp (inr (s2, sq, inl (unread, e))) = absurd (unread t tp)
+verdict_of_texts rules files answer source target hints s t h sp tp hp (inr (s2, sq, inr (t2, tq, inl (unread, e)))) = absurd (unread h hp)
+verdict_of_texts rules files answer source target hints s t h sp tp hp (inr (s2, sq, inr (t2, tq, inr (h2, hq, e)))) =
+    let es : s2 ≡ s = sym (sq.1 s sp) in
+    let et : t2 ≡ t = sym (tq.1 t tp) in
+    let eh : h2 ≡ h = hints_are_one hints h2 h hq hp in
+    ap (λ (a : Answer). a.status) e ∙ (ap (λ (x : Module). verdict_status (module_verdict rules x t2 h2)) es
+    ∙ (ap (λ (x : Module). verdict_status (module_verdict rules s x h2)) et ∙ ap (λ (x : Hints). verdict_status (module_verdict rules s t x)) eh))
+
+delivered_well : (answer : Answer) (shelf : ShelfSeen) (out err : SinkSeen) (status : ℕ) → NoFault shelf out err → IsDelivered answer out err status → status ≡ answer.status
+delivered_well answer shelf out err status fine (inl (e, to_out, to_err)) = e
+delivered_well answer shelf out err status fine (inr (inl (e, part, nothing))) = absurd (fine.1 part.0)
+delivered_well answer shelf out err status fine (inr (inr (e, all, part))) = absurd (fine.2 part.0)
+
+-- the three texts, and that the answer is due to them
+due_well : (rules : Rules) (shelf : ShelfSeen) (files : Files) (P : List ℕ → List ℕ → List ℕ → Type 0) (answer : Answer)
+    → (HasRisen shelf.faults shelf.faults_after → ⊥) → HoldsAll shelf (Some files) P → IsDue rules shelf (Some files) answer
+    → (source : List ℕ) × (target : List ℕ) × (hints : List ℕ) × P source target hints × DueOfTexts rules files answer source target hints
+due_well rules shelf files P answer fine has due =
+    let a = told_bytes (shelf.told files.source) _ has in
+    let b = told_bytes (shelf.told files.target) _ a.2 in
+    let c = told_bytes (shelf.told files.hints) _ b.2 in
+    let at_source = held shelf text_limit _ files.source answer _ a.0 a.1 c.2.0 fine due in
+    let at_target = held shelf text_limit _ files.target answer _ b.0 b.1 c.2.1 fine at_source in
+    let at_hints = held shelf json_limit _ files.hints answer _ c.0 c.1 c.2.2 fine at_target in
+    (a.0, b.0, c.0, c.2.3, at_hints)
+
+-- Where all is well the status is that of an answer that is due to the three texts; or memory was refused.
+all_well : (rules : Rules) (shelf : ShelfSeen) (out err : SinkSeen) (command : Option Files) (P : List ℕ → List ℕ → List ℕ → Type 0) (known status : ℕ)
+    → ((files : Files) (answer : Answer) (source target hints : List ℕ) → P source target hints → DueOfTexts rules files answer source target hints
+    → answer.status ≡ known)
+    → IsAnswered rules shelf out err command status → HoldsAll shelf command P → NoFault shelf out err → (status ≡ known) ⊎ (status ≡ 8)
+all_well rules shelf out err None P known status leads answered has fine = absurd has
+all_well rules shelf out err (Some files) P known status leads (inl (answer, due, delivered)) has fine =
+    let well = due_well rules shelf files P answer fine.0 has due in
+    inl (delivered_well answer shelf out err status fine delivered ∙ leads files answer well.0 well.1 well.2 well.3 well.4)
+all_well rules shelf out err (Some files) P known status leads (inr (some, e, nothing, silent)) has fine = inr e
+
+status_of_valid : (v : ModuleVerdict) → v ≡ modules.Valid → verdict_status v ≡ 0
+status_of_valid v e = ap verdict_status e
+
+status_of_other : (v : ModuleVerdict) → v ≢ modules.Valid → verdict_status v ≡ 1
+status_of_other modules.Valid other = absurd (other refl)
+status_of_other (modules.Differs what) other = refl
+status_of_other (modules.Refused function block spot reason) other = refl
+
+judged_as : (rules : Rules) (files : Files) (answer : Answer) (source target hints : List ℕ) (P : ModuleVerdict → Type 0) (known : ℕ)
+    → ((v : ModuleVerdict) → P v → verdict_status v ≡ known) → AreJudged rules P source target hints → DueOfTexts rules files answer source target hints
+    → answer.status ≡ known
+judged_as rules files answer source target hints P known leads (s, t, h, sp, tp, hp, p) due =
+    verdict_of_texts rules files answer source target hints s t h sp tp hp due ∙ leads (module_verdict rules s t h) p
+
+pub valid : (rules : Rules) (shelf : ShelfSeen) (out err : SinkSeen) (command : Option Files) (status : ℕ)
+    → IsAnswered rules shelf out err command status → HasVerdict rules shelf command (λ v. v ≡ modules.Valid) → NoFault shelf out err
+    → (status ≡ 0) ⊎ (status ≡ 8)
+valid rules shelf out err command status =
+    all_well rules shelf out err command (AreJudged rules (λ v. v ≡ modules.Valid)) 0 status
+    (λ files answer source target hints. judged_as rules files answer source target hints (λ v. v ≡ modules.Valid) 0 status_of_valid)
+
+pub invalid : (rules : Rules) (shelf : ShelfSeen) (out err : SinkSeen) (command : Option Files) (status : ℕ)
+    → IsAnswered rules shelf out err command status → HasVerdict rules shelf command (λ v. v ≢ modules.Valid) → NoFault shelf out err
+    → (status ≡ 1) ⊎ (status ≡ 8)
+invalid rules shelf out err command status =
+    all_well rules shelf out err command (AreJudged rules (λ v. v ≢ modules.Valid)) 1 status
+    (λ files answer source target hints. judged_as rules files answer source target hints (λ v. v ≢ modules.Valid) 1 status_of_other)
+
+status_of : (answer : Answer) (file : List ℕ) → answer ≡ not_of_the_first_form file → answer.status ≡ 3
+status_of answer file e = ap (λ (a : Answer). a.status) e
+
+unread_texts : (rules : Rules) (files : Files) (answer : Answer) (source target hints : List ℕ)
+    → OneIsUnfit source target hints → DueOfTexts rules files answer source target hints → answer.status ≡ 3
+unread_texts rules files answer source target hints unfit (inl (unread, e)) = status_of answer files.source e
+unread_texts rules files answer source target hints unfit (inr (s, sp, inl (unread, e))) = status_of answer files.target e
+unread_texts rules files answer source target hints unfit (inr (s, sp, inr (t, tp, inl (unread, e)))) = status_of answer files.hints e
+unread_texts rules files answer source target hints (inl unfit) (inr (s, sp, inr (t, tp, inr (h, hp, e)))) = absurd (unfit s sp.0)
+unread_texts rules files answer source target hints (inr (inl unfit)) (inr (s, sp, inr (t, tp, inr (h, hp, e)))) = absurd (unfit t tp.0)
+unread_texts rules files answer source target hints (inr (inr unfit)) (inr (s, sp, inr (t, tp, inr (h, hp, e)))) = absurd (unfit h hp)
+
+pub unread : (rules : Rules) (shelf : ShelfSeen) (out err : SinkSeen) (command : Option Files) (status : ℕ)
+    → IsAnswered rules shelf out err command status → HoldsAll shelf command OneIsUnfit → NoFault shelf out err
+    → (status ≡ 3) ⊎ (status ≡ 8)
+unread rules shelf out err command status = all_well rules shelf out err command OneIsUnfit 3 status (unread_texts rules)

@@ -1,0 +1,7 @@
+pub mod Answer
+pub mod Command
+pub mod Delivery
+pub mod Due
+pub mod Fetching
+pub mod Statuses
+pub mod VerdictText

@@ -1,0 +1,43 @@
+ghost use Rattle.std.specs.Prelude.{◌≡◌, IsTrue, false};
+ghost use Rattle.crell_program.specs.Delivery.{sink_seen, GotAll, GotPart, IsDelivered};
+
+use crate::answer::Answer;
+use crell_io::Sink;
+
+/// The status where a sink failed.
+const WRITE_FAILED: u8 = 7;
+
+/// Writes the answer's text to out, then to err, and gives its status.
+pub fn deliver<O: Sink, E: Sink>(answer: &Answer, out: &mut O, err: &mut E) -> u8
+    ensures { IsDelivered answer.now
+        (sink_seen O.written O.faults out.old out.new)
+        (sink_seen E.written E.faults err.old err.new) result }
+{
+    if !write_whole(out, answer.out.as_slice()) {
+        return WRITE_FAILED;
+    }
+    if !write_whole(err, answer.err.as_slice()) {
+        return WRITE_FAILED;
+    }
+    answer.status
+}
+
+/// Writes the text piece by piece. It answers false where the sink failed, after some first part of the text.
+fn write_whole<K: Sink>(sink: &mut K, text: &[u8]) -> bool
+    ensures whole { IsTrue result → GotAll (sink_seen K.written K.faults sink.old sink.new) text.now }
+    ensures part { result ≡ false → GotPart (sink_seen K.written K.faults sink.old sink.new) text.now }
+{
+    let mut done = 0;
+    while done < text.len() {
+        match sink.put(&text[done..]) {
+            Ok(count) => {
+                if count == 0 {
+                    return false;
+                }
+                done += count;
+            }
+            Err(_) => return false,
+        }
+    }
+    true
+}

@@ -1,0 +1,250 @@
+ghost use Rattle.std.specs.Prelude.{◌≤◌};
+
+use crate::crell;
+use crell_io::{Entry, MemShelf, MemSink};
+use rule_base::{InferRule, Rule, RuleBook};
+use std::alloc::{AllocError, Global};
+use std::test::Fail;
+
+const EXAMPLE_SOURCE: &str = "define i32 @f() {\n  %y = add i32 undef, 0\n  ret i32 %y\n}\n";
+
+const EXAMPLE_TARGET: &str = "define i32 @f() {\n  ret i32 7\n}\n";
+
+const EXAMPLE_HINTS: &str =
+    r#"{"format":1,"functions":{"@f":{"blocks":[{"at":"%0","lines":"s","steps":[
+{"at":1,"rule":"zero_right","side":"src","from":[],"to":["ge","add i32 undef, 0","i32 undef"]},
+{"at":1,"rule":"undef_const","side":"src","from":[],"to":["ge","i32 undef","i32 7"]},
+{"at":1,"rule":"trans","side":"src","from":[["ge","i32 %y","add i32 undef, 0"],["ge","add i32 undef, 0","i32 undef"]],"to":["ge","i32 %y","i32 undef"]},
+{"at":1,"rule":"trans","side":"src","from":[["ge","i32 %y","i32 undef"],["ge","i32 undef","i32 7"]],"to":["ge","i32 %y","i32 7"]}]}]}}}
+"#;
+
+const EXAMPLE_HINTS_WITHOUT_SECOND: &str =
+    r#"{"format":1,"functions":{"@f":{"blocks":[{"at":"%0","lines":"s","steps":[
+{"at":1,"rule":"zero_right","side":"src","from":[],"to":["ge","add i32 undef, 0","i32 undef"]},
+{"at":1,"rule":"trans","side":"src","from":[["ge","i32 %y","add i32 undef, 0"],["ge","add i32 undef, 0","i32 undef"]],"to":["ge","i32 %y","i32 undef"]},
+{"at":1,"rule":"trans","side":"src","from":[["ge","i32 %y","i32 undef"],["ge","i32 undef","i32 7"]],"to":["ge","i32 %y","i32 7"]}]}]}}}
+"#;
+
+const PLUS_ZERO: &str = "define i32 @f(i32 %x) {\n  %y = add i32 %x, 0\n  ret i32 %y\n}\n";
+
+const ARGUMENT: &str = "define i32 @f(i32 %x) {\n  ret i32 %x\n}\n";
+
+const PLUS_ZERO_HINTS: &str =
+    r#"{"format":1,"functions":{"@f":{"blocks":[{"at":"%0","lines":"s","steps":[
+{"at":1,"rule":"zero_right","side":"src","from":[],"to":["ge","add i32 %x, 0","i32 %x"]},
+{"at":1,"rule":"trans","side":"src","from":[["ge","i32 %y","add i32 %x, 0"],["ge","add i32 %x, 0","i32 %x"]],"to":["ge","i32 %y","i32 %x"]}]}]}}}
+"#;
+
+const PLUS_ZERO_HINTS_FIRST: &str =
+    r#"{"format":1,"functions":{"@f":{"blocks":[{"at":"%0","lines":"s","steps":[
+{"at":1,"rule":"zero_right","side":"src","from":[],"to":["ge","add i32 %x, 0","i32 %x"]}]}]}}}
+"#;
+
+const PLUS_ZERO_HINTS_SECOND: &str =
+    r#"{"format":1,"functions":{"@f":{"blocks":[{"at":"%0","lines":"s","steps":[
+{"at":1,"rule":"trans","side":"src","from":[["ge","i32 %y","add i32 %x, 0"],["ge","add i32 %x, 0","i32 %x"]],"to":["ge","i32 %y","i32 %x"]}]}]}}}
+"#;
+
+const WRAPPING: &str = "define i32 @f() {\n  %y = add i32 2147483647, 1\n  ret i32 %y\n}\n";
+
+const NOT_WRAPPING: &str = "define i32 @f() {\n  %y = add nsw i32 2147483647, 1\n  ret i32 %y\n}\n";
+
+const NO_HINTS: &str = "{\"format\":1,\"functions\":{}}\n";
+
+const USED_EARLY: &str =
+    "define i32 @f() {\n  %x = add i32 %y, 0\n  %z = add i32 1, 2\n  %y = add i32 1, 2\n  ret i32 %x\n}\n";
+
+const CHECK: [&str; 5] = ["crell", "check", "a.ll", "b.ll", "h.json"];
+
+fn shelf(alloc: Global, files: &[(&str, &str)], failing: &[u64]) -> Result<MemShelf, AllocError> {
+    let mut entries = Vec::new(alloc);
+    for (name, text) in files {
+        entries.push(Entry {
+            name: String::from_str(alloc, *name)?,
+            bytes: text.as_bytes().to_vec(alloc)?,
+        })?;
+    }
+    Ok(MemShelf::new(entries, failing.to_vec(alloc)?))
+}
+
+fn sink(alloc: Global, room: usize, most: usize, failing: &[u64]) -> Result<MemSink, AllocError>
+    requires { 1 ≤ most }
+{
+    MemSink::new(alloc, room, most, failing.to_vec(alloc)?)
+}
+
+/// Runs the program under the shipped rules.
+fn run(
+    alloc: Global,
+    words: &[&str],
+    shelf: &mut MemShelf,
+    out: &mut MemSink,
+    err: &mut MemSink,
+) -> Result<u8, AllocError> {
+    let mut rules: Vec<Box<dyn InferRule>> = Vec::new(alloc);
+    for rule in Rule::ALL {
+        rules.push(Box::new(alloc, rule)?)?;
+    }
+    let book = RuleBook::new(rules);
+    let mut given = Vec::new(alloc);
+    for word in words {
+        given.push(String::from_str(alloc, *word)?)?;
+    }
+    Ok(crell(alloc, &given, &book, &[], shelf, out, err))
+}
+
+#[test]
+fn pairs_are_judged(rt: HostRuntime) -> Result<(), Fail> {
+    let alloc = rt.alloc();
+    let missing_seven = "refused @f %0 1: missing premise [\"ge\",\"i32 undef\",\"i32 7\"]\n";
+    let missing_sum = "refused @f %0 1: missing premise [\"ge\",\"add i32 %x, 0\",\"i32 %x\"]\n";
+    for (source, target, hints, status, text) in [
+        (EXAMPLE_SOURCE, EXAMPLE_TARGET, EXAMPLE_HINTS, 0, "valid\n"),
+        (
+            EXAMPLE_SOURCE,
+            EXAMPLE_TARGET,
+            EXAMPLE_HINTS_WITHOUT_SECOND,
+            1,
+            missing_seven,
+        ),
+        (PLUS_ZERO, ARGUMENT, PLUS_ZERO_HINTS, 0, "valid\n"),
+        (
+            PLUS_ZERO,
+            ARGUMENT,
+            PLUS_ZERO_HINTS_FIRST,
+            1,
+            "refused @f %0 1: unmatched %y %x\n",
+        ),
+        (PLUS_ZERO, ARGUMENT, PLUS_ZERO_HINTS_SECOND, 1, missing_sum),
+        (
+            WRAPPING,
+            NOT_WRAPPING,
+            NO_HINTS,
+            1,
+            "refused @f %0 1: unmatched %y %y\n",
+        ),
+        (NOT_WRAPPING, WRAPPING, NO_HINTS, 0, "valid\n"),
+    ] {
+        let mut shelf = shelf(
+            alloc,
+            &[("a.ll", source), ("b.ll", target), ("h.json", hints)],
+            &[],
+        )?;
+        // It takes one byte a call.
+        let mut out = sink(alloc, 100, 1, &[])?;
+        let mut err = sink(alloc, 100, 100, &[])?;
+        assert_eq!(rt;
+            run(alloc, &CHECK, &mut shelf, &mut out, &mut err)?,
+            status,
+            "{text}"
+        );
+        assert_eq!(rt; out.bytes(), text.as_bytes());
+        assert_eq!(rt; err.bytes(), b"".as_slice());
+    }
+    Ok(())
+}
+
+#[test]
+fn faults_of_files_are_told(rt: HostRuntime) -> Result<(), Fail> {
+    let alloc = rt.alloc();
+    let whole = [
+        ("a.ll", EXAMPLE_SOURCE),
+        ("b.ll", EXAMPLE_TARGET),
+        ("h.json", EXAMPLE_HINTS),
+    ];
+    let absent = [
+        ("a.ll", EXAMPLE_SOURCE),
+        ("c.ll", EXAMPLE_TARGET),
+        ("h.json", EXAMPLE_HINTS),
+    ];
+    let early = [
+        ("a.ll", USED_EARLY),
+        ("b.ll", USED_EARLY),
+        ("h.json", EXAMPLE_HINTS),
+    ];
+    let target = [
+        ("a.ll", EXAMPLE_SOURCE),
+        ("b.ll", USED_EARLY),
+        ("h.json", ""),
+    ];
+    let hints = [
+        ("a.ll", EXAMPLE_SOURCE),
+        ("b.ll", EXAMPLE_TARGET),
+        ("h.json", "{\"format\":1,"),
+    ];
+    for (files, failing, status, text) in [
+        (&whole, 0, 6, "a.ll: read failed\n"),
+        (&whole, 1, 6, "b.ll: read failed\n"),
+        (&whole, 2, 6, "h.json: read failed\n"),
+        (&absent, 9, 10, "b.ll: absent\n"),
+        (&early, 9, 3, "a.ll: not of the first form\n"),
+        (&target, 9, 3, "b.ll: not of the first form\n"),
+        (&hints, 9, 3, "h.json: not of the first form\n"),
+    ] {
+        let mut shelf = shelf(alloc, files.as_slice(), &[failing])?;
+        let mut out = sink(alloc, 100, 100, &[])?;
+        let mut err = sink(alloc, 100, 1, &[])?;
+        assert_eq!(rt;
+            run(alloc, &CHECK, &mut shelf, &mut out, &mut err)?,
+            status,
+            "{text}"
+        );
+        assert_eq!(rt; out.bytes(), b"".as_slice());
+        assert_eq!(rt; err.bytes(), text.as_bytes());
+    }
+    Ok(())
+}
+
+#[test]
+fn other_words_are_no_command(rt: HostRuntime) -> Result<(), Fail> {
+    let alloc = rt.alloc();
+    for words in [
+        ["crell"].as_slice(),
+        &["crell", "check", "a.ll", "b.ll"],
+        &["crell", "opt", "a.ll", "b.ll", "h.json"],
+        &["crell", "check", "a.ll", "--help", "h.json"],
+    ] {
+        let mut shelf = shelf(alloc, &[], &[])?;
+        let mut out = sink(alloc, 100, 100, &[])?;
+        let mut err = sink(alloc, 100, 100, &[])?;
+        assert_eq!(rt; run(alloc, words, &mut shelf, &mut out, &mut err)?, 2);
+        assert_eq!(rt; out.bytes(), b"".as_slice());
+        assert_eq!(rt; err.bytes(), b"".as_slice());
+    }
+    Ok(())
+}
+
+#[test]
+fn a_sink_that_fails_keeps_a_first_part(rt: HostRuntime) -> Result<(), Fail> {
+    let alloc = rt.alloc();
+    let files = [
+        ("a.ll", NOT_WRAPPING),
+        ("b.ll", WRAPPING),
+        ("h.json", NO_HINTS),
+    ];
+    for (room, failing, text) in [
+        (0, 9, ""),
+        (3, 9, "val"),
+        (9, 0, ""),
+        (9, 1, "va"),
+        (9, 2, "vali"),
+    ] {
+        let mut shelf = shelf(alloc, &files, &[])?;
+        let mut out = sink(alloc, room, 2, &[failing])?;
+        let mut err = sink(alloc, 100, 100, &[])?;
+        assert_eq!(rt;
+            run(alloc, &CHECK, &mut shelf, &mut out, &mut err)?,
+            7,
+            "{room}, {failing}"
+        );
+        assert_eq!(rt; out.bytes(), text.as_bytes());
+        assert_eq!(rt; err.bytes(), b"".as_slice());
+    }
+    let mut shelf = shelf(alloc, &[], &[])?;
+    let mut out = sink(alloc, 100, 100, &[])?;
+    let mut err = sink(alloc, 6, 4, &[])?;
+    assert_eq!(rt; run(alloc, &CHECK, &mut shelf, &mut out, &mut err)?, 7);
+    assert_eq!(rt; out.bytes(), b"".as_slice());
+    assert_eq!(rt; err.bytes(), b"a.ll: ".as_slice());
+    Ok(())
+}
