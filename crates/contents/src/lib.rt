@@ -7,6 +7,8 @@
 mod boxed;
 mod exact;
 mod seq;
+#[cfg(test)]
+mod tests;
 
 pub use boxed::Boxed;
 pub use exact::Exact;
