@@ -1,6 +1,6 @@
 -- The tests of specs/Same are true exactly of equal things: two laws for each. Where a test takes the test of its elements
 -- or registers, its laws take theirs.
-use Rattle.std.proofs.Common.{◌≡◌, Bool, true, false, ◌&&◌, ℕ, List, [], ◌∷◌, refl, ap}
+use Rattle.std.proofs.Common.{◌≡◌, Bool, true, false, ◌&&◌, ℕ, List, [], ◌∷◌, refl, ap, subst}
 use Rattle.std.specs.Prelude.{nat_eq}
 use Rattle.std.proofs.lemmas.Bool.{eqb-true, eq-eqb}
 use Rattle.ir_core.specs.declared.names.Name.{Name}
@@ -20,7 +20,7 @@ use Rattle.ir_core.specs.declared.expressions.Reg.TheVariants as reg
 use Rattle.ir_core.specs.declared.expressions.BinaryExpr.{BinaryExpr}
 use Rattle.ir_core.specs.declared.expressions.Expr0.{Expr0}
 use Rattle.ir_core.specs.declared.expressions.Expr0.TheVariants as expr
-use Rattle.ir_core.specs.Same.{same_list, same_bool, same_name, same_ty, same_const, same_atom, same_operand, same_op, same_flags, same_reg, same_binary, same_expr}
+use Rattle.ir_core.specs.Same.{same_list, same_bool, same_name, same_ty, same_const, same_atom, same_operand, same_op, same_flags, same_reg, same_binary, same_expr, IsEquality}
 
 pub left_true : (a b : Bool) → (a && b) ≡ true → a ≡ true
 left_true true b h = refl
@@ -29,6 +29,9 @@ left_true false b h = h
 pub right_true : (a b : Bool) → (a && b) ≡ true → b ≡ true
 right_true true b h = h
 right_true false b h = cc
+
+pub equality : {A : Type 0} (same : A → A → Bool) → ((a b : A) → same a b ≡ true → a ≡ b) → ((a : A) → same a a ≡ true) → IsEquality same
+equality same true_of refl_of a b = (true_of a b, λ e. subst (λ c. same a c ≡ true) e (refl_of a))
 
 pub all_true : {a b : Bool} → a ≡ true → b ≡ true → (a && b) ≡ true
 all_true p q = rw (p, q) refl

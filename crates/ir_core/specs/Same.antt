@@ -1,6 +1,6 @@
--- Whether two parts of a syntax tree are the same, as tests that compute. The law beside each (in
--- proofs/SameLaws) is that the test is true exactly of equal things.
-use Rattle.std.specs.Prelude.{Bool, true, false, ◌&&◌, List, [], ◌∷◌, nat_eq}
+-- Whether two parts of a syntax tree are the same, as tests that compute. Each is true exactly of equal things, which is
+-- the contract of `tests_are_equality`.
+use Rattle.std.specs.Prelude.{◌≡◌, ◌↔◌, Bool, true, false, ◌&&◌, List, [], ◌∷◌, nat_eq}
 use Rattle.ir_core.specs.declared.names.Name.{Name}
 use Rattle.ir_core.specs.declared.names.Name.TheVariants as name
 use Rattle.ir_core.specs.declared.operands.Ty.{Ty}
@@ -88,3 +88,7 @@ same_expr (expr.Plain a) (expr.Plain b) = same_operand same_reg a b
 same_expr (expr.Binary a) (expr.Binary b) = same_binary a b
 same_expr (expr.Plain a) (expr.Binary b) = false
 same_expr (expr.Binary a) (expr.Plain b) = false
+
+-- the test is true exactly of equal things
+abbrev pub IsEquality : {A : Type 0} → (A → A → Bool) → Type 0
+IsEquality {A} same = (a b : A) → (same a b ≡ true) ↔ (a ≡ b)

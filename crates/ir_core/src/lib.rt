@@ -9,6 +9,8 @@ mod functions;
 mod names;
 mod operands;
 mod same;
+#[cfg(test)]
+mod tests;
 mod values;
 
 pub use expressions::{BinaryExpr, Expr0, Reg};
@@ -17,6 +19,6 @@ pub use names::{Name, Sigil};
 pub use operands::{Atom, BinOp, Const, Flags, Operand, Ty};
 pub use same::{
     same_binary, same_const, same_expr, same_flags, same_name, same_name_atom, same_name_operand,
-    same_op, same_reg, same_reg_atom, same_reg_operand, same_ty,
+    same_op, same_reg, same_reg_atom, same_reg_operand, same_ty, tests_are_equality,
 };
 pub use values::{Kind, Value};

@@ -91,3 +91,16 @@ pub fn same_reg_operand(a: &Operand<Reg>, b: &Operand<Reg>) -> bool
 {
     a.is(b)
 }
+
+/// Each of these tests is true exactly of equal things.
+pub fn tests_are_equality()
+    ensures names { same.IsEquality same.same_name }
+    ensures types { same.IsEquality same.same_ty }
+    ensures constants { same.IsEquality same.same_const }
+    ensures operators { same.IsEquality same.same_op }
+    ensures flags { same.IsEquality same.same_flags }
+    ensures registers { same.IsEquality same.same_reg }
+    ensures atoms { same.IsEquality (same.same_atom same.same_name) }
+    ensures operands { same.IsEquality (same.same_operand same.same_name) }
+    ensures expressions { same.IsEquality same.same_expr }
+{}

@@ -1,0 +1,29 @@
+use Rattle.ir_core.proofs.SameLaws as law
+use Rattle.ir_core.proofs.same.tests_are_equality.Goals as goal
+
+pub returns-clause-names : goal.returns-clause-names
+returns-clause-names c = law.equality _ law.same_name_true law.same_name_refl
+
+pub returns-clause-types : goal.returns-clause-types
+returns-clause-types c = law.equality _ law.same_ty_true law.same_ty_refl
+
+pub returns-clause-constants : goal.returns-clause-constants
+returns-clause-constants c = law.equality _ law.same_const_true law.same_const_refl
+
+pub returns-clause-operators : goal.returns-clause-operators
+returns-clause-operators c = law.equality _ law.same_op_true law.same_op_refl
+
+pub returns-clause-flags : goal.returns-clause-flags
+returns-clause-flags c = law.equality _ law.same_flags_true law.same_flags_refl
+
+pub returns-clause-registers : goal.returns-clause-registers
+returns-clause-registers c = law.equality _ law.same_reg_true law.same_reg_refl
+
+pub returns-clause-atoms : goal.returns-clause-atoms
+returns-clause-atoms c = law.equality _ law.same_name_atom_true law.same_name_atom_refl
+
+pub returns-clause-operands : goal.returns-clause-operands
+returns-clause-operands c = law.equality _ law.same_name_operand_true law.same_name_operand_refl
+
+pub returns-clause-expressions : goal.returns-clause-expressions
+returns-clause-expressions c = law.equality _ law.same_expr_true law.same_expr_refl
