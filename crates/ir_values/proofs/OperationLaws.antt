@@ -1,5 +1,5 @@
 -- Proofs of the laws of specs/Laws.
-use Rattle.std.proofs.Common.{◌≡◌, ℕ, ◌+◌, ◌-◌, ◌<◌, ◌^◌, Bool, true, false, not, ◌&&◌, ◌||◌, cond, refl}
+use Rattle.std.proofs.Common.{◌≡◌, ℕ, ◌+◌, ◌-◌, ◌<◌, ◌^◌, Bool, true, false, not, ◌&&◌, ◌||◌, cond, refl, sym}
 use Rattle.std.proofs.lemmas.Nat.{pow_pos, mod_below}
 use Rattle.ir_core.proofs.SameLaws.{left_true, right_true}
 use Rattle.ir_core.specs.declared.values.Value.{Value}
@@ -9,8 +9,10 @@ use Rattle.ir_core.specs.declared.operands.BinOp.{BinOp}
 use Rattle.ir_core.specs.declared.operands.BinOp.TheVariants.{Add, Sub}
 use Rattle.ir_core.specs.declared.operands.Flags.{Flags}
 use Rattle.ir_values.specs.Values.{IsInKind, IsLessDefined}
-use Rattle.ir_values.specs.Operations.{wrapped, wraps_unsigned, wraps_signed, breaks_flag, undef_under, binary_value}
-use Rattle.ir_values.specs.Laws.{LessDefinedIsReflexive, LessDefinedIsTransitive, flags_among, OperationsAreMonotone, OperationsStayInKind}
+use Rattle.ir_values.specs.declared.operations.Outcome.{Outcome}
+use Rattle.ir_values.specs.declared.operations.Outcome.TheVariants.{Gives, Trap}
+use Rattle.ir_values.specs.Operations.{IsOutcomeLessDefined, wrapped, wraps_unsigned, wraps_signed, breaks_flag, undef_under, binary_value}
+use Rattle.ir_values.specs.Laws.{LessDefinedIsReflexive, LessDefinedIsTransitive, LessDefinedIsAntisymmetric, flags_among, OperationsAreMonotone, OperationsStayInKind}
 
 pub less_defined_refl : LessDefinedIsReflexive
 less_defined_refl Poison = tt
@@ -23,6 +25,22 @@ less_defined_trans Undef Poison c p q = absurd p
 less_defined_trans Undef Undef c p q = q
 less_defined_trans Undef (Num n) c p q = rw q tt
 less_defined_trans (Num m) b c p q = rw p at q
+
+pub less_defined_antisym : LessDefinedIsAntisymmetric
+less_defined_antisym Poison Poison p q = refl
+less_defined_antisym Poison Undef p q = absurd q
+less_defined_antisym Poison (Num n) p q = cc
+less_defined_antisym Undef Poison p q = absurd p
+less_defined_antisym Undef Undef p q = refl
+less_defined_antisym Undef (Num n) p q = cc
+less_defined_antisym (Num m) b p q = sym p
+
+-- the same of outcomes
+pub outcome_less_defined_trans : (a b c : Outcome) → IsOutcomeLessDefined a b → IsOutcomeLessDefined b c → IsOutcomeLessDefined a c
+outcome_less_defined_trans Trap b c p q = tt
+outcome_less_defined_trans (Gives a) (Gives b) (Gives c) p q = less_defined_trans a b c p q
+outcome_less_defined_trans (Gives a) (Gives b) Trap p q = absurd q
+outcome_less_defined_trans (Gives a) Trap c p q = absurd p
 
 -- a number is less defined than itself alone
 pub less_defined_than_number : (n : ℕ) (b : Value) → IsLessDefined (Num n) b → b ≡ Num n

@@ -1,4 +1,4 @@
-ghost use Rattle.ir_values.specs.Laws.{LessDefinedIsReflexive, LessDefinedIsTransitive, OperationsAreMonotone, OperationsStayInKind};
+ghost use Rattle.ir_values.specs.Laws.{LessDefinedIsReflexive, LessDefinedIsTransitive, LessDefinedIsAntisymmetric, OperationsAreMonotone, OperationsStayInKind};
 
 /// More defined operands and fewer flags give a more defined outcome.
 #[tactic(auto, using(crate::proofs::OperationLaws::binary_monotone))]
@@ -13,8 +13,9 @@ pub fn operations_stay_in_kind()
 {}
 
 /// To be less defined is an order.
-#[tactic(auto, using(crate::proofs::OperationLaws::less_defined_refl, crate::proofs::OperationLaws::less_defined_trans))]
+#[tactic(auto, using(crate::proofs::OperationLaws::less_defined_refl, crate::proofs::OperationLaws::less_defined_trans, crate::proofs::OperationLaws::less_defined_antisym))]
 pub fn less_defined_is_an_order()
     ensures reflexive { LessDefinedIsReflexive }
     ensures transitive { LessDefinedIsTransitive }
+    ensures antisymmetric { LessDefinedIsAntisymmetric }
 {}

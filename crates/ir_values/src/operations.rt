@@ -155,6 +155,14 @@ mod tests {
         }
     }
 
+    fn is_undef(outcome: Outcome) -> bool {
+        matches!(outcome, Outcome::Gives(Value::Undef))
+    }
+
+    fn is_poison(outcome: Outcome) -> bool {
+        matches!(outcome, Outcome::Gives(Value::Poison))
+    }
+
     fn flags(nuw: bool, nsw: bool) -> Flags {
         Flags { nuw, nsw }
     }
@@ -198,6 +206,35 @@ mod tests {
         assert_eq!(rt;
             number(eval_binary(BinOp::Add, flags(true, true), 64, &a, &b)),
             None
+        );
+    }
+
+    #[test]
+    fn the_greatest_i32_and_one(rt: HostRuntime) {
+        let (a, b) = (Value::Num(2_147_483_647), Value::Num(1));
+        assert!(rt; is_poison(eval_binary(BinOp::Add, flags(false, true), 32, &a, &b)));
+        assert_eq!(rt;
+            number(eval_binary(BinOp::Add, flags(false, false), 32, &a, &b)),
+            Some(2_147_483_648)
+        );
+    }
+
+    #[test]
+    fn poison_comes_before_undef(rt: HostRuntime) {
+        let (undef, poison, zero) = (Value::Undef, Value::Poison, Value::Num(0));
+        assert!(rt; is_poison(eval_binary(BinOp::Add, flags(false, false), 32, &undef, &poison)));
+        assert!(rt; is_undef(eval_binary(BinOp::Add, flags(false, false), 32, &undef, &zero)));
+        assert!(rt; is_poison(eval_binary(BinOp::Add, flags(true, false), 32, &undef, &zero)));
+    }
+
+    #[test]
+    fn one_bit(rt: HostRuntime) {
+        let (zero, one) = (Value::Num(0), Value::Num(1));
+        assert!(rt; is_poison(eval_binary(BinOp::Add, flags(false, true), 1, &one, &one)));
+        assert!(rt; is_poison(eval_binary(BinOp::Sub, flags(false, true), 1, &zero, &one)));
+        assert_eq!(rt;
+            number(eval_binary(BinOp::Sub, flags(true, false), 1, &one, &one)),
+            Some(0)
         );
     }
 
