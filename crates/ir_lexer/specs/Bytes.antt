@@ -7,10 +7,6 @@ use Rattle.std.specs.Char.{is_ascii_alphabetic, is_ascii_digit}
 abbrev pub is_blank : ℕ → Bool
 is_blank b = b == 32 || b == 9 || b == 10 || b == 13
 
--- A-Z a-z 0-9 - $ . _
-abbrev pub is_run_byte : ℕ → Bool
-is_run_byte b = is_ascii_alphabetic b || is_ascii_digit b || b == 45 || b == 36 || b == 46 || b == 95
-
 -- what is a token by itself
 abbrev pub is_mark : ℕ → Bool
 is_mark b = list_any (λ c. c == b) (codes "=,(){}[]*<>|")

@@ -4,7 +4,7 @@ use Rattle.std.specs.Char.{is_ascii_digit}
 use Rattle.ir_core.specs.declared.names.Name.TheVariants.{Text, Number}
 use Rattle.ir_lexer.specs.declared.names.NameAt.{NameAt}
 use Rattle.ir_lexer.specs.declared.names.NameAt.TheVariants.{Found, EmptyOrOpen, Missing}
-use Rattle.ir_lexer.specs.Bytes.{is_run_byte}
+use Rattle.ir_core.specs.Names.{is_name_byte}
 use Rattle.ir_lexer.specs.Numbers.{value_of, if_below}
 use Rattle.ir_lexer.specs.Runs.{run_at, digits_at, quoted_at}
 use Rattle.ir_lexer.specs.Strings.{unescaped}
@@ -26,7 +26,7 @@ unfoldable pub name_at : List ℕ → NameAt
 name_at [] = Missing
 name_at (b ∷ rest) =
     if is_ascii_digit b then numbered (if_below (2 ^ 32) (value_of (digits_at (b ∷ rest)))) (length (digits_at (b ∷ rest)))
-    else (if is_run_byte b then Found (Text (run_at (b ∷ rest))) (length (run_at (b ∷ rest)))
+    else (if is_name_byte b then Found (Text (run_at (b ∷ rest))) (length (run_at (b ∷ rest)))
     else (if b == 34 then quoted_name (quoted_at rest)
     else Missing))
 

@@ -1,6 +1,7 @@
 -- What stands at the front of a text: a gap, a token, or a fault.
 use Rattle.std.specs.Prelude.{ℕ, ◌+◌, ◌^◌, ◌==◌, ◌≤◌, Bool, true, false, ◌&&◌, List, [], ◌∷◌, length, drop, Option, Some, None, if◌then◌else◌, codes}
 use Rattle.std.specs.Str.{bytes_eq}
+use Rattle.ir_core.specs.Names.{is_name_byte}
 use Rattle.ir_core.specs.declared.names.Name.{Name}
 use Rattle.ir_core.specs.declared.names.Name.TheVariants as name
 use Rattle.ir_lexer.specs.declared.names.NameAt.{NameAt}
@@ -9,7 +10,7 @@ use Rattle.ir_lexer.specs.declared.pieces.Piece.{Piece}
 use Rattle.ir_lexer.specs.declared.pieces.Piece.TheVariants.{End, Gap, Token, BadByte, BadString, BadNumber}
 use Rattle.ir_lexer.specs.declared.token.TokenKind.{TokenKind}
 use Rattle.ir_lexer.specs.declared.token.TokenKind.TheVariants as kind
-use Rattle.ir_lexer.specs.Bytes.{is_blank, is_run_byte, is_mark, begins_word, are_digits, begins_with_colon}
+use Rattle.ir_lexer.specs.Bytes.{is_blank, is_mark, begins_word, are_digits, begins_with_colon}
 use Rattle.ir_lexer.specs.Names.{name_at}
 use Rattle.ir_lexer.specs.Numbers.{value_of, if_below}
 use Rattle.ir_lexer.specs.Runs.{run_at, digits_at, line_at, quoted_at}
@@ -82,7 +83,7 @@ piece (b ∷ rest) =
     else (if b == 35 then attribute (digits_at rest)
     else (if b == 33 then metadata (run_at rest)
     else (if b == 34 then quoted rest (quoted_at rest)
-    else (if is_run_byte b then run (run_at (b ∷ rest)) (drop (length (run_at (b ∷ rest))) (b ∷ rest))
+    else (if is_name_byte b then run (run_at (b ∷ rest)) (drop (length (run_at (b ∷ rest))) (b ∷ rest))
     else (if is_mark b then Token (kind.Mark b) 1
     else BadByte))))))))
 

@@ -2,11 +2,11 @@
 use Rattle.std.specs.Prelude.{ℕ, Bool, not, ◌||◌, ◌==◌, List, length, Option, Some, None, nat_lt, if◌then◌else◌}
 use Rattle.std.specs.List.{take_while}
 use Rattle.std.specs.Char.{is_ascii_digit}
-use Rattle.ir_lexer.specs.Bytes.{is_run_byte}
+use Rattle.ir_core.specs.Names.{is_name_byte}
 
 -- the longest run from here
 unfoldable pub run_at : List ℕ → List ℕ
-run_at text = take_while is_run_byte text
+run_at text = take_while is_name_byte text
 
 -- as many decimal digits as stand here
 unfoldable pub digits_at : List ℕ → List ℕ

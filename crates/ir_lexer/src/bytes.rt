@@ -2,7 +2,8 @@ ghost use Rattle.std.specs.Prelude.{◌≡◌};
 ghost use Rattle.std.specs.Char.{is_ascii_digit};
 ghost use Rattle.std.specs.List.{list_all};
 ghost use Rattle.std.specs.Str.{bytes_eq};
-ghost use Rattle.ir_lexer.specs.Bytes.{is_blank, is_run_byte, is_mark, begins_word, are_digits, begins_with_colon};
+ghost use Rattle.ir_core.specs.Names.{is_name_byte};
+ghost use Rattle.ir_lexer.specs.Bytes.{is_blank, is_mark, begins_word, are_digits, begins_with_colon};
 
 use crate::runs;
 
@@ -15,7 +16,7 @@ pub fn is_blank(byte: u8) -> bool
 
 /// A byte of a run.
 pub fn is_run_byte(byte: u8) -> bool
-    ensures { result ≡ is_run_byte byte }
+    ensures { result ≡ is_name_byte byte }
 {
     byte.is_ascii_alphabetic()
         || byte.is_ascii_digit()

@@ -25,7 +25,8 @@ use Rattle.ir_core.specs.declared.expressions.Reg.TheVariants.{Now, Old, Ghost}
 use Rattle.ir_core.specs.declared.expressions.Expr0.{Expr0}
 use Rattle.ir_core.specs.declared.expressions.Expr0.TheVariants.{Plain, Binary}
 use Rattle.ir_core.specs.declared.expressions.BinaryExpr.{BinaryExpr}
-use Rattle.ir_printer.specs.Printed.{is_name_byte, is_plain, hexadecimal_digit, escaped, quoted, name_text, printed_name, printed_type, is_negative, signed_text, number_text, printed_constant, printed_register, printed_atom, printed_operand, printed_op, printed_flags, printed_operands, printed_expr}
+use Rattle.ir_core.specs.Names.{is_name_byte, is_plain}
+use Rattle.ir_printer.specs.Printed.{hexadecimal_digit, escaped, quoted, name_text, printed_name, printed_type, is_negative, signed_text, number_text, printed_constant, printed_register, printed_atom, printed_operand, printed_op, printed_flags, printed_operands, printed_expr}
 
 record Ascii (bs : List ℕ) : Type 0 where
   bytes : IsAscii bs

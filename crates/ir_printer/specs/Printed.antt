@@ -1,6 +1,6 @@
 -- How names, types, numbers and expressions are printed (LangRef 3.7, Identifiers, Type System, Constants).
-use Rattle.std.specs.Prelude.{ℕ, ◌-◌, ◌/◌, ◌%◌, ◌^◌, ◌==◌, ◌&&◌, ◌||◌, Bool, true, not, nat_le, nat_lt, if◌then◌else◌, List, [], ◌∷◌, ◌++◌, length, slice_index, codes}
-use Rattle.std.specs.List.{list_all, flat_map}
+use Rattle.std.specs.Prelude.{ℕ, ◌-◌, ◌/◌, ◌%◌, ◌^◌, ◌==◌, ◌&&◌, Bool, true, not, nat_le, nat_lt, if◌then◌else◌, List, [], ◌∷◌, ◌++◌, codes}
+use Rattle.std.specs.List.{flat_map}
 use Rattle.std.specs.Fmt.{decimal, digit_glyph}
 use Rattle.ir_core.specs.declared.names.Name.{Name}
 use Rattle.ir_core.specs.declared.names.Name.TheVariants.{Text, Number}
@@ -21,19 +21,9 @@ use Rattle.ir_core.specs.declared.expressions.Reg.TheVariants.{Now, Old, Ghost}
 use Rattle.ir_core.specs.declared.expressions.Expr0.{Expr0}
 use Rattle.ir_core.specs.declared.expressions.Expr0.TheVariants.{Plain, Binary}
 use Rattle.ir_core.specs.declared.expressions.BinaryExpr.{BinaryExpr}
+use Rattle.ir_core.specs.Names.{is_plain}
 
 -- ---- names
-
-abbrev pub is_digit : ℕ → Bool
-is_digit b = nat_le 48 b && nat_le b 57
-
--- one of `A-Z a-z 0-9 - $ . _`
-abbrev pub is_name_byte : ℕ → Bool
-is_name_byte b = (nat_le 65 b && nat_le b 90) || (nat_le 97 b && nat_le b 122) || is_digit b || b == 45 || b == 36 || b == 46 || b == 95
-
--- a text that a name may have without quotes: not empty, of the bytes of names, and with no digit first
-abbrev pub is_plain : List ℕ → Bool
-is_plain bytes = nat_lt 0 (length bytes) && not (is_digit (slice_index bytes 0)) && list_all is_name_byte bytes
 
 -- the last hexadecimal digit of a number
 abbrev pub hexadecimal_digit : ℕ → ℕ

@@ -1,7 +1,9 @@
 ghost use Rattle.std.specs.Prelude.{◌≡◌, ◌++◌, ◌<◌, true, if◌then◌else◌, OnOk, IfOk};
+ghost use Rattle.std.specs.Char.{is_ascii_digit};
 ghost use Rattle.std.specs.List.{list_all};
 ghost use Rattle.std.specs.Fmt.{decimal};
-ghost use Rattle.ir_printer.specs.Printed.{is_digit, is_name_byte, is_plain, hexadecimal_digit, escaped, quoted, sigil_byte, name_text, printed_name};
+ghost use Rattle.ir_core.specs.Names.{is_name_byte, is_plain};
+ghost use Rattle.ir_printer.specs.Printed.{hexadecimal_digit, escaped, quoted, sigil_byte, name_text, printed_name};
 
 use ir_core::{Name, Sigil};
 use std::alloc::{AllocError, Global};
@@ -45,7 +47,7 @@ fn push_text_name(text: &mut Vec<u8>, bytes: &[u8]) -> Result<(), AllocError>
 }
 
 fn is_a_digit(byte: u8) -> bool
-    ensures { result ≡ is_digit byte }
+    ensures { result ≡ is_ascii_digit byte }
 {
     b'0' <= byte && byte <= b'9'
 }

@@ -19,6 +19,10 @@ fn names_are_quoted_where_they_need_it(rt: HostRuntime) -> Result<(), Fail> {
     assert_eq!(rt; digits.as_slice(), b"%\"5\"".as_slice());
     let escapes = print_name(alloc, Sigil::Local, &text_name(alloc, "\"\\\u{7f}\n")?)?;
     assert_eq!(rt; escapes.as_slice(), b"%\"\\22\\5C\\7F\\0A\"".as_slice());
+    let minus = print_name(alloc, Sigil::Local, &text_name(alloc, "-5")?)?;
+    assert_eq!(rt; minus.as_slice(), b"%-5".as_slice());
+    let accented = print_name(alloc, Sigil::Local, &text_name(alloc, "\u{e9}")?)?;
+    assert_eq!(rt; accented.as_slice(), b"%\"\\C3\\A9\"".as_slice());
     let unnamed = print_name(alloc, Sigil::Local, &Name::Number(5))?;
     assert_eq!(rt; unnamed.as_slice(), b"%5".as_slice());
     Ok(())
@@ -50,6 +54,10 @@ fn expressions_and_their_parts(rt: HostRuntime) -> Result<(), Fail> {
     let alloc = rt.alloc();
     let ty = print_type(alloc, &Ty::Int(32))?;
     assert_eq!(rt; ty.as_slice(), b"i32".as_slice());
+    let void = print_type(alloc, &Ty::Void)?;
+    assert_eq!(rt; void.as_slice(), b"void".as_slice());
+    let old = print_register(alloc, &Reg::Old(text_name(alloc, "x")?))?;
+    assert_eq!(rt; old.as_slice(), b"old %x".as_slice());
     let proof_only = print_register(alloc, &Reg::Ghost(text_name(alloc, "g")?))?;
     assert_eq!(rt; proof_only.as_slice(), b"ghost %g".as_slice());
     let undef = Expr0::Plain(Operand {
