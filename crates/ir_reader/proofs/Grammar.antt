@@ -1,51 +1,105 @@
--- Reading from the left is the grammar, so a text spells what is read, and nothing else.
-use Rattle.std.proofs.Common.{◌≡◌, ℕ, List, Some, Result, Ok, Err, IfOk, IfErr, ap, sym, ◌∙◌}
+-- Reading from the left is the grammar, so a text spells what is read, and nothing else; and what it spells is read where
+-- it is well-formed.
+use Rattle.std.proofs.Common.{◌≡◌, ℕ, ◌≤◌, ◌^◌, Bool, true, false, cond, List, length, Some, Result, Ok, Err, IfOk, IfErr, refl, ap, sym, ◌∙◌}
+use Rattle.std.specs.Prelude.{nat_lt}
+use Rattle.std.proofs.lemmas.Bool.{le-ltb, ltb-false}
 use Rattle.ir_core.specs.declared.functions.Module.{Module}
+use Rattle.ir_lexer.specs.declared.token.LexFault.TheVariants.{Limit}
+use Rattle.ir_lexer.specs.declared.token.TokenKind.{TokenKind}
+use Rattle.ir_lexer.specs.Cut.{Cut, cut}
 use Rattle.ir_reader.specs.Definitions.{definition_at}
-use Rattle.ir_reader.specs.Modules.{module_in, module_of}
+use Rattle.ir_reader.specs.Modules.{module_of}
+use Rattle.ir_reader.specs.Ordered.{module_in, ordered_module}
 use Rattle.ir_reader.specs.declared.fault.TextFault.{TextFault}
 use Rattle.ir_reader.specs.declared.fault.TextFault.TheVariants.{NotOfTheFirstForm, Memory}
-use Rattle.ir_reader.specs.Reading.{◌>>=◌, kinds_of, Reads}
+use Rattle.ir_reader.specs.declared.texts.DefinitionText.{DefinitionText}
+use Rattle.ir_reader.specs.Reading.{◌>>=◌, kinds_cut, kinds_of, tokens_of, Reads}
 use Rattle.ir_reader.specs.Order.{IsInOrder}
-use Rattle.ir_reader.specs.Spells.{Spells}
+use Rattle.ir_reader.specs.Grammar.{written}
+use Rattle.ir_reader.specs.Spells.{HasFirstForm, Spells}
+use Rattle.ir_reader.specs.WellFormed.{IsWellFormed}
 use Rattle.ir_reader.proofs.Order.{in_order}
 use Rattle.ir_reader.proofs.Again.{definition_again}
 use Rattle.ir_reader.proofs.Takes.{definition_takes}
 use Rattle.ir_reader.proofs.Tools.{bind_ok, some_is, not_both}
+use Rattle.ir_reader.proofs.WellFormed.{ordered_spelled, spelled_ordered}
 
--- what is read is spelled
-pub spelled : (bytes : List ℕ) (m : Module) → module_in bytes ≡ Some m → Spells bytes m
-spelled bytes m e =
-    let named = bind_ok (kinds_of bytes >>= definition_at) module_of m e in
+-- what is cut within a limit is cut without it
+limit_passed : (over : Bool) (text : Cut) (kinds : List TokenKind) → kinds_cut (cond over (Err Limit) text) ≡ Some kinds → (over ≡ false) × (kinds_cut text ≡ Some kinds)
+limit_passed true text kinds e = cc
+limit_passed false text kinds e = (refl, e)
+
+kinds_within : (bytes : List ℕ) (kinds : List TokenKind) → kinds_of bytes ≡ Some kinds → (length bytes ≤ 2 ^ 24) × (tokens_of bytes ≡ Some kinds)
+kinds_within bytes kinds e =
+    let both = limit_passed (nat_lt (2 ^ 24) (length bytes)) (cut 0 0 bytes) kinds e in
+    (ltb-false (2 ^ 24) (length bytes) both.0, both.1)
+
+tokens_within : (bytes : List ℕ) → length bytes ≤ 2 ^ 24 → kinds_of bytes ≡ tokens_of bytes
+tokens_within bytes short = ap (λ over. kinds_cut (cond over (Err Limit) (cut 0 0 bytes))) (le-ltb (2 ^ 24) (length bytes) short)
+
+-- how a module was read: the tokens, and the definition that they are
+pub record HowRead (bytes : List ℕ) (m : Module) : Type 0 where
+  pub definition : DefinitionText
+  pub short : length bytes ≤ 2 ^ 24
+  pub tokens : tokens_of bytes ≡ Some (written definition)
+  pub names : ordered_module definition ≡ Some m
+
+how_read : (bytes : List ℕ) (m : Module) → module_in bytes ≡ Some m → HowRead bytes m
+how_read bytes m e =
+    let named = bind_ok (kinds_of bytes >>= definition_at) ordered_module m e in
     let kinds = bind_ok (kinds_of bytes) definition_at named.0 named.1 in
+    let within = kinds_within bytes kinds.0 kinds.1 in
     record {
       definition = named.0;
-      tokens = kinds.1 ∙ ap Some (definition_takes kinds.0 named.0 kinds.2);
+      short = within.0;
+      tokens = within.1 ∙ ap Some (definition_takes kinds.0 named.0 kinds.2);
       names = named.2;
     }
 
--- what is spelled is read
-pub read : (bytes : List ℕ) (m : Module) → Spells bytes m → module_in bytes ≡ Some m
-read bytes m s =
-    ap (λ kinds. kinds >>= definition_at >>= module_of) s.tokens
-    ∙ ap (λ d. d >>= module_of) (definition_again s.definition)
-    ∙ s.names
+-- what is read is spelled
+spelled : (bytes : List ℕ) (m : Module) → HowRead bytes m → Spells bytes m
+spelled bytes m how = record { definition = how.definition; tokens = how.tokens; names = ordered_spelled how.definition m how.names }
+
+-- a text spells one module
+spelled_once : (bytes : List ℕ) (a b : Module) → Spells bytes a → Spells bytes b → a ≡ b
+spelled_once bytes a b s t =
+    some_is a b (sym s.names
+    ∙ sym (ap (λ d. d >>= module_of) (definition_again s.definition))
+    ∙ sym (ap (λ kinds. kinds >>= definition_at >>= module_of) s.tokens)
+    ∙ ap (λ kinds. kinds >>= definition_at >>= module_of) t.tokens
+    ∙ ap (λ d. d >>= module_of) (definition_again t.definition)
+    ∙ t.names)
+
+-- what a short text spells is read where it is well-formed
+read : (bytes : List ℕ) (m : Module) → length bytes ≤ 2 ^ 24 → HasFirstForm bytes m → module_in bytes ≡ Some m
+read bytes m short (s, formed) =
+    ap (λ kinds. kinds >>= definition_at >>= ordered_module) (tokens_within bytes short ∙ s.tokens)
+    ∙ ap (λ d. d >>= ordered_module) (definition_again s.definition)
+    ∙ spelled_ordered s.definition m s.names formed
 
 -- the clauses of the reader, from what it answers
 module _ (bytes : List ℕ) where
   pub spelled_by : (answer : Result Module TextFault) → Reads (λ m. m) answer (module_in bytes) → IfOk answer (λ m. Spells bytes m)
-  spelled_by (Ok m) e = spelled bytes m e
+  spelled_by (Ok m) e = spelled bytes m (how_read bytes m e)
   spelled_by (Err fault) e = tt
 
   pub only_by : (answer : Result Module TextFault) → Reads (λ m. m) answer (module_in bytes) → IfOk answer (λ m. (other : Module) → Spells bytes other → other ≡ m)
-  only_by (Ok m) e = λ other s. some_is other m (sym (read bytes other s) ∙ e)
+  only_by (Ok m) e = λ other s. spelled_once bytes other m s (spelled bytes m (how_read bytes m e))
   only_by (Err fault) e = tt
 
-  pub none_by : (answer : Result Module TextFault) → Reads (λ m. m) answer (module_in bytes) → IfErr answer (λ fault. fault ≡ NotOfTheFirstForm → (m : Module) → Spells bytes m → ⊥)
+  pub short_by : (answer : Result Module TextFault) → Reads (λ m. m) answer (module_in bytes) → IfOk answer (λ m. length bytes ≤ 2 ^ 24)
+  short_by (Ok m) e = let how = how_read bytes m e in how.short
+  short_by (Err fault) e = tt
+
+  pub none_by : (answer : Result Module TextFault) → Reads (λ m. m) answer (module_in bytes) → IfErr answer (λ fault. fault ≡ NotOfTheFirstForm → length bytes ≤ 2 ^ 24 → (m : Module) → HasFirstForm bytes m → ⊥)
   none_by (Ok m) e = tt
-  none_by (Err NotOfTheFirstForm) e = λ same m s. not_both m (module_in bytes) e (read bytes m s)
+  none_by (Err NotOfTheFirstForm) e = λ same short m s. not_both m (module_in bytes) e (read bytes m short s)
   none_by (Err Memory) e = λ same. cc
 
   pub in_order_by : (answer : Result Module TextFault) → Reads (λ m. m) answer (module_in bytes) → IfOk answer IsInOrder
-  in_order_by (Ok m) e = let s = spelled bytes m e in in_order s.definition m s.names
+  in_order_by (Ok m) e = let how = how_read bytes m e in (in_order how.definition m how.names).0
   in_order_by (Err fault) e = tt
+
+  pub well_formed_by : (answer : Result Module TextFault) → Reads (λ m. m) answer (module_in bytes) → IfOk answer (λ m. IsWellFormed m)
+  well_formed_by (Ok m) e = let how = how_read bytes m e in (in_order how.definition m how.names).1
+  well_formed_by (Err fault) e = tt

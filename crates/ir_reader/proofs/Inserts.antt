@@ -1,14 +1,23 @@
 -- Names that are put into an index.
-use Rattle.std.proofs.Common.{◌≡◌, ℕ, Bool, true, false, ◌||◌, List, [], ◌∷◌, ap, sym, ◌∙◌, refl}
+use Rattle.std.proofs.Common.{◌≡◌, ℕ, Bool, true, false, ◌&&◌, ◌||◌, List, [], ◌∷◌, ap, sym, ◌∙◌, refl}
 use Rattle.std.proofs.lemmas.Map.Lookups.{exact_bytes}
 use Rattle.std.proofs.lemmas.Map.Text.{is_eq-slice_cmp}
 use Rattle.std.specs.BTreeSet.{insert_key}
 use Rattle.std.specs.Cmp.Lexicographic.{slice_cmp}
 use Rattle.std.specs.List.{list_any}
 use Rattle.std.specs.Ordering.{is_eq, match_ordering, nat_cmp}
+use Rattle.std.specs.Prelude.{nat_eq}
 use Rattle.std.specs.Str.{bytes_eq}
 use Rattle.std.specs.declared.cmp.Ordering.{Ordering}
 use Rattle.std.specs.declared.cmp.Ordering.TheVariants.{Less, Equal, Greater}
+use Rattle.ir_core.specs.Same.{same_list}
+
+-- the two tests of bytes are one
+pub same_bytes : (a b : List ℕ) → bytes_eq a b ≡ same_list nat_eq a b
+same_bytes [] [] = refl
+same_bytes [] (y ∷ ys) = refl
+same_bytes (x ∷ xs) [] = refl
+same_bytes (x ∷ xs) (y ∷ ys) = ap (λ same. nat_eq x y && same) (same_bytes xs ys)
 
 module _ {K : Type 0} (cmp : K → K → Ordering) (test : K → Bool) (alike : (x y : K) → cmp x y ≡ Equal → test x ≡ test y) (k : K) where
   either : (a b c : Bool) → (a || (b || c)) ≡ (b || (a || c))

@@ -7,3 +7,4 @@ pub mod Order
 pub mod Repeats
 pub mod Takes
 pub mod Tools
+pub mod WellFormed

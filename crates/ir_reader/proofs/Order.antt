@@ -1,4 +1,4 @@
--- A module that is named is in order.
+-- A module that is read is in order and well-formed.
 use Rattle.std.proofs.Common.{◌≡◌, ℕ, suc, zero, ◌+◌, ◌-◌, ◌%◌, ◌^◌, ◌<◌, Bool, true, false, cond, List, [], ◌∷◌, ◌++◌, length, map, get_or, Option, Some, None, ⊎_elim, refl, ap, sym, ◌∙◌, subst, append_assoc, arith, eqb-true, eq-eqb, ltb-true}
 use Rattle.std.specs.List.{Contains}
 use Rattle.std.proofs.lemmas.Bool.{or_cases, or_parts, or_left, or_right}
@@ -14,6 +14,7 @@ use Rattle.ir_core.specs.declared.operands.Atom.{Atom}
 use Rattle.ir_core.specs.declared.operands.Atom.TheVariants.{Constant, Register}
 use Rattle.ir_core.specs.declared.operands.Const.TheVariants as const
 use Rattle.std.specs.Prelude.{nat_eq, nat_le, nat_lt}
+use Rattle.ir_core.specs.Same.{same_name}
 use Rattle.ir_reader.specs.Expressions.{i32}
 use Rattle.ir_lexer.specs.declared.token.Number as lexed
 use Rattle.ir_reader.specs.declared.scopes.Scope.{Scope}
@@ -23,24 +24,27 @@ use Rattle.ir_reader.specs.declared.texts.ParamText.{ParamText}
 use Rattle.ir_reader.specs.declared.texts.ValueText.{ValueText}
 use Rattle.ir_reader.specs.declared.texts.ValueText.TheVariants as text
 use Rattle.ir_reader.specs.Definitions.{behind}
-use Rattle.ir_reader.specs.Modules.{function_name, line_in, module_from, module_of, param_in, value_in}
-use Rattle.ir_reader.specs.Order.{AreCounted, AreNew, Counts, IsDefined, IsInOrder, LinesUseDefined, UsesDefined, register_of}
-use Rattle.ir_reader.specs.Scopes.{due, each_in, is_among, is_block, is_taken, same_name, start, with_block, with_register}
+use Rattle.ir_reader.specs.Modules.{function_name, module_from, param_in, value_in}
+use Rattle.ir_reader.specs.Order.{AreCounted, AreNew, Counts, IsInOrder, register_of}
+use Rattle.ir_reader.specs.Ordered.{ordered_line, ordered_module, ordered_name}
+use Rattle.ir_reader.specs.Scopes.{due, each_in, is_among, is_block, is_taken, start, with_block, with_register}
 use Rattle.ir_reader.specs.Values.{kept, number_atom}
+use Rattle.ir_reader.specs.WellFormed.{IsDefined, IsWellFormed, LinesUseDefined, UsesDefined, is_debug}
+use Rattle.ir_reader.proofs.Inserts.{same_bytes}
 use Rattle.ir_reader.proofs.Tools.{bind_ok, chosen, guard_ok, some_is}
 
 same_name_is : (a b : Name) → same_name a b ≡ true → a ≡ b
-same_name_is (Text a) (Text b) e = ap Text ((bytes_eq-Decides a b).0 e)
+same_name_is (Text a) (Text b) e = ap Text ((bytes_eq-Decides a b).0 (same_bytes a b ∙ e))
 same_name_is (Number m) (Number n) e = ap Number (eqb-true m n e)
 same_name_is (Text a) (Number n) e = cc
 same_name_is (Number m) (Text b) e = cc
 
 same_name_itself : (a : Name) → same_name a a ≡ true
-same_name_itself (Text a) = (bytes_eq-Decides a a).1 refl
+same_name_itself (Text a) = sym (same_bytes a a) ∙ (bytes_eq-Decides a a).1 refl
 same_name_itself (Number n) = eq-eqb n n refl
 
 -- is_among says whether the name is one of them
-among_is : (name : Name) (names : List Name) → is_among name names ≡ true → Contains names name
+pub among_is : (name : Name) (names : List Name) → is_among name names ≡ true → Contains names name
 among_is name [] e = cc
 among_is name (x ∷ names) e =
     ⊎_elim
@@ -48,7 +52,7 @@ among_is name (x ∷ names) e =
     (λ there. let more = among_is name names there in (suc more.0, omega (arith, more.1), more.2))
     (or_cases (same_name name x) (is_among name names) e)
 
-among_at : (name : Name) (names : List Name) (k : ℕ) → k < length names → get_or names k name ≡ name → is_among name names ≡ true
+pub among_at : (name : Name) (names : List Name) (k : ℕ) → k < length names → get_or names k name ≡ name → is_among name names ≡ true
 among_at name [] k inside e = absurd (omega arith)
 among_at name (x ∷ names) zero inside e = or_left (same_name name x) (is_among name names) (ap (same_name name) e ∙ same_name_itself name)
 among_at name (x ∷ names) (suc k) inside e = or_right (same_name name x) (is_among name names) (among_at name names k (omega arith) e)
@@ -91,7 +95,7 @@ value_defined scope (text.Local name) atom e =
     subst (IsDefined scope.registers) both.1 (among_is name scope.registers both.0)
 
 -- what is left of a choice that fails on the first side
-passed : {A : Type 0} (b : Bool) (x y : A) → cond b None (Some x) ≡ Some y → (b ≡ false) × (x ≡ y)
+pub passed : {A : Type 0} (b : Bool) (x y : A) → cond b None (Some x) ≡ Some y → (b ≡ false) × (x ≡ y)
 passed true x y e = cc
 passed false x y e = (refl, some_is x y e)
 
@@ -120,7 +124,7 @@ pub record Adds (scope : Scope) (name : Name) (next : Scope) : Type 0 where
   pub registers : next.registers ≡ scope.registers ++ name ∷ []
   pub block : next.block ≡ scope.block
 
-register_adds : (scope : Scope) (w : Option Name) (name : Name) (next : Scope) → with_register scope w ≡ Some (name, next) → Adds scope name next
+pub register_adds : (scope : Scope) (w : Option Name) (name : Name) (next : Scope) → with_register scope w ≡ Some (name, next) → Adds scope name next
 unfolding with_register
 register_adds scope w name next e =
     let named = bind_ok (due scope.next w) _ (name, next) e in
@@ -141,8 +145,8 @@ param_adds scope w p next e =
     let P : Param × Scope → Type 0 = λ parts. Adds scope parts.0.name parts.1 in
     subst P same (register_adds scope w.name named.0.0 named.0.1 named.1)
 
-line_adds : (scope : Scope) (w : LineText) (line : Instr) (next : Scope) → line_in scope w ≡ Some (line, next) → UsesDefined scope.registers line × Adds scope (register_of line) next
-unfolding line_in
+line_adds : (scope : Scope) (w : LineText) (line : Instr) (next : Scope) → ordered_line scope w ≡ Some (line, next) → UsesDefined scope.registers line × Adds scope (register_of line) next
+unfolding ordered_line
 line_adds scope w line next e =
     let left = bind_ok (value_in scope w.operation.left) _ (line, next) e in
     let right = bind_ok (value_in scope w.operation.right) _ (line, next) left.2 in
@@ -152,7 +156,7 @@ line_adds scope w line next e =
     ((refl, value_defined scope w.operation.left left.0 left.1, value_defined scope w.operation.right right.0 right.1), register_adds scope w.register named.0.0 named.0.1 named.1)
 
 -- items read one after another
-behind_ok : {X S : Type 0} (x : X) (read : Option (List X × S)) (all : List X × S) → behind (x ∷ []) read ≡ Some all → (more : List X × S) × (read ≡ Some more) × ((x ∷ more.0, more.1) ≡ all)
+pub behind_ok : {X S : Type 0} (x : X) (read : Option (List X × S)) (all : List X × S) → behind (x ∷ []) read ≡ Some all → (more : List X × S) × (read ≡ Some more) × ((x ∷ more.0, more.1) ≡ all)
 behind_ok x None all e = cc
 behind_ok x (Some more) all e = (more, refl, some_is (x ∷ more.0, more.1) all e)
 
@@ -165,7 +169,7 @@ pub record ParamsAdd (scope : Scope) (ps : List Param) (next : Scope) : Type 0 w
   pub registers : next.registers ≡ scope.registers ++ map (λ (p : Param). p.name) ps
   pub block : next.block ≡ scope.block
 
-params_add : (ws : List ParamText) (scope : Scope) (ps : List Param) (next : Scope) → each_in param_in scope ws ≡ Some (ps, next) → ParamsAdd scope ps next
+pub params_add : (ws : List ParamText) (scope : Scope) (ps : List Param) (next : Scope) → each_in param_in scope ws ≡ Some (ps, next) → ParamsAdd scope ps next
 unfolding each_in
 params_add [] scope ps next e =
     let P : List Param × Scope → Type 0 = λ parts. ParamsAdd scope parts.0 parts.1 in
@@ -190,14 +194,14 @@ pub record LinesAdd (count : ℕ) (front : List Name) (block : Name) (done : Lis
   pub uses : LinesUseDefined (front ++ done) lines
   pub registers : next.registers ≡ front ++ (done ++ map register_of lines)
 
-lines_add : (ws : List LineText) (scope : Scope) (lines : List Instr) (next : Scope) (front : List Name) (block : Name) (done : List Name) → scope.registers ≡ front ++ done → scope.block ≡ Some block → each_in line_in scope ws ≡ Some (lines, next) → LinesAdd scope.next front block done lines next
+lines_add : (ws : List LineText) (scope : Scope) (lines : List Instr) (next : Scope) (front : List Name) (block : Name) (done : List Name) → scope.registers ≡ front ++ done → scope.block ≡ Some block → each_in ordered_line scope ws ≡ Some (lines, next) → LinesAdd scope.next front block done lines next
 unfolding each_in
 lines_add [] scope lines next front block done registers blocked e =
     let P : List Instr × Scope → Type 0 = λ parts. LinesAdd scope.next front block done parts.0 parts.1 in
     subst P (some_is ([], scope) (lines, next) e) (record { names = tt; counted = refl; uses = tt; registers = registers ∙ ap (λ d. front ++ d) (sym (append-nil done)) })
 lines_add (w ∷ ws) scope lines next front block done registers blocked e =
-    let first = bind_ok (line_in scope w) _ (lines, next) e in
-    let more = behind_ok first.0.0 (each_in line_in first.0.1 ws) (lines, next) first.2 in
+    let first = bind_ok (ordered_line scope w) _ (lines, next) e in
+    let more = behind_ok first.0.0 (each_in ordered_line first.0.1 ws) (lines, next) first.2 in
     let both = line_adds scope w first.0.0 first.0.1 first.1 in
     let one = both.1 in
     let name : Name = register_of first.0.0 in
@@ -212,7 +216,7 @@ lines_add (w ∷ ws) scope lines next front block done registers blocked e =
       registers = rest.registers ∙ ap (λ d. front ++ d) (append_assoc done (name ∷ []) (map register_of more.0.0));
     })
 
-block_adds : (scope : Scope) (w : Option Name) (name : Name) (next : Scope) → with_block scope w ≡ Some (name, next) → (is_taken scope name ≡ false) × (next.registers ≡ scope.registers) × (next.block ≡ Some name) × Counts scope.next name next.next
+pub block_adds : (scope : Scope) (w : Option Name) (name : Name) (next : Scope) → with_block scope w ≡ Some (name, next) → (is_taken scope name ≡ false) × (next.registers ≡ scope.registers) × (next.block ≡ Some name) × Counts scope.next name next.next
 unfolding with_block
 block_adds scope w name next e =
     let named = bind_ok (due scope.next w) _ (name, next) e in
@@ -226,18 +230,31 @@ new_append taken [] ys new more = subst (λ t. AreNew t ys) (append-nil taken) m
 new_append taken (x ∷ xs) ys new more =
     (new.0, new_append (taken ++ x ∷ []) xs ys new.1 (subst (λ t. AreNew t ys) (sym (append_assoc taken (x ∷ []) xs)) more))
 
-passed_bind : {A : Type 0} (b : Bool) (rest : Option A) (y : A) → cond b None rest ≡ Some y → rest ≡ Some y
+pub passed_bind : {A : Type 0} (b : Bool) (rest : Option A) (y : A) → cond b None rest ≡ Some y → (b ≡ false) × (rest ≡ Some y)
 passed_bind true rest y e = cc
-passed_bind false rest y e = e
+passed_bind false rest y e = (refl, e)
 
-pub in_order : (d : DefinitionText) (m : Module) → module_of d ≡ Some m → IsInOrder m
-unfolding module_of
+-- the name of a function is the one that is written
+pub name_same : (w name : Name) → function_name w ≡ Some name → w ≡ name
+unfolding function_name
+name_same (Number n) name e = let both = guard_ok (nat_eq n 0) (Number n) name e in both.1
+name_same (Text bytes) name e = some_is (Text bytes) name e
+
+-- a function's name that is read is no name of debugging
+pub name_free : (w name : Name) → ordered_name w ≡ Some name → (is_debug name ≡ false) × (function_name w ≡ Some name)
+unfolding ordered_name
+name_free w name e =
+    let both = passed_bind (is_debug w) (function_name w) name e in
+    (ap is_debug (sym (name_same w name both.1)) ∙ both.0, both.1)
+
+pub in_order : (d : DefinitionText) (m : Module) → ordered_module d ≡ Some m → IsInOrder m × IsWellFormed m
+unfolding ordered_module
 in_order d m e =
     let few = passed_bind (nat_lt (2 ^ 20) (length d.lines + 1)) _ m e in
-    let function = bind_ok (function_name d.name) _ m few in
+    let function = bind_ok (ordered_name d.name) _ m few.1 in
     let ps = bind_ok (each_in param_in start d.params) _ m function.2 in
     let block = bind_ok (with_block ps.0.1 d.label) _ m ps.2 in
-    let body = bind_ok (each_in line_in block.0.1 d.lines) _ m block.2 in
+    let body = bind_ok (each_in ordered_line block.0.1 d.lines) _ m block.2 in
     let value = bind_ok (value_in body.0.1 d.result) _ m body.2 in
     let names : List Name = map (λ (p : Param). p.name) ps.0.0 in
     let before = params_add d.params start ps.0.0 ps.0.1 ps.1 in
@@ -245,15 +262,26 @@ in_order d m e =
     let registers : block.0.1.registers ≡ names ++ [] = at.1 ∙ before.registers ∙ sym (append-nil names) in
     let added = lines_add d.lines block.0.1 body.0.0 body.0.1 names block.0.0 [] registers at.2 body.1 in
     let apart : Contains names block.0.0 → ⊥ = λ there. free_alone ps.0.1 block.0.0 at.0 (subst (λ r. Contains r block.0.0) (sym before.registers) there) in
-    subst IsInOrder (some_is (module_from function.0 ps.0.0 block.0.0 body.0.0 value.0) m value.2) (record {
-      function = _;
-      block = _;
-      one_function = refl;
-      one_block = refl;
-      no_phis = refl;
-      names = new_append [] names (block.0.0 ∷ map register_of body.0.0) before.names (apart, added.names);
-      count = body.0.1.next;
-      numbers = counted_append 0 ps.0.1.next body.0.1.next names (block.0.0 ∷ map register_of body.0.0) before.counted (block.0.1.next, at.3, added.counted);
-      lines = subst (λ r. LinesUseDefined r body.0.0) (append-nil names) added.uses;
-      returns = (refl, subst (λ r. IsDefined r value.0) added.registers (value_defined body.0.1 d.result value.0 value.1));
-    })
+    let free = name_free d.name function.0 function.1 in
+    let P : Module → Type 0 = λ read. IsInOrder read × IsWellFormed read in
+    subst P (some_is (module_from function.0 ps.0.0 block.0.0 body.0.0 value.0) m value.2) (
+      record {
+        function = _;
+        block = _;
+        one_function = refl;
+        one_block = refl;
+        no_phis = refl;
+        names = new_append [] names (block.0.0 ∷ map register_of body.0.0) before.names (apart, added.names);
+        count = body.0.1.next;
+        numbers = counted_append 0 ps.0.1.next body.0.1.next names (block.0.0 ∷ map register_of body.0.0) before.counted (block.0.1.next, at.3, added.counted);
+      },
+      record {
+        function = _;
+        block = _;
+        one_function = refl;
+        one_block = refl;
+        name = free.0;
+        lines = subst (λ r. LinesUseDefined r body.0.0) (append-nil names) added.uses;
+        returns = (refl, subst (λ r. IsDefined r value.0) added.registers (value_defined body.0.1 d.result value.0 value.1));
+      },
+    )

@@ -6,8 +6,10 @@ pub mod Modules
 pub mod Names
 pub mod Operations
 pub mod Order
+pub mod Ordered
 pub mod Reading
 pub mod Scopes
 pub mod Spells
 pub mod Terminals
 pub mod Values
+pub mod WellFormed

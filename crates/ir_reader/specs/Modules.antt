@@ -1,6 +1,6 @@
--- The module that a definition names, if its names are in order.
-use Rattle.std.specs.Prelude.{ℕ, ◌+◌, ◌^◌, ◌==◌, List, [], ◌∷◌, length, Option, Some, None, nat_eq, nat_lt, if◌then◌else◌, codes}
-use Rattle.std.specs.List.{starts_with}
+-- The module that a definition names: its names come first, and then the values that its lines use, so a use may stand
+-- before the definition of its register.
+use Rattle.std.specs.Prelude.{◌+◌, ◌^◌, ◌==◌, List, [], ◌∷◌, length, Option, Some, None, nat_lt, if◌then◌else◌}
 use Rattle.ir_core.specs.declared.functions.Instr.{Instr}
 use Rattle.ir_core.specs.declared.functions.Instr.TheVariants as instr
 use Rattle.ir_core.specs.declared.functions.Module.{Module}
@@ -14,17 +14,17 @@ use Rattle.ir_core.specs.declared.operands.Const.TheVariants as const
 use Rattle.ir_reader.specs.declared.scopes.Scope.{Scope}
 use Rattle.ir_reader.specs.declared.texts.DefinitionText.{DefinitionText}
 use Rattle.ir_reader.specs.declared.texts.LineText.{LineText}
+use Rattle.ir_reader.specs.declared.texts.OperationText.{OperationText}
 use Rattle.ir_reader.specs.declared.texts.ParamText.{ParamText}
 use Rattle.ir_reader.specs.declared.texts.ValueText.{ValueText}
 use Rattle.ir_reader.specs.declared.texts.ValueText.TheVariants as text
-use Rattle.ir_reader.specs.Definitions.{definition_at}
 use Rattle.ir_reader.specs.Expressions.{i32}
 use Rattle.ir_reader.specs.Operations.{flags_of}
-use Rattle.ir_reader.specs.Reading.{◌>>=◌, kinds_of}
+use Rattle.ir_reader.specs.Reading.{◌>>=◌}
 use Rattle.ir_reader.specs.Scopes.{is_among, start, with_register, with_block, each_in}
 use Rattle.ir_reader.specs.Values.{kept, number_atom}
 
--- A register that is used is a parameter or was defined before.
+-- A register that is used is one of those that are known.
 unfoldable pub value_in : Scope → ValueText → Option (Atom Name)
 value_in scope (text.Number n) = number_atom (kept n)
 value_in scope text.Undef = Some (Constant const.Undef)
@@ -35,18 +35,36 @@ param_in scope p = do
   named ← with_register scope p.name
   Some (record { name = named.0; ty = i32 }, named.1)
 
--- The operands are those before the line defines its register.
-unfoldable pub line_in : Scope → LineText → Option (Instr × Scope)
-line_in scope l = do
-  left ← value_in scope l.operation.left
-  right ← value_in scope l.operation.right
+-- a line with the name of its register
+unfoldable pub line_name : Scope → LineText → Option ((Name × LineText) × Scope)
+line_name scope l = do
   named ← with_register scope l.register
-  Some (instr.Binary (record { name = named.0; op = l.operation.op; flags = flags_of l.operation.flags; ty = i32; left = left; right = right }), named.1)
+  Some ((named.0, l), named.1)
 
--- The one function has the number 0, where it has one. Names that begin with `llvm.dbg.` are not for functions.
+-- the line of this name, operation and operands
+abbrev pub line_of : Name → OperationText → Atom Name → Atom Name → Instr
+line_of name o left right =
+    instr.Binary (record { name = name; op = o.op; flags = flags_of o.flags; ty = i32; left = left; right = right })
+
+-- what a line with its name is, where these registers are known
+unfoldable pub line_in : Scope → Name × LineText → Option Instr
+line_in known named = do
+  left ← value_in known named.1.operation.left
+  right ← value_in known named.1.operation.right
+  Some (line_of named.0 named.1.operation left right)
+
+-- what each item of a list is, if each is something
+unfoldable pub each : {A B : Type 0} → (A → Option B) → List A → Option (List B)
+each f [] = Some []
+each f (x ∷ xs) = do
+  first ← f x
+  more ← each f xs
+  Some (first ∷ more)
+
+-- The one function has the number 0, where it has one.
 unfoldable pub function_name : Name → Option Name
 function_name (Number n) = if n == 0 then Some (Number n) else None
-function_name (Text bytes) = if starts_with nat_eq bytes (codes "llvm.dbg.") then None else Some (Text bytes)
+function_name (Text bytes) = Some (Text bytes)
 
 -- the module of one function of one block
 abbrev pub module_from : Name → List Param → Name → List Instr → Atom Name → Module
@@ -65,10 +83,7 @@ module_of d = if nat_lt (2 ^ 20) (length d.lines + 1) then None else (do
   name ← function_name d.name
   params ← each_in param_in start d.params
   block ← with_block params.1 d.label
-  body ← each_in line_in block.1 d.lines
-  result ← value_in body.1 d.result
-  Some (module_from name params.0 block.0 body.0 result))
-
--- the module that is read from a text, from the left
-abbrev pub module_in : List ℕ → Option Module
-module_in bytes = kinds_of bytes >>= definition_at >>= module_of
+  named ← each_in line_name block.1 d.lines
+  body ← each (line_in named.1) named.0
+  result ← value_in named.1 d.result
+  Some (module_from name params.0 block.0 body result))

@@ -2,7 +2,7 @@
 use Rattle.std.specs.Prelude.{◌≡◌, ℕ, List, map, Option, Some, None, option_and_then, Result, Ok, Err}
 use Rattle.ir_lexer.specs.declared.token.Token.{Token}
 use Rattle.ir_lexer.specs.declared.token.TokenKind.{TokenKind}
-use Rattle.ir_lexer.specs.Cut.{Cut, lexed}
+use Rattle.ir_lexer.specs.Cut.{Cut, cut, lexed}
 use Rattle.ir_reader.specs.declared.fault.TextFault.{TextFault}
 use Rattle.ir_reader.specs.declared.fault.TextFault.TheVariants.{NotOfTheFirstForm, Memory}
 
@@ -23,6 +23,10 @@ abbrev pub kinds_cut : Cut → Option (List TokenKind)
 kinds_cut (Ok tokens) = Some (map (λ (t : Token). t.kind) tokens)
 kinds_cut (Err fault) = None
 
--- the tokens of a text, without their places; a text with a fault has none
+-- the tokens of a text of any length, without their places; a text with a fault has none
+abbrev pub tokens_of : List ℕ → Option (List TokenKind)
+tokens_of text = kinds_cut (cut 0 0 text)
+
+-- the tokens of a text that is short enough to be cut
 abbrev pub kinds_of : List ℕ → Option (List TokenKind)
 kinds_of text = kinds_cut (lexed text)

@@ -1,18 +1,12 @@
 -- The names of a function: its parameters, its block and its registers share one name space and one count.
 use Rattle.std.specs.Prelude.{ℕ, ◌+◌, ◌^◌, ◌==◌, Bool, false, ◌||◌, List, [], ◌∷◌, ◌++◌, Option, Some, None, nat_lt, if◌then◌else◌}
 use Rattle.std.specs.List.{list_any}
-use Rattle.std.specs.Str.{bytes_eq}
 use Rattle.ir_core.specs.declared.names.Name.{Name}
 use Rattle.ir_core.specs.declared.names.Name.TheVariants.{Text, Number}
+use Rattle.ir_core.specs.Same.{same_name}
 use Rattle.ir_reader.specs.declared.scopes.Scope.{Scope}
 use Rattle.ir_reader.specs.Definitions.{behind}
 use Rattle.ir_reader.specs.Reading.{◌>>=◌}
-
-abbrev pub same_name : Name → Name → Bool
-same_name (Text a) (Text b) = bytes_eq a b
-same_name (Number m) (Number n) = m == n
-same_name (Text a) (Number n) = false
-same_name (Number m) (Text b) = false
 
 abbrev pub is_among : Name → List Name → Bool
 is_among name names = list_any (same_name name) names

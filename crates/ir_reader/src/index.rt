@@ -15,7 +15,7 @@ pub struct Index {
 impl Index {
     ghost use Rattle.ir_core.specs.declared.names.Name.{Name};
     ghost use Rattle.ir_reader.specs.Indexes.{has};
-    ghost use Rattle.ir_reader.specs.Scopes.{same_name};
+    ghost use Rattle.ir_core.specs.Same.{same_name};
     ghost use Rattle.std.specs.Prelude.{false};
 
     /// It has no name.

@@ -1,13 +1,14 @@
-ghost use Rattle.std.specs.Prelude.{◌≡◌, IfOk, IfErr};
+ghost use Rattle.std.specs.Prelude.{◌≡◌, ◌≤◌, ◌^◌, length, IfOk, IfErr};
 ghost use Rattle.ir_core.specs.declared.functions.Module.{Module};
-ghost use Rattle.ir_reader.specs.Modules.{module_in};
 ghost use Rattle.ir_reader.specs.Reading.{Reads};
 ghost use Rattle.ir_reader.specs.Order.{IsInOrder};
-ghost use Rattle.ir_reader.specs.Spells.{Spells};
+ghost use Rattle.ir_reader.specs.Ordered.{module_in};
+ghost use Rattle.ir_reader.specs.Spells.{Spells, HasFirstForm};
+ghost use Rattle.ir_reader.specs.WellFormed.{IsWellFormed};
 
 use crate::TextFault;
 use crate::definitions::definition_at;
-use crate::naming::module_of;
+use crate::naming::ordered_module;
 use crate::tokens::kinds_of;
 use ir_core::Module;
 use std::alloc::Global;
@@ -18,17 +19,21 @@ fn module_in(alloc: Global, text: &[u8]) -> Result<Module, TextFault>
 {
     let kinds = kinds_of(alloc, text)?;
     let definition = definition_at(alloc, kinds.as_slice())?;
-    module_of(alloc, &definition)
+    ordered_module(alloc, &definition)
 }
 
-/// The module that the text spells.
+/// The module that the text spells, if it is well-formed.
 pub fn read_module(alloc: Global, text: &[u8]) -> Result<Module, TextFault>
     ensures spelled { IfOk result (λ m. Spells text.now m) }
-    // Each name of it is defined once, and each register before it is used.
+    ensures well_formed { IfOk result (λ m. IsWellFormed m) }
+    // Each name of it is defined once.
     ensures order { IfOk result IsInOrder }
     // The text spells no other module.
     ensures only { IfOk result (λ m. (other : Module) → Spells text.now other → other ≡ m) }
-    ensures none { IfErr result (λ fault. fault ≡ TextFault.NotOfTheFirstForm → (m : Module) → Spells text.now m → ⊥) }
+    // Only texts of at most 2 to the 24 bytes are read.
+    ensures short { IfOk result (λ m. length text.now ≤ 2 ^ 24) }
+    ensures none { IfErr result (λ fault. fault ≡ TextFault.NotOfTheFirstForm
+        → length text.now ≤ 2 ^ 24 → (m : Module) → HasFirstForm text.now m → ⊥) }
 {
     module_in(alloc, text)
 }

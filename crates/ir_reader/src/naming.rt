@@ -1,5 +1,6 @@
 ghost use Rattle.std.specs.Prelude.{◌≡◌, [], ◌∷◌, IfOk};
-ghost use Rattle.ir_reader.specs.Modules.{value_in, param_in, line_in, function_name, module_of, module_from};
+ghost use Rattle.ir_reader.specs.Modules.{value_in, param_in, module_from};
+ghost use Rattle.ir_reader.specs.Ordered.{ordered_line, ordered_name, ordered_module};
 ghost use Rattle.ir_reader.specs.Reading.{Reads};
 ghost use Rattle.ir_reader.specs.Scopes.{each_in};
 
@@ -53,13 +54,13 @@ fn param_in(
     Ok((Param { name, ty }, scope))
 }
 
-#[tactic(auto, unfolding(crate::specs::Modules::line_in))]
-fn line_in(
+#[tactic(auto, unfolding(crate::specs::Ordered::ordered_line))]
+fn ordered_line(
     alloc: Global,
     scope: IndexedScope,
     line: &LineText,
 ) -> Result<(Instr, IndexedScope), TextFault>
-    ensures { Reads (λ parts. parts) result (line_in scope line.now) }
+    ensures { Reads (λ parts. parts) result (ordered_line scope line.now) }
 {
     let left = value_in(alloc, &scope, &line.operation.left)?;
     let right = value_in(alloc, &scope, &line.operation.right)?;
@@ -99,18 +100,18 @@ fn params_in(
     Ok((done, scope))
 }
 
-fn lines_in(
+fn ordered_lines(
     alloc: Global,
     scope: IndexedScope,
     lines: &[LineText],
 ) -> Result<(Vec<Instr>, IndexedScope), TextFault>
-    ensures { Reads (λ parts. (parts.0.items, parts.1)) result (each_in line_in scope lines.now) }
+    ensures { Reads (λ parts. (parts.0.items, parts.1)) result (each_in ordered_line scope lines.now) }
 {
     let mut done = Vec::new(alloc);
     let mut scope = scope;
     let mut rest = lines;
     while let Some((text, behind)) = split(rest) {
-        let (instr, next) = line_in(alloc, scope, text)?;
+        let (instr, next) = ordered_line(alloc, scope, text)?;
         done.push(instr)?;
         scope = next;
         rest = behind;
@@ -118,9 +119,9 @@ fn lines_in(
     Ok((done, scope))
 }
 
-#[tactic(auto, unfolding(crate::specs::Modules::function_name))]
-fn function_name(alloc: Global, name: &Name) -> Result<Name, TextFault>
-    ensures { Reads (λ name. name) result (function_name name.now) }
+#[tactic(auto, unfolding(crate::specs::Ordered::ordered_name, crate::specs::Modules::function_name))]
+fn ordered_name(alloc: Global, name: &Name) -> Result<Name, TextFault>
+    ensures { Reads (λ name. name) result (ordered_name name.now) }
 {
     match name {
         Name::Number(number) => {
@@ -185,22 +186,22 @@ fn module_from(
     Ok(Module { functions })
 }
 
-/// The module that the definition names.
-#[tactic(auto, unfolding(crate::specs::Modules::module_of))]
-pub fn module_of(alloc: Global, definition: &DefinitionText) -> Result<Module, TextFault>
-    ensures { Reads (λ m. m) result (module_of definition.now) }
+/// The module that the definition names, if it is well-formed.
+#[tactic(auto, unfolding(crate::specs::Ordered::ordered_module))]
+pub fn ordered_module(alloc: Global, definition: &DefinitionText) -> Result<Module, TextFault>
+    ensures { Reads (λ m. m) result (ordered_module definition.now) }
 {
     if definition.lines.len() >= LINE_LIMIT {
         return Err(TextFault::NotOfTheFirstForm);
     }
-    let name = function_name(alloc, &definition.name)?;
+    let name = ordered_name(alloc, &definition.name)?;
     let (params, scope) = params_in(
         alloc,
         IndexedScope::new(alloc),
         definition.params.as_slice(),
     )?;
     let (block, scope) = with_block(alloc, scope, &definition.label)?;
-    let (body, scope) = lines_in(alloc, scope, definition.lines.as_slice())?;
+    let (body, scope) = ordered_lines(alloc, scope, definition.lines.as_slice())?;
     let value = value_in(alloc, &scope, &definition.result)?;
     Ok(module_from(alloc, name, params, block, body, value)?)
 }

@@ -1,11 +1,11 @@
 ghost use Rattle.std.specs.Prelude.{◌≡◌};
 ghost use Rattle.ir_reader.specs.Reading.{Reads};
-ghost use Rattle.ir_reader.specs.Scopes.{same_name, is_block, is_taken, due, with_register, with_block};
+ghost use Rattle.ir_reader.specs.Scopes.{is_block, is_taken, due, with_register, with_block};
 
 use crate::TextFault;
 use crate::indexed::IndexedScope;
 use contents::{Exact, Seq};
-use ir_core::Name;
+use ir_core::{Name, same_name};
 use std::alloc::Global;
 
 /// The names of a function so far.
@@ -16,16 +16,6 @@ pub struct Scope {
     /// Parameters and registers, in the order of their definitions.
     pub registers: Seq<Name>,
     pub block: Option<Name>,
-}
-
-fn same_name(name: &Name, other: &Name) -> bool
-    ensures { result ≡ same_name name.now other.now }
-{
-    match (name, other) {
-        (Name::Text(mine), Name::Text(theirs)) => mine.as_slice() == theirs.as_slice(),
-        (Name::Number(mine), Name::Number(theirs)) => *mine == *theirs,
-        _ => false,
-    }
 }
 
 fn is_block(name: &Name, block: &Option<Name>) -> bool

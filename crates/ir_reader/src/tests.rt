@@ -1,8 +1,9 @@
-use crate::{read_expr, read_module, read_name};
+use crate::{TextFault, read_expr, read_module, read_name};
 use ir_core::{Atom, BinOp, Const, Instr, Name, Sigil};
+use std::alloc::Global;
 use std::test::*;
 
-/// Texts, each behind `+` where it spells a module and behind `-` where it spells none; a byte 1 ends each.
+/// Texts, each behind `+` where it has the first form and behind `-` where it has not; a byte 1 ends each.
 const MODULES: &[u8] = b"\
 +define i32 @f(i32 %x) {\n  %y = add i32 %x, 0\n  ret i32 %y\n}\n\x01\
 +define i32 @f(i32) {\n  %2 = add i32 %0, 1\n  %3 = sub i32 %2, %0\n  ret i32 %3\n}\x01\
@@ -10,6 +11,11 @@ const MODULES: &[u8] = b"\
 +define i32 @\"f g\"(i32,i32 %1,i32 %\"x y\"){a:\n%2=add i32 %1,%\"x y\" add i32 %2,%0 ret i32 %3}\x01\
 +define i32 @f() { %x = add nsw nuw nsw i32 4294967295, -2147483648 ret i32 %x }\x01\
 +define i32 @f() { 0: %1 = sub nuw i32 1, -0 ret i32 %1 }\x01\
++define i32 @f(i32 %a) {\r\n ret i32 %\"\\61\"\r\n}\x01\
++define i32 @\"\\00\\ff\"() { ret i32 0 }\x01\
++define i32 @\"\0\xff\"() { ret i32 0 }\x01\
++define i32 @f(i32 %x) { 0: %1 = add i32 %x, 007 ret i32 %01 }\x01\
++define i32 @f(i32 %0) { \"0\": ret i32 %0 }\x01\
 -\x01\
 -define i32 @f() { entry: %1 = add i32 1, 2 ret i32 %1 }\x01\
 -define i32 @f() { %0 = add i32 1, 2 ret i32 %0 }\x01\
@@ -30,13 +36,25 @@ const MODULES: &[u8] = b"\
 -define i32 @f() { ret i32 1 } define i32 @g() { ret i32 1 }\x01\
 -define i32 @f(i32,) { ret i32 1 }\x01\
 -define i32 @f() { ret i32 1\x01\
+-define i32 @f() { ret i32 0 }\0\x01\
+-define i32 @f() { ret i32 0 }\xff\x01\
+-define i032 @f() { ret i32 0 }\x01\
+-define i32 @f(i32 %x) { \"x\": ret i32 1 }\x01\
+-define i32 @f(i32 %a, i32 %\"\\61\") { ret i32 1 }\x01\
+-define i32 @\"\\6Clvm.dbg.x\"() { ret i32 1 }\x01\
+-define i32 @f() { %x = add i32 1, -2147483649 ret i32 %x }\x01\
 -define i32 @f() { ret i32 $ \" }";
 
 #[test]
 fn modules(rt: HostRuntime) {
     for row in MODULES.split(|byte| *byte == 1) {
         if let [mark, text @ ..] = row {
-            assert_eq!(rt; read_module(rt.alloc(), text).is_ok(), *mark == b'+');
+            let read = read_module(rt.alloc(), text);
+            if *mark == b'+' {
+                assert!(rt; read.is_ok());
+            } else {
+                assert!(rt; matches!(read, Err(TextFault::NotOfTheFirstForm)));
+            }
         }
     }
 }
@@ -81,15 +99,30 @@ const EXPRESSIONS: &[u8] = b"\
 -add i32 1\x01\
 -add i32 1, 2,\x01\
 -mul i32 1, 2\x01\
--i32 ghost %g";
+-i32 ghost %g\x01\
+-i32 $ ^\x01\
+-i32 \"\x01\
+-i32 5x";
 
 #[test]
 fn expressions(rt: HostRuntime) {
     for row in EXPRESSIONS.split(|byte| *byte == 1) {
         if let [mark, text @ ..] = row {
-            assert_eq!(rt; read_expr(rt.alloc(), text).is_ok(), *mark == b'+');
+            let read = read_expr(rt.alloc(), text);
+            if *mark == b'+' {
+                assert!(rt; read.is_ok());
+            } else {
+                assert!(rt; matches!(read, Err(TextFault::NotOfTheFirstForm)));
+            }
         }
     }
+}
+
+fn is_no_name(alloc: Global, sigil: Sigil, text: &[u8]) -> bool {
+    matches!(
+        read_name(alloc, sigil, text),
+        Err(TextFault::NotOfTheFirstForm)
+    )
 }
 
 #[test]
@@ -106,9 +139,10 @@ fn names(rt: HostRuntime) {
             Ok(Name::Text(_))
         )
     );
-    assert!(rt; read_name(rt.alloc(), Sigil::Global, b"%7").is_err());
-    assert!(rt; read_name(rt.alloc(), Sigil::Local, b"%7 %8").is_err());
-    assert!(rt; read_name(rt.alloc(), Sigil::Local, b"").is_err());
+    assert!(rt; is_no_name(rt.alloc(), Sigil::Global, b"%7"));
+    assert!(rt; is_no_name(rt.alloc(), Sigil::Local, b"%7 %8"));
+    assert!(rt; is_no_name(rt.alloc(), Sigil::Local, b"%7 \""));
+    assert!(rt; is_no_name(rt.alloc(), Sigil::Local, b""));
 }
 
 #[test]

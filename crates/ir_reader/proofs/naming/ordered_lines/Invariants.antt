@@ -1,12 +1,12 @@
 -- The lines so far, and then those of the rest.
 use Rattle.std.proofs.Common.{◌≡◌, length}
 use Rattle.ir_reader.specs.Definitions.{behind}
-use Rattle.ir_reader.specs.Modules.{line_in}
+use Rattle.ir_reader.specs.Ordered.{ordered_line}
 use Rattle.ir_reader.specs.Scopes.{each_in}
-use Rattle.ir_reader.proofs.naming.lines_in.Given as goal
+use Rattle.ir_reader.proofs.naming.ordered_lines.Given as goal
 
 abbrev pub invariant-loop-text : goal.invariant-loop-text
-invariant-loop-text l = behind l.done.items (each_in line_in l.scope l.rest) ≡ each_in line_in l.fn.scope l.lines
+invariant-loop-text l = behind l.done.items (each_in ordered_line l.scope l.rest) ≡ each_in ordered_line l.fn.scope l.lines
 
 abbrev pub decreases-loop-text : goal.decreases-loop-text
 decreases-loop-text l = length l.rest

@@ -1,0 +1,57 @@
+-- When a module is well-formed (LangRef 3.7, Well-Formedness): a predicate of the module alone, whatever text spells it.
+use Rattle.std.specs.Prelude.{◌≡◌, ◌^◌, ◌<◌, Bool, false, List, [], ◌∷◌, ◌++◌, nat_eq, codes}
+use Rattle.std.specs.List.{Contains, starts_with}
+use Rattle.ir_core.specs.declared.functions.Block.{Block}
+use Rattle.ir_core.specs.declared.functions.Function.{Function}
+use Rattle.ir_core.specs.declared.functions.Instr.{Instr}
+use Rattle.ir_core.specs.declared.functions.Instr.TheVariants as instr
+use Rattle.ir_core.specs.declared.functions.Module.{Module}
+use Rattle.ir_core.specs.declared.functions.Term.{Term}
+use Rattle.ir_core.specs.declared.functions.Term.TheVariants.{Ret}
+use Rattle.ir_core.specs.declared.names.Name.{Name}
+use Rattle.ir_core.specs.declared.names.Name.TheVariants.{Text, Number}
+use Rattle.ir_core.specs.declared.operands.Atom.{Atom}
+use Rattle.ir_core.specs.declared.operands.Atom.TheVariants.{Constant, Register}
+use Rattle.ir_core.specs.declared.operands.Const.{Const}
+use Rattle.ir_core.specs.declared.operands.Const.TheVariants as const
+use Rattle.ir_reader.specs.Expressions.{i32}
+use Rattle.ir_reader.specs.Order.{params_of, register_of, registers_of}
+
+-- a number of 32 bits, or `undef`
+abbrev pub IsI32 : Const → Type 0
+IsI32 (const.Number n) = n < 2 ^ 32
+IsI32 const.Undef = Unit {0}
+
+-- a constant of the type, or a register that is defined
+abbrev pub IsDefined : List Name → Atom Name → Type 0
+IsDefined defined (Constant c) = IsI32 c
+IsDefined defined (Register name) = Contains defined name
+
+-- the two operands of a line are
+abbrev pub UsesDefined : List Name → Instr → Type 0
+UsesDefined defined (instr.Binary b) = (b.ty ≡ i32) × IsDefined defined b.left × IsDefined defined b.right
+
+-- each line uses what is defined before it
+abbrev pub LinesUseDefined : List Name → List Instr → Type 0
+LinesUseDefined defined [] = Unit {0}
+LinesUseDefined defined (line ∷ lines) = UsesDefined defined line × LinesUseDefined (defined ++ register_of line ∷ []) lines
+
+-- what is returned is
+abbrev pub ReturnsDefined : List Name → Term → Type 0
+ReturnsDefined defined (Ret operand) = (operand.ty ≡ i32) × IsDefined defined operand.atom
+
+-- a name that begins with `llvm.dbg.`, which is not for functions that are defined
+abbrev pub is_debug : Name → Bool
+is_debug (Text bytes) = starts_with nat_eq bytes (codes "llvm.dbg.")
+is_debug (Number n) = false
+
+-- One function of one block, whose name is no name of debugging, and each of whose uses is of a parameter, of a register of
+-- an earlier line, or of a constant of its type.
+pub record IsWellFormed (m : Module) : Type 0 where
+  pub function : Function
+  pub block : Block
+  pub one_function : m.functions ≡ function ∷ []
+  pub one_block : function.blocks ≡ block ∷ []
+  pub name : is_debug function.name ≡ false
+  pub lines : LinesUseDefined (params_of function) block.body
+  pub returns : ReturnsDefined (params_of function ++ registers_of block) block.term
