@@ -32,7 +32,7 @@ use Rattle.ir_machine.specs.declared.items.Shown.TheVariants as shown
 use Rattle.ir_machine.specs.declared.items.Input.{Input}
 use Rattle.ir_machine.specs.Registers.{Registers, no_registers, read, set, AreInKind, kind_of, constant_value, atom_at, atom_value, operand_value, binary_at}
 use Rattle.ir_machine.specs.State.{Frame, Pending, World, State, Running, Over}
-use Rattle.ir_machine.specs.Machine.{Made, Follows, asks, frame_step, term_step, return_step, binary_result, fits_kind, shown_value, entered, at_entry, started, start, function_named}
+use Rattle.ir_machine.specs.Machine.{Made, Follows, asks, set_into, frame_step, term_step, return_step, binary_result, fits_kind, shown_value, entered, at_entry, started, start, function_named}
 pub use Rattle.ir_machine.specs.Kept.{GivesInKind}
 use Rattle.ir_machine.proofs.Trees.{AllDo, all_do_made, all_do_show, all_do_set_to}
 use Rattle.ir_machine.proofs.Runs.{IsInKindOf, set_in_kind}
@@ -71,9 +71,13 @@ StateInKind Over = Unit {0}
 abbrev LeadsInKind : List Item → State → Type 0
 LeadsInKind items after = StateInKind after
 
+set_into_in_kind : (registers : Registers) (into : Option Name) (k : Option Kind) (v : Value) → AreInKind registers → IsInKindOf k v → AreInKind (set_into registers into k v)
+set_into_in_kind registers None k v h p = h
+set_into_in_kind registers (Some x) k v h p = set_in_kind registers x k v h p
+
 return_in_kind : (k : Option Kind) (v : Value) (rest : List Pending) (world : World) → IsInKindOf k v → AllInKind rest → AllDo LeadsInKind (return_step k v rest world)
 return_in_kind k v [] world p h = all_do_show LeadsInKind k v _ _ tt (λ s. tt)
-return_in_kind k v (q ∷ qs) world p h = (set_in_kind q.frame.registers q.into k v h.0 p, h.1)
+return_in_kind k v (q ∷ qs) world p h = (set_into_in_kind q.frame.registers q.into k v h.0 p, h.1)
 
 term_in_kind : (t : Term) (frame : Frame) (rest : List Pending) (world : World) → AreInKind frame.registers → AllInKind rest → AllDo LeadsInKind (term_step t frame rest world)
 term_in_kind (Ret o) frame rest world h w =

@@ -1,6 +1,7 @@
 pub mod Trees
 pub mod Runs
 pub mod WrongLast
+pub mod NeverStuck
 pub mod Order
 pub mod InKind
 pub mod Entries

@@ -20,18 +20,19 @@ ComesTo Never before end after = (end ≡ Never) × (before ≡ after)
 ComesTo (Ask fits next) before end after = ((end ≡ Ask fits next) × (before ≡ after))
     ⊎ ((c : Choice) × (left : List Choice) × (before ≡ c ∷ left) × (fits c ≡ true) × ComesTo (next c) left end after)
 
--- a choice is due, and there is none, or one that doesn't fit
-abbrev pub LacksChoice : Asks → List Choice → Type 0
-LacksChoice (Does items state) script = ⊥
-LacksChoice Never script = ⊥
-LacksChoice (Ask fits next) [] = Unit {0}
-LacksChoice (Ask fits next) (c ∷ script) = (fits c ≡ false) ⊎ ((fits c ≡ true) × LacksChoice (next c) script)
+-- A choice is due, and there is none, or the next doesn't fit. Those before it fit; after are those that are left.
+abbrev pub LacksChoice : Asks → List Choice → List Choice → Type 0
+LacksChoice (Does items state) before after = ⊥
+LacksChoice Never before after = ⊥
+LacksChoice (Ask fits next) [] after = after ≡ []
+LacksChoice (Ask fits next) (c ∷ left) after = ((fits c ≡ false) × (after ≡ left))
+    ⊎ ((fits c ≡ true) × LacksChoice (next c) left after)
 
 -- what showing a value leads to: the value is shown, or it is poison, or the choice that it wants is lacking
 abbrev pub ShowingComesTo : Showing → Asks → List Choice → Asks → (Shown → Asks) → List Choice → Type 0
 ShowingComesTo (showing.Shows s) tree before poison next after = ComesTo tree before (next s) after
 ShowingComesTo showing.IsPoison tree before poison next after = ComesTo tree before poison after
-ShowingComesTo showing.LacksChoice tree before poison next after = LacksChoice tree before
+ShowingComesTo showing.LacksChoice tree before poison next after = LacksChoice tree before after
 
 -- The tree allows the step that shows these items and leads to this state, where the choices told are those before up to
 -- those after.

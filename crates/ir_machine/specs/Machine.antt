@@ -63,9 +63,14 @@ binary_result registers b =
 abbrev pub line_step : Instr → Frame → List Pending → World → Asks
 line_step (line.Binary b) frame rest world = set_to (kind_of b.ty) b.name (binary_result frame.registers b) frame rest world
 
+-- the register that is named is set; without a name none is
+abbrev pub set_into : Registers → Option Name → Option Kind → Value → Registers
+set_into registers None k v = registers
+set_into registers (Some x) k v = set registers x k v
+
 -- a call that waits gets its result
 abbrev pub resumed : Pending → Option Kind → Value → Frame
-resumed p k v = record p.frame { registers = set p.frame.registers p.into k v }
+resumed p k v = record p.frame { registers = set_into p.frame.registers p.into k v }
 
 -- The last frame's value is the result of the run: the turn and then the value, or undefined behaviour for poison.
 abbrev pub return_step : Option Kind → Value → List Pending → World → Asks

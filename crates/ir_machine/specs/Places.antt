@@ -1,9 +1,5 @@
 -- The state of a run, of which the code keeps the place in the module.
-use Rattle.std.specs.Prelude.{◌≤◌, ◌+◌, ℕ, List, [], ◌∷◌, Option, None, Some, slice_get, drop, All}
-use Rattle.ir_core.specs.declared.operands.Ty.{Ty}
-use Rattle.ir_core.specs.declared.operands.Ty.TheVariants.{Int, Void}
-use Rattle.ir_core.specs.declared.functions.Instr.{Instr}
-use Rattle.ir_core.specs.declared.functions.Instr.TheVariants as line
+use Rattle.std.specs.Prelude.{◌+◌, ℕ, List, [], ◌∷◌, Option, None, Some, slice_get, drop}
 use Rattle.ir_core.specs.declared.functions.Block.{Block}
 use Rattle.ir_core.specs.declared.functions.Function.{Function}
 use Rattle.ir_core.specs.declared.functions.Module.{Module}
@@ -49,14 +45,3 @@ progress_of [] Over = progress.Ended
 progress_of (item.Wrong ∷ items) Over = progress.IsWrong
 progress_of (item.Turn ∷ items) Over = progress_of items Over
 progress_of (item.Returned s ∷ items) Over = progress_of items Over
-
-abbrev pub IsWidth : Ty → Type 0
-IsWidth (Int width) = (1 ≤ width) × (width ≤ 64)
-IsWidth Void = Unit {0}
-
-abbrev pub HasWidth : Instr → Type 0
-HasWidth (line.Binary b) = IsWidth b.ty
-
--- every line is on integers of 1 to 64 bits
-abbrev pub HasWidths : Module → Type 0
-HasWidths m = All (λ f. All (λ b. All HasWidth b.body) f.blocks) m.functions

@@ -1,12 +1,13 @@
 -- What a module can show, and when one module refines another.
-use Rattle.std.specs.Prelude.{◌≡◌, ◌⊎◌, ℕ, List, [], ◌∷◌, ◌++◌, MatchOption}
+use Rattle.std.specs.Prelude.{◌≡◌, ◌≢◌, ◌⊎◌, ℕ, List, [], ◌∷◌, ◌++◌, MatchOption}
 use Rattle.ir_core.specs.declared.names.Name.{Name}
 use Rattle.ir_core.specs.declared.functions.Function.{Function}
 use Rattle.ir_core.specs.declared.functions.Module.{Module}
 use Rattle.ir_machine.specs.declared.items.Item.{Item}
-use Rattle.ir_machine.specs.declared.items.Item.TheVariants.{Wrong}
+use Rattle.ir_machine.specs.declared.items.Item.TheVariants.{Turn, Returned, Wrong}
 use Rattle.ir_machine.specs.declared.items.Input.{Input}
-use Rattle.ir_machine.specs.Machine.{start, started, ShowsFrom}
+use Rattle.ir_machine.specs.State.{State, Over}
+use Rattle.ir_machine.specs.Machine.{Made, Follows, asks, start, started, ShowsFrom}
 
 -- Some run of at most n steps, from the start of that function on that input, shows exactly these items.
 abbrev pub Shows : Module → Name → Input → ℕ → List Item → Type 0
@@ -33,7 +34,22 @@ IsTransitive = (a b c : Module) → Refines a b → Refines b c → Refines a c
 abbrev pub WrongIsLast : Type 0
 WrongIsLast = (m : Module) (f : Name) (input : Input) (n : ℕ) (before after : List Item) → Shows m f input n (before ++ Wrong ∷ after) → after ≡ []
 
--- the same, of one function that is entered in its module
+-- a run that isn't over can make a step
+abbrev pub NoneIsStuck : Type 0
+NoneIsStuck = (m : Module) (s : State) → s ≢ Over → (made : Made) × Follows (asks m s) made
+
+-- the item is the last of a run that has ended
+abbrev pub IsEnd : Item → Type 0
+IsEnd Turn = ⊥
+IsEnd (Returned s) = Unit {0}
+IsEnd Wrong = Unit {0}
+
+-- a run is over only where the last item that it showed is its result or undefined behaviour
+abbrev pub EndsAreShown : Type 0
+EndsAreShown = (m : Module) (s : State) (made : Made) → Follows (asks m s) made → made.after ≡ Over
+    → (before : List Item) × (last : Item) × (made.items ≡ before ++ last ∷ []) × IsEnd last
+
+-- Some run of at most n steps, of that function entered in the module on that input, shows exactly these items.
 abbrev pub ShowsOn : Module → Function → Input → ℕ → List Item → Type 0
 ShowsOn m f input n items = MatchOption (started f input) ⊥ (λ s. ShowsFrom m n s items)
 

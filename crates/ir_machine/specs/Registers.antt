@@ -15,6 +15,7 @@ use Rattle.ir_core.specs.declared.operands.Operand.{Operand}
 use Rattle.ir_core.specs.declared.operands.BinOp.{BinOp}
 use Rattle.ir_core.specs.declared.operands.Flags.{Flags}
 use Rattle.ir_core.specs.Same.{same_name}
+use Rattle.ir_core.specs.Types.{is_width}
 use Rattle.ir_values.specs.declared.operations.Outcome.{Outcome}
 use Rattle.ir_values.specs.declared.operations.Outcome.TheVariants.{Gives}
 use Rattle.ir_values.specs.Values.{IsInKind, same_kind}
@@ -52,8 +53,9 @@ set registers x k v = λ y. cond (same_name x y) (holding k v) (registers y)
 abbrev pub AreInKind : Registers → Type 0
 AreInKind registers = (x : Name) (k : Kind) → IsInKind k (read registers k x)
 
+-- integers of 1 to 64 bits have a kind; other types have no values
 abbrev pub kind_of : Ty → Option Kind
-kind_of (ty.Int width) = Some (kind.Int width)
+kind_of (ty.Int width) = cond (is_width width) (Some (kind.Int width)) None
 kind_of ty.Void = None
 
 -- a number that isn't of its type is worth poison

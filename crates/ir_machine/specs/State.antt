@@ -1,5 +1,5 @@
 -- The state of a run, as data.
-use Rattle.std.specs.Prelude.{List}
+use Rattle.std.specs.Prelude.{List, Option}
 use Rattle.ir_core.specs.declared.names.Name.{Name}
 use Rattle.ir_core.specs.declared.functions.Instr.{Instr}
 use Rattle.ir_core.specs.declared.functions.Term.{Term}
@@ -13,9 +13,10 @@ pub record Frame : Type 0 where
   pub term : Term
   pub registers : Registers
 
--- a frame that waits for a call to return: the register that the call sets, and the frame with the lines after the call
+-- a frame that waits for a call to return: the register that the call sets, if it sets one, and the frame with the lines
+-- after the call
 pub record Pending : Type 0 where
-  pub into : Name
+  pub into : Option Name
   pub frame : Frame
 
 -- What all frames share: memory, and the names that the outside knows its blocks by, once lines reach them.

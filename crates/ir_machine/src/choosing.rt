@@ -9,7 +9,8 @@ use crate::operands::fits_width;
 use crate::{Choice, Shown};
 use ir_core::{Kind, Value};
 
-/// Who chooses where a step leaves a choice.
+/// Who chooses where a step leaves a choice. Its script is a finite list, whose end is what makes `NoChoice`
+/// exact.
 pub trait Chooser {
     /// The choices that are still to be told, the next first.
     ghost script: { Self → List Choice };
@@ -45,7 +46,8 @@ fn picked(choice: &Choice) -> Shown
 #[tactic(auto, using(crate::proofs::Telling::show_number, crate::proofs::Telling::show_poison, crate::proofs::Telling::show_kindless, crate::proofs::Telling::show_picks, crate::proofs::Telling::show_lacks, crate::proofs::Telling::show_misfits))]
 pub(crate) fn show<C: Chooser>(kind: Option<Kind>, value: Value, chooser: &mut C) -> Showing
     ensures { (poison : machine.Asks) (next : Shown → machine.Asks)
-        → ShowingComesTo result (machine.show kind value poison next) (C.script chooser.old) poison next (C.script chooser.new) }
+        → ShowingComesTo result (machine.show kind value poison next)
+        (C.script chooser.old) poison next (C.script chooser.new) }
 {
     let own = match (value, kind) {
         (Value::Num(n), _) => return Showing::Shows(Shown::Num(n)),

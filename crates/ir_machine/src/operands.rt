@@ -2,7 +2,7 @@ ghost use Rattle.std.specs.Prelude.{◌≡◌, ◌^◌, nat_lt};
 ghost use Rattle.ir_machine.specs.Registers as meaning;
 ghost use Rattle.ir_machine.specs.Machine as machine;
 ghost use Rattle.ir_machine.specs.Kept.{IsInKindOf, GivesInKind};
-ghost use Rattle.ir_machine.specs.Places.{registers_in, IsWidth};
+ghost use Rattle.ir_machine.specs.Places.{registers_in};
 
 use crate::registers::RegisterFile;
 use ir_core::{Atom, Binary, Const, Kind, Name, Operand, Ty, Value};
@@ -12,7 +12,13 @@ pub(crate) fn kind_of(ty: &Ty) -> Option<Kind>
     ensures { result ≡ meaning.kind_of ty.now }
 {
     match ty {
-        Ty::Int(width) => Some(Kind::Int(*width)),
+        Ty::Int(width) => {
+            if 1 <= *width && *width <= 64 {
+                Some(Kind::Int(*width))
+            } else {
+                None
+            }
+        }
         Ty::Void => None,
     }
 }
@@ -61,7 +67,6 @@ pub(crate) fn operand_value(registers: &RegisterFile, operand: &Operand<Name>) -
 }
 
 pub(crate) fn binary_result(registers: &RegisterFile, binary: &Binary) -> Outcome
-    requires { IsWidth binary.now.ty }
     ensures value { result ≡ machine.binary_result (registers_in registers.now) binary.now }
     ensures in_kind { GivesInKind (meaning.kind_of binary.now.ty) result }
 {

@@ -94,7 +94,8 @@ impl RegisterFile {
         value: Value,
     ) -> Result<(), AllocError>
         requires { IsInKindOf kind value }
-        ensures ok { OnOk result (registers_in self.new ≡ meaning.set (registers_in self.old) name.now kind value) }
+        ensures ok { OnOk result
+            (registers_in self.new ≡ meaning.set (registers_in self.old) name.now kind value) }
         ensures err { OnErr result (registers_in self.new ≡ registers_in self.old) }
     {
         put(&mut self.entries, alloc, name, holding(kind, value))?;

@@ -1,10 +1,17 @@
-ghost use Rattle.ir_machine.specs.Refinement.{IsReflexive, IsTransitive, WrongIsLast};
+ghost use Rattle.ir_machine.specs.Refinement.{IsReflexive, IsTransitive, WrongIsLast, NoneIsStuck, EndsAreShown};
 
-/// Each module refines itself, a module that refines a second refines what the second refines, and no run shows
-/// anything after undefined behaviour.
+/// Each module refines itself, a module that refines a second refines what the second refines, and no run
+/// shows anything after undefined behaviour.
 #[tactic(auto, using(crate::proofs::Order::refines_itself, crate::proofs::Order::refines_through, crate::proofs::WrongLast::wrong_is_last))]
-pub fn refinement_is_an_order()
+pub fn refinement_is_a_preorder()
     ensures reflexive { IsReflexive }
     ensures transitive { IsTransitive }
     ensures wrong_is_last { WrongIsLast }
+{}
+
+/// A run that isn't over can make a step, and a run is over only once it has shown its result or undefined
+/// behaviour.
+pub fn no_run_is_stuck()
+    ensures goes_on { NoneIsStuck }
+    ensures ends { EndsAreShown }
 {}

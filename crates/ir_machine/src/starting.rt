@@ -14,7 +14,8 @@ use std::alloc::Global;
 #[tactic(auto, using(crate::proofs::Starts::named_here, crate::proofs::Starts::named_later))]
 fn place_of(functions: &[Function], name: &Name) -> Option<usize>
     ensures { MatchOption result (machine.function_named name.now functions.now ≡ None)
-        (λ at. (at < length functions.now) × (machine.function_named name.now functions.now ≡ slice_get functions.now at)) }
+        (λ at. (at < length functions.now)
+        × (machine.function_named name.now functions.now ≡ slice_get functions.now at)) }
 {
     for i in 0..functions.len() {
         if same_name(&functions[i].name, name) {
@@ -44,8 +45,10 @@ fn shown_value(shown: Shown) -> Value
 /// The registers on entry.
 #[tactic(auto, using(crate::proofs::Starts::entered_not, crate::proofs::Starts::entered_next, crate::proofs::Starts::entered_misfit, crate::proofs::InKind::argument_in_kind))]
 fn enter(alloc: Global, params: &[Param], arguments: &[Shown]) -> Result<RegisterFile, StartEnd>
-    ensures entered { IfOk result (λ file. machine.entered params.now arguments.now registers.no_registers ≡ Some (registers_in file)) }
-    ensures unfit { IsErrOf result StartEnd.InputUnfit → machine.entered params.now arguments.now registers.no_registers ≡ None }
+    ensures entered { IfOk result
+        (λ file. machine.entered params.now arguments.now registers.no_registers ≡ Some (registers_in file)) }
+    ensures unfit { IsErrOf result StartEnd.InputUnfit
+        → machine.entered params.now arguments.now registers.no_registers ≡ None }
     ensures found { ¬ IsErrOf result StartEnd.NoFunction }
 {
     if params.len() != arguments.len() {
@@ -75,10 +78,13 @@ pub fn start(
     input: &Input,
 ) -> Result<RunState, StartEnd>
     requires { IfSome (machine.function_named entry.now «module».now.functions) (λ f. f.blocks ≢ []) }
-    ensures started { IfOk result (λ run. machine.start «module».now entry.now input.now ≡ Some (state_of «module».now run)) }
+    ensures started { IfOk result
+        (λ run. machine.start «module».now entry.now input.now ≡ Some (state_of «module».now run)) }
     ensures running { IfOk result (λ run. state_of «module».now run ≢ Over) }
-    ensures no_function { IsErrOf result StartEnd.NoFunction ↔ (machine.function_named entry.now «module».now.functions ≡ None) }
-    ensures unfit { IsErrOf result StartEnd.InputUnfit → machine.start «module».now entry.now input.now ≡ None }
+    ensures no_function { IsErrOf result StartEnd.NoFunction
+        ↔ (machine.function_named entry.now «module».now.functions ≡ None) }
+    ensures unfit { IsErrOf result StartEnd.InputUnfit
+        → machine.start «module».now entry.now input.now ≡ None }
 {
     let Some(at) = place_of(module.functions.as_slice(), entry) else {
         return Err(StartEnd::NoFunction);

@@ -1,12 +1,13 @@
-ghost use Rattle.std.specs.Prelude.{◌≡◌, ◌≢◌, ◌+◌, ◌<◌, [], ◌∷◌, Some, None, IfOk, OnErr, IsErr, IsErrOf};
+ghost use Rattle.std.specs.Prelude.{◌≡◌, ◌≢◌, ◌+◌, ◌<◌, List, [], ◌∷◌, ◌++◌, Some, None, IfOk, OnErr, IsErr, IsErrOf};
 ghost use Rattle.ir_values.specs.declared.operations.Outcome.TheVariants as outcome;
 ghost use Rattle.ir_machine.specs.declared.items.Item.TheVariants as item;
+ghost use Rattle.ir_machine.specs.declared.items.Choice.{Choice};
 ghost use Rattle.ir_machine.specs.declared.machine.Progress.TheVariants as progress;
 ghost use Rattle.ir_machine.specs.Registers as registers;
 ghost use Rattle.ir_machine.specs.State.{Over};
 ghost use Rattle.ir_machine.specs.Machine as machine;
 ghost use Rattle.ir_machine.specs.Choices.{ComesTo, LacksChoice, IsStep};
-ghost use Rattle.ir_machine.specs.Places.{registers_in, state_of, progress_of, next_line, IsWidth, HasWidths};
+ghost use Rattle.ir_machine.specs.Places.{registers_in, state_of, progress_of, next_line};
 
 use crate::choosing::{Showing, show};
 use crate::operands::{binary_result, kind_of, operand_value};
@@ -40,10 +41,13 @@ fn last_return<C: Chooser>(
     value: Value,
     chooser: &mut C,
 ) -> Result<Stepped, StepEnd>
-    ensures made { IfOk result (λ stepped. ComesTo (machine.return_step kind value [] tt) (C.script chooser.old)
+    ensures made { IfOk result (λ stepped. ComesTo
+        (machine.return_step kind value [] tt) (C.script chooser.old)
         (machine.Does stepped.items Over) (C.script chooser.new)) }
     ensures progress { IfOk result (λ stepped. stepped.progress ≡ progress_of stepped.items Over) }
-    ensures no_choice { IsErrOf result StepEnd.NoChoice → LacksChoice (machine.return_step kind value [] tt) (C.script chooser.old) }
+    ensures no_choice { IsErrOf result StepEnd.NoChoice
+        → LacksChoice (machine.return_step kind value [] tt) (C.script chooser.old) (C.script chooser.new) }
+    ensures told { (told : List Choice) × (C.script chooser.old ≡ told ++ C.script chooser.new) }
 {
     match show(kind, value, chooser) {
         Showing::LacksChoice => Err(StepEnd::NoChoice),
@@ -65,15 +69,18 @@ fn do_line(
     place: Place,
     state: &mut RunState,
 ) -> Result<Stepped, StepEnd>
-    requires width { IsWidth binary.now.ty }
     requires room { place.line < usize.MAX }
-    ensures gives { (v : _) → machine.binary_result (registers_in state.old.registers) binary.now ≡ outcome.Gives v → IfOk result (λ stepped.
-        (stepped.items ≡ []) × (stepped.progress ≡ progress.Goes) × (state.new.place ≡ Some (next_line place))
-        × (registers_in state.new.registers ≡ registers.set (registers_in state.old.registers) binary.now.name (registers.kind_of binary.now.ty) v)) }
-    ensures traps { machine.binary_result (registers_in state.old.registers) binary.now ≡ outcome.Trap → IfOk result (λ stepped.
-        (stepped.items ≡ item.Wrong ∷ []) × (stepped.progress ≡ progress.IsWrong) × (state.new.place ≡ None)) }
+    ensures gives { (v : _) → machine.binary_result (registers_in state.old.registers) binary.now ≡ outcome.Gives v
+        → IfOk result (λ stepped. (stepped.items ≡ []) × (stepped.progress ≡ progress.Goes)
+        × (state.new.place ≡ Some (next_line place))
+        × (registers_in state.new.registers
+        ≡ registers.set (registers_in state.old.registers) binary.now.name (registers.kind_of binary.now.ty) v)) }
+    ensures traps { machine.binary_result (registers_in state.old.registers) binary.now ≡ outcome.Trap
+        → IfOk result (λ stepped. (stepped.items ≡ item.Wrong ∷ []) × (stepped.progress ≡ progress.IsWrong)
+        × (state.new.place ≡ None)) }
     ensures same_place { OnErr result (state.new.place ≡ state.old.place) }
-    ensures same_registers { OnErr result (registers_in state.new.registers ≡ registers_in state.old.registers) }
+    ensures same_registers { OnErr result
+        (registers_in state.new.registers ≡ registers_in state.old.registers) }
     ensures memory { IsErr result → IsErrOf result StepEnd.Memory }
 {
     match binary_result(&state.registers, binary) {
@@ -111,14 +118,21 @@ pub fn step<C: Chooser>(
     chooser: &mut C,
 ) -> Result<Stepped, StepEnd>
     requires running { state_of «module».now state.old ≢ Over }
-    requires widths { HasWidths «module».now }
-    ensures made { IfOk result (λ stepped. IsStep (machine.asks «module».now (state_of «module».now state.old))
+    ensures made { IfOk result (λ stepped. IsStep
+        (machine.asks «module».now (state_of «module».now state.old))
         (C.script chooser.old) (C.script chooser.new) stepped.items (state_of «module».now state.new)) }
-    ensures progress { IfOk result (λ stepped. stepped.progress ≡ progress_of stepped.items (state_of «module».now state.new)) }
-    ensures goes_on { IfOk result (λ stepped. stepped.progress ≡ progress.Goes → state_of «module».now state.new ≢ Over) }
-    ensures no_choice { IsErrOf result StepEnd.NoChoice
-        → LacksChoice (machine.asks «module».now (state_of «module».now state.old)) (C.script chooser.old) }
-    ensures lacking { LacksChoice (machine.asks «module».now (state_of «module».now state.old)) (C.script chooser.old) → IsErr result }
+    ensures progress { IfOk result
+        (λ stepped. stepped.progress ≡ progress_of stepped.items (state_of «module».now state.new)) }
+    ensures goes_on { IfOk result
+        (λ stepped. stepped.progress ≡ progress.Goes → state_of «module».now state.new ≢ Over) }
+    ensures no_choice { IsErrOf result StepEnd.NoChoice → LacksChoice
+        (machine.asks «module».now (state_of «module».now state.old))
+        (C.script chooser.old) (C.script chooser.new) }
+    ensures lacking { (left : List Choice) → LacksChoice
+        (machine.asks «module».now (state_of «module».now state.old))
+        (C.script chooser.old) left
+        → IsErr result }
+    ensures told { (told : List Choice) × (C.script chooser.old ≡ told ++ C.script chooser.new) }
     ensures as_before { OnErr result (state_of «module».now state.new ≡ state_of «module».now state.old) }
 {
     let Some(place) = state.place else {

@@ -1,9 +1,8 @@
 ghost use Rattle.std.specs.Prelude.{◌≡◌, ◌≢◌, [], ◌∷◌, Option, None, Some, IfOk, IfSome};
 ghost use Rattle.ir_core.specs.declared.names.Name.{Name};
 ghost use Rattle.ir_machine.specs.Machine as machine;
-ghost use Rattle.ir_machine.specs.Places.{HasWidths};
 
-use crate::{Choice, Chooser, Input, Item, Progress, Shown, StepEnd, start, step};
+use crate::{Choice, Chooser, Input, Item, Progress, Shown, StartEnd, StepEnd, start, step};
 use contents::Seq;
 use ir_core::{
     Atom, BinOp, Binary, Block, Const, Flags, Function, Instr, Module, Name, Operand, Param, Term,
@@ -37,8 +36,9 @@ fn one<T: Drop>(alloc: Global, item: T) -> Result<Seq<T>, AllocError>
 
 /// `define i8 @f(i8 %0) { %1: %2 = add FLAGS i8 %0, 200  ret i8 VALUE }`, with numbers for names.
 fn sample(alloc: Global, flags: Flags, value: Atom<Name>) -> Result<Module, AllocError>
-    ensures widths { IfOk result (λ m. HasWidths m) }
-    ensures blocks { IfOk result (λ m. IfSome (machine.function_named (Name.Number 0) m.functions) (λ f. f.blocks ≢ [])) }
+    ensures blocks { IfOk result
+        (λ m. IfSome (machine.function_named (Name.Number 0) m.functions) (λ f. f.blocks ≢ [])) }
+    ensures absent { IfOk result (λ m. machine.function_named (Name.Number 1) m.functions ≡ None) }
 {
     let body = one(
         alloc,
@@ -90,8 +90,7 @@ fn shown_by(
     argument: u64,
     choice: Option<Choice>,
 ) -> Result<Seq<Item>, StepEnd>
-    requires widths { HasWidths «module».now }
-    requires blocks { IfSome (machine.function_named (Name.Number 0) «module».now.functions) (λ f. f.blocks ≢ []) }
+    requires { IfSome (machine.function_named (Name.Number 0) «module».now.functions) (λ f. f.blocks ≢ []) }
 {
     let input = Input {
         args: one(alloc, Shown::Num(argument))?,
@@ -104,6 +103,27 @@ fn shown_by(
     match first.progress {
         Progress::Goes => Ok(step(alloc, module, &mut state, &mut chooser)?.items),
         Progress::Ended | Progress::IsWrong => Ok(first.items),
+    }
+}
+
+fn input_of(alloc: Global, numbers: &[u64]) -> Result<Input, AllocError> {
+    let mut args = Seq::new(alloc);
+    for number in numbers {
+        args.push(Shown::Num(*number))?;
+    }
+    Ok(Input { args })
+}
+
+/// Why no run of that function starts on these arguments, where none does.
+fn unstarted(alloc: Global, module: &Module, entry: &Name, numbers: &[u64]) -> Option<StartEnd>
+    requires { IfSome (machine.function_named entry.now «module».now.functions) (λ f. f.blocks ≢ []) }
+{
+    let Ok(input) = input_of(alloc, numbers) else {
+        return Some(StartEnd::Memory);
+    };
+    match start(alloc, module, entry, &input) {
+        Ok(_) => None,
+        Err(end) => Some(end),
     }
 }
 
@@ -148,7 +168,6 @@ fn a_sum_is_returned(rt: HostRuntime) {
         number_returned(shown_by(alloc, &module, 7, None)),
         Some(207)
     );
-    assert_eq!(rt; number_returned(shown_by(alloc, &module, 256, None)), None);
 }
 
 #[test]
@@ -182,4 +201,38 @@ fn undef_is_shown_as_picked(rt: HostRuntime) {
         )
     );
     assert!(rt; matches!(shown_by(alloc, &module, 0, None), Err(StepEnd::NoChoice)));
+}
+
+#[test]
+fn arguments_that_do_not_fit_are_told(rt: HostRuntime) {
+    let alloc = rt.alloc();
+    let Ok(module) = sample(alloc, PLAIN, Atom::Constant(Const::Undef)) else {
+        return assert!(rt; false);
+    };
+    let (there, absent) = (Name::Number(0), Name::Number(1));
+    assert!(rt; unstarted(alloc, &module, &there, &[255]).is_none());
+    assert!(rt;
+        matches!(
+            unstarted(alloc, &module, &there, &[256]),
+            Some(StartEnd::InputUnfit)
+        )
+    );
+    assert!(rt;
+        matches!(
+            unstarted(alloc, &module, &there, &[]),
+            Some(StartEnd::InputUnfit)
+        )
+    );
+    assert!(rt;
+        matches!(
+            unstarted(alloc, &module, &there, &[1, 2]),
+            Some(StartEnd::InputUnfit)
+        )
+    );
+    assert!(rt;
+        matches!(
+            unstarted(alloc, &module, &absent, &[255]),
+            Some(StartEnd::NoFunction)
+        )
+    );
 }
