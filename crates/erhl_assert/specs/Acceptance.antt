@@ -1,5 +1,5 @@
 -- What the checker says of two functions, and of two modules: the first test that fails decides.
-use Rattle.std.specs.Prelude.{◌≡◌, ℕ, ◌+◌, Bool, ◌&&◌, cond, List, [], ◌∷◌, map, Option, None, Some, find}
+use Rattle.std.specs.Prelude.{◌≡◌, ℕ, ◌+◌, Bool, true, ◌&&◌, cond, List, [], ◌∷◌, map, Option, None, Some, find}
 use Rattle.ir_core.specs.declared.names.Name.{Name}
 use Rattle.ir_core.specs.declared.functions.Term.{Term}
 use Rattle.ir_core.specs.declared.functions.Term.TheVariants.{Ret}
@@ -59,8 +59,9 @@ from_entry rules m hint b c [] [] = on_lines rules m hint b c (block_lines hint 
 abbrev pub reached_verdict : Rules → Module → Hint → List Block → List Block → Verdict
 reached_verdict rules m hint (b ∷ bs) (c ∷ cs) =
     let h = block_hint hint b.name in from_entry rules m hint b c h.entry.src h.entry.tgt
-reached_verdict rules m hint [] cs = verdict.Valid
-reached_verdict rules m hint (b ∷ bs) [] = verdict.Valid
+reached_verdict rules m hint (b ∷ bs) [] = verdict.Refused b.name spot.Start AlignmentDiffers
+reached_verdict rules m hint [] (c ∷ cs) = verdict.Refused c.name spot.Start AlignmentDiffers
+reached_verdict rules m hint [] [] = verdict.Valid
 
 abbrev pub unless_unaligned : Option Name → Verdict → Verdict
 unless_unaligned (Some block) rest = verdict.Refused block spot.Start AlignmentDiffers
@@ -94,8 +95,17 @@ of_function x (verdict.Refused block where_ why) rest = modules.Refused x block 
 abbrev pub functions_verdict : Rules → Module → Hints → List Function → List Function → ModuleVerdict
 functions_verdict rules m hints (f ∷ fs) (g ∷ gs) =
     of_function f.name (function_verdict rules m f g (hint_for hints f.name)) (functions_verdict rules m hints fs gs)
-functions_verdict rules m hints [] gs = modules.Valid
-functions_verdict rules m hints (f ∷ fs) [] = modules.Valid
+functions_verdict rules m hints [] [] = modules.Valid
+functions_verdict rules m hints (f ∷ fs) [] = modules.Differs difference.Functions
+functions_verdict rules m hints [] (g ∷ gs) = modules.Differs difference.Functions
+
+-- each pair of functions has one signature and is accepted under its hint, and no function is left over
+abbrev pub AreAccepted : Rules → Module → Hints → List Function → List Function → Type 0
+AreAccepted rules m hints [] [] = Unit {0}
+AreAccepted rules m hints (f ∷ fs) (g ∷ gs) =
+    (same_signature f g ≡ true) × Accepts rules m f g (hint_for hints f.name) × AreAccepted rules m hints fs gs
+AreAccepted rules m hints (f ∷ fs) [] = ⊥
+AreAccepted rules m hints [] (g ∷ gs) = ⊥
 
 -- THE verdict on two modules: their functions have equal names, return and parameter types; then each pair in its order
 abbrev pub module_verdict : Rules → Module → Module → Hints → ModuleVerdict

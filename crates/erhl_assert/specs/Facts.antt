@@ -35,10 +35,17 @@ pub record AssertionHolds (known : Assertion) (source target : SideState) : Type
   pub target_facts : AllByRecursion (Holds target) known.tgt
   pub related : AreRelated known.diff source target
 
+-- what a rule may see of a module: its types and globals, none of which can be written yet
+abbrev pub Scope : Type 0
+Scope = Unit {0}
+
+abbrev pub scope_of : Module → Scope
+scope_of m = tt
+
 -- In every state of a side of a module with these types and globals, in which every value lies in its kind: where the
--- premises hold, so does the conclusion. (No type or global can be written yet, so nothing is asked of the module.)
-abbrev pub IsSound : Module → Schema → Type 0
-IsSound m schema = (side : SideState) → IsSideInKind side → AllByRecursion (Holds side) schema.from → Holds side schema.to
+-- premises hold, so does the conclusion.
+abbrev pub IsSound : Scope → Schema → Type 0
+IsSound scope schema = (side : SideState) → IsSideInKind side → AllByRecursion (Holds side) schema.from → Holds side schema.to
 
 abbrev pub same_fact : Fact → Fact → Bool
 same_fact (LessDef a b) (LessDef c d) = same_expr a c && same_expr b d

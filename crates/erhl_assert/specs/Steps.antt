@@ -13,12 +13,12 @@ use Rattle.erhl_assert.specs.declared.hints.HintStep.TheVariants.{Rule}
 use Rattle.erhl_assert.specs.declared.hints.PlacedStep.{PlacedStep}
 use Rattle.erhl_assert.specs.declared.verdict.Reason.{Reason}
 use Rattle.erhl_assert.specs.declared.verdict.Reason.TheVariants.{UnknownRule, RuleUnfit, MissingPremise}
-use Rattle.erhl_assert.specs.Facts.{IsSound, has_fact, with_fact}
+use Rattle.erhl_assert.specs.Facts.{Scope, scope_of, IsSound, has_fact, with_fact}
 
--- a rule: its name, and which schemas it takes beside a module
+-- a rule: its name, and which schemas it takes beside a module's types and globals
 pub record Meaning : Type 0 where
   pub name : List ℕ
-  pub takes : Module → Schema → Bool
+  pub takes : Scope → Schema → Bool
 
 abbrev pub Rules : Type 0
 Rules = List Meaning
@@ -27,13 +27,14 @@ Rules = List Meaning
 abbrev pub rule_named : Rules → List ℕ → Option Meaning
 rule_named rules name = find (λ r. same_list nat_eq r.name name) rules
 
-abbrev pub rule_takes : Option Meaning → Module → Schema → Bool
-rule_takes None m schema = false
-rule_takes (Some r) m schema = r.takes m schema
+abbrev pub rule_takes : Option Meaning → Scope → Schema → Bool
+rule_takes None scope schema = false
+rule_takes (Some r) scope schema = r.takes scope schema
 
 -- whatever the rules take is sound
 abbrev pub AreSound : Rules → Type 0
-AreSound rules = (name : List ℕ) (m : Module) (schema : Schema) → rule_takes (rule_named rules name) m schema ≡ true → IsSound m schema
+AreSound rules = (name : List ℕ) (scope : Scope) (schema : Schema)
+    → rule_takes (rule_named rules name) scope schema ≡ true → IsSound scope schema
 
 abbrev pub facts_of : Side → Assertion → List Fact
 facts_of Src known = known.src
@@ -60,7 +61,7 @@ concluded None step known = Knows (with_conclusion step.side step.schema.to know
 abbrev pub after_rule : Option Meaning → Module → RuleStep → Assertion → Stepped
 after_rule None m step known = Refuses (UnknownRule step.rule)
 after_rule (Some r) m step known =
-    cond (r.takes m step.schema) (concluded (first_missing (facts_of step.side known) step.schema.from) step known) (Refuses (RuleUnfit step.rule))
+    cond (r.takes (scope_of m) step.schema) (concluded (first_missing (facts_of step.side known) step.schema.from) step known) (Refuses (RuleUnfit step.rule))
 
 abbrev pub after_step : Rules → Module → HintStep → Assertion → Stepped
 after_step rules m (Rule step) known = after_rule (rule_named rules step.rule) m step known

@@ -62,8 +62,23 @@ pub struct Hints {
     pub functions: Seq<FunctionHint>,
 }
 
+/// A loop of a function: its header, the block before it, and the blocks of its body.
+#[derive(Debug, Drop)]
+pub struct Loop {
+    pub header: Name,
+    pub preheader: Name,
+    pub body: Seq<Name>,
+}
+
+/// A function's name with its loops.
+#[derive(Debug, Drop)]
+pub struct FunctionLoops {
+    pub function: Name,
+    pub loops: Seq<Loop>,
+}
+
 /// The loops of a module's functions that a pass may use. None is read yet.
 #[derive(Debug, Drop)]
 pub struct LoopHints {
-    pub functions: Seq<Name>,
+    pub functions: Seq<FunctionLoops>,
 }

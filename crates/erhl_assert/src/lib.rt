@@ -8,6 +8,7 @@ mod verdict;
 
 pub use facts::{Assertion, Expr, Fact, Schema, Side};
 pub use hints::{
-    FunctionHint, Hint, HintBlock, HintStep, Hints, Letter, LoopHints, PlacedStep, RuleStep,
+    FunctionHint, FunctionLoops, Hint, HintBlock, HintStep, Hints, Letter, Loop, LoopHints,
+    PlacedStep, RuleStep,
 };
 pub use verdict::{Difference, ModuleVerdict, Reason, Spot, Verdict};

@@ -1,16 +1,16 @@
 -- A book of boxed rules, as definitions see it: the meanings of its rules in their order.
 use Rattle.std.specs.Prelude.{ℕ, Bool, cond, List, map, Option, None, Some}
-use Rattle.ir_core.specs.declared.functions.Module.{Module}
 use Rattle.erhl_assert.specs.declared.facts.Schema.{Schema}
+use Rattle.erhl_assert.specs.Facts.{Scope}
 use Rattle.erhl_assert.specs.Steps.{Meaning, Rules}
 use Rattle.rule_base.specs.declared.rule_book.Answer.{Answer}
 use Rattle.rule_base.specs.declared.rule_book.Answer.TheVariants.{Unknown, Unfit, Fits}
 
 -- the meanings of boxes, by what a box is called and what it takes
-abbrev pub meanings_of : {B : Type 0} → (B → List ℕ) → (B → Module → Schema → Bool) → List B → Rules
+abbrev pub meanings_of : {B : Type 0} → (B → List ℕ) → (B → Scope → Schema → Bool) → List B → Rules
 meanings_of called takes boxes = map (λ b. record { name = called b; takes = takes b }) boxes
 
 -- what a book says of a schema, by the rule that it has of the name
-abbrev pub answer_of : Option Meaning → Module → Schema → Answer
-answer_of None m schema = Unknown
-answer_of (Some r) m schema = cond (r.takes m schema) Fits Unfit
+abbrev pub answer_of : Option Meaning → Scope → Schema → Answer
+answer_of None scope schema = Unknown
+answer_of (Some r) scope schema = cond (r.takes scope schema) Fits Unfit

@@ -1,5 +1,5 @@
 -- Whatever the shipped rules take is sound.
-use Rattle.std.proofs.Common.{◌≡◌, ◌||◌, ℕ, ◌<◌, ◌^◌, true, false, ◌&&◌, cond, List, [], ◌∷◌, sym, ap}
+use Rattle.std.proofs.Common.{◌≡◌, ◌||◌, ℕ, ◌<◌, ◌^◌, true, false, ◌&&◌, cond, nat_lt, List, [], ◌∷◌, sym, ap}
 use Rattle.std.specs.List.{AllByRecursion}
 use Rattle.std.proofs.lemmas.Bool.{eqb-true, ltb-true}
 use Rattle.std.proofs.Math.Nat.{mod-eq_of_lt, add-mod_right, add-zero, sub-zero}
@@ -15,49 +15,35 @@ use Rattle.ir_core.specs.declared.operands.Atom.TheVariants as atom
 use Rattle.ir_core.specs.declared.operands.BinOp.{BinOp}
 use Rattle.ir_core.specs.declared.operands.BinOp.TheVariants as op
 use Rattle.ir_core.specs.declared.operands.Flags.{Flags}
-use Rattle.ir_core.specs.declared.functions.Module.{Module}
 use Rattle.ir_core.specs.declared.expressions.Reg.{Reg}
 use Rattle.ir_core.specs.declared.expressions.Reg.TheVariants as reg
 use Rattle.ir_core.specs.declared.expressions.Expr0.{Expr0}
 use Rattle.ir_core.specs.declared.expressions.Expr0.TheVariants.{Plain, Binary}
+use Rattle.ir_core.specs.Types.{is_width}
 use Rattle.ir_core.specs.Same.{same_ty, same_atom, same_reg, same_expr}
 use Rattle.ir_core.proofs.SameLaws.{left_true, right_true, same_ty_true, same_reg_atom_true, same_expr_true}
-use Rattle.ir_values.specs.declared.operations.Outcome.{Outcome}
-use Rattle.ir_values.specs.declared.operations.Outcome.TheVariants.{Gives, Trap}
+use Rattle.ir_values.specs.declared.operations.Outcome.TheVariants.{Gives}
 use Rattle.ir_values.specs.Values.{IsInKind, IsLessDefined}
 use Rattle.ir_values.specs.Operations.{IsOutcomeLessDefined, binary_value, breaks_flag, wrapped}
+use Rattle.ir_values.proofs.OperationLaws.{outcome_less_defined_trans}
 use Rattle.ir_machine.specs.Registers.{kind_of, atom_value, atom_at}
 use Rattle.erhl_assert.specs.declared.facts.Fact.{Fact}
 use Rattle.erhl_assert.specs.declared.facts.Fact.TheVariants.{LessDef}
 use Rattle.erhl_assert.specs.declared.facts.Schema.{Schema}
 use Rattle.erhl_assert.specs.Sides.{SideState, IsSideInKind, read_reg, worth}
-use Rattle.erhl_assert.specs.Facts.{IsSound, Holds, kind_of_expr}
+use Rattle.erhl_assert.specs.Facts.{Scope, IsSound, Holds, kind_of_expr}
 use Rattle.rule_base.specs.declared.shipped.Rule.{Rule}
 use Rattle.rule_base.specs.declared.shipped.Rule.TheVariants.{Trans, UndefConst, ZeroRight}
 use Rattle.rule_base.specs.Rows.{takes_row, is_atom_of, is_typed, have_one_type, is_trans, is_undef, is_constant, is_zero, is_undef_const, is_zero_right}
-
--- less defined than is transitive
-less_trans : (a b c : Value) → IsLessDefined a b → IsLessDefined b c → IsLessDefined a c
-less_trans value.Poison b c p q = tt
-less_trans value.Undef (value.Num n) c p q = rw q tt
-less_trans value.Undef value.Undef c p q = q
-less_trans value.Undef value.Poison c p q = absurd p
-less_trans (value.Num m) b c p q = rw p at q
-
-outcome_trans : (a b c : Outcome) → IsOutcomeLessDefined a b → IsOutcomeLessDefined b c → IsOutcomeLessDefined a c
-outcome_trans Trap b c p q = tt
-outcome_trans (Gives a) (Gives b) (Gives c) p q = less_trans a b c p q
-outcome_trans (Gives a) (Gives b) Trap p q = absurd q
-outcome_trans (Gives a) Trap c p q = absurd p
 
 trans_holds : (side : SideState) (a b c d e f : Expr0) → b ≡ c → e ≡ a → f ≡ d → Holds side (LessDef a b) → Holds side (LessDef c d) → Holds side (LessDef e f)
 trans_holds side a b c d e f p q r first second =
     let k : kind_of_expr a ≡ kind_of_expr d = cc (ap kind_of_expr p, first.0, second.0) in
     let w : IsOutcomeLessDefined (worth side c) (worth side d) = second.1 in
     let v : IsOutcomeLessDefined (worth side b) (worth side d) = rw p w in
-    rw (q, r) (k, outcome_trans (worth side a) (worth side b) (worth side d) first.1 v)
+    rw (q, r) (k, outcome_less_defined_trans (worth side a) (worth side b) (worth side d) first.1 v)
 
-module _ (m : Module) (side : SideState) (fine : IsSideInKind side) where
+module _ (side : SideState) (fine : IsSideInKind side) where
   trans_is_sound : (from : List Fact) (to : Fact) → is_trans from to ≡ true → AllByRecursion (Holds side) from → Holds side to
   trans_is_sound [] to h all = cc
   trans_is_sound (x ∷ []) to h all = cc
@@ -71,12 +57,19 @@ module _ (m : Module) (side : SideState) (fine : IsSideInKind side) where
       (same_expr_true f d (right_true (have_one_type a b && have_one_type c d && same_expr b c && same_expr e a) (same_expr f d) h))
       all.0 all.1.0
 
+  -- an atom of an integer type has a type of 1 to 64 bits
+  width_of_atom : (w : ℕ) (x : Atom Reg) → is_atom_of (ty.Int w) x ≡ true → is_width w ≡ true
+  width_of_atom w (atom.Constant (constant.Number n)) h = left_true (is_width w) (nat_lt n (2 ^ w)) h
+  width_of_atom w (atom.Constant constant.Undef) h = h
+  width_of_atom w (atom.Register r) h = h
+
   -- undef is less defined than a number of its type, and than undef
   undef_less : (t : Ty) (x y : Atom Reg) → is_undef x ≡ true → is_constant y ≡ true → is_atom_of t y ≡ true
       → IsLessDefined (atom_value (read_reg side) (kind_of t) x) (atom_value (read_reg side) (kind_of t) y)
   undef_less ty.Void x y p q r = tt
-  undef_less (ty.Int w) (atom.Constant constant.Undef) (atom.Constant (constant.Number n)) p q r = rw r tt
-  undef_less (ty.Int w) (atom.Constant constant.Undef) (atom.Constant constant.Undef) p q r = tt
+  undef_less (ty.Int w) (atom.Constant constant.Undef) (atom.Constant (constant.Number n)) p q r =
+      rw (left_true (is_width w) (nat_lt n (2 ^ w)) r, right_true (is_width w) (nat_lt n (2 ^ w)) r) tt
+  undef_less (ty.Int w) (atom.Constant constant.Undef) (atom.Constant constant.Undef) p q r = rw r tt
   undef_less (ty.Int w) (atom.Constant constant.Undef) (atom.Register s) p q r = cc
   undef_less (ty.Int w) (atom.Constant (constant.Number n)) y p q r = cc
   undef_less (ty.Int w) (atom.Register s) y p q r = cc
@@ -101,7 +94,8 @@ module _ (m : Module) (side : SideState) (fine : IsSideInKind side) where
   reg_in_kind k (reg.Ghost x) = fine.ghost x k
 
   atom_in_kind : (w : ℕ) (x : Atom Reg) → is_atom_of (ty.Int w) x ≡ true → IsInKind (kind.Int w) (atom_at (read_reg side) (kind.Int w) x)
-  atom_in_kind w (atom.Constant (constant.Number n)) h = rw h (ltb-true n (2 ^ w) h)
+  atom_in_kind w (atom.Constant (constant.Number n)) h =
+      let below : nat_lt n (2 ^ w) ≡ true = right_true (is_width w) (nat_lt n (2 ^ w)) h in rw below (ltb-true n (2 ^ w) below)
   atom_in_kind w (atom.Constant constant.Undef) h = tt
   atom_in_kind w (atom.Register r) h = reg_in_kind (kind.Int w) r
 
@@ -116,7 +110,8 @@ module _ (m : Module) (side : SideState) (fine : IsSideInKind side) where
       [ true ↦ tt | false ↦ ap value.Num (sym (wrapped_zero o w m h)) ]
 
   zero_is_worth : (w : ℕ) (z : Atom Reg) → is_zero z ≡ true → is_atom_of (ty.Int w) z ≡ true → atom_at (read_reg side) (kind.Int w) z ≡ value.Num 0
-  zero_is_worth w (atom.Constant (constant.Number n)) p q = rw q (ap value.Num (eqb-true n 0 p))
+  zero_is_worth w (atom.Constant (constant.Number n)) p q =
+      rw (right_true (is_width w) (nat_lt n (2 ^ w)) q) (ap value.Num (eqb-true n 0 p))
   zero_is_worth w (atom.Constant constant.Undef) p q = cc
   zero_is_worth w (atom.Register r) p q = cc
 
@@ -124,7 +119,7 @@ module _ (m : Module) (side : SideState) (fine : IsSideInKind side) where
       → IsOutcomeLessDefined (worth side (Binary (record { op = o; flags = flags; ty = t; left = x; right = z }))) (Gives (atom_value (read_reg side) (kind_of t) x))
   zero_right_less o flags ty.Void x z p q r = tt
   zero_right_less o flags (ty.Int w) x z p q r =
-      rw (zero_is_worth w z p q) (zero_less o flags w (atom_at (read_reg side) (kind.Int w) x) (atom_in_kind w x r))
+      rw (width_of_atom w x r, zero_is_worth w z p q) (zero_less o flags w (atom_at (read_reg side) (kind.Int w) x) (atom_in_kind w x r))
 
   zero_right_is_sound : (from : List Fact) (to : Fact) → is_zero_right from to ≡ true → Holds side to
   zero_right_is_sound [] (LessDef (Binary e) (Plain x)) h =
@@ -141,7 +136,7 @@ module _ (m : Module) (side : SideState) (fine : IsSideInKind side) where
   zero_right_is_sound [] (LessDef (Plain a) b) h = cc
   zero_right_is_sound (x ∷ more) to h = cc
 
-pub row_is_sound : (rule : Rule) (m : Module) (schema : Schema) → takes_row rule m schema ≡ true → IsSound m schema
-row_is_sound Trans m schema h side fine all = trans_is_sound m side fine schema.from schema.to h all
-row_is_sound UndefConst m schema h side fine all = undef_const_is_sound m side fine schema.from schema.to h
-row_is_sound ZeroRight m schema h side fine all = zero_right_is_sound m side fine schema.from schema.to h
+pub row_is_sound : (rule : Rule) (scope : Scope) (schema : Schema) → takes_row rule scope schema ≡ true → IsSound scope schema
+row_is_sound Trans scope schema h side fine all = trans_is_sound side fine schema.from schema.to h all
+row_is_sound UndefConst scope schema h side fine all = undef_const_is_sound side fine schema.from schema.to h
+row_is_sound ZeroRight scope schema h side fine all = zero_right_is_sound side fine schema.from schema.to h

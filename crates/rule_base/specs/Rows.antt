@@ -6,28 +6,28 @@ use Rattle.ir_core.specs.declared.operands.Const.{Const}
 use Rattle.ir_core.specs.declared.operands.Const.TheVariants as constant
 use Rattle.ir_core.specs.declared.operands.Atom.{Atom}
 use Rattle.ir_core.specs.declared.operands.Atom.TheVariants as atom
-use Rattle.ir_core.specs.declared.functions.Module.{Module}
 use Rattle.ir_core.specs.declared.expressions.Reg.{Reg}
 use Rattle.ir_core.specs.declared.expressions.Expr0.{Expr0}
 use Rattle.ir_core.specs.declared.expressions.Expr0.TheVariants.{Plain, Binary}
+use Rattle.ir_core.specs.Types.{is_width}
 use Rattle.ir_core.specs.Same.{same_ty, same_atom, same_reg, same_expr}
 use Rattle.erhl_assert.specs.declared.facts.Fact.{Fact}
 use Rattle.erhl_assert.specs.declared.facts.Fact.TheVariants.{LessDef}
 use Rattle.erhl_assert.specs.declared.facts.Schema.{Schema}
-use Rattle.erhl_assert.specs.Facts.{type_of}
+use Rattle.erhl_assert.specs.Facts.{Scope, type_of}
 use Rattle.rule_base.specs.declared.shipped.Rule.{Rule}
 use Rattle.rule_base.specs.declared.shipped.Rule.TheVariants.{Trans, UndefConst, ZeroRight}
 
--- a number of iN lies below 2 to the N
+-- an integer type has 1 to 64 bits, and a number of iN lies below 2 to the N
 abbrev pub is_constant_of : Ty → Const → Bool
-is_constant_of (ty.Int width) (constant.Number n) = nat_lt n (2 ^ width)
-is_constant_of (ty.Int width) constant.Undef = true
+is_constant_of (ty.Int width) (constant.Number n) = is_width width && nat_lt n (2 ^ width)
+is_constant_of (ty.Int width) constant.Undef = is_width width
 is_constant_of ty.Void c = false
 
 -- the type has values, and a constant is one of it
 abbrev pub is_atom_of : Ty → Atom Reg → Bool
 is_atom_of t (atom.Constant c) = is_constant_of t c
-is_atom_of (ty.Int width) (atom.Register r) = true
+is_atom_of (ty.Int width) (atom.Register r) = is_width width
 is_atom_of ty.Void (atom.Register r) = false
 
 -- the expression has a type
@@ -81,8 +81,8 @@ name_of Trans = codes "trans"
 name_of UndefConst = codes "undef_const"
 name_of ZeroRight = codes "zero_right"
 
--- no row asks anything of the module, as no type or global can be written yet
-abbrev pub takes_row : Rule → Module → Schema → Bool
-takes_row Trans m schema = is_trans schema.from schema.to
-takes_row UndefConst m schema = is_undef_const schema.from schema.to
-takes_row ZeroRight m schema = is_zero_right schema.from schema.to
+-- no row asks anything of types and globals, as none can be written yet
+abbrev pub takes_row : Rule → Scope → Schema → Bool
+takes_row Trans scope schema = is_trans schema.from schema.to
+takes_row UndefConst scope schema = is_undef_const schema.from schema.to
+takes_row ZeroRight scope schema = is_zero_right schema.from schema.to

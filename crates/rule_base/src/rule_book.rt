@@ -1,5 +1,6 @@
 ghost use Rattle.std.specs.Prelude.{◌≡◌, nat_eq};
 ghost use Rattle.ir_core.specs.Same.{same_list};
+ghost use Rattle.erhl_assert.specs.Facts.{scope_of};
 ghost use Rattle.erhl_assert.specs.Steps.{rule_named, AreSound};
 ghost use Rattle.rule_base.specs.Book.{meanings_of, answer_of};
 
@@ -38,7 +39,7 @@ fn is_called(rule: &Box<dyn InferRule>, name: &Seq<u8>) -> bool
 }
 
 fn takes(rule: &Box<dyn InferRule>, module: &Module, schema: &Schema) -> bool
-    ensures { result ≡ (⟦<dyn InferRule as InferRule>⟧ rule.now.vtable).takes rule.now.value «module».now schema.now }
+    ensures { result ≡ (⟦<dyn InferRule as InferRule>⟧ rule.now.vtable).takes rule.now.value (scope_of «module».now) schema.now }
 {
     rule.fits(module, schema)
 }
@@ -59,7 +60,7 @@ impl RuleBook {
             (λ b. (⟦<dyn InferRule as InferRule>⟧ b.vtable).takes b.value)
             self.now.rules.items)
             name.now)
-            «module».now schema.now }
+            (scope_of «module».now) schema.now }
     {
         for rule in &self.rules {
             if is_called(rule, name) {

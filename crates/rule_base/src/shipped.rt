@@ -1,6 +1,8 @@
-ghost use Rattle.std.specs.Prelude.{◌≡◌, ◌^◌, nat_lt};
+ghost use Rattle.std.specs.Prelude.{◌≡◌, ◌^◌, nat_lt, Contains};
+ghost use Rattle.ir_core.specs.Types.{is_width};
 ghost use Rattle.erhl_assert.specs.Facts.{type_of};
-ghost use Rattle.rule_base.specs.Rows.{is_constant_of, is_atom_of, is_typed, have_one_type, is_trans, is_undef_const, is_zero_right, is_undef, is_constant, is_zero};
+ghost use Rattle.rule_base.specs.declared.shipped.Rule.{Rule};
+ghost use Rattle.rule_base.specs.Rows.{name_of, is_constant_of, is_atom_of, is_typed, have_one_type, is_trans, is_undef_const, is_zero_right, is_undef, is_constant, is_zero};
 
 use crate::InferRule;
 use erhl_assert::{Fact, Schema};
@@ -50,6 +52,18 @@ impl InferRule for Rule {
     }
 }
 
+/// Each rule stands in the table, and no two of them have one name.
+pub fn rules_stand_in_the_table()
+    ensures whole { (rule : Rule) → Contains Rule.ALL rule }
+    ensures named_apart { (a b : Rule) → name_of a ≡ name_of b → a ≡ b }
+{}
+
+fn is_width(width: u32) -> bool
+    ensures { result ≡ is_width width }
+{
+    1 <= width && width <= 64
+}
+
 fn is_number_of(width: u32, number: u64) -> bool
     ensures { result ≡ nat_lt number (2 ^ width) }
 {
@@ -64,8 +78,9 @@ fn is_constant_of(ty: &Ty, constant: &Const) -> bool
     ensures { result ≡ is_constant_of ty.now constant.now }
 {
     match (ty, constant) {
-        (Ty::Int(width), Const::Number(number)) => is_number_of(*width, *number),
-        (Ty::Int(_), Const::Undef) => true,
+        (Ty::Int(width), Const::Number(number)) => is_width(*width)
+            && is_number_of(*width, *number),
+        (Ty::Int(width), Const::Undef) => is_width(*width),
         (Ty::Void, _) => false,
     }
 }
@@ -76,7 +91,7 @@ fn is_atom_of(ty: &Ty, atom: &Atom<Reg>) -> bool
     match atom {
         Atom::Constant(constant) => is_constant_of(ty, constant),
         Atom::Register(_) => match ty {
-            Ty::Int(_) => true,
+            Ty::Int(width) => is_width(*width),
             Ty::Void => false,
         },
     }

@@ -13,33 +13,41 @@ fn named(alloc: Global, name: &str) -> Result<Seq<u8>, AllocError> {
     Ok(bytes)
 }
 
-fn plain(atom: Atom<Reg>) -> Expr0 {
+/// What an operand is.
+#[derive(Debug, Drop, Clone, Copy)]
+enum Is {
+    /// `%0`
+    Register,
+    Number(u64),
+    Undef,
+}
+
+fn atom(is: Is) -> Atom<Reg> {
+    match is {
+        Is::Register => Atom::Register(Reg::Now(Name::Number(0))),
+        Is::Number(n) => Atom::Constant(Const::Number(n)),
+        Is::Undef => Atom::Constant(Const::Undef),
+    }
+}
+
+fn plain(width: u32, is: Is) -> Expr0 {
     Expr0::Plain(Operand {
-        ty: Ty::Int(32),
-        atom,
+        ty: Ty::Int(width),
+        atom: atom(is),
     })
 }
 
-fn number(n: u64) -> Atom<Reg> {
-    Atom::Constant(Const::Number(n))
-}
-
-/// `i32 %0`
-fn register() -> Atom<Reg> {
-    Atom::Register(Reg::Now(Name::Number(0)))
-}
-
-/// `add nsw i32 %0, n`
-fn sum(n: u64) -> Expr0 {
+/// `OP nsw iWIDTH LEFT, RIGHT`
+fn binary(op: BinOp, width: u32, left: Is, right: Is) -> Expr0 {
     Expr0::Binary(BinaryExpr {
-        op: BinOp::Add,
+        op,
         flags: Flags {
             nuw: false,
             nsw: true,
         },
-        ty: Ty::Int(32),
-        left: register(),
-        right: number(n),
+        ty: Ty::Int(width),
+        left: atom(left),
+        right: atom(right),
     })
 }
 
@@ -50,9 +58,8 @@ fn from_nothing(alloc: Global, a: Expr0, b: Expr0) -> Schema {
     }
 }
 
-#[test]
-fn shipped_rules_take_their_rows(rt: HostRuntime) -> Result<(), Fail> {
-    let alloc = rt.alloc();
+/// What the book of the shipped rules says of the schema under the rule's name.
+fn answer(alloc: Global, name: &str, schema: &Schema) -> Result<&'static str, AllocError> {
     let mut rules: Vec<Box<dyn InferRule>> = Vec::new(alloc);
     for rule in Rule::ALL {
         rules.push(Box::new(alloc, rule)?)?;
@@ -61,28 +68,120 @@ fn shipped_rules_take_their_rows(rt: HostRuntime) -> Result<(), Fail> {
     let module = Module {
         functions: Seq::new(alloc),
     };
-    let zero = from_nothing(alloc, sum(0), plain(register()));
-    let one = from_nothing(alloc, sum(1), plain(register()));
-    let undef = from_nothing(alloc, plain(Atom::Constant(Const::Undef)), plain(number(7)));
-    let mut chain = from_nothing(alloc, sum(0), plain(number(7)));
-    chain.from.push(Fact::LessDef(sum(0), plain(register())))?;
-    chain
-        .from
-        .push(Fact::LessDef(plain(register()), plain(number(7))))?;
-    for (name, schema, want) in [
-        ("zero_right", &zero, "Fits"),
-        ("zero_right", &one, "Unfit"),
-        ("undef_const", &undef, "Fits"),
-        ("trans", &chain, "Fits"),
-        ("trans", &undef, "Unfit"),
-        ("zero_left", &zero, "Unknown"),
+    match book.ask(&named(alloc, name)?, &module, schema) {
+        Answer::Unknown => Ok("Unknown"),
+        Answer::Unfit => Ok("Unfit"),
+        Answer::Fits => Ok("Fits"),
+    }
+}
+
+#[test]
+fn undef_may_be_any_constant_of_its_type(rt: HostRuntime) -> Result<(), Fail> {
+    let alloc = rt.alloc();
+    for (other, want) in [
+        (Is::Number(4294967295), "Fits"),
+        (Is::Number(4294967296), "Unfit"),
+        (Is::Undef, "Fits"),
+        (Is::Register, "Unfit"),
     ] {
-        let answer = match book.ask(&named(alloc, name)?, &module, schema) {
-            Answer::Unknown => "Unknown",
-            Answer::Unfit => "Unfit",
-            Answer::Fits => "Fits",
-        };
-        assert_eq!(rt; answer, want, "of {name}");
+        let schema = from_nothing(alloc, plain(32, Is::Undef), plain(32, other));
+        assert_eq!(rt; answer(alloc, "undef_const", &schema)?, want);
+    }
+    Ok(())
+}
+
+#[test]
+fn zero_is_neutral_on_the_right(rt: HostRuntime) -> Result<(), Fail> {
+    let alloc = rt.alloc();
+    for (name, op, width, x, right, want) in [
+        (
+            "zero_right",
+            BinOp::Add,
+            32,
+            Is::Register,
+            Is::Number(0),
+            "Fits",
+        ),
+        (
+            "zero_left",
+            BinOp::Add,
+            32,
+            Is::Register,
+            Is::Number(0),
+            "Unknown",
+        ),
+        (
+            "zero_right",
+            BinOp::Add,
+            32,
+            Is::Register,
+            Is::Number(1),
+            "Unfit",
+        ),
+        (
+            "zero_right",
+            BinOp::Sub,
+            32,
+            Is::Undef,
+            Is::Number(0),
+            "Fits",
+        ),
+        (
+            "zero_right",
+            BinOp::Add,
+            32,
+            Is::Register,
+            Is::Undef,
+            "Unfit",
+        ),
+        (
+            "zero_right",
+            BinOp::Add,
+            64,
+            Is::Register,
+            Is::Number(0),
+            "Fits",
+        ),
+        (
+            "zero_right",
+            BinOp::Add,
+            65,
+            Is::Register,
+            Is::Number(0),
+            "Unfit",
+        ),
+        (
+            "trans",
+            BinOp::Add,
+            32,
+            Is::Register,
+            Is::Number(0),
+            "Unfit",
+        ),
+    ] {
+        let schema = from_nothing(alloc, binary(op, width, x, right), plain(width, x));
+        assert_eq!(rt; answer(alloc, name, &schema)?, want);
+    }
+    Ok(())
+}
+
+#[test]
+fn trans_takes_two_premises_that_meet(rt: HostRuntime) -> Result<(), Fail> {
+    let alloc = rt.alloc();
+    let (x, seven) = (Is::Register, Is::Number(7));
+    // From `a >= b` and `b >= 7` to `c >= 7`.
+    for (name, a, b, c, want) in [
+        ("trans", x, seven, x, "Fits"),
+        ("trans", x, seven, seven, "Unfit"),
+        ("trans", x, Is::Undef, x, "Fits"),
+        ("undef_const", x, Is::Undef, Is::Undef, "Unfit"),
+    ] {
+        let mut schema = from_nothing(alloc, plain(32, c), plain(32, seven));
+        schema.from.push(Fact::LessDef(plain(32, a), plain(32, b)))?;
+        schema
+            .from
+            .push(Fact::LessDef(plain(32, b), plain(32, seven)))?;
+        assert_eq!(rt; answer(alloc, name, &schema)?, want);
     }
     Ok(())
 }
