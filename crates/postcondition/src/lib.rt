@@ -10,3 +10,6 @@ pub use facts::{has_fact, same_fact, with_fact, without_naming};
 pub use lines::after_line;
 pub use matching::{atoms_matched, matched};
 pub use registers::{has_reg, with_reg, without_reg};
+
+#[cfg(test)]
+mod tests;

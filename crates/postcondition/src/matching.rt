@@ -12,7 +12,9 @@ ghost use Rattle.postcondition.specs.InLogic.{atom_in_logic};
 
 use contents::Seq;
 use erhl_assert::{Assertion, Fact};
-use ir_core::{Atom, Expr0, Name, Operand, Reg, Ty, same_const, same_name, same_reg, same_ty};
+use ir_core::{
+    Atom, Expr0, Kind, Name, Operand, Reg, Ty, same_const, same_name, same_reg, same_ty,
+};
 
 /// A register as the logic names it: that of a function is the register of now.
 trait InLogic {
@@ -68,13 +70,28 @@ fn may_differ<R: InLogic>(register: &R, diff: &Seq<Reg>) -> bool
     false
 }
 
+fn kind_of(ty: &Ty) -> Option<Kind>
+    ensures { result ≡ kind_of ty.now }
+{
+    match ty {
+        Ty::Int(width) => {
+            if 1 <= *width && *width <= 64 {
+                Some(Kind::Int(*width))
+            } else {
+                None
+            }
+        }
+        Ty::Void => None,
+    }
+}
+
 /// Whether both types have values of one kind, or neither has values.
 fn have_kind(a: &Ty, b: &Ty) -> bool
     ensures { result ≡ have_kind (kind_of a.now) (kind_of b.now) }
 {
-    match (a, b) {
-        (Ty::Int(v), Ty::Int(w)) => *v == *w,
-        (Ty::Void, Ty::Void) => true,
+    match (kind_of(a), kind_of(b)) {
+        (Some(Kind::Int(v)), Some(Kind::Int(w))) => v == w,
+        (None, None) => true,
         _ => false,
     }
 }
