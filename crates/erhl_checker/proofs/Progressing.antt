@@ -17,6 +17,7 @@ use Rattle.erhl_assert.specs.declared.verdict.Spot.TheVariants as spot
 use Rattle.erhl_assert.specs.declared.verdict.Verdict.TheVariants as verdict
 use Rattle.erhl_assert.specs.Alignment.{Line, after_first, aligned, is_aligned, block_hint, block_lines}
 use Rattle.erhl_assert.specs.Postcondition.{after_line}
+use Rattle.erhl_assert.specs.Facts.{scope_of}
 use Rattle.erhl_assert.specs.Steps.{Rules, Meaning, Stepped, Refuses, Knows, and_then, after_rule, after_step, after_steps, steps_at}
 use Rattle.erhl_assert.specs.Acceptance.{lines_verdict, after_steps_at, term_verdict, on_lines, from_entry}
 use Rattle.rule_base.specs.Book.{answer_of}
@@ -26,10 +27,10 @@ use Rattle.erhl_checker.specs.Progress.{on_answer, past_line, walked, hinted}
 use Rattle.erhl_checker.proofs.Alignments.{is_aligned_more, aligned_more}
 use Rattle.ir_core.proofs.SameLaws.{left_true, right_true}
 
-pub rule_by_answer : (o : Option Meaning) (m : Module) (step : RuleStep) (known : Assertion) → after_rule o m step known ≡ on_answer (answer_of o m step.schema) step known
+pub rule_by_answer : (o : Option Meaning) (m : Module) (step : RuleStep) (known : Assertion) → after_rule o m step known ≡ on_answer (answer_of o (scope_of m) step.schema) step known
 rule_by_answer None m step known = refl
 rule_by_answer (Some r) m step known =
-    elim (r.takes m step.schema) as (λ b. cond b (on_answer Fits step known) (on_answer Unfit step known) ≡ on_answer (cond b Fits Unfit) step known) [ true ↦ refl | false ↦ refl ]
+    elim (r.takes (scope_of m) step.schema) as (λ b. cond b (on_answer Fits step known) (on_answer Unfit step known) ≡ on_answer (cond b Fits Unfit) step known) [ true ↦ refl | false ↦ refl ]
 
 -- the first step of those that are left
 module _ (rules : Rules) (m : Module) (k : ℕ) (s : PlacedStep) (ss : List PlacedStep) (known : Assertion) where

@@ -7,7 +7,7 @@ ghost use Rattle.rule_base.specs.Book.{meanings_of};
 
 use crate::CheckEnd;
 use crate::alignment::alignment_fault;
-use crate::blocks::entry_verdict;
+use crate::blocks::{entry_verdict, refused};
 use erhl_assert::{Hint, Reason, Spot, Verdict};
 use erhl_soundness::accepted_functions_refine;
 use ir_core::{Block, Function, Module};
@@ -35,9 +35,12 @@ fn reached_verdict(
     match source.first() {
         Some(b) => match target.first() {
             Some(c) => entry_verdict(alloc, module, book, hint, b, c),
+            None => refused(alloc, &b.name, Spot::Start, Reason::AlignmentDiffers),
+        },
+        None => match target.first() {
+            Some(c) => refused(alloc, &c.name, Spot::Start, Reason::AlignmentDiffers),
             None => Ok(Verdict::Valid),
         },
-        None => Ok(Verdict::Valid),
     }
 }
 
@@ -101,6 +104,7 @@ pub fn check_function(
         (λ b. (⟦<dyn InferRule as InferRule>⟧ b.vtable).takes b.value)
         book.now.rules.items)
         «module».now src.now tgt.now hint.now) }
+    // As long as no line calls, the two functions may stand in whatever modules.
     ensures refines { IfOk result
         (λ v. v ≡ Verdict.Valid → (s t : Module) → FunctionRefines s src.now t tgt.now) }
 {

@@ -139,10 +139,13 @@ fn functions_verdict(
                 }
                 rest = after;
             }
-            None => return Ok(ModuleVerdict::Valid),
+            None => return Ok(ModuleVerdict::Differs(Difference::Functions)),
         }
     }
-    Ok(ModuleVerdict::Valid)
+    match rest.first() {
+        Some(_) => Ok(ModuleVerdict::Differs(Difference::Functions)),
+        None => Ok(ModuleVerdict::Valid),
+    }
 }
 
 fn module_verdict(
@@ -170,10 +173,10 @@ fn module_verdict(
     }
 }
 
-/// Checks one module against another: `Differs` exactly where their functions' names, return types or parameter types differ,
-/// else the first function that isn't valid, with its place and reason. Whatever rules the book holds, a target that is
-/// `Valid` refines its source.
-#[tactic(auto, using(crate::proofs::Differing::differs_exactly))]
+/// Checks one module against another: `Valid` exactly where each pair of functions has one signature and is accepted,
+/// `Differs` exactly where their functions' names, return types or parameter types differ, else the first function that isn't
+/// valid, with its place and reason. Whatever rules the book holds, a target that is `Valid` refines its source.
+#[tactic(auto, using(crate::proofs::Differing::differs_exactly, crate::proofs::Differing::accepted_exactly))]
 pub fn check_module(
     alloc: Global,
     source: &Module,
@@ -189,6 +192,14 @@ pub fn check_module(
         (λ b. (⟦<dyn InferRule as InferRule>⟧ b.vtable).takes b.value)
         book.now.rules.items)
         source.now target.now hints.now) }
+    ensures accepted { IfOk result
+        (λ v. v ≡ ModuleVerdict.Valid
+        ↔ acceptance.AreAccepted
+        (meanings_of
+        (λ b. (⟦<dyn InferRule as InferRule>⟧ b.vtable).called b.value)
+        (λ b. (⟦<dyn InferRule as InferRule>⟧ b.vtable).takes b.value)
+        book.now.rules.items)
+        source.now hints.now source.now.functions target.now.functions) }
     ensures differs { IfOk result
         (λ v. v ≡ ModuleVerdict.Differs Difference.Functions
         ↔ same.same_list acceptance.same_signature source.now.functions target.now.functions ≡ false) }

@@ -6,7 +6,7 @@ use erhl_assert::{
 };
 use ir_core::{
     Atom, BinOp, Binary, BinaryExpr, Block, Const, Expr0, Flags, Function, Instr, Module, Name,
-    Operand, Reg, Term, Ty,
+    Operand, Param, Reg, Term, Ty,
 };
 use rule_base::{InferRule, Rule, RuleBook};
 use std::alloc::{AllocError, Global};
@@ -160,24 +160,22 @@ fn module_of(alloc: Global, function: Function) -> Result<Module, AllocError> {
     Ok(Module { functions })
 }
 
-/// The verdict in short: the spot's line and the reason's name, where the pair is refused.
-fn told(verdict: &Verdict) -> (u64, &'static str) {
-    match verdict {
-        Verdict::Valid => (0, "valid"),
-        Verdict::Refused { spot, reason, .. } => {
-            let line = match spot {
-                Spot::Start => 0,
-                Spot::Line(line) => *line,
-            };
-            match reason {
-                Reason::AlignmentDiffers => (line, "alignment differs"),
-                Reason::Unmatched(_, _) => (line, "unmatched"),
-                Reason::UnknownRule(_) => (line, "unknown rule"),
-                Reason::RuleUnfit(_) => (line, "rule unfit"),
-                Reason::MissingPremise(_) => (line, "missing premise"),
-                Reason::MissingFact(_) => (line, "missing fact"),
-            }
-        }
+/// The verdict in short: the number of the line, where it isn't the block's start, and the reason's name.
+fn told(verdict: &Verdict) -> (Option<u64>, &'static str) {
+    let Verdict::Refused { spot, reason, .. } = verdict else {
+        return (None, "valid");
+    };
+    let line = match spot {
+        Spot::Start => None,
+        Spot::Line(line) => Some(*line),
+    };
+    match reason {
+        Reason::AlignmentDiffers => (line, "alignment differs"),
+        Reason::Unmatched(_, _) => (line, "unmatched"),
+        Reason::UnknownRule(_) => (line, "unknown rule"),
+        Reason::RuleUnfit(_) => (line, "rule unfit"),
+        Reason::MissingPremise(_) => (line, "missing premise"),
+        Reason::MissingFact(_) => (line, "missing fact"),
     }
 }
 
@@ -198,9 +196,9 @@ fn undef_may_be_seven_by_its_proof(rt: HostRuntime) -> Result<(), Fail> {
     }
     let book = RuleBook::new(rules);
     let whole = judged(alloc, &book, &hint(alloc, true)?)?;
-    assert_eq!(rt; told(&whole), (0, "valid"));
+    assert_eq!(rt; told(&whole), (None, "valid"));
     let short = judged(alloc, &book, &hint(alloc, false)?)?;
-    assert_eq!(rt; told(&short), (1, "missing premise"));
+    assert_eq!(rt; told(&short), (Some(1), "missing premise"));
     if let Verdict::Refused {
         reason: Reason::MissingPremise(fact),
         ..
@@ -219,7 +217,7 @@ fn an_empty_hint_aligns_equal_bodies_alone(rt: HostRuntime) -> Result<(), Fail> 
         blocks: Seq::new(alloc),
     };
     let verdict = judged(alloc, &book, &none)?;
-    assert_eq!(rt; told(&verdict), (0, "alignment differs"));
+    assert_eq!(rt; told(&verdict), (None, "alignment differs"));
     Ok(())
 }
 
@@ -238,5 +236,111 @@ fn a_module_refines_itself_without_hints(rt: HostRuntime) -> Result<(), Fail> {
     assert!(rt; matches!(same, ModuleVerdict::Valid));
     let other = check_module(alloc, &module, &empty, &hints, &book)?;
     assert!(rt; matches!(other, ModuleVerdict::Differs(_)));
+    Ok(())
+}
+
+/// `define i32 @f(i32 %x) { %y = add i32 %x, 0  ret i32 %y }`
+fn zero_added(alloc: Global) -> Result<Function, AllocError> {
+    let mut body = Seq::new(alloc);
+    body.push(Instr::Binary(Binary {
+        name: Name::Text(text(alloc, "y")?),
+        op: BinOp::Add,
+        flags: NO_FLAGS,
+        ty: Ty::Int(32),
+        left: Atom::Register(Name::Text(text(alloc, "x")?)),
+        right: Atom::Constant(Const::Number(0)),
+    }))?;
+    let y = Atom::Register(Name::Text(text(alloc, "y")?));
+    let mut function = returning(alloc, body, y)?;
+    function.params.push(Param {
+        name: Name::Text(text(alloc, "x")?),
+        ty: Ty::Int(32),
+    })?;
+    Ok(function)
+}
+
+/// The hint that its one line has this letter, with what it wants at the entry and a step of a rule that no book has.
+fn hint_with(
+    alloc: Global,
+    letter: Letter,
+    entry: Assertion,
+    at: Option<u64>,
+) -> Result<Hint, AllocError> {
+    let mut lines = Seq::new(alloc);
+    lines.push(letter)?;
+    let mut steps = Seq::new(alloc);
+    if let Some(line) = at {
+        let fact = Fact::LessDef(undef(), seven());
+        let mut unknown = step(alloc, "no rule", Seq::new(alloc), fact)?;
+        unknown.at = line;
+        steps.push(unknown)?;
+    }
+    let mut blocks = Seq::new(alloc);
+    blocks.push(HintBlock {
+        at: Name::Number(0),
+        lines: Some(lines),
+        entry,
+        steps,
+    })?;
+    Ok(Hint { blocks })
+}
+
+/// The verdict on `zero_added` and itself under that hint.
+fn judged_alone(alloc: Global, hint: &Hint) -> Result<Verdict, Fail> {
+    let book = RuleBook::new(Vec::new(alloc));
+    let function = zero_added(alloc)?;
+    let module = module_of(alloc, zero_added(alloc)?)?;
+    Ok(check_function(alloc, &module, &function, &function, hint, &book)?)
+}
+
+fn nothing(alloc: Global) -> Assertion {
+    Assertion {
+        src: Seq::new(alloc),
+        tgt: Seq::new(alloc),
+        diff: Seq::new(alloc),
+    }
+}
+
+#[test]
+fn the_first_test_that_fails_decides(rt: HostRuntime) -> Result<(), Fail> {
+    let alloc = rt.alloc();
+    // The line's letter, a fact that is wanted on entry, where the step stands, and the verdict.
+    for (letter, wanted, at, verdict) in [
+        (Letter::Source, true, Some(0), (None, "alignment differs")),
+        (Letter::Both, true, Some(0), (None, "missing fact")),
+        (Letter::Both, false, Some(0), (Some(0), "unknown rule")),
+        (Letter::Both, false, Some(1), (Some(1), "unknown rule")),
+        (Letter::Both, false, Some(2), (None, "valid")),
+        (Letter::Both, false, None, (None, "valid")),
+    ] {
+        let mut entry = nothing(alloc);
+        if wanted {
+            entry.src.push(Fact::LessDef(seven(), seven()))?;
+        }
+        let got = judged_alone(alloc, &hint_with(alloc, letter, entry, at)?)?;
+        assert_eq!(rt; told(&got), verdict);
+    }
+    Ok(())
+}
+
+#[test]
+fn the_entry_says_what_is_known(rt: HostRuntime) -> Result<(), Fail> {
+    let alloc = rt.alloc();
+    let mut entry = nothing(alloc);
+    entry.tgt.push(Fact::LessDef(seven(), seven()))?;
+    entry.tgt.push(Fact::LessDef(undef(), seven()))?;
+    let got = judged_alone(alloc, &hint_with(alloc, Letter::Both, entry, None)?)?;
+    assert_eq!(rt; told(&got), (None, "missing fact"));
+    if let Verdict::Refused {
+        reason: Reason::MissingFact(fact),
+        ..
+    } = &got
+    {
+        assert!(rt; fact.is(&Fact::LessDef(seven(), seven())));
+    }
+    let mut entry = nothing(alloc);
+    entry.diff.push(Reg::Now(Name::Text(text(alloc, "x")?)))?;
+    let got = judged_alone(alloc, &hint_with(alloc, Letter::Both, entry, None)?)?;
+    assert_eq!(rt; told(&got), (Some(1), "unmatched"));
     Ok(())
 }

@@ -13,7 +13,7 @@ use Rattle.erhl_assert.specs.declared.hints.HintStep.TheVariants.{Rule}
 use Rattle.erhl_assert.specs.declared.hints.PlacedStep.{PlacedStep}
 use Rattle.erhl_assert.specs.declared.verdict.Reason.TheVariants.{RuleUnfit}
 use Rattle.erhl_assert.specs.Sides.{SideState, IsSideInKind}
-use Rattle.erhl_assert.specs.Facts.{Holds, AssertionHolds, IsSound, has_fact}
+use Rattle.erhl_assert.specs.Facts.{Holds, AssertionHolds, scope_of, IsSound, has_fact}
 use Rattle.erhl_assert.specs.Steps.{Meaning, Rules, rule_named, rule_takes, AreSound, facts_of, first_missing, with_conclusion, Stepped, Refuses, Knows, concluded, after_rule, after_step, and_then, after_steps}
 use Rattle.erhl_soundness.proofs.Facts.{has_fact_holds, with_fact_holds}
 
@@ -52,16 +52,16 @@ module _ (source target : SideState) (source_in_kind : IsSideInKind source) (tar
     related = holds.related;
   }
 
-  concluded_holds : (m : Module) (step : RuleStep) (known : Assertion) → AssertionHolds known source target → IsSound m step.schema
+  concluded_holds : (m : Module) (step : RuleStep) (known : Assertion) → AssertionHolds known source target → IsSound (scope_of m) step.schema
       → (o : Option Fact) → first_missing (facts_of step.side known) step.schema.from ≡ o → SteppedHolds (concluded o step known)
   concluded_holds m step known holds sound (Some f) h = tt
   concluded_holds m step known holds sound None h = conclusion_holds step.side step.schema.from step.schema.to known holds sound h
 
   rule_holds : (m : Module) (step : RuleStep) (known : Assertion) → AssertionHolds known source target → (o : Option Meaning)
-      → (rule_takes o m step.schema ≡ true → IsSound m step.schema) → SteppedHolds (after_rule o m step known)
+      → (rule_takes o (scope_of m) step.schema ≡ true → IsSound (scope_of m) step.schema) → SteppedHolds (after_rule o m step known)
   rule_holds m step known holds None sound = tt
   rule_holds m step known holds (Some r) sound =
-      cond_both (r.takes m step.schema) (concluded (first_missing (facts_of step.side known) step.schema.from) step known) (Refuses (RuleUnfit step.rule))
+      cond_both (r.takes (scope_of m) step.schema) (concluded (first_missing (facts_of step.side known) step.schema.from) step known) (Refuses (RuleUnfit step.rule))
       SteppedHolds
       (λ e. concluded_holds m step known holds (sound e) (first_missing (facts_of step.side known) step.schema.from) refl)
       (λ e. tt)
@@ -74,7 +74,7 @@ module _ (source target : SideState) (source_in_kind : IsSideInKind source) (tar
   step_holds : (rules : Rules) (m : Module) → AreSound rules → (step : HintStep) (known : Assertion) → AssertionHolds known source target
       → SteppedHolds (after_step rules m step known)
   step_holds rules m sound (Rule step) known holds =
-      rule_holds m step known holds (rule_named rules step.rule) (sound step.rule m step.schema)
+      rule_holds m step known holds (rule_named rules step.rule) (sound step.rule (scope_of m) step.schema)
 
   pub steps_hold : (rules : Rules) (m : Module) → AreSound rules → (steps : List PlacedStep) (known : Assertion) → AssertionHolds known source target
       → SteppedHolds (after_steps rules m steps known)
