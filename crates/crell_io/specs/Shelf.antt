@@ -7,11 +7,11 @@ pub data Told : Type 0 where
   NoSuch : Told
   Bytes : List ℕ → Told
 
--- if contents are told, they are such
-abbrev pub IfBytes : Told → (List ℕ → Type 0) → Type 0
-IfBytes Untold P = Unit {0}
-IfBytes NoSuch P = Unit {0}
-IfBytes (Bytes held) P = P held
+-- if anything is told, it is that there are contents, and they are such
+abbrev pub IfTold : Told → (List ℕ → Type 0) → Type 0
+IfTold Untold P = Unit {0}
+IfTold NoSuch P = ⊥
+IfTold (Bytes held) P = P held
 
 -- contents are told, and they are such
 abbrev pub IsBytesAnd : Told → (List ℕ → Type 0) → Type 0

@@ -1,7 +1,7 @@
 // What texts are read from.
-ghost use Rattle.std.specs.Prelude.{◌≡◌, ◌≢◌, ◌^◌, ◌-◌, ◌<◌, ◌≤◌, ℕ, List, length, vec_len, IfOk, OnOk, IsErrOf};
+ghost use Rattle.std.specs.Prelude.{◌≡◌, ◌^◌, ◌-◌, ◌<◌, ◌≤◌, ℕ, List, length, vec_len, IfOk, IsErrOf};
 ghost use Rattle.crell_io.specs.Count.{HasRisen, HasRisenAbove};
-ghost use Rattle.crell_io.specs.Shelf.{Told, IfBytes};
+ghost use Rattle.crell_io.specs.Shelf.{Told, IfTold};
 ghost use Rattle.crell_io.specs.Shelf.Told.{NoSuch};
 ghost use Rattle.crell_io.specs.declared.shelf.ShelfEnd.TheVariants.{Memory};
 
@@ -51,8 +51,7 @@ pub trait Shelf {
 
         ensures within { IfOk result (λ bytes. vec_len bytes ≤ limit) }
         ensures whole { IfOk result
-            (λ bytes. IfBytes (told self.old name.now) (λ held. bytes.items ≡ held)) }
-        ensures held { OnOk result (told self.old name.now ≢ NoSuch) }
+            (λ bytes. IfTold (told self.old name.now) (λ held. bytes.items ≡ held)) }
 
         ensures failed { IsErrOf result ShelfEnd.Failed →
             HasRisen (faults self.old) (faults self.new) }
@@ -60,5 +59,5 @@ pub trait Shelf {
         ensures too_long { IsErrOf result ShelfEnd.TooLong →
             HasRisenAbove limit (taken self.old) (taken self.new) }
         ensures longer { IsErrOf result ShelfEnd.TooLong →
-            IfBytes (told self.old name.now) (λ held. limit < length held) };
+            IfTold (told self.old name.now) (λ held. limit < length held) };
 }
