@@ -1,3 +1,4 @@
+use crate::blocks::exact;
 use crate::{HintFault, print_fact, read_hints};
 use erhl_assert::{HintStep, Letter, Side};
 use ir_core::{Name, Sigil};
@@ -63,45 +64,58 @@ fn is_refused(alloc: Global, members: &str) -> Result<bool, Fail> {
 fn refuses_other_forms(rt: HostRuntime) -> Result<(), Fail> {
     let alloc = rt.alloc();
     assert!(rt; !is_refused(alloc, "\"at\":\"%\\\"a b\\\"\"")?);
-    assert!(rt;
-        is_refused(alloc, "\"at\":\"%\\\"x\\\"\"")?,
-        "a plain name in quotes"
-    );
-    assert!(rt;
-        is_refused(alloc, "\"at\":\"%x\",\"diff\":[]")?,
-        "an unknown member"
-    );
-    assert!(rt;
-        is_refused(alloc, "\"at\":\"%x\",\"lines\":\"bx\"")?,
-        "an unknown letter"
-    );
-    assert!(rt;
-        is_refused(alloc, "\"at\":\"%x\"},{\"at\":\"%x\"")?,
-        "a block twice"
-    );
-    assert!(rt;
-        is_refused(
-            alloc,
-            "\"at\":\"%x\",\"steps\":[{\"at\":-1,\"rule\":\"r\",\"side\":\"tgt\",\"from\":[],\"to\":[\"ge\",\"i32 1\",\"i32 2\"]}]"
-        )?,
-        "a place below 0"
-    );
+    for members in [
+        "\"at\":\"%\\\"x\\\"\"",
+        "\"at\":\"%x\",\"diff\":[]",
+        "\"at\":\"%x\",\"lines\":\"bx\"",
+        "\"at\":\"%0\",\"lines\":null",
+        "\"at\":\"%x\"},{\"at\":\"%x\"",
+        "\"at\":\"%x\"},{\"at\":\"%y\"},{\"at\":\"%x\"",
+        "\"at\":\"%x\",\"steps\":[{\"at\":-1,\"rule\":\"r\",\"side\":\"tgt\",\"from\":[],\"to\":[\"ge\",\"i32 1\",\"i32 2\"]}]",
+    ] {
+        assert!(rt; is_refused(alloc, members)?, "{members}");
+    }
+    Ok(())
+}
+
+#[test]
+fn names_stand_as_they_are_printed(rt: HostRuntime) -> Result<(), Fail> {
+    let alloc = rt.alloc();
+    for (sigil, text) in [
+        (Sigil::Local, "%05"),
+        (Sigil::Local, "%\"x\""),
+        (Sigil::Local, "@f"),
+        (Sigil::Global, "@f "),
+    ] {
+        let name = exact(alloc, sigil, text);
+        assert!(rt; matches!(name, Err(HintFault::NotOfTheFirstForm)), "{text}");
+    }
+    match exact(alloc, Sigil::Local, "%\"5\"")? {
+        Name::Text(bytes) => assert_eq!(rt; bytes.as_slice(), b"5".as_slice()),
+        Name::Number(_) => assert!(rt; false, "a number"),
+    }
+    assert!(rt; matches!(exact(alloc, Sigil::Local, "%5")?, Name::Number(5)));
     Ok(())
 }
 
 #[test]
 fn refuses_other_formats(rt: HostRuntime) -> Result<(), Fail> {
     let alloc = rt.alloc();
-    assert!(rt;
-        read_hints(alloc, b"{\"format\":1,\"functions\":{}}")?
-            .functions
-            .is_empty()
-    );
-    let second = read_hints(alloc, b"{\"format\":2,\"functions\":{}}");
-    assert!(rt; matches!(second, Err(HintFault::NotOfTheFirstForm)));
-    let cut = read_hints(alloc, b"{\"format\":1,");
-    assert!(rt; matches!(cut, Err(HintFault::NotOfTheFirstForm)));
-    let bytes = read_hints(alloc, b"\xff");
-    assert!(rt; matches!(bytes, Err(HintFault::NotOfTheFirstForm)));
+    for text in [
+        "{\"format\":1,\"functions\":{}}",
+        "{\"format\":2,\"format\":1,\"functions\":{}}",
+    ] {
+        assert!(rt; read_hints(alloc, text.as_bytes())?.functions.is_empty());
+    }
+    for text in [
+        b"{\"format\":2,\"functions\":{}}".as_slice(),
+        b"{\"format\":1.0,\"functions\":{}}",
+        b"{\"format\":1,\"functions\":{},\"loops\":{}}",
+        b"{\"format\":1,",
+        b"\xff",
+    ] {
+        let hints = read_hints(alloc, text);
+        assert!(rt; matches!(hints, Err(HintFault::NotOfTheFirstForm)));
+    }
     Ok(())
 }
