@@ -5,22 +5,21 @@ use Rattle.erhl_assert.specs.declared.verdict.ModuleVerdict.TheVariants as modul
 use Rattle.erhl_assert.specs.Steps.{Rules}
 use Rattle.erhl_assert.specs.Acceptance.{module_verdict}
 use Rattle.crell_io.specs.Count.{HasRisen}
-use Rattle.crell_io.specs.Shelf.{IfBytes}
-use Rattle.crell_io.specs.Shelf.Told.{NoSuch}
+use Rattle.crell_io.specs.Shelf.{IfTold}
 use Rattle.crell_program.specs.declared.answer.Answer.{Answer}
 use Rattle.crell_program.specs.Answer.{usage, not_of_the_first_form, read_failed, past_limit, absent}
 use Rattle.crell_program.specs.Command.{Files}
 use Rattle.crell_program.specs.VerdictText.{verdict_answer}
-use Rattle.crell_program.specs.Due.{ShelfSeen, Held, Missing, Long, Broken, DueOfFile, DueOfFiles, DueOfTexts, IsDue, text_limit, json_limit}
-use Rattle.crell_program.specs.Statuses.{IsRefusal, AreJudged, OneIsUnfit, SomeFileIsUnfit, SomeFileIsLonger, SomeFileIsMissing, IsLonger}
-use Rattle.crell_program.proofs.Bytes.{if_bytes_three}
+use Rattle.crell_program.specs.Due.{ShelfSeen, Held, Missing, Long, Broken, MayCome, DueOfFile, DueOfFiles, DueOfTexts, IsDue, text_limit, json_limit}
+use Rattle.crell_program.specs.Statuses.{IsRefusal, AreJudged, OneIsUnfit, SomeFileIsUnfit, SomeFileIsLonger, SomeFileIsMissing}
+use Rattle.crell_program.proofs.Bytes.{if_told_three}
 
 -- What a status says: of the words and files; that out is silent, or both are wholly; that a sink failed; that memory was refused.
 abbrev pub Says : Rules → ShelfSeen → Option Files → Type 0 → Type 0 → Type 0 → Type 0 → ℕ → Type 0
 Says rules shelf command silent wholly failed refused zero = command ≢ None
-Says rules shelf command silent wholly failed refused (suc zero) = IsRefusal rules shelf command
+Says rules shelf command silent wholly failed refused (suc zero) = IsRefusal rules shelf.told command
 Says rules shelf command silent wholly failed refused (suc (suc zero)) = (command ≡ None) × wholly
-Says rules shelf command silent wholly failed refused (suc (suc (suc zero))) = SomeFileIsUnfit shelf command × silent
+Says rules shelf command silent wholly failed refused (suc (suc (suc zero))) = SomeFileIsUnfit shelf.told command × silent
 Says rules shelf command silent wholly failed refused (suc (suc (suc (suc zero)))) = ⊥
 Says rules shelf command silent wholly failed refused (suc (suc (suc (suc (suc zero))))) = ⊥
 Says rules shelf command silent wholly failed refused (suc (suc (suc (suc (suc (suc zero)))))) = (command ≢ None) × HasRisen shelf.faults shelf.faults_after × silent
@@ -43,48 +42,48 @@ some_isnt_none files e = cc
 
 -- the verdict on three texts
 says_verdict : (rules : Rules) (shelf : ShelfSeen) (files : Files) (v : ModuleVerdict)
-    → (v ≢ modules.Valid → IsRefusal rules shelf (Some files)) → SaysOf rules shelf (Some files) (verdict_answer v)
+    → (v ≢ modules.Valid → IsRefusal rules shelf.told (Some files)) → SaysOf rules shelf (Some files) (verdict_answer v)
 says_verdict rules shelf files modules.Valid refusal = some_isnt_none files
 says_verdict rules shelf files (modules.Differs what) refusal = refusal (λ e. cc)
 says_verdict rules shelf files (modules.Refused function block spot reason) refusal = refusal (λ e. cc)
 
 says_texts : (rules : Rules) (shelf : ShelfSeen) (files : Files) (answer : Answer) (source target hints : List ℕ)
-    → IfBytes (shelf.told files.source) (λ held. source ≡ held)
-    → IfBytes (shelf.told files.target) (λ held. target ≡ held)
-    → IfBytes (shelf.told files.hints) (λ held. hints ≡ held)
+    → IfTold (shelf.told files.source) (λ held. source ≡ held)
+    → IfTold (shelf.told files.target) (λ held. target ≡ held)
+    → IfTold (shelf.told files.hints) (λ held. hints ≡ held)
     → DueOfTexts rules files answer source target hints → SaysOf rules shelf (Some files) answer
 says_texts rules shelf files answer source target hints a b c (inl (unread, e)) =
     along rules shelf (Some files) answer (not_of_the_first_form files.source) e (
-      if_bytes_three (shelf.told files.source) (shelf.told files.target) (shelf.told files.hints) source target hints
+      if_told_three (shelf.told files.source) (shelf.told files.target) (shelf.told files.hints) source target hints
           OneIsUnfit a b c (inl unread),
       refl,
     )
 says_texts rules shelf files answer source target hints a b c (inr (s, sp, inl (unread, e))) =
     along rules shelf (Some files) answer (not_of_the_first_form files.target) e (
-      if_bytes_three (shelf.told files.source) (shelf.told files.target) (shelf.told files.hints) source target hints
+      if_told_three (shelf.told files.source) (shelf.told files.target) (shelf.told files.hints) source target hints
           OneIsUnfit a b c (inr (inl unread)),
       refl,
     )
 says_texts rules shelf files answer source target hints a b c (inr (s, sp, inr (t, tp, inl (unread, e)))) =
     along rules shelf (Some files) answer (not_of_the_first_form files.hints) e (
-      if_bytes_three (shelf.told files.source) (shelf.told files.target) (shelf.told files.hints) source target hints
+      if_told_three (shelf.told files.source) (shelf.told files.target) (shelf.told files.hints) source target hints
           OneIsUnfit a b c (inr (inr unread)),
       refl,
     )
 says_texts rules shelf files answer source target hints a b c (inr (s, sp, inr (t, tp, inr (h, hp, e)))) =
     along rules shelf (Some files) answer (verdict_answer (module_verdict rules s t h)) e
     (says_verdict rules shelf files (module_verdict rules s t h) (λ other.
-    if_bytes_three (shelf.told files.source) (shelf.told files.target) (shelf.told files.hints) source target hints
+    if_told_three (shelf.told files.source) (shelf.told files.target) (shelf.told files.hints) source target hints
     (AreJudged rules (λ v. v ≢ modules.Valid))
     a b c (s, t, h, sp.0, tp.0, hp, other)))
 
 -- A file decides, or leads on with its bytes.
 by_file : (rules : Rules) (shelf : ShelfSeen) (files : Files) (answer : Answer) (limit : ℕ) (limit_name name : List ℕ) (next : List ℕ → Type 0)
-    → (shelf.told name ≡ NoSuch → SomeFileIsMissing shelf (Some files))
-    → (IsLonger shelf limit name → SomeFileIsLonger shelf (Some files))
-    → ((bytes : List ℕ) → IfBytes (shelf.told name) (λ held. bytes ≡ held) → next bytes → SaysOf rules shelf (Some files) answer)
+    → (MayCome shelf limit name Missing → SomeFileIsMissing shelf (Some files))
+    → (MayCome shelf limit name Long → SomeFileIsLonger shelf (Some files))
+    → ((bytes : List ℕ) → IfTold (shelf.told name) (λ held. bytes ≡ held) → next bytes → SaysOf rules shelf (Some files) answer)
     → DueOfFile shelf limit limit_name name answer next → SaysOf rules shelf (Some files) answer
-by_file rules shelf files answer limit limit_name name next missing longer leads (Held bytes, m, d) = leads bytes m.2 d
+by_file rules shelf files answer limit limit_name name next missing longer leads (Held bytes, m, d) = leads bytes m.1 d
 by_file rules shelf files answer limit limit_name name next missing longer leads (Missing, m, d) =
     along rules shelf (Some files) answer (absent name) d (missing m, refl)
 by_file rules shelf files answer limit limit_name name next missing longer leads (Long, m, d) =

@@ -92,7 +92,7 @@ pub said : (rules : Rules) (shelf : ShelfSeen) (out err : SinkSeen) (command : O
     → IsAnswered rules shelf out err command status → SaysWhole rules shelf out err command status
 said rules shelf out err command status (inl (answer, due, delivered)) = said_answer rules shelf out err command answer status due delivered
 said rules shelf out err command status (inr (some, e, to_out, to_err)) =
-    let P : ℕ → Type 0 = λ n. SaysWhole rules shelf out err command n in subst P (sym e) (some, (to_out, to_err), tt)
+    let P : ℕ → Type 0 = λ n. SaysWhole rules shelf out err command n in subst P (sym e) (some, (to_out.0, to_err.0), tt)
 
 -- what is said at that status
 at : (rules : Rules) (shelf : ShelfSeen) (out err : SinkSeen) (command : Option Files) (status known : ℕ)
@@ -101,7 +101,7 @@ at rules shelf out err command status known answered e =
     let P : ℕ → Type 0 = λ n. SaysWhole rules shelf out err command n in subst P e (said rules shelf out err command status answered)
 
 pub refused : (rules : Rules) (shelf : ShelfSeen) (out err : SinkSeen) (command : Option Files) (status : ℕ)
-    → IsAnswered rules shelf out err command status → status ≡ 1 → IsRefusal rules shelf command
+    → IsAnswered rules shelf out err command status → status ≡ 1 → IsRefusal rules shelf.told command
 refused rules shelf out err command status answered e = at rules shelf out err command status 1 answered e
 
 pub usage : (rules : Rules) (shelf : ShelfSeen) (out err : SinkSeen) (command : Option Files) (status : ℕ)
@@ -109,7 +109,7 @@ pub usage : (rules : Rules) (shelf : ShelfSeen) (out err : SinkSeen) (command : 
 usage rules shelf out err command status answered e = at rules shelf out err command status 2 answered e
 
 pub unfit : (rules : Rules) (shelf : ShelfSeen) (out err : SinkSeen) (command : Option Files) (status : ℕ)
-    → IsAnswered rules shelf out err command status → status ≡ 3 → SomeFileIsUnfit shelf command
+    → IsAnswered rules shelf out err command status → status ≡ 3 → SomeFileIsUnfit shelf.told command
 unfit rules shelf out err command status answered e = (at rules shelf out err command status 3 answered e).0
 
 pub read_failed : (rules : Rules) (shelf : ShelfSeen) (out err : SinkSeen) (command : Option Files) (status : ℕ)

@@ -1,7 +1,7 @@
 -- Where all is well the status is the verdict's.
 use Rattle.std.proofs.Common.{◌≡◌, ◌≢◌, ◌⊎◌, ◌≤◌, ◌<◌, ℕ, List, length, Option, None, Some, refl, sym, ◌∙◌, ap, subst, inl, inr, arith}
 use Rattle.ir_core.specs.declared.functions.Module.{Module}
-use Rattle.ir_reader.specs.Spells.{Spells}
+use Rattle.ir_reader.specs.Spells.{HasFirstForm}
 use Rattle.hint_format.specs.Form.{HintsOf}
 use Rattle.erhl_assert.specs.declared.hints.Hints.{Hints}
 use Rattle.erhl_assert.specs.declared.verdict.ModuleVerdict.{ModuleVerdict}
@@ -9,15 +9,15 @@ use Rattle.erhl_assert.specs.declared.verdict.ModuleVerdict.TheVariants as modul
 use Rattle.erhl_assert.specs.Steps.{Rules}
 use Rattle.erhl_assert.specs.Acceptance.{module_verdict}
 use Rattle.crell_io.specs.Count.{HasRisen}
-use Rattle.crell_io.specs.Shelf.{Told, IfBytes}
+use Rattle.crell_io.specs.Shelf.{Told, IfTold}
 use Rattle.crell_io.specs.Shelf.Told.{NoSuch, Bytes}
 use Rattle.crell_program.specs.declared.answer.Answer.{Answer}
 use Rattle.crell_program.specs.Answer.{not_of_the_first_form}
 use Rattle.crell_program.specs.Command.{Files}
 use Rattle.crell_program.specs.VerdictText.{verdict_status}
-use Rattle.crell_program.specs.Due.{ShelfSeen, Held, Missing, Long, Broken, DueOfFile, DueOfTexts, IsDue, text_limit, json_limit}
+use Rattle.crell_program.specs.Due.{ShelfSeen, Held, Missing, Long, Broken, DueOfFile, DueOfFiles, DueOfTexts, IsDue, text_limit, json_limit}
 use Rattle.crell_program.specs.Delivery.{SinkSeen, IsDelivered}
-use Rattle.crell_program.specs.Statuses.{IsAnswered, HoldsAll, HasVerdict, AreJudged, OneIsUnfit, NoFault}
+use Rattle.crell_program.specs.Statuses.{IsAnswered, HoldsAll, HasVerdict, AreJudged, OneIsUnfit, IsAbsent, IsOverlong, FirstUnheld, NoFault}
 use Rattle.crell_program.proofs.Bytes.{told_bytes}
 
 hints_are_one : (text : List ℕ) (a b : Hints) → HintsOf text a → HintsOf text b → a ≡ b
@@ -31,23 +31,23 @@ held : (shelf : ShelfSeen) (limit : ℕ) (limit_name name : List ℕ) (answer : 
     → shelf.told name ≡ Bytes bytes → length bytes ≤ limit → (HasRisen shelf.faults shelf.faults_after → ⊥)
     → DueOfFile shelf limit limit_name name answer next → next bytes
 held shelf limit limit_name name answer next bytes told within fine (Held read, m, d) =
-    let P : Told → Type 0 = λ t. IfBytes t (λ h. read ≡ h) in
-    let e : read ≡ bytes = subst P told m.2 in subst next e d
+    let P : Told → Type 0 = λ t. IfTold t (λ h. read ≡ h) in
+    let e : read ≡ bytes = subst P told m.1 in subst next e d
 held shelf limit limit_name name answer next bytes told within fine (Missing, m, d) = absurd (isnt_missing bytes (sym told ∙ m))
 held shelf limit limit_name name answer next bytes told within fine (Long, m, d) =
-    let P : Told → Type 0 = λ t. IfBytes t (λ h. limit < length h) in
+    let P : Told → Type 0 = λ t. IfTold t (λ h. limit < length h) in
     let e : limit < length bytes = subst P told m.1 in absurd (omega arith)
 held shelf limit limit_name name answer next bytes told within fine (Broken, m, d) = absurd (fine m)
 
 verdict_of_texts : (rules : Rules) (files : Files) (answer : Answer) (source target hints : List ℕ) (s t : Module) (h : Hints)
-    → Spells source s → Spells target t → HintsOf hints h → DueOfTexts rules files answer source target hints
+    → HasFirstForm source s → HasFirstForm target t → HintsOf hints h → DueOfTexts rules files answer source target hints
     → answer.status ≡ verdict_status (module_verdict rules s t h)
 verdict_of_texts rules files answer source target hints s t h sp tp hp (inl (unread, e)) = absurd (unread s sp)
 verdict_of_texts rules files answer source target hints s t h sp tp hp (inr (s2, sq, inl (unread, e))) = absurd (unread t tp)
 verdict_of_texts rules files answer source target hints s t h sp tp hp (inr (s2, sq, inr (t2, tq, inl (unread, e)))) = absurd (unread h hp)
 verdict_of_texts rules files answer source target hints s t h sp tp hp (inr (s2, sq, inr (t2, tq, inr (h2, hq, e)))) =
-    let es : s2 ≡ s = sym (sq.1 s sp) in
-    let et : t2 ≡ t = sym (tq.1 t tp) in
+    let es : s2 ≡ s = sym (sq.1 s sp.0) in
+    let et : t2 ≡ t = sym (tq.1 t tp.0) in
     let eh : h2 ≡ h = hints_are_one hints h2 h hq hp in
     ap (λ (a : Answer). a.status) e ∙ (ap (λ (x : Module). verdict_status (module_verdict rules x t2 h2)) es
     ∙ (ap (λ (x : Module). verdict_status (module_verdict rules s x h2)) et ∙ ap (λ (x : Hints). verdict_status (module_verdict rules s t x)) eh))
@@ -59,7 +59,7 @@ delivered_well answer shelf out err status fine (inr (inr (e, all, part))) = abs
 
 -- the three texts, and that the answer is due to them
 due_well : (rules : Rules) (shelf : ShelfSeen) (files : Files) (P : List ℕ → List ℕ → List ℕ → Type 0) (answer : Answer)
-    → (HasRisen shelf.faults shelf.faults_after → ⊥) → HoldsAll shelf (Some files) P → IsDue rules shelf (Some files) answer
+    → (HasRisen shelf.faults shelf.faults_after → ⊥) → HoldsAll shelf.told (Some files) P → IsDue rules shelf (Some files) answer
     → (source : List ℕ) × (target : List ℕ) × (hints : List ℕ) × P source target hints × DueOfTexts rules files answer source target hints
 due_well rules shelf files P answer fine has due =
     let a = told_bytes (shelf.told files.source) _ has in
@@ -74,7 +74,7 @@ due_well rules shelf files P answer fine has due =
 all_well : (rules : Rules) (shelf : ShelfSeen) (out err : SinkSeen) (command : Option Files) (P : List ℕ → List ℕ → List ℕ → Type 0) (known status : ℕ)
     → ((files : Files) (answer : Answer) (source target hints : List ℕ) → P source target hints → DueOfTexts rules files answer source target hints
     → answer.status ≡ known)
-    → IsAnswered rules shelf out err command status → HoldsAll shelf command P → NoFault shelf out err → (status ≡ known) ⊎ (status ≡ 8)
+    → IsAnswered rules shelf out err command status → HoldsAll shelf.told command P → NoFault shelf out err → (status ≡ known) ⊎ (status ≡ 8)
 all_well rules shelf out err None P known status leads answered has fine = absurd has
 all_well rules shelf out err (Some files) P known status leads (inl (answer, due, delivered)) has fine =
     let well = due_well rules shelf files P answer fine.0 has due in
@@ -96,14 +96,14 @@ judged_as rules files answer source target hints P known leads (s, t, h, sp, tp,
     verdict_of_texts rules files answer source target hints s t h sp tp hp due ∙ leads (module_verdict rules s t h) p
 
 pub valid : (rules : Rules) (shelf : ShelfSeen) (out err : SinkSeen) (command : Option Files) (status : ℕ)
-    → IsAnswered rules shelf out err command status → HasVerdict rules shelf command (λ v. v ≡ modules.Valid) → NoFault shelf out err
+    → IsAnswered rules shelf out err command status → HasVerdict rules shelf.told command (λ v. v ≡ modules.Valid) → NoFault shelf out err
     → (status ≡ 0) ⊎ (status ≡ 8)
 valid rules shelf out err command status =
     all_well rules shelf out err command (AreJudged rules (λ v. v ≡ modules.Valid)) 0 status
     (λ files answer source target hints. judged_as rules files answer source target hints (λ v. v ≡ modules.Valid) 0 status_of_valid)
 
 pub invalid : (rules : Rules) (shelf : ShelfSeen) (out err : SinkSeen) (command : Option Files) (status : ℕ)
-    → IsAnswered rules shelf out err command status → HasVerdict rules shelf command (λ v. v ≢ modules.Valid) → NoFault shelf out err
+    → IsAnswered rules shelf out err command status → HasVerdict rules shelf.told command (λ v. v ≢ modules.Valid) → NoFault shelf out err
     → (status ≡ 1) ⊎ (status ≡ 8)
 invalid rules shelf out err command status =
     all_well rules shelf out err command (AreJudged rules (λ v. v ≢ modules.Valid)) 1 status
@@ -122,6 +122,75 @@ unread_texts rules files answer source target hints (inr (inl unfit)) (inr (s, s
 unread_texts rules files answer source target hints (inr (inr unfit)) (inr (s, sp, inr (t, tp, inr (h, hp, e)))) = absurd (unfit h hp)
 
 pub unread : (rules : Rules) (shelf : ShelfSeen) (out err : SinkSeen) (command : Option Files) (status : ℕ)
-    → IsAnswered rules shelf out err command status → HoldsAll shelf command OneIsUnfit → NoFault shelf out err
+    → IsAnswered rules shelf out err command status → HoldsAll shelf.told command OneIsUnfit → NoFault shelf out err
     → (status ≡ 3) ⊎ (status ≡ 8)
 unread rules shelf out err command status = all_well rules shelf out err command OneIsUnfit 3 status (unread_texts rules)
+
+-- a file that is told to be absent decides, where no fault is counted
+absent_decides : (shelf : ShelfSeen) (answer : Answer) (limit : ℕ) (limit_name name : List ℕ) (next : List ℕ → Type 0)
+    → (HasRisen shelf.faults shelf.faults_after → ⊥) → IsAbsent shelf.told limit name
+    → DueOfFile shelf limit limit_name name answer next → answer.status ≡ 10
+absent_decides shelf answer limit limit_name name next fine none (Held read, m, d) =
+    let P : Told → Type 0 = λ t. IfTold t (λ h. read ≡ h) in
+    let e : ⊥ = subst P none m.1 in absurd e
+absent_decides shelf answer limit limit_name name next fine none (Missing, m, d) = ap (λ (a : Answer). a.status) d
+absent_decides shelf answer limit limit_name name next fine none (Long, m, d) =
+    let P : Told → Type 0 = λ t. IfTold t (λ h. limit < length h) in
+    let e : ⊥ = subst P none m.1 in absurd e
+absent_decides shelf answer limit limit_name name next fine none (Broken, m, d) = absurd (fine m)
+
+-- so does one that is told to be longer than its limit
+overlong_decides : (shelf : ShelfSeen) (answer : Answer) (limit : ℕ) (limit_name name : List ℕ) (next : List ℕ → Type 0)
+    → (HasRisen shelf.faults shelf.faults_after → ⊥) → IsOverlong shelf.told limit name
+    → DueOfFile shelf limit limit_name name answer next → answer.status ≡ 9
+overlong_decides shelf answer limit limit_name name next fine long (Held read, m, d) =
+    let b = told_bytes (shelf.told name) (λ held. limit < length held) long in
+    let P : Told → Type 0 = λ t. IfTold t (λ h. read ≡ h) in
+    let e : read ≡ b.0 = subst P b.1 m.1 in
+    let same = ap (λ (l : List ℕ). length l) e in
+    let above : limit < length b.0 = b.2 in
+    let below : length read ≤ limit = m.0 in absurd (omega arith)
+overlong_decides shelf answer limit limit_name name next fine long (Missing, m, d) =
+    let b = told_bytes (shelf.told name) (λ held. limit < length held) long in absurd (isnt_missing b.0 (sym b.1 ∙ m))
+overlong_decides shelf answer limit limit_name name next fine long (Long, m, d) = ap (λ (a : Answer). a.status) d
+overlong_decides shelf answer limit limit_name name next fine long (Broken, m, d) = absurd (fine m)
+
+-- the files before the first that isn't held within its limit lead on to it
+unheld : (shelf : ShelfSeen) (files : Files) (P : (List ℕ → Told) → ℕ → List ℕ → Type 0) (answer : Answer) (known : ℕ)
+    (next : List ℕ → List ℕ → List ℕ → Type 0) → (HasRisen shelf.faults shelf.faults_after → ⊥)
+    → ((limit : ℕ) (limit_name name : List ℕ) (follows : List ℕ → Type 0) → P shelf.told limit name
+    → DueOfFile shelf limit limit_name name answer follows → answer.status ≡ known)
+    → FirstUnheld P shelf.told (Some files) → DueOfFiles shelf files answer next → answer.status ≡ known
+unheld shelf files P answer known next fine decides (inl p) due = decides text_limit _ files.source _ p due
+unheld shelf files P answer known next fine decides (inr (inl (a, p))) due =
+    let source = told_bytes (shelf.told files.source) (λ held. length held ≤ text_limit) a in
+    let at_source = held shelf text_limit _ files.source answer _ source.0 source.1 source.2 fine due in
+    decides text_limit _ files.target _ p at_source
+unheld shelf files P answer known next fine decides (inr (inr (a, b, p))) due =
+    let source = told_bytes (shelf.told files.source) (λ held. length held ≤ text_limit) a in
+    let target = told_bytes (shelf.told files.target) (λ held. length held ≤ text_limit) b in
+    let at_source = held shelf text_limit _ files.source answer _ source.0 source.1 source.2 fine due in
+    let at_target = held shelf text_limit _ files.target answer _ target.0 target.1 target.2 fine at_source in
+    decides json_limit _ files.hints _ p at_target
+
+first_decides : (rules : Rules) (shelf : ShelfSeen) (out err : SinkSeen) (command : Option Files)
+    (P : (List ℕ → Told) → ℕ → List ℕ → Type 0) (known status : ℕ)
+    → ((answer : Answer) (limit : ℕ) (limit_name name : List ℕ) (next : List ℕ → Type 0) → (HasRisen shelf.faults shelf.faults_after → ⊥)
+    → P shelf.told limit name → DueOfFile shelf limit limit_name name answer next → answer.status ≡ known)
+    → IsAnswered rules shelf out err command status → FirstUnheld P shelf.told command → NoFault shelf out err
+    → (status ≡ known) ⊎ (status ≡ 8)
+first_decides rules shelf out err None P known status decides answered has fine = absurd has
+first_decides rules shelf out err (Some files) P known status decides (inl (answer, due, delivered)) has fine =
+    inl (delivered_well answer shelf out err status fine delivered ∙ unheld shelf files P answer known (DueOfTexts rules files answer) fine.0
+    (λ limit limit_name name next. decides answer limit limit_name name next fine.0) has due)
+first_decides rules shelf out err (Some files) P known status decides (inr (some, e, nothing, silent)) has fine = inr e
+
+pub missing : (rules : Rules) (shelf : ShelfSeen) (out err : SinkSeen) (command : Option Files) (status : ℕ)
+    → IsAnswered rules shelf out err command status → FirstUnheld IsAbsent shelf.told command → NoFault shelf out err
+    → (status ≡ 10) ⊎ (status ≡ 8)
+missing rules shelf out err command status = first_decides rules shelf out err command IsAbsent 10 status (absent_decides shelf)
+
+pub overlong : (rules : Rules) (shelf : ShelfSeen) (out err : SinkSeen) (command : Option Files) (status : ℕ)
+    → IsAnswered rules shelf out err command status → FirstUnheld IsOverlong shelf.told command → NoFault shelf out err
+    → (status ≡ 9) ⊎ (status ≡ 8)
+overlong rules shelf out err command status = first_decides rules shelf out err command IsOverlong 9 status (overlong_decides shelf)

@@ -16,7 +16,7 @@ use Rattle.crell_program.specs.VerdictText.{verdict_status, verdict_answer}
 use Rattle.crell_program.specs.Due.{ShelfSeen, Held, Missing, Long, Broken, MayCome, DueOfFile, DueOfFiles, DueOfTexts, NamesNoModule, HoldsNoHints, SpellsOnly, text_limit, json_limit}
 use Rattle.crell_program.specs.Delivery.{SinkSeen, IsDelivered}
 use Rattle.crell_program.specs.Statuses.{AreRefined, IsRefinementOfBytes}
-use Rattle.crell_program.proofs.Bytes.{if_bytes_two}
+use Rattle.crell_program.proofs.Bytes.{if_told_two}
 
 -- status 0 is the answer's own
 pub zero_of : (answer : Answer) (out err : SinkSeen) (status : ℕ) → IsDelivered answer out err status → status ≡ 0 → answer.status ≡ 0
@@ -31,9 +31,9 @@ zero_is_valid (modules.Refused function block spot reason) e = absurd (omega ari
 
 pub refined_bytes : (shelf : ShelfSeen) (files : Files) (source target : List ℕ)
     → MayCome shelf text_limit files.source (Held source) → MayCome shelf text_limit files.target (Held target)
-    → AreRefined source target → IsRefinementOfBytes shelf (Some files)
+    → AreRefined source target → IsRefinementOfBytes shelf.told (Some files)
 refined_bytes shelf files source target a b refined =
-    if_bytes_two (shelf.told files.source) (shelf.told files.target) source target AreRefined a.2 b.2 refined
+    if_told_two (shelf.told files.source) (shelf.told files.target) source target AreRefined a.1 b.1 refined
 
 -- an answer because of one file isn't of status 0
 file_isnt_zero : (shelf : ShelfSeen) (limit : ℕ) (limit_name name : List ℕ) (answer : Answer) (next : List ℕ → Type 0)
@@ -83,7 +83,7 @@ files_judged rules shelf files source target hints a b c (Err end) due = due
 pub files_refined : {E : Type 0} (shelf : ShelfSeen) (files : Files) (source target : List ℕ)
     → MayCome shelf text_limit files.source (Held source) → MayCome shelf text_limit files.target (Held target)
     → (r : Result Answer E) → IfOk r (λ answer. answer.status ≡ 0 → AreRefined source target)
-    → IfOk r (λ answer. answer.status ≡ 0 → IsRefinementOfBytes shelf (Some files))
+    → IfOk r (λ answer. answer.status ≡ 0 → IsRefinementOfBytes shelf.told (Some files))
 files_refined shelf files source target a b (Ok answer) refined = λ z. refined_bytes shelf files source target a b (refined z)
 files_refined shelf files source target a b (Err end) refined = refined
 

@@ -27,9 +27,14 @@ GotPart sink text = HasRisen sink.faults sink.faults_after
 abbrev pub GotNothing : SinkSeen → Type 0
 GotNothing sink = sink.after ≡ sink.before
 
--- The status is the answer's, and both sinks got their texts; or it is 7, and out failed, or err failed when out had its text.
+-- the sink wasn't asked
+abbrev pub Untouched : SinkSeen → Type 0
+Untouched sink = (sink.after ≡ sink.before) × (sink.faults_after ≡ sink.faults)
+
+-- The status is the answer's, and both sinks got their texts; or it is 7, and out failed and err wasn't asked, or err failed
+-- when out had its text.
 abbrev pub IsDelivered : Answer → SinkSeen → SinkSeen → ℕ → Type 0
 IsDelivered answer out err status =
     ((status ≡ answer.status) × GotAll out answer.out × GotAll err answer.err)
-    ⊎ ((status ≡ 7) × GotPart out answer.out × GotNothing err)
+    ⊎ ((status ≡ 7) × GotPart out answer.out × Untouched err)
     ⊎ ((status ≡ 7) × GotAll out answer.out × GotPart err answer.err)

@@ -1,14 +1,14 @@
 -- Which answer is due: the words, then the files in their order, then their forms in their order, then the work. The first
 -- cause decides.
-use Rattle.std.specs.Prelude.{◌≡◌, ◌≢◌, ◌⊎◌, ◌≤◌, ◌<◌, ◌^◌, ℕ, List, length, Option, None, Some, codes}
+use Rattle.std.specs.Prelude.{◌≡◌, ◌⊎◌, ◌≤◌, ◌<◌, ◌^◌, ℕ, List, length, Option, None, Some, codes}
 use Rattle.ir_core.specs.declared.functions.Module.{Module}
-use Rattle.ir_reader.specs.Spells.{Spells}
+use Rattle.ir_reader.specs.Spells.{Spells, HasFirstForm}
 use Rattle.hint_format.specs.Form.{HintsOf}
 use Rattle.erhl_assert.specs.declared.hints.Hints.{Hints}
 use Rattle.erhl_assert.specs.Steps.{Rules}
 use Rattle.erhl_assert.specs.Acceptance.{module_verdict}
 use Rattle.crell_io.specs.Count.{HasRisen, HasRisenAbove}
-use Rattle.crell_io.specs.Shelf.{Told, IfBytes}
+use Rattle.crell_io.specs.Shelf.{Told, IfTold}
 use Rattle.crell_io.specs.Shelf.Told.{NoSuch}
 use Rattle.crell_program.specs.Command.{Files}
 use Rattle.crell_program.specs.declared.answer.Answer.{Answer}
@@ -44,9 +44,10 @@ shelf_seen told faults taken old new =
 -- What may come of asking for a file of that name under a limit: its bytes, as the shelf tells them; that it is missing,
 -- where the shelf tells so; that it is too long, where more bytes were taken; or that reading failed, where that was counted.
 abbrev pub MayCome : ShelfSeen → ℕ → List ℕ → Got → Type 0
-MayCome shelf limit name (Held bytes) = (length bytes ≤ limit) × (shelf.told name ≢ NoSuch) × IfBytes (shelf.told name) (λ held. bytes ≡ held)
+MayCome shelf limit name (Held bytes) = (length bytes ≤ limit) × IfTold (shelf.told name) (λ held. bytes ≡ held)
 MayCome shelf limit name Missing = shelf.told name ≡ NoSuch
-MayCome shelf limit name Long = HasRisenAbove limit shelf.taken shelf.taken_after × IfBytes (shelf.told name) (λ held. limit < length held)
+MayCome shelf limit name Long =
+    HasRisenAbove limit shelf.taken shelf.taken_after × IfTold (shelf.told name) (λ held. limit < length held)
 MayCome shelf limit name Broken = HasRisen shelf.faults shelf.faults_after
 
 -- a file that isn't held is the answer's cause; one that is held leads on
@@ -67,12 +68,13 @@ DueOfFiles shelf files answer next =
     DueOfFile shelf text_limit (codes "text") files.target answer (λ target.
     DueOfFile shelf json_limit (codes "json") files.hints answer (λ hints. next source target hints)))
 
+-- the text has the first form of no module
 abbrev pub NamesNoModule : List ℕ → Type 0
-NamesNoModule text = (m : Module) → Spells text m → ⊥
+NamesNoModule text = (m : Module) → HasFirstForm text m → ⊥
 
--- the text spells this module, and no other
+-- the text has the first form of this module, and spells no other
 abbrev pub SpellsOnly : List ℕ → Module → Type 0
-SpellsOnly text m = Spells text m × ((other : Module) → Spells text other → other ≡ m)
+SpellsOnly text m = HasFirstForm text m × ((other : Module) → Spells text other → other ≡ m)
 
 abbrev pub HoldsNoHints : List ℕ → Type 0
 HoldsNoHints text = (h : Hints) → HintsOf text h → ⊥

@@ -3,27 +3,27 @@ use Rattle.std.specs.Prelude.{◌≡◌, ◌≢◌, ◌⊎◌, ◌≤◌, ◌<�
 use Rattle.std.specs.List.{list_any}
 use Rattle.ir_core.specs.declared.functions.Module.{Module}
 use Rattle.ir_machine.specs.Refinement.{Refines}
-use Rattle.ir_reader.specs.Spells.{Spells}
+use Rattle.ir_reader.specs.Spells.{Spells, HasFirstForm}
 use Rattle.hint_format.specs.Form.{HintsOf}
 use Rattle.erhl_assert.specs.declared.hints.Hints.{Hints}
 use Rattle.erhl_assert.specs.declared.verdict.ModuleVerdict.{ModuleVerdict}
 use Rattle.erhl_assert.specs.declared.verdict.ModuleVerdict.TheVariants as modules
 use Rattle.erhl_assert.specs.Steps.{Rules}
 use Rattle.erhl_assert.specs.Acceptance.{module_verdict}
-use Rattle.crell_io.specs.Count.{HasRisen, HasRisenAbove}
-use Rattle.crell_io.specs.Shelf.{IfBytes, IsBytesAnd}
+use Rattle.crell_io.specs.Count.{HasRisen}
+use Rattle.crell_io.specs.Shelf.{Told, IfTold, IsBytesAnd}
 use Rattle.crell_io.specs.Shelf.Told.{NoSuch}
 use Rattle.crell_program.specs.declared.answer.Answer.{Answer}
 use Rattle.crell_program.specs.Command.{Files}
-use Rattle.crell_program.specs.Due.{ShelfSeen, IsDue, NamesNoModule, HoldsNoHints, text_limit, json_limit}
-use Rattle.crell_program.specs.Delivery.{SinkSeen, IsDelivered, GotNothing}
+use Rattle.crell_program.specs.Due.{ShelfSeen, Missing, Long, MayCome, IsDue, NamesNoModule, HoldsNoHints, text_limit, json_limit}
+use Rattle.crell_program.specs.Delivery.{SinkSeen, IsDelivered, Untouched}
 
 -- The status is that of the answer that is due, delivered; or the words are a command's, memory was refused to it, which is
--- status 8, and nothing was written.
+-- status 8, and no sink was asked.
 abbrev pub IsAnswered : Rules → ShelfSeen → SinkSeen → SinkSeen → Option Files → ℕ → Type 0
 IsAnswered rules shelf out err command status =
     ((answer : Answer) × IsDue rules shelf command answer × IsDelivered answer out err status)
-    ⊎ ((command ≢ None) × (status ≡ 8) × GotNothing out × GotNothing err)
+    ⊎ ((command ≢ None) × (status ≡ 8) × Untouched out × Untouched err)
 
 -- the texts spell two modules, of which the target's refines the source's
 abbrev pub AreRefined : List ℕ → List ℕ → Type 0
@@ -31,25 +31,26 @@ AreRefined source target = (s : Module) × (t : Module) × Spells source s × Sp
 
 -- THE HEADLINE. The words are a command's, and if the shelf tells what it holds under the source's and the target's names,
 -- these bytes spell two modules, of which the target's refines the source's.
-abbrev pub IsRefinementOfBytes : ShelfSeen → Option Files → Type 0
-IsRefinementOfBytes shelf None = ⊥
-IsRefinementOfBytes shelf (Some files) =
-    IfBytes (shelf.told files.source) (λ source. IfBytes (shelf.told files.target) (λ target. AreRefined source target))
+abbrev pub IsRefinementOfBytes : (List ℕ → Told) → Option Files → Type 0
+IsRefinementOfBytes told None = ⊥
+IsRefinementOfBytes told (Some files) =
+    IfTold (told files.source) (λ source. IfTold (told files.target) (λ target. AreRefined source target))
 
--- one of the three names is one that the shelf tells it doesn't hold
+-- one of the three files may come as missing
 abbrev pub SomeFileIsMissing : ShelfSeen → Option Files → Type 0
 SomeFileIsMissing shelf None = ⊥
 SomeFileIsMissing shelf (Some files) =
-    (shelf.told files.source ≡ NoSuch) ⊎ (shelf.told files.target ≡ NoSuch) ⊎ (shelf.told files.hints ≡ NoSuch)
+    MayCome shelf text_limit files.source Missing
+    ⊎ MayCome shelf text_limit files.target Missing
+    ⊎ MayCome shelf json_limit files.hints Missing
 
--- more bytes were taken than a limit, and one of the three files, where it is told, is longer than its limit
-abbrev pub IsLonger : ShelfSeen → ℕ → List ℕ → Type 0
-IsLonger shelf limit name = HasRisenAbove limit shelf.taken shelf.taken_after × IfBytes (shelf.told name) (λ held. limit < length held)
-
+-- one of the three files may come as longer than its limit
 abbrev pub SomeFileIsLonger : ShelfSeen → Option Files → Type 0
 SomeFileIsLonger shelf None = ⊥
 SomeFileIsLonger shelf (Some files) =
-    IsLonger shelf text_limit files.source ⊎ IsLonger shelf text_limit files.target ⊎ IsLonger shelf json_limit files.hints
+    MayCome shelf text_limit files.source Long
+    ⊎ MayCome shelf text_limit files.target Long
+    ⊎ MayCome shelf json_limit files.hints Long
 
 -- one of the three texts hasn't its first form
 abbrev pub OneIsUnfit : List ℕ → List ℕ → List ℕ → Type 0
@@ -58,30 +59,53 @@ OneIsUnfit source target hints = NamesNoModule source ⊎ NamesNoModule target �
 -- The texts have their first forms, and the checker's verdict on them is such.
 abbrev pub AreJudged : Rules → (ModuleVerdict → Type 0) → List ℕ → List ℕ → List ℕ → Type 0
 AreJudged rules P source target hints =
-    (s : Module) × (t : Module) × (h : Hints) × Spells source s × Spells target t × HintsOf hints h × P (module_verdict rules s t h)
+    (s : Module) × (t : Module) × (h : Hints) × HasFirstForm source s × HasFirstForm target t × HintsOf hints h × P (module_verdict rules s t h)
 
 -- if the shelf tells all three files, their texts are such
-abbrev pub IfAllTold : ShelfSeen → Option Files → (List ℕ → List ℕ → List ℕ → Type 0) → Type 0
-IfAllTold shelf None P = ⊥
-IfAllTold shelf (Some files) P =
-    IfBytes (shelf.told files.source) (λ source. IfBytes (shelf.told files.target) (λ target. IfBytes (shelf.told files.hints) (λ hints.
+abbrev pub IfAllTold : (List ℕ → Told) → Option Files → (List ℕ → List ℕ → List ℕ → Type 0) → Type 0
+IfAllTold told None P = ⊥
+IfAllTold told (Some files) P =
+    IfTold (told files.source) (λ source. IfTold (told files.target) (λ target. IfTold (told files.hints) (λ hints.
     P source target hints)))
 
 -- the words are a command's, the shelf tells all three files, they are within their limits, and their texts are such
-abbrev pub HoldsAll : ShelfSeen → Option Files → (List ℕ → List ℕ → List ℕ → Type 0) → Type 0
-HoldsAll shelf None P = ⊥
-HoldsAll shelf (Some files) P =
-    IsBytesAnd (shelf.told files.source) (λ source. IsBytesAnd (shelf.told files.target) (λ target. IsBytesAnd (shelf.told files.hints) (λ hints.
+abbrev pub HoldsAll : (List ℕ → Told) → Option Files → (List ℕ → List ℕ → List ℕ → Type 0) → Type 0
+HoldsAll told None P = ⊥
+HoldsAll told (Some files) P =
+    IsBytesAnd (told files.source) (λ source. IsBytesAnd (told files.target) (λ target. IsBytesAnd (told files.hints) (λ hints.
     (length source ≤ text_limit) × (length target ≤ text_limit) × (length hints ≤ json_limit) × P source target hints)))
 
-abbrev pub SomeFileIsUnfit : ShelfSeen → Option Files → Type 0
-SomeFileIsUnfit shelf command = IfAllTold shelf command OneIsUnfit
+-- if the shelf tells all three files, one of their texts hasn't its first form
+abbrev pub SomeFileIsUnfit : (List ℕ → Told) → Option Files → Type 0
+SomeFileIsUnfit told command = IfAllTold told command OneIsUnfit
 
-abbrev pub IsRefusal : Rules → ShelfSeen → Option Files → Type 0
-IsRefusal rules shelf command = IfAllTold shelf command (AreJudged rules (λ v. v ≢ modules.Valid))
+-- if the shelf tells all three files, the checker's verdict on their texts isn't that the pair is valid
+abbrev pub IsRefusal : Rules → (List ℕ → Told) → Option Files → Type 0
+IsRefusal rules told command = IfAllTold told command (AreJudged rules (λ v. v ≢ modules.Valid))
 
-abbrev pub HasVerdict : Rules → ShelfSeen → Option Files → (ModuleVerdict → Type 0) → Type 0
-HasVerdict rules shelf command P = HoldsAll shelf command (AreJudged rules P)
+-- the shelf tells all three files, they are within their limits, and the checker's verdict on their texts is such
+abbrev pub HasVerdict : Rules → (List ℕ → Told) → Option Files → (ModuleVerdict → Type 0) → Type 0
+HasVerdict rules told command P = HoldsAll told command (AreJudged rules P)
+
+-- told to be absent
+abbrev pub IsAbsent : (List ℕ → Told) → ℕ → List ℕ → Type 0
+IsAbsent told limit name = told name ≡ NoSuch
+
+-- told, and longer than its limit
+abbrev pub IsOverlong : (List ℕ → Told) → ℕ → List ℕ → Type 0
+IsOverlong told limit name = IsBytesAnd (told name) (λ held. limit < length held)
+
+-- told, and within its limit
+abbrev pub IsHeldWithin : (List ℕ → Told) → ℕ → List ℕ → Type 0
+IsHeldWithin told limit name = IsBytesAnd (told name) (λ held. length held ≤ limit)
+
+-- the words are a command's, and of its three files the first that isn't told to be held within its limit is such
+abbrev pub FirstUnheld : ((List ℕ → Told) → ℕ → List ℕ → Type 0) → (List ℕ → Told) → Option Files → Type 0
+FirstUnheld P told None = ⊥
+FirstUnheld P told (Some files) =
+    P told text_limit files.source
+    ⊎ (IsHeldWithin told text_limit files.source × P told text_limit files.target)
+    ⊎ (IsHeldWithin told text_limit files.source × IsHeldWithin told text_limit files.target × P told json_limit files.hints)
 
 -- no count of faults rises
 abbrev pub NoFault : ShelfSeen → SinkSeen → SinkSeen → Type 0

@@ -1,4 +1,4 @@
-ghost use Rattle.std.specs.Prelude.{◌≡◌, IsTrue, false};
+ghost use Rattle.std.specs.Prelude.{◌≡◌, ◌≤◌, IsTrue, false};
 ghost use Rattle.crell_program.specs.Delivery.{sink_seen, GotAll, GotPart, IsDelivered};
 
 use crate::answer::Answer;
@@ -9,9 +9,11 @@ const WRITE_FAILED: u8 = 7;
 
 /// Writes the answer's text to out, then to err, and gives its status.
 pub fn deliver<O: Sink, E: Sink>(answer: &Answer, out: &mut O, err: &mut E) -> u8
-    ensures { IsDelivered answer.now
+    ensures delivered { IsDelivered answer.now
         (sink_seen O.written O.faults out.old out.new)
         (sink_seen E.written E.faults err.old err.new) result }
+    ensures out_faults { O.faults out.old ≤ O.faults out.new }
+    ensures err_faults { E.faults err.old ≤ E.faults err.new }
 {
     if !write_whole(out, answer.out.as_slice()) {
         return WRITE_FAILED;
@@ -26,6 +28,7 @@ pub fn deliver<O: Sink, E: Sink>(answer: &Answer, out: &mut O, err: &mut E) -> u
 fn write_whole<K: Sink>(sink: &mut K, text: &[u8]) -> bool
     ensures whole { IsTrue result → GotAll (sink_seen K.written K.faults sink.old sink.new) text.now }
     ensures part { result ≡ false → GotPart (sink_seen K.written K.faults sink.old sink.new) text.now }
+    ensures faults { K.faults sink.old ≤ K.faults sink.new }
 {
     let mut done = 0;
     while done < text.len() {

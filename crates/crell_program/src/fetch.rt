@@ -42,7 +42,10 @@ pub fn gather<S: Shelf>(
     shelf: &mut S,
     files: &FileNames<'_>,
 ) -> Result<Gathered, AllocError>
-    ensures { IfOk result
+    ensures told { S.told shelf.new ≡ S.told shelf.old }
+    ensures faults { S.faults shelf.old ≤ S.faults shelf.new }
+    ensures taken { S.taken shelf.old ≤ S.taken shelf.new }
+    ensures gathered { IfOk result
         (λ gathered. IsGathered gathered
         (shelf_seen S.told S.faults S.taken shelf.old shelf.new)
         (shown_files files.now)) }

@@ -1,6 +1,10 @@
 //! `crell check SRC TGT HINTS`: whether the target module refines the source module, by hints that say why.
 #![tactic(auto)]
 
+ghost use Rattle.std.specs.Prelude.{◌≡◌, ◌↔◌, None, IfOk, map, string_bytes};
+ghost use Rattle.crell_program.specs.Command.{command_of};
+ghost use Rattle.crell_program.specs.Statuses.{IsStatus};
+
 mod answer;
 mod command;
 mod delivery;
@@ -19,22 +23,35 @@ use std::io::ErrorKind;
 use std::process::ExitCode;
 
 fn main(rt: HostRuntime) -> ExitCode {
-    match start(&rt) {
-        Ok(status) => ExitCode::from(status),
-        Err(_) => ExitCode::from(program::WANT_OF_MEMORY),
+    ExitCode::from(start(&rt))
+}
+
+/// Runs the command that the words of the process name, and gives its status.
+fn start(rt: &HostRuntime) -> u8
+    ensures { IsStatus result }
+{
+    let Ok(words) = words(rt) else {
+        return program::WANT_OF_MEMORY;
+    };
+    match run_words(rt, &words) {
+        Ok(status) => status,
+        Err(_) => program::WANT_OF_MEMORY,
     }
 }
 
-fn start(rt: &HostRuntime) -> Result<u8, AllocError> {
+/// Runs the command that the words name, under the shipped rules, over the files and the outputs of the system.
+fn run_words(rt: &HostRuntime, words: &[String]) -> Result<u8, AllocError>
+    ensures usage { IfOk result (λ status. status ≡ 2 ↔ (command_of (map string_bytes words.now) ≡ None)) }
+    ensures statuses { IfOk result (λ status. IsStatus status) }
+{
     let alloc = rt.alloc();
     let mut rules: Vec<Box<dyn InferRule>> = Vec::new(alloc);
     for rule in Rule::ALL {
         rules.push(Box::new(alloc, rule)?)?;
     }
-    let words = words(rt)?;
     Ok(crell(
         alloc,
-        &words,
+        words,
         &RuleBook::new(rules),
         &[],
         &mut HostShelf::new(*rt),

@@ -1,13 +1,13 @@
-ghost use Rattle.std.specs.Prelude.{◌≡◌, ◌≢◌, ◌⊎◌, ◌↔◌, IfOk, OnErr, map, string_bytes};
+ghost use Rattle.std.specs.Prelude.{◌≡◌, ◌≢◌, ◌⊎◌, ◌↔◌, ◌≤◌, length, IfOk, OnErr, map, string_bytes};
 ghost use Rattle.ir_machine.specs.Refinement.{Refines};
 ghost use Rattle.erhl_assert.specs.Acceptance.{module_verdict};
 ghost use Rattle.rule_base.specs.Book.{meanings_of};
 ghost use Rattle.crell_io.specs.Count.{HasRisen};
 ghost use Rattle.crell_program.specs.Command.{command_of, shown_files};
-ghost use Rattle.crell_program.specs.Due.{shelf_seen, IsDue, DueOfFiles, DueOfTexts};
+ghost use Rattle.crell_program.specs.Due.{shelf_seen, text_limit, IsDue, DueOfFiles, DueOfTexts};
 ghost use Rattle.crell_program.specs.Delivery.{sink_seen, GotNothing};
 ghost use Rattle.crell_program.specs.VerdictText.{verdict_answer};
-ghost use Rattle.crell_program.specs.Statuses.{IsAnswered, AreRefined, IsRefinementOfBytes, IsRefusal, SomeFileIsUnfit, SomeFileIsLonger, SomeFileIsMissing, HoldsAll, OneIsUnfit, HasVerdict, NoFault, IsStatus};
+ghost use Rattle.crell_program.specs.Statuses.{IsAnswered, AreRefined, IsRefinementOfBytes, IsRefusal, SomeFileIsUnfit, SomeFileIsLonger, SomeFileIsMissing, HoldsAll, OneIsUnfit, HasVerdict, FirstUnheld, IsAbsent, IsOverlong, NoFault, IsStatus};
 
 use crate::answer::{self, Answer};
 use crate::command::{FileNames, command_of};
@@ -38,11 +38,10 @@ pub fn crell<S: Shelf, O: Sink, E: Sink>(
     err: &mut E,
 ) -> u8
     // THE HEADLINE: where the status is 0, the bytes under the two names spell modules of which the target's refines the source's.
-    ensures headline { result ≡ 0 → IsRefinementOfBytes
-        (shelf_seen S.told S.faults S.taken shelf.old shelf.new)
+    ensures headline { result ≡ 0 → IsRefinementOfBytes (S.told shelf.old)
         (command_of (map string_bytes words.now)) }
 
-    // Which answer is due, and that it is delivered; or memory was refused, and nothing is written.
+    // Which answer is due, and that it is delivered; or memory was refused, and no sink was asked.
     ensures answered { IsAnswered
         (meanings_of
         (λ b. (⟦<dyn InferRule as InferRule>⟧ b.vtable).called b.value)
@@ -60,7 +59,7 @@ pub fn crell<S: Shelf, O: Sink, E: Sink>(
         (λ b. (⟦<dyn InferRule as InferRule>⟧ b.vtable).called b.value)
         (λ b. (⟦<dyn InferRule as InferRule>⟧ b.vtable).takes b.value)
         rules.now.rules.items)
-        (shelf_seen S.told S.faults S.taken shelf.old shelf.new)
+        (S.told shelf.old)
         (command_of (map string_bytes words.now)) }
 
     // The words are no command's; then nothing is written.
@@ -70,8 +69,7 @@ pub fn crell<S: Shelf, O: Sink, E: Sink>(
         × GotNothing (sink_seen E.written E.faults err.old err.new) }
 
     // A file hasn't its first form; reading failed; writing failed; a file is too long; a file is absent.
-    ensures unfit { result ≡ 3 → SomeFileIsUnfit
-        (shelf_seen S.told S.faults S.taken shelf.old shelf.new)
+    ensures unfit { result ≡ 3 → SomeFileIsUnfit (S.told shelf.old)
         (command_of (map string_bytes words.now)) }
     ensures read_failed { result ≡ 6 → HasRisen (S.faults shelf.old) (S.faults shelf.new) }
     ensures write_failed { result ≡ 7 → HasRisen (O.faults out.old) (O.faults out.new) ⊎ HasRisen (E.faults err.old) (E.faults err.new) }
@@ -88,8 +86,7 @@ pub fn crell<S: Shelf, O: Sink, E: Sink>(
 
     // Where all three files are told and within their limits, and no count of faults rises: the status is 3 where one of them
     // hasn't its first form, and else the verdict's; or memory was refused.
-    ensures unread { HoldsAll
-        (shelf_seen S.told S.faults S.taken shelf.old shelf.new)
+    ensures unread { HoldsAll (S.told shelf.old)
         (command_of (map string_bytes words.now))
         OneIsUnfit
         → NoFault
@@ -102,7 +99,7 @@ pub fn crell<S: Shelf, O: Sink, E: Sink>(
         (λ b. (⟦<dyn InferRule as InferRule>⟧ b.vtable).called b.value)
         (λ b. (⟦<dyn InferRule as InferRule>⟧ b.vtable).takes b.value)
         rules.now.rules.items)
-        (shelf_seen S.told S.faults S.taken shelf.old shelf.new)
+        (S.told shelf.old)
         (command_of (map string_bytes words.now))
         (λ v. v ≡ ModuleVerdict.Valid)
         → NoFault
@@ -115,7 +112,7 @@ pub fn crell<S: Shelf, O: Sink, E: Sink>(
         (λ b. (⟦<dyn InferRule as InferRule>⟧ b.vtable).called b.value)
         (λ b. (⟦<dyn InferRule as InferRule>⟧ b.vtable).takes b.value)
         rules.now.rules.items)
-        (shelf_seen S.told S.faults S.taken shelf.old shelf.new)
+        (S.told shelf.old)
         (command_of (map string_bytes words.now))
         (λ v. v ≢ ModuleVerdict.Valid)
         → NoFault
@@ -124,7 +121,29 @@ pub fn crell<S: Shelf, O: Sink, E: Sink>(
         (sink_seen E.written E.faults err.old err.new)
         → (result ≡ 1) ⊎ (result ≡ 8) }
 
+    // Where the first of the files that isn't told to be held within its limit is told to be absent, or to be longer, and no
+    // count of faults rises: the status is 10, or 9; or memory was refused.
+    ensures missing { FirstUnheld IsAbsent (S.told shelf.old)
+        (command_of (map string_bytes words.now))
+        → NoFault
+        (shelf_seen S.told S.faults S.taken shelf.old shelf.new)
+        (sink_seen O.written O.faults out.old out.new)
+        (sink_seen E.written E.faults err.old err.new)
+        → (result ≡ 10) ⊎ (result ≡ 8) }
+    ensures overlong { FirstUnheld IsOverlong (S.told shelf.old)
+        (command_of (map string_bytes words.now))
+        → NoFault
+        (shelf_seen S.told S.faults S.taken shelf.old shelf.new)
+        (sink_seen O.written O.faults out.old out.new)
+        (sink_seen E.written E.faults err.old err.new)
+        → (result ≡ 9) ⊎ (result ≡ 8) }
+
     ensures statuses { IsStatus result }
+
+    // The shelf tells what it told before, and no count falls.
+    ensures told { S.told shelf.new ≡ S.told shelf.old }
+    ensures counts { (S.faults shelf.old ≤ S.faults shelf.new) × (S.taken shelf.old ≤ S.taken shelf.new)
+        × (O.faults out.old ≤ O.faults out.new) × (E.faults err.old ≤ E.faults err.new) }
 {
     run(alloc, words, rules, shelf, out, err)
 }
@@ -138,8 +157,7 @@ fn run<S: Shelf, O: Sink, E: Sink>(
     out: &mut O,
     err: &mut E,
 ) -> u8
-    ensures headline { result ≡ 0 → IsRefinementOfBytes
-        (shelf_seen S.told S.faults S.taken shelf.old shelf.new)
+    ensures headline { result ≡ 0 → IsRefinementOfBytes (S.told shelf.old)
         (command_of (map string_bytes words.now)) }
     ensures answered { IsAnswered
         (meanings_of
@@ -151,6 +169,11 @@ fn run<S: Shelf, O: Sink, E: Sink>(
         (sink_seen E.written E.faults err.old err.new)
         (command_of (map string_bytes words.now))
         result }
+    ensures told { S.told shelf.new ≡ S.told shelf.old }
+    ensures faults { S.faults shelf.old ≤ S.faults shelf.new }
+    ensures taken { S.taken shelf.old ≤ S.taken shelf.new }
+    ensures out_faults { O.faults out.old ≤ O.faults out.new }
+    ensures err_faults { E.faults err.old ≤ E.faults err.new }
 {
     match answer_to(alloc, words, rules, shelf) {
         Ok(answer) => deliver(&answer, out, err),
@@ -174,10 +197,12 @@ fn answer_to<S: Shelf>(
         (shelf_seen S.told S.faults S.taken shelf.old shelf.new)
         (command_of (map string_bytes words.now)) answer) }
     ensures refines { IfOk result
-        (λ answer. answer.status ≡ 0 → IsRefinementOfBytes
-        (shelf_seen S.told S.faults S.taken shelf.old shelf.new)
+        (λ answer. answer.status ≡ 0 → IsRefinementOfBytes (S.told shelf.old)
         (command_of (map string_bytes words.now))) }
     ensures command { OnErr result (command_of (map string_bytes words.now) ≢ None) }
+    ensures told { S.told shelf.new ≡ S.told shelf.old }
+    ensures faults { S.faults shelf.old ≤ S.faults shelf.new }
+    ensures taken { S.taken shelf.old ≤ S.taken shelf.new }
 {
     match command_of(words) {
         None => Ok(answer::usage(alloc)),
@@ -203,9 +228,11 @@ fn check_files<S: Shelf>(
         rules.now.rules.items)
         (shown_files files.now) answer)) }
     ensures refines { IfOk result
-        (λ answer. answer.status ≡ 0 → IsRefinementOfBytes
-        (shelf_seen S.told S.faults S.taken shelf.old shelf.new) (Some
+        (λ answer. answer.status ≡ 0 → IsRefinementOfBytes (S.told shelf.old) (Some
         (shown_files files.now))) }
+    ensures told { S.told shelf.new ≡ S.told shelf.old }
+    ensures faults { S.faults shelf.old ≤ S.faults shelf.new }
+    ensures taken { S.taken shelf.old ≤ S.taken shelf.new }
 {
     match gather(alloc, shelf, files)? {
         Gathered::Texts(texts) => check_texts(
@@ -229,7 +256,9 @@ fn check_texts(
     target: &[u8],
     hints: &[u8],
 ) -> Result<Answer, AllocError>
-    ensures due { IfOk result
+    ensures due { length source.now ≤ text_limit
+        → length target.now ≤ text_limit
+        → IfOk result
         (λ answer. DueOfTexts
         (meanings_of
         (λ b. (⟦<dyn InferRule as InferRule>⟧ b.vtable).called b.value)

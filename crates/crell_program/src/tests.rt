@@ -49,6 +49,8 @@ const WRAPPING: &str = "define i32 @f() {\n  %y = add i32 2147483647, 1\n  ret i
 
 const NOT_WRAPPING: &str = "define i32 @f() {\n  %y = add nsw i32 2147483647, 1\n  ret i32 %y\n}\n";
 
+const OTHER_NAME: &str = "define i32 @g() {\n  ret i32 7\n}\n";
+
 const NO_HINTS: &str = "{\"format\":1,\"functions\":{}}\n";
 
 const USED_EARLY: &str =
@@ -71,6 +73,13 @@ fn sink(alloc: Global, room: usize, most: usize, failing: &[u64]) -> Result<MemS
     requires { 1 ≤ most }
 {
     MemSink::new(alloc, room, most, failing.to_vec(alloc)?)
+}
+
+/// The hints of one step in a block with these lines.
+fn one_step(alloc: Global, lines: &str, rule: &str, sum: &str) -> Result<String, AllocError> {
+    format!(in alloc;
+        "{{\"format\":1,\"functions\":{{\"@f\":{{\"blocks\":[{{\"at\":\"%0\",\"lines\":\"{lines}\",\"steps\":[{{\"at\":1,\"rule\":\"{rule}\",\"side\":\"src\",\"from\":[],\"to\":[\"ge\",\"{sum}\",\"i32 %x\"]}}]}}]}}}}}}"
+    )
 }
 
 /// Runs the program under the shipped rules.
@@ -98,6 +107,9 @@ fn pairs_are_judged(rt: HostRuntime) -> Result<(), Fail> {
     let alloc = rt.alloc();
     let missing_seven = "refused @f %0 1: missing premise [\"ge\",\"i32 undef\",\"i32 7\"]\n";
     let missing_sum = "refused @f %0 1: missing premise [\"ge\",\"add i32 %x, 0\",\"i32 %x\"]\n";
+    let aligned = one_step(alloc, "b", "zero_right", "add i32 %x, 0")?;
+    let unknown = one_step(alloc, "s", "zero_left", "add i32 %x, 0")?;
+    let unfit = one_step(alloc, "s", "zero_right", "add i32 %x, 1")?;
     for (source, target, hints, status, text) in [
         (EXAMPLE_SOURCE, EXAMPLE_TARGET, EXAMPLE_HINTS, 0, "valid\n"),
         (
@@ -124,6 +136,34 @@ fn pairs_are_judged(rt: HostRuntime) -> Result<(), Fail> {
             "refused @f %0 1: unmatched %y %y\n",
         ),
         (NOT_WRAPPING, WRAPPING, NO_HINTS, 0, "valid\n"),
+        (
+            EXAMPLE_SOURCE,
+            OTHER_NAME,
+            NO_HINTS,
+            1,
+            "refused module: functions\n",
+        ),
+        (
+            PLUS_ZERO,
+            ARGUMENT,
+            aligned.as_str(),
+            1,
+            "refused @f %0 start: alignment differs\n",
+        ),
+        (
+            PLUS_ZERO,
+            ARGUMENT,
+            unknown.as_str(),
+            1,
+            "refused @f %0 1: unknown rule zero_left\n",
+        ),
+        (
+            PLUS_ZERO,
+            ARGUMENT,
+            unfit.as_str(),
+            1,
+            "refused @f %0 1: rule unfit zero_right\n",
+        ),
     ] {
         let mut shelf = shelf(
             alloc,
@@ -172,11 +212,16 @@ fn faults_of_files_are_told(rt: HostRuntime) -> Result<(), Fail> {
         ("b.ll", EXAMPLE_TARGET),
         ("h.json", "{\"format\":1,"),
     ];
+    let without_hints = [("a.ll", USED_EARLY), ("b.ll", USED_EARLY), ("c.json", "")];
+    let none = [("c.ll", USED_EARLY), ("d.ll", USED_EARLY), ("h.json", "")];
     for (files, failing, status, text) in [
         (&whole, 0, 6, "a.ll: read failed\n"),
         (&whole, 1, 6, "b.ll: read failed\n"),
         (&whole, 2, 6, "h.json: read failed\n"),
+        (&absent, 0, 6, "a.ll: read failed\n"),
         (&absent, 9, 10, "b.ll: absent\n"),
+        (&none, 9, 10, "a.ll: absent\n"),
+        (&without_hints, 9, 10, "h.json: absent\n"),
         (&early, 9, 3, "a.ll: not of the first form\n"),
         (&target, 9, 3, "b.ll: not of the first form\n"),
         (&hints, 9, 3, "h.json: not of the first form\n"),
@@ -191,6 +236,40 @@ fn faults_of_files_are_told(rt: HostRuntime) -> Result<(), Fail> {
         );
         assert_eq!(rt; out.bytes(), b"".as_slice());
         assert_eq!(rt; err.bytes(), text.as_bytes());
+        assert_eq!(rt; shelf.faults(), if status == 6 { 1 } else { 0 }, "{text}");
+    }
+    Ok(())
+}
+
+#[test]
+fn a_text_may_have_16_mib(rt: HostRuntime) -> Result<(), Fail> {
+    let alloc = rt.alloc();
+    let mut entries = Vec::new(alloc);
+    entries.push(Entry {
+        name: String::from_str(alloc, "a.ll")?,
+        bytes: vec![in alloc; b' '; (1 << 24) + 1]?,
+    })?;
+    entries.push(Entry {
+        name: String::from_str(alloc, "b.ll")?,
+        bytes: Vec::new(alloc),
+    })?;
+    let mut shelf = MemShelf::new(entries, Vec::new(alloc));
+    for (source, target, status, text) in [
+        ("a.ll", "b.ll", 9, "a.ll: limit text\n"),
+        ("b.ll", "a.ll", 9, "a.ll: limit text\n"),
+        ("c.ll", "a.ll", 10, "c.ll: absent\n"),
+    ] {
+        let mut out = sink(alloc, 100, 100, &[])?;
+        let mut err = sink(alloc, 100, 100, &[])?;
+        let words = ["crell", "check", source, target, "h.json"];
+        assert_eq!(rt;
+            run(alloc, &words, &mut shelf, &mut out, &mut err)?,
+            status,
+            "{text}"
+        );
+        assert_eq!(rt; out.bytes(), b"".as_slice());
+        assert_eq!(rt; err.bytes(), text.as_bytes());
+        assert_eq!(rt; shelf.faults(), 0);
     }
     Ok(())
 }
@@ -203,6 +282,8 @@ fn other_words_are_no_command(rt: HostRuntime) -> Result<(), Fail> {
         &["crell", "check", "a.ll", "b.ll"],
         &["crell", "opt", "a.ll", "b.ll", "h.json"],
         &["crell", "check", "a.ll", "--help", "h.json"],
+        &["crell", "check", "a.ll", "b.ll", "-"],
+        &["crell", "check", "a.ll", "b.ll", "h.json", "h.json"],
     ] {
         let mut shelf = shelf(alloc, &[], &[])?;
         let mut out = sink(alloc, 100, 100, &[])?;
@@ -211,6 +292,13 @@ fn other_words_are_no_command(rt: HostRuntime) -> Result<(), Fail> {
         assert_eq!(rt; out.bytes(), b"".as_slice());
         assert_eq!(rt; err.bytes(), b"".as_slice());
     }
+    // A name may be empty.
+    let mut shelf = shelf(alloc, &[], &[])?;
+    let mut out = sink(alloc, 100, 100, &[])?;
+    let mut err = sink(alloc, 100, 100, &[])?;
+    let words = ["crell", "check", "", "b.ll", "h.json"];
+    assert_eq!(rt; run(alloc, &words, &mut shelf, &mut out, &mut err)?, 10);
+    assert_eq!(rt; err.bytes(), b": absent\n".as_slice());
     Ok(())
 }
 

@@ -3,8 +3,8 @@ use Rattle.crell_program.specs.Due.{Held, text_limit, json_limit}
 use Rattle.crell_program.proofs.Fetches.{within, come_within, due_within}
 use Rattle.crell_program.proofs.fetch.gather.Goals as goal
 
-pub returns-in-Fault-2 : goal.returns-in-Fault-2
-returns-in-Fault-2 g c =
+pub returns-in-Fault-2-clause-gathered : goal.returns-in-Fault-2-clause-gathered
+returns-in-Fault-2-clause-gathered g c =
     let told = g.S.Shelf.told in
     let faults = g.S.Shelf.faults in
     let taken = g.S.Shelf.taken in
@@ -22,8 +22,8 @@ returns-in-Fault-2 g c =
       due_within _ _ second text_limit _ c.args.files.now.target.now c.in-Fault-2.answer _ fault,
     )
 
-pub returns-in-Fault-3 : goal.returns-in-Fault-3
-returns-in-Fault-3 g c =
+pub returns-in-Fault-3-clause-gathered : goal.returns-in-Fault-3-clause-gathered
+returns-in-Fault-3-clause-gathered g c =
     let told = g.S.Shelf.told in
     let faults = g.S.Shelf.faults in
     let taken = g.S.Shelf.taken in

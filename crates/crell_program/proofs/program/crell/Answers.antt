@@ -3,7 +3,7 @@ use Rattle.crell_program.specs.Command.{command_of}
 use Rattle.crell_program.specs.Due.{shelf_seen}
 use Rattle.crell_program.specs.Delivery.{sink_seen}
 use Rattle.crell_program.proofs.Clauses.{refused, usage, unfit, read_failed, write_failed, too_long, absent, not_used, out_kept, statuses}
-use Rattle.crell_program.proofs.Completeness.{valid, invalid, unread}
+use Rattle.crell_program.proofs.Completeness.{valid, invalid, unread, missing, overlong}
 use Rattle.crell_program.proofs.program.crell.Goals as goal
 
 pub returns-clause-refused : goal.returns-clause-refused
@@ -109,3 +109,22 @@ returns-clause-invalid g c =
     let err = sink_seen g.E.Sink.written g.E.Sink.faults c.args.err.now c.run.new.err in
     let command = command_of (map string_bytes c.args.words.now) in
     invalid _ shelf out err command c.run.result c.run.ensures.answered
+
+pub returns-clause-counts : goal.returns-clause-counts
+returns-clause-counts g c = (c.run.ensures.faults, c.run.ensures.taken, c.run.ensures.out_faults, c.run.ensures.err_faults)
+
+pub returns-clause-missing : goal.returns-clause-missing
+returns-clause-missing g c =
+    let shelf = shelf_seen g.S.Shelf.told g.S.Shelf.faults g.S.Shelf.taken c.args.shelf.now c.run.new.shelf in
+    let out = sink_seen g.O.Sink.written g.O.Sink.faults c.args.out.now c.run.new.out in
+    let err = sink_seen g.E.Sink.written g.E.Sink.faults c.args.err.now c.run.new.err in
+    let command = command_of (map string_bytes c.args.words.now) in
+    missing _ shelf out err command c.run.result c.run.ensures.answered
+
+pub returns-clause-overlong : goal.returns-clause-overlong
+returns-clause-overlong g c =
+    let shelf = shelf_seen g.S.Shelf.told g.S.Shelf.faults g.S.Shelf.taken c.args.shelf.now c.run.new.shelf in
+    let out = sink_seen g.O.Sink.written g.O.Sink.faults c.args.out.now c.run.new.out in
+    let err = sink_seen g.E.Sink.written g.E.Sink.faults c.args.err.now c.run.new.err in
+    let command = command_of (map string_bytes c.args.words.now) in
+    overlong _ shelf out err command c.run.result c.run.ensures.answered
