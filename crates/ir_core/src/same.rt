@@ -92,7 +92,7 @@ pub fn same_reg_operand(a: &Operand<Reg>, b: &Operand<Reg>) -> bool
     a.is(b)
 }
 
-/// Each of these tests is true exactly of equal things.
+/// Each of the tests above is true exactly of equal things.
 pub fn tests_are_equality()
     ensures names { same.IsEquality same.same_name }
     ensures types { same.IsEquality same.same_ty }
@@ -102,5 +102,8 @@ pub fn tests_are_equality()
     ensures registers { same.IsEquality same.same_reg }
     ensures atoms { same.IsEquality (same.same_atom same.same_name) }
     ensures operands { same.IsEquality (same.same_operand same.same_name) }
+    ensures atoms_in_logic { same.IsEquality (same.same_atom same.same_reg) }
+    ensures operands_in_logic { same.IsEquality (same.same_operand same.same_reg) }
+    ensures operations { same.IsEquality same.same_binary }
     ensures expressions { same.IsEquality same.same_expr }
 {}

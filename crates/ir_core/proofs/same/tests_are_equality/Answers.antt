@@ -25,5 +25,14 @@ returns-clause-atoms c = law.equality _ law.same_name_atom_true law.same_name_at
 pub returns-clause-operands : goal.returns-clause-operands
 returns-clause-operands c = law.equality _ law.same_name_operand_true law.same_name_operand_refl
 
+pub returns-clause-atoms_in_logic : goal.returns-clause-atoms_in_logic
+returns-clause-atoms_in_logic c = law.equality _ law.same_reg_atom_true law.same_reg_atom_refl
+
+pub returns-clause-operands_in_logic : goal.returns-clause-operands_in_logic
+returns-clause-operands_in_logic c = law.equality _ law.same_reg_operand_true law.same_reg_operand_refl
+
+pub returns-clause-operations : goal.returns-clause-operations
+returns-clause-operations c = law.equality _ law.same_binary_true law.same_binary_refl
+
 pub returns-clause-expressions : goal.returns-clause-expressions
 returns-clause-expressions c = law.equality _ law.same_expr_true law.same_expr_refl
