@@ -1,5 +1,5 @@
 -- A run that isn't over can make a step, and shows how it ends.
-use Rattle.std.proofs.Common.{◌≡◌, ◌^◌, true, List, [], ◌∷◌, ◌++◌, Option, None, Some, refl}
+use Rattle.std.proofs.Common.{◌≡◌, ◌↔◌, ◌^◌, true, List, [], ◌∷◌, ◌++◌, Option, None, Some, refl, subst}
 use Rattle.std.specs.Prelude.{nat_lt}
 use Rattle.std.proofs.lemmas.Bool.{lt-ltb}
 use Rattle.std.proofs.lemmas.Nat.{pow_pos}
@@ -23,7 +23,7 @@ use Rattle.ir_machine.specs.declared.items.Choice.TheVariants.{Pick}
 use Rattle.ir_machine.specs.Registers.{kind_of, read, operand_value}
 use Rattle.ir_machine.specs.State.{Frame, Pending, World, State, Running, Over}
 use Rattle.ir_machine.specs.Machine.{Asks, Does, Made, Follows, asks, show, set_to, frame_step, term_step, return_step, binary_result}
-use Rattle.ir_machine.specs.Refinement.{IsEnd, NoneIsStuck, EndsAreShown}
+use Rattle.ir_machine.specs.Refinement.{IsEnd, EndTheRun, NoneIsStuck, EndsAreShown}
 use Rattle.ir_machine.proofs.Trees.{AllDo, all_do_made, all_do_show, all_do_set_to}
 
 abbrev CanStep : Asks → Type 0
@@ -64,19 +64,29 @@ pub none_is_stuck : NoneIsStuck
 none_is_stuck m (Running frame rest world) h = frame_can_step frame.lines frame rest world
 none_is_stuck m Over h = absurd (h refl)
 
--- the last item is one that ends a run
-abbrev ShowsEnd : List Item → Type 0
-ShowsEnd items = (before : List Item) × (last : Item) × (items ≡ before ++ last ∷ []) × IsEnd last
-
--- a step that leads to the end of the run shows it
+-- a step leads to the end of the run exactly where it shows it
 abbrev ShowsItsEnd : List Item → State → Type 0
-ShowsItsEnd items after = after ≡ Over → ShowsEnd items
+ShowsItsEnd items after = (after ≡ Over) ↔ EndTheRun items
+
+ends : (items before : List Item) (last : Item) → items ≡ before ++ last ∷ [] → IsEnd last → ShowsItsEnd items Over
+ends items before last e is = (λ over. (before, last, e, is), λ shows. refl)
+
+no_end : (items : List Item) → items ≡ [] → EndTheRun items → ⊥
+no_end items none ([], last, e, is) = cc
+no_end items none (x ∷ before, last, e, is) = cc
+
+turn_is_no_end : EndTheRun (Turn ∷ []) → ⊥
+turn_is_no_end ([], last, e, is) = let turn : last ≡ Turn = cc in subst (λ (x : Item). IsEnd x) turn is
+turn_is_no_end (x ∷ before, last, e, is) = let none : before ++ last ∷ [] ≡ [] = cc in no_end (before ++ last ∷ []) none (before, last, refl, is)
+
+goes_on : (items : List Item) (frame : Frame) (rest : List Pending) (world : World) → (EndTheRun items → ⊥) → ShowsItsEnd items (Running frame rest world)
+goes_on items frame rest world none = (λ over. absurd (cc), λ shows. absurd (none shows))
 
 return_shows_end : (k : Option Kind) (v : Value) (rest : List Pending) (world : World) → AllDo ShowsItsEnd (return_step k v rest world)
 return_shows_end k v [] world = all_do_show ShowsItsEnd k v _ _
-    (λ over. (Turn ∷ [], Wrong, refl, tt))
-    (λ s over. (Turn ∷ [], Returned (Some s), refl, tt))
-return_shows_end k v (p ∷ ps) world = λ over. absurd (cc)
+    (ends (Turn ∷ Wrong ∷ []) (Turn ∷ []) Wrong refl tt)
+    (λ s. ends (Turn ∷ Returned (Some s) ∷ []) (Turn ∷ []) (Returned (Some s)) refl tt)
+return_shows_end k v (p ∷ ps) world = goes_on (Turn ∷ []) _ ps world turn_is_no_end
 
 term_shows_end : (t : Term) (frame : Frame) (rest : List Pending) (world : World) → AllDo ShowsItsEnd (term_step t frame rest world)
 term_shows_end (Ret o) frame rest world = return_shows_end (kind_of o.ty) (operand_value (read frame.registers) o) rest world
@@ -84,7 +94,7 @@ term_shows_end (Ret o) frame rest world = return_shows_end (kind_of o.ty) (opera
 frame_shows_end : (lines : List Instr) (frame : Frame) (rest : List Pending) (world : World) → AllDo ShowsItsEnd (frame_step lines frame rest world)
 frame_shows_end (line.Binary b ∷ left) frame rest world =
     all_do_set_to ShowsItsEnd (kind_of b.ty) b.name (binary_result frame.registers b) (record frame { lines = left }) rest world
-    (λ v e over. absurd (cc)) (λ over. ([], Wrong, refl, tt))
+    (λ v e. goes_on [] _ rest world (no_end [] refl)) (ends (Wrong ∷ []) [] Wrong refl tt)
 frame_shows_end [] frame rest world = term_shows_end frame.term frame rest world
 
 step_shows_end : (m : Module) (s : State) → AllDo ShowsItsEnd (asks m s)
@@ -92,4 +102,4 @@ step_shows_end m (Running frame rest world) = frame_shows_end frame.lines frame 
 step_shows_end m Over = tt
 
 pub ends_are_shown : EndsAreShown
-ends_are_shown m s made follows over = all_do_made ShowsItsEnd (asks m s) made (step_shows_end m s) follows over
+ends_are_shown m s made follows = all_do_made ShowsItsEnd (asks m s) made (step_shows_end m s) follows

@@ -1,5 +1,5 @@
 -- What a module can show, and when one module refines another.
-use Rattle.std.specs.Prelude.{◌≡◌, ◌≢◌, ◌⊎◌, ℕ, List, [], ◌∷◌, ◌++◌, MatchOption}
+use Rattle.std.specs.Prelude.{◌≡◌, ◌≢◌, ◌↔◌, ◌⊎◌, ℕ, List, [], ◌∷◌, ◌++◌, MatchOption}
 use Rattle.ir_core.specs.declared.names.Name.{Name}
 use Rattle.ir_core.specs.declared.functions.Function.{Function}
 use Rattle.ir_core.specs.declared.functions.Module.{Module}
@@ -44,10 +44,13 @@ IsEnd Turn = ⊥
 IsEnd (Returned s) = Unit {0}
 IsEnd Wrong = Unit {0}
 
--- a run is over only where the last item that it showed is its result or undefined behaviour
+-- the last of the items is one
+abbrev pub EndTheRun : List Item → Type 0
+EndTheRun items = (before : List Item) × (last : Item) × (items ≡ before ++ last ∷ []) × IsEnd last
+
+-- a run is over after a step exactly where the last item that the step shows is the run's result or undefined behaviour
 abbrev pub EndsAreShown : Type 0
-EndsAreShown = (m : Module) (s : State) (made : Made) → Follows (asks m s) made → made.after ≡ Over
-    → (before : List Item) × (last : Item) × (made.items ≡ before ++ last ∷ []) × IsEnd last
+EndsAreShown = (m : Module) (s : State) (made : Made) → Follows (asks m s) made → (made.after ≡ Over) ↔ EndTheRun made.items
 
 -- Some run of at most n steps, of that function entered in the module on that input, shows exactly these items.
 abbrev pub ShowsOn : Module → Function → Input → ℕ → List Item → Type 0

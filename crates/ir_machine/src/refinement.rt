@@ -9,7 +9,7 @@ pub fn refinement_is_a_preorder()
     ensures wrong_is_last { WrongIsLast }
 {}
 
-/// A run that isn't over can make a step, and a run is over only once it has shown its result or undefined
+/// A run that isn't over can make a step, and a run is over exactly once it has shown its result or undefined
 /// behaviour.
 pub fn no_run_is_stuck()
     ensures goes_on { NoneIsStuck }
