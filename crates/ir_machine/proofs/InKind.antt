@@ -30,12 +30,12 @@ use Rattle.ir_machine.specs.declared.items.Item.{Item}
 use Rattle.ir_machine.specs.declared.items.Shown.{Shown}
 use Rattle.ir_machine.specs.declared.items.Shown.TheVariants as shown
 use Rattle.ir_machine.specs.declared.items.Input.{Input}
-use Rattle.ir_machine.specs.Registers.{Registers, no_registers, read, set, AreInKind, kind_of, constant_value, atom_at, atom_value, operand_value, binary_at}
+use Rattle.ir_machine.specs.Registers.{Registers, no_registers, read, set, held_at, holding, AreInKind, kind_of, constant_value, atom_at, atom_value, operand_value, binary_at}
 use Rattle.ir_machine.specs.State.{Frame, Pending, World, State, Running, Over}
 use Rattle.ir_machine.specs.Machine.{Made, Follows, asks, set_into, frame_step, term_step, return_step, binary_result, fits_kind, shown_value, entered, at_entry, started, start, function_named}
 pub use Rattle.ir_machine.specs.Kept.{GivesInKind}
 use Rattle.ir_machine.proofs.Trees.{AllDo, all_do_made, all_do_show, all_do_set_to}
-use Rattle.ir_machine.proofs.Runs.{IsInKindOf, set_in_kind}
+use Rattle.ir_machine.proofs.Runs.{IsInKindOf, holding_in_kind, set_in_kind}
 
 number_in_kind : (n width : ℕ) (below : Bool) → (below ≡ true → n < 2 ^ width) → IsInKind (Int width) (cond below (value.Num n) value.Poison)
 number_in_kind n width true h = h refl
@@ -71,9 +71,9 @@ StateInKind Over = Unit {0}
 abbrev LeadsInKind : List Item → State → Type 0
 LeadsInKind items after = StateInKind after
 
-set_into_in_kind : (registers : Registers) (into : Option Name) (k : Option Kind) (v : Value) → AreInKind registers → IsInKindOf k v → AreInKind (set_into registers into k v)
+set_into_in_kind : (registers : Registers) (into : Option (Name × Kind)) (k : Option Kind) (v : Value) → AreInKind registers → IsInKindOf k v → AreInKind (set_into registers into k v)
 set_into_in_kind registers None k v h p = h
-set_into_in_kind registers (Some x) k v h p = set_in_kind registers x k v h p
+set_into_in_kind registers (Some x) k v h p = set_in_kind registers x.0 (Some x.1) (held_at x.1 (holding k v)) h (holding_in_kind k x.1 v p)
 
 return_in_kind : (k : Option Kind) (v : Value) (rest : List Pending) (world : World) → IsInKindOf k v → AllInKind rest → AllDo LeadsInKind (return_step k v rest world)
 return_in_kind k v [] world p h = all_do_show LeadsInKind k v _ _ tt (λ s. tt)

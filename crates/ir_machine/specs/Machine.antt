@@ -25,7 +25,7 @@ use Rattle.ir_machine.specs.declared.items.Shown.TheVariants as shown
 use Rattle.ir_machine.specs.declared.items.Choice.{Choice}
 use Rattle.ir_machine.specs.declared.items.Choice.TheVariants.{Pick}
 use Rattle.ir_machine.specs.declared.items.Input.{Input}
-use Rattle.ir_machine.specs.Registers.{Registers, no_registers, read, set, kind_of, atom_value, operand_value, binary_at}
+use Rattle.ir_machine.specs.Registers.{Registers, no_registers, held_at, holding, read, set, kind_of, atom_value, operand_value, binary_at}
 use Rattle.ir_machine.specs.State.{Frame, Pending, World, State, Running, Over}
 
 -- What a step does: it shows items and leads to a state; or it asks for a choice that fits, and goes on with it; or there is
@@ -63,10 +63,10 @@ binary_result registers b =
 abbrev pub line_step : Instr → Frame → List Pending → World → Asks
 line_step (line.Binary b) frame rest world = set_to (kind_of b.ty) b.name (binary_result frame.registers b) frame rest world
 
--- the register that is named is set; without a name none is
-abbrev pub set_into : Registers → Option Name → Option Kind → Value → Registers
+-- the register that is named is set, at its kind; a value of another kind is poison there, as where a register is read
+abbrev pub set_into : Registers → Option (Name × Kind) → Option Kind → Value → Registers
 set_into registers None k v = registers
-set_into registers (Some x) k v = set registers x k v
+set_into registers (Some x) k v = set registers x.0 (Some x.1) (held_at x.1 (holding k v))
 
 -- a call that waits gets its result
 abbrev pub resumed : Pending → Option Kind → Value → Frame

@@ -1,6 +1,7 @@
 -- The state of a run, as data.
 use Rattle.std.specs.Prelude.{List, Option}
 use Rattle.ir_core.specs.declared.names.Name.{Name}
+use Rattle.ir_core.specs.declared.values.Kind.{Kind}
 use Rattle.ir_core.specs.declared.functions.Instr.{Instr}
 use Rattle.ir_core.specs.declared.functions.Term.{Term}
 use Rattle.ir_machine.specs.Registers.{Registers}
@@ -13,10 +14,10 @@ pub record Frame : Type 0 where
   pub term : Term
   pub registers : Registers
 
--- a frame that waits for a call to return: the register that the call sets, if it sets one, and the frame with the lines
--- after the call
+-- A frame that waits for a call to return: the register that the call sets, if it sets one, with the call's kind, and the
+-- frame with the lines after the call. The kind of a register is that of the line that defines it.
 pub record Pending : Type 0 where
-  pub into : Option Name
+  pub into : Option (Name × Kind)
   pub frame : Frame
 
 -- What all frames share: memory, and the names that the outside knows its blocks by, once lines reach them.
