@@ -9,10 +9,11 @@ use Rattle.ir_core.specs.declared.values.Value.{Value}
 use Rattle.ir_core.specs.declared.values.Kind.{Kind}
 use Rattle.ir_core.specs.Same.{same_name}
 use Rattle.ir_core.proofs.SameLaws.{same_name_true, same_name_refl}
+use Rattle.ir_values.specs.Values.{IsInKindOf}
 use Rattle.ir_machine.specs.declared.registers.Assigned.{Assigned}
 use Rattle.ir_machine.specs.Registers.{Held, Registers, no_registers, holding, AreInKind}
 use Rattle.ir_machine.specs.Registers as meaning
-use Rattle.ir_machine.specs.Kept.{held_of, registers_of, put, IsInKindOf}
+use Rattle.ir_machine.specs.Kept.{held_of, registers_of, put}
 use Rattle.ir_machine.proofs.Runs.{set_in_kind}
 
 pub registers_equal : (a b : Registers) → ((y : Name) → a y ≡ b y) → a ≡ b

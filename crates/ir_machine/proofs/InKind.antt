@@ -23,9 +23,10 @@ use Rattle.ir_core.specs.declared.functions.Block.{Block}
 use Rattle.ir_core.specs.declared.functions.Function.{Function}
 use Rattle.ir_core.specs.declared.functions.Module.{Module}
 use Rattle.ir_values.specs.declared.operations.Outcome.{Outcome}
-use Rattle.ir_values.specs.Values.{IsInKind}
+use Rattle.ir_values.specs.Values.{IsInKind, IsInKindOf}
+use Rattle.ir_values.specs.Operations.{GivesInKind}
 use Rattle.ir_values.proofs.KindLaws.{poison_in_kind}
-use Rattle.ir_values.proofs.OperationLaws.{binary_value_in_kind}
+use Rattle.ir_values.proofs.OperationLaws.{binary_outcome_in_kind}
 use Rattle.ir_machine.specs.declared.items.Item.{Item}
 use Rattle.ir_machine.specs.declared.items.Shown.{Shown}
 use Rattle.ir_machine.specs.declared.items.Shown.TheVariants as shown
@@ -33,9 +34,8 @@ use Rattle.ir_machine.specs.declared.items.Input.{Input}
 use Rattle.ir_machine.specs.Registers.{Registers, no_registers, read, set, held_at, holding, AreInKind, kind_of, constant_value, atom_at, atom_value, operand_value, binary_at}
 use Rattle.ir_machine.specs.State.{Frame, Pending, World, State, Running, Over}
 use Rattle.ir_machine.specs.Machine.{Made, Follows, asks, set_into, frame_step, term_step, return_step, binary_result, fits_kind, shown_value, entered, at_entry, started, start, function_named}
-pub use Rattle.ir_machine.specs.Kept.{GivesInKind}
 use Rattle.ir_machine.proofs.Trees.{AllDo, all_do_made, all_do_show, all_do_set_to}
-use Rattle.ir_machine.proofs.Runs.{IsInKindOf, holding_in_kind, set_in_kind}
+use Rattle.ir_machine.proofs.Runs.{holding_in_kind, set_in_kind}
 
 number_in_kind : (n width : ℕ) (below : Bool) → (below ≡ true → n < 2 ^ width) → IsInKind (Int width) (cond below (value.Num n) value.Poison)
 number_in_kind n width true h = h refl
@@ -58,7 +58,7 @@ operand_in_kind reading h o = atom_value_in_kind reading h (kind_of o.ty) o.atom
 
 pub binary_in_kind : (op : BinOp) (flags : Flags) (k : Option Kind) (a b : Value) → GivesInKind k (binary_at op flags k a b)
 binary_in_kind op flags None a b = tt
-binary_in_kind op flags (Some (Int width)) a b = binary_value_in_kind op flags width a b
+binary_in_kind op flags (Some (Int width)) a b = binary_outcome_in_kind op flags width a b
 
 abbrev pub AllInKind : List Pending → Type 0
 AllInKind [] = Unit {0}

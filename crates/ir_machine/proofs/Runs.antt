@@ -10,11 +10,11 @@ use Rattle.ir_core.specs.declared.values.Value.TheVariants.{Poison}
 use Rattle.ir_core.specs.declared.values.Kind.{Kind}
 use Rattle.ir_core.specs.declared.functions.Module.{Module}
 use Rattle.ir_values.specs.Values.{IsInKind, same_kind}
+pub use Rattle.ir_values.specs.Values.{IsInKindOf}
 use Rattle.ir_values.proofs.KindLaws.{same_kind_true, same_kind_refl, poison_in_kind}
 use Rattle.ir_machine.specs.declared.items.Item.{Item}
 use Rattle.ir_machine.specs.declared.items.Item.TheVariants.{Wrong}
 use Rattle.ir_machine.specs.declared.items.Input.{Input}
-pub use Rattle.ir_machine.specs.Kept.{IsInKindOf}
 use Rattle.ir_machine.specs.Registers.{Held, Registers, read, held_at, holding, set, AreInKind}
 use Rattle.ir_machine.specs.State.{State, Over}
 use Rattle.ir_machine.specs.Machine.{Made, Follows, asks, start, ShowsFrom}

@@ -8,8 +8,6 @@ use Rattle.ir_core.specs.declared.values.Value.TheVariants.{Num, Undef, Poison}
 use Rattle.ir_core.specs.declared.values.Kind.{Kind}
 use Rattle.ir_core.specs.declared.values.Kind.TheVariants.{Int}
 use Rattle.ir_core.specs.Same.{same_name}
-use Rattle.ir_values.specs.declared.operations.Outcome.{Outcome}
-use Rattle.ir_values.specs.declared.operations.Outcome.TheVariants.{Gives, Trap}
 use Rattle.ir_values.specs.Values.{IsInKind}
 use Rattle.ir_machine.specs.declared.registers.Assigned.{Assigned}
 use Rattle.ir_machine.specs.Registers.{Held, Registers, no_registers, read, AreInKind}
@@ -27,15 +25,6 @@ registers_of (e ∷ es) = λ x. cond (same_name e.name x) (held_of e.held) (regi
 abbrev pub put : Name → Option (Kind × Value) → List Assigned → List Assigned
 put x held [] = record { name = x; held = held } ∷ []
 put x held (e ∷ es) = cond (same_name e.name x) (record e { held = held } ∷ es) (e ∷ put x held es)
-
--- the value is of the kind; one of no kind may be any
-abbrev pub IsInKindOf : Option Kind → Value → Type 0
-IsInKindOf None v = Unit {0}
-IsInKindOf (Some k) v = IsInKind k v
-
-abbrev pub GivesInKind : Option Kind → Outcome → Type 0
-GivesInKind k (Gives v) = IsInKindOf k v
-GivesInKind k Trap = Unit {0}
 
 pub IsInKind-prop : (k : Kind) (v : Value) → IsProp (IsInKind k v)
 IsInKind-prop (Int width) (Num n) = le_prop

@@ -1,7 +1,8 @@
 ghost use Rattle.std.specs.Prelude.{◌≡◌, ◌^◌, nat_lt};
 ghost use Rattle.ir_machine.specs.Registers as meaning;
 ghost use Rattle.ir_machine.specs.Machine as machine;
-ghost use Rattle.ir_machine.specs.Kept.{IsInKindOf, GivesInKind};
+ghost use Rattle.ir_values.specs.Values.{IsInKindOf};
+ghost use Rattle.ir_values.specs.Operations.{GivesInKind};
 ghost use Rattle.ir_machine.specs.Places.{registers_in};
 
 use crate::registers::RegisterFile;

@@ -1,9 +1,9 @@
 ghost use Rattle.std.specs.Prelude.{◌≡◌, OnOk, OnErr};
-ghost use Rattle.ir_values.specs.Values.{IsInKind};
+ghost use Rattle.ir_values.specs.Values.{IsInKind, IsInKindOf};
 ghost use Rattle.ir_values.specs.Values as values;
 ghost use Rattle.ir_machine.specs.Registers as meaning;
 ghost use Rattle.ir_machine.specs.Kept as kept;
-ghost use Rattle.ir_machine.specs.Kept.{held_of, IsInKindOf};
+ghost use Rattle.ir_machine.specs.Kept.{held_of};
 ghost use Rattle.ir_machine.specs.Places.{registers_in};
 
 use crate::registers::{Assigned, RegisterFile};

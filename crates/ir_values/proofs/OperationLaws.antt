@@ -59,7 +59,7 @@ undef_in_kind true nsw width = tt
 undef_in_kind false true width = tt
 undef_in_kind false false width = tt
 
-pub binary_value_in_kind : OperationsStayInKind
+pub binary_value_in_kind : (op : BinOp) (flags : Flags) (width : ℕ) (a b : Value) → IsInKind (Int width) (binary_value op flags width a b)
 binary_value_in_kind op flags width Poison b = tt
 binary_value_in_kind op flags width Undef Poison = tt
 binary_value_in_kind op flags width (Num m) Poison = tt
@@ -67,6 +67,9 @@ binary_value_in_kind op flags width Undef Undef = undef_in_kind flags.nuw flags.
 binary_value_in_kind op flags width Undef (Num n) = undef_in_kind flags.nuw flags.nsw width
 binary_value_in_kind op flags width (Num m) Undef = undef_in_kind flags.nuw flags.nsw width
 binary_value_in_kind op flags width (Num m) (Num n) = number_or_poison_in_kind (breaks_flag op flags width m n) op width m n
+
+pub binary_outcome_in_kind : OperationsStayInKind
+binary_outcome_in_kind op flags width a b = binary_value_in_kind op flags width a b
 
 flag_kept : (few many : Bool) → (not few || many) ≡ true → few ≡ true → many ≡ true
 flag_kept true many h k = h

@@ -1,11 +1,11 @@
 -- The laws that operations meet.
-use Rattle.std.specs.Prelude.{◌≡◌, ℕ, Bool, true, not, ◌&&◌, ◌||◌}
+use Rattle.std.specs.Prelude.{◌≡◌, ℕ, Bool, true, not, ◌&&◌, ◌||◌, Some}
 use Rattle.ir_core.specs.declared.values.Value.{Value}
 use Rattle.ir_core.specs.declared.values.Kind.TheVariants.{Int}
 use Rattle.ir_core.specs.declared.operands.BinOp.{BinOp}
 use Rattle.ir_core.specs.declared.operands.Flags.{Flags}
-use Rattle.ir_values.specs.Values.{IsInKind, IsLessDefined}
-use Rattle.ir_values.specs.Operations.{IsOutcomeLessDefined, binary_value, binary_outcome}
+use Rattle.ir_values.specs.Values.{IsLessDefined}
+use Rattle.ir_values.specs.Operations.{IsOutcomeLessDefined, GivesInKind, binary_outcome}
 
 -- each value is less defined than itself
 abbrev pub LessDefinedIsReflexive : Type 0
@@ -29,6 +29,6 @@ OperationsAreMonotone = (op : BinOp) (many few : Flags) (width : ℕ) (a b c d :
     → IsLessDefined a c → IsLessDefined b d
     → IsOutcomeLessDefined (binary_outcome op many width a b) (binary_outcome op few width c d)
 
--- The value of an operation on iN is one of iN, whatever its operands are.
+-- An operation on iN gives a value of iN, if it gives one, whatever its operands are.
 abbrev pub OperationsStayInKind : Type 0
-OperationsStayInKind = (op : BinOp) (flags : Flags) (width : ℕ) (a b : Value) → IsInKind (Int width) (binary_value op flags width a b)
+OperationsStayInKind = (op : BinOp) (flags : Flags) (width : ℕ) (a b : Value) → GivesInKind (Some (Int width)) (binary_outcome op flags width a b)

@@ -1,19 +1,25 @@
 -- What a binary operation gives: the first case that fits.
-use Rattle.std.specs.Prelude.{ℕ, ℤ, ◌+◌, ◌-◌, ◌%◌, ◌^◌, ◌+ℤ◌, ◌-ℤ◌, neg_ℤ, pos, int_lt, int_le, Bool, ◌&&◌, ◌||◌, cond, nat_lt, nat_le}
+use Rattle.std.specs.Prelude.{ℕ, ℤ, ◌+◌, ◌-◌, ◌%◌, ◌^◌, ◌+ℤ◌, ◌-ℤ◌, neg_ℤ, pos, int_lt, int_le, Bool, ◌&&◌, ◌||◌, cond, nat_lt, nat_le, Option}
 use Rattle.ir_core.specs.declared.values.Value.{Value}
 use Rattle.ir_core.specs.declared.values.Value.TheVariants.{Num, Undef, Poison}
+use Rattle.ir_core.specs.declared.values.Kind.{Kind}
 use Rattle.ir_core.specs.declared.operands.BinOp.{BinOp}
 use Rattle.ir_core.specs.declared.operands.BinOp.TheVariants.{Add, Sub}
 use Rattle.ir_core.specs.declared.operands.Flags.{Flags}
 use Rattle.ir_values.specs.declared.operations.Outcome.{Outcome}
 use Rattle.ir_values.specs.declared.operations.Outcome.TheVariants.{Gives, Trap}
-use Rattle.ir_values.specs.Values.{IsLessDefined}
+use Rattle.ir_values.specs.Values.{IsInKindOf, IsLessDefined}
 
 -- an outcome is less defined than another: undefined behaviour than every outcome, a value as values are
 abbrev pub IsOutcomeLessDefined : Outcome → Outcome → Type 0
 IsOutcomeLessDefined Trap b = Unit {0}
 IsOutcomeLessDefined (Gives a) (Gives b) = IsLessDefined a b
 IsOutcomeLessDefined (Gives a) Trap = ⊥
+
+-- the value that an outcome gives is of the kind
+abbrev pub GivesInKind : Option Kind → Outcome → Type 0
+GivesInKind k (Gives v) = IsInKindOf k v
+GivesInKind k Trap = Unit {0}
 
 -- the number modulo 2 to the width
 abbrev pub wrapped : BinOp → ℕ → ℕ → ℕ → ℕ

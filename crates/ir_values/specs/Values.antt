@@ -1,5 +1,5 @@
 -- What a register may hold, and when one value is less defined than another.
-use Rattle.std.specs.Prelude.{◌≡◌, ◌<◌, ◌^◌, Bool, nat_eq}
+use Rattle.std.specs.Prelude.{◌≡◌, ◌<◌, ◌^◌, Bool, nat_eq, Option, None, Some}
 use Rattle.ir_core.specs.declared.values.Value.{Value}
 use Rattle.ir_core.specs.declared.values.Value.TheVariants.{Num, Undef, Poison}
 use Rattle.ir_core.specs.declared.values.Kind.{Kind}
@@ -10,6 +10,11 @@ abbrev pub IsInKind : Kind → Value → Type 0
 IsInKind (Int width) (Num n) = n < 2 ^ width
 IsInKind (Int width) Undef = Unit {0}
 IsInKind (Int width) Poison = Unit {0}
+
+-- the same where there may be no kind: every value is of none
+abbrev pub IsInKindOf : Option Kind → Value → Type 0
+IsInKindOf None v = Unit {0}
+IsInKindOf (Some k) v = IsInKind k v
 
 abbrev pub same_kind : Kind → Kind → Bool
 same_kind (Int v) (Int w) = nat_eq v w

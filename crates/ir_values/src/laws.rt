@@ -6,8 +6,8 @@ pub fn operations_are_monotone()
     ensures { OperationsAreMonotone }
 {}
 
-/// The value of an operation on iN is one of iN.
-#[tactic(auto, using(crate::proofs::OperationLaws::binary_value_in_kind))]
+/// An operation on iN gives a value of iN, if it gives one.
+#[tactic(auto, using(crate::proofs::OperationLaws::binary_outcome_in_kind))]
 pub fn operations_stay_in_kind()
     ensures { OperationsStayInKind }
 {}
