@@ -35,9 +35,13 @@ pub data Asks : Type 0 where
   Ask : (Choice → Bool) → (Choice → Asks) → Asks
   Never : Asks
 
+-- a value of that kind, as the outside sees it
+abbrev pub is_shown_of : Kind → Shown → Bool
+is_shown_of (Int width) (shown.Num n) = nat_lt n (2 ^ width)
+
 -- undef may be taken for any number of its kind
 abbrev pub is_pick : Kind → Choice → Bool
-is_pick (Int width) (Pick (shown.Num n)) = nat_lt n (2 ^ width)
+is_pick k (Pick s) = is_shown_of k s
 
 abbrev pub picked : Choice → Shown
 picked (Pick s) = s
@@ -116,8 +120,8 @@ abbrev pub shown_value : Shown → Value
 shown_value (shown.Num n) = value.Num n
 
 abbrev pub fits_kind : Option Kind → Shown → Bool
-fits_kind (Some (Int width)) (shown.Num n) = nat_lt n (2 ^ width)
 fits_kind None s = false
+fits_kind (Some k) s = is_shown_of k s
 
 -- The registers on entry: each parameter holds its argument. None where the arguments aren't one of its kind for each.
 abbrev pub entered : List Param → List Shown → Registers → Option Registers

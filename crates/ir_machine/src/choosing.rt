@@ -5,7 +5,7 @@ ghost use Rattle.ir_machine.specs.Registers as registers;
 ghost use Rattle.ir_machine.specs.Machine as machine;
 ghost use Rattle.ir_machine.specs.Choices.{TakesNext, ShowingComesTo};
 
-use crate::operands::fits_width;
+use crate::operands::is_shown_of;
 use crate::{Choice, Shown};
 use ir_core::{Kind, Value};
 
@@ -31,9 +31,8 @@ pub enum Showing {
 fn is_pick(kind: &Kind, choice: &Choice) -> bool
     ensures { result ≡ machine.is_pick kind.now choice.now }
 {
-    let Kind::Int(width) = kind;
-    let Choice::Pick(Shown::Num(n)) = choice;
-    fits_width(*n, *width)
+    let Choice::Pick(shown) = choice;
+    is_shown_of(kind, shown)
 }
 
 fn picked(choice: &Choice) -> Shown

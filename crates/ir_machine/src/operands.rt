@@ -5,6 +5,7 @@ ghost use Rattle.ir_values.specs.Values.{IsInKindOf};
 ghost use Rattle.ir_values.specs.Operations.{GivesInKind};
 ghost use Rattle.ir_machine.specs.Places.{registers_in};
 
+use crate::Shown;
 use crate::registers::RegisterFile;
 use ir_core::{Atom, Binary, Const, Kind, Name, Operand, Ty, Value};
 use ir_values::{Outcome, eval_binary};
@@ -26,10 +27,17 @@ pub(crate) fn kind_of(ty: &Ty) -> Option<Kind>
 
 /// Whether the number is one of that many bits.
 #[tactic(auto, using(crate::proofs::Widths::fits_wide, crate::proofs::Widths::one_shifted))]
-pub(crate) fn fits_width(n: u64, width: u32) -> bool
+fn fits_width(n: u64, width: u32) -> bool
     ensures { result ≡ nat_lt n (2 ^ width) }
 {
     width >= 64 || n < 1 << width
+}
+
+pub(crate) fn is_shown_of(kind: &Kind, shown: &Shown) -> bool
+    ensures { result ≡ machine.is_shown_of kind.now shown.now }
+{
+    let (Kind::Int(width), Shown::Num(n)) = (kind, shown);
+    fits_width(*n, *width)
 }
 
 fn constant_value(kind: &Kind, constant: &Const) -> Value

@@ -4,7 +4,7 @@ ghost use Rattle.ir_machine.specs.State.{Over};
 ghost use Rattle.ir_machine.specs.Machine as machine;
 ghost use Rattle.ir_machine.specs.Places.{registers_in, state_of};
 
-use crate::operands::{fits_width, kind_of};
+use crate::operands::{is_shown_of, kind_of};
 use crate::registers::RegisterFile;
 use crate::{Input, Place, RunState, Shown, StartEnd};
 use ir_core::{Function, Kind, Module, Name, Param, Value, same_name};
@@ -28,9 +28,8 @@ fn place_of(functions: &[Function], name: &Name) -> Option<usize>
 fn fits_kind(kind: Option<Kind>, argument: Shown) -> bool
     ensures { result ≡ machine.fits_kind kind argument }
 {
-    let Shown::Num(n) = argument;
     match kind {
-        Some(Kind::Int(width)) => fits_width(n, width),
+        Some(own) => is_shown_of(&own, &argument),
         None => false,
     }
 }
