@@ -7,13 +7,13 @@ pub enum Shown {
 }
 
 /// What is chosen at a step that leaves a choice: what an undef that is shown is taken for.
-#[derive(Debug, Drop, Clone, Copy)]
+#[derive(Debug, Drop)]
 pub enum Choice {
     Pick(Shown),
 }
 
 /// What a run shows.
-#[derive(Debug, Drop, Clone, Copy)]
+#[derive(Debug, Drop)]
 pub enum Item {
     /// A terminator was executed.
     Turn,

@@ -20,9 +20,7 @@ impl Chooser for Once {
     ghost script = { λ it. elim it.choice [ None ↦ [] | Some c ↦ c ∷ [] ] };
 
     fn take(&mut self) -> Option<Choice> {
-        let choice = self.choice;
-        self.choice = None;
-        choice
+        self.choice.take()
     }
 }
 
