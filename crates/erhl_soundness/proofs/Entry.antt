@@ -1,5 +1,5 @@
 -- From the verdict on two functions to the simulation of their entry blocks.
-use Rattle.std.proofs.Common.{◌≡◌, ◌⊎◌, ℕ, suc, true, ◌&&◌, List, [], ◌∷◌, ◌++◌, length, Option, None, Some, MatchOption, refl, sym, ap, ◌∙◌, subst, ⊎_elim, arith}
+use Rattle.std.proofs.Common.{◌≡◌, ℕ, suc, true, ◌&&◌, List, [], ◌∷◌, length, Option, None, Some, MatchOption, refl, sym, ap, ◌∙◌, subst, ⊎_elim, arith}
 use Rattle.std.specs.Prelude.{nat_eq}
 use Rattle.std.proofs.lemmas.Bool.{cond-false, cases_Bool}
 use Rattle.ir_core.specs.declared.names.Name.{Name}
@@ -12,12 +12,9 @@ use Rattle.ir_core.specs.declared.operands.Ty.{Ty}
 use Rattle.ir_core.specs.Same.{same_list, same_name, same_ty}
 use Rattle.ir_core.proofs.SameLaws.{left_true, right_true, same_list_true, same_name_true, same_ty_true, same_nat_true}
 use Rattle.ir_machine.specs.declared.items.Item.{Item}
-use Rattle.ir_machine.specs.declared.items.Item.TheVariants.{Wrong}
 use Rattle.ir_machine.specs.Registers.{Registers, no_registers, AreInKind}
-use Rattle.ir_machine.specs.State.{State}
 use Rattle.ir_machine.specs.Machine.{ShowsFrom, entered, at_entry}
-use Rattle.ir_machine.specs.Refinement.{FunctionRefines}
-use Rattle.ir_machine.proofs.Runs.{MayShowFrom}
+use Rattle.ir_machine.specs.Refinement.{MayShowFrom, FunctionRefines}
 use Rattle.ir_machine.proofs.InKind.{EntersInKind, no_registers_in_kind, entered_in_kind}
 use Rattle.erhl_assert.specs.declared.facts.Fact.{Fact}
 use Rattle.erhl_assert.specs.declared.hints.Letter.{Letter}
@@ -105,15 +102,10 @@ module _ (rules : Rules) (m : Module) (hint : Hint) (sound : AreSound rules) (so
   from_entry_refine [] (x ∷ gs) is_src is_tgt valid n items shows = absurd (refused_not_valid b.name spot.Start (MissingFact x) valid)
   from_entry_refine [] [] is_src is_tgt valid n items shows = on_lines_refine (block_lines hint b c) refl valid is_src is_tgt n items shows
 
--- where a run may have started, from there
-abbrev pub MayReachFrom : Module → Option State → List Item → Type 0
-MayReachFrom m o items = ((n : ℕ) × MatchOption o ⊥ (λ s. ShowsFrom m n s items))
-    ⊎ ((n : ℕ) × (seen : List Item) × (rest : List Item) × (items ≡ seen ++ rest) × MatchOption o ⊥ (λ s. ShowsFrom m n s (seen ++ Wrong ∷ [])))
-
 module _ (rules : Rules) (m : Module) (hint : Hint) (sound : AreSound rules) (source target : Module) (f g : Name) where
   blocks_refine : (bs cs : List Block) → nat_eq (length bs) (length cs) ≡ true → reached_verdict rules m hint bs cs ≡ verdict.Valid
       → (o : Option Registers) → EntersInKind o
-      → (n : ℕ) (items : List Item) → MatchOption (at_entry g cs o) ⊥ (λ s. ShowsFrom target n s items) → MayReachFrom source (at_entry f bs o) items
+      → (n : ℕ) (items : List Item) → MatchOption (at_entry g cs o) ⊥ (λ s. ShowsFrom target n s items) → MatchOption (at_entry f bs o) ⊥ (λ s. MayShowFrom source s items)
   blocks_refine bs [] long valid None kind n items shows = absurd shows
   blocks_refine bs [] long valid (Some registers) kind n items shows = absurd shows
   blocks_refine bs (c ∷ cs) long valid None kind n items shows = absurd shows

@@ -9,7 +9,7 @@ use Rattle.ir_core.proofs.SameLaws.{left_true, right_true, same_name_true}
 use Rattle.ir_machine.specs.declared.items.Item.{Item}
 use Rattle.ir_machine.specs.declared.items.Input.{Input}
 use Rattle.ir_machine.specs.Machine.{started, function_named, ShowsFrom}
-use Rattle.ir_machine.specs.Refinement.{FunctionRefines, Refines}
+use Rattle.ir_machine.specs.Refinement.{MayShowFrom, FunctionRefines, Refines}
 use Rattle.erhl_assert.specs.declared.hints.Hints.{Hints}
 use Rattle.erhl_assert.specs.declared.verdict.Verdict.{Verdict}
 use Rattle.erhl_assert.specs.declared.verdict.Verdict.TheVariants as verdict
@@ -18,7 +18,7 @@ use Rattle.erhl_assert.specs.declared.verdict.ModuleVerdict.{ModuleVerdict}
 use Rattle.erhl_assert.specs.declared.verdict.ModuleVerdict.TheVariants as modules
 use Rattle.erhl_assert.specs.Steps.{Rules, AreSound}
 use Rattle.erhl_assert.specs.Acceptance.{function_verdict, hint_for, same_signature, of_function, functions_verdict, module_verdict}
-use Rattle.erhl_soundness.proofs.Entry.{MayReachFrom, accepted_refines}
+use Rattle.erhl_soundness.proofs.Entry.{accepted_refines}
 
 of_function_valid : (x : Name) (v : Verdict) (rest : ModuleVerdict) → of_function x v rest ≡ modules.Valid → (v ≡ verdict.Valid) × (rest ≡ modules.Valid)
 of_function_valid x verdict.Valid rest h = (refl, h)
@@ -62,7 +62,7 @@ module _ (rules : Rules) (source target : Module) (hints : Hints) (sound : AreSo
 
 starts_refine : (source target : Module) (o p : Option Function) (input : Input) → PairRefines source target o p → (n : ℕ) (items : List Item)
     → MatchOption (option_and_then (λ g. started g input) p) ⊥ (λ s. ShowsFrom target n s items)
-    → MayReachFrom source (option_and_then (λ f. started f input) o) items
+    → MatchOption (option_and_then (λ f. started f input) o) ⊥ (λ s. MayShowFrom source s items)
 starts_refine source target None None input refines n items shows = absurd shows
 starts_refine source target (Some f) (Some g) input refines n items shows = refines input n items shows
 starts_refine source target None (Some g) input refines n items shows = absurd refines

@@ -1,6 +1,6 @@
 -- Runs, step by step: what a proof that one module refines another needs.
-use Rattle.std.proofs.Common.{◌≡◌, Bool, true, false, cond, ◌⊎◌, inl, inr, ℕ, zero, suc, ◌≤◌, List, [], ◌∷◌, ◌++◌, refl, sym, ap, ◌∙◌, subst, arith}
-use Rattle.std.specs.Prelude.{MatchOption, Option, Some, None}
+use Rattle.std.proofs.Common.{◌≡◌, Bool, true, false, cond, inl, inr, ℕ, zero, suc, ◌≤◌, List, [], ◌∷◌, ◌++◌, refl, sym, ap, ◌∙◌, subst, arith}
+use Rattle.std.specs.Prelude.{Option, Some, None}
 use Rattle.std.proofs.lemmas.List.{append_assoc, append-nil}
 use Rattle.ir_core.proofs.SameLaws.{same_name_refl}
 use Rattle.ir_core.specs.Same.{same_name}
@@ -14,11 +14,10 @@ pub use Rattle.ir_values.specs.Values.{IsInKindOf}
 use Rattle.ir_values.proofs.KindLaws.{same_kind_true, same_kind_refl, poison_in_kind}
 use Rattle.ir_machine.specs.declared.items.Item.{Item}
 use Rattle.ir_machine.specs.declared.items.Item.TheVariants.{Wrong}
-use Rattle.ir_machine.specs.declared.items.Input.{Input}
 use Rattle.ir_machine.specs.Registers.{Held, Registers, read, held_at, holding, set, AreInKind}
 use Rattle.ir_machine.specs.State.{State, Over}
-use Rattle.ir_machine.specs.Machine.{Made, Follows, asks, start, ShowsFrom}
-use Rattle.ir_machine.specs.Refinement.{MayShow}
+use Rattle.ir_machine.specs.Machine.{Made, Follows, asks, ShowsFrom}
+pub use Rattle.ir_machine.specs.Refinement.{MayShowFrom}
 
 -- every run may show nothing
 pub shows_nothing : (m : Module) (n : ℕ) (s : State) → ShowsFrom m n s []
@@ -43,11 +42,6 @@ over_shows m zero items h = h
 over_shows m (suc n) items (inl e) = e
 over_shows m (suc n) items (inr h) = absurd h.2
 
--- From the state the run can show these items, or undefined behaviour after a first part of them.
-abbrev pub MayShowFrom : Module → State → List Item → Type 0
-MayShowFrom m s items = ((n : ℕ) × ShowsFrom m n s items)
-    ⊎ ((n : ℕ) × (seen : List Item) × (rest : List Item) × (items ≡ seen ++ rest) × ShowsFrom m n s (seen ++ Wrong ∷ []))
-
 pub may_show_nothing : (m : Module) (s : State) → MayShowFrom m s []
 may_show_nothing m s = inl (zero, refl)
 
@@ -71,16 +65,6 @@ may_go_wrong m s made seen rest f e = inr (
   rest,
   refl,
   inr (made, [], f, sym e ∙ sym (append-nil made.items), refl),
-)
-
-pub may_show_from_start : (m : Module) (f : Name) (input : Input) (s : State) (items : List Item) → start m f input ≡ Some s → MayShowFrom m s items → MayShow m f input items
-may_show_from_start m f input s items e (inl h) = inl (h.0, subst (λ (o : Option State). MatchOption o ⊥ (λ t. ShowsFrom m h.0 t items)) (sym e) h.1)
-may_show_from_start m f input s items e (inr h) = inr (
-  h.0,
-  h.1,
-  h.2,
-  h.3,
-  subst (λ (o : Option State). MatchOption o ⊥ (λ t. ShowsFrom m h.0 t (h.1 ++ Wrong ∷ []))) (sym e) h.4,
 )
 
 -- a register that was just set reads as what it was set to

@@ -13,10 +13,14 @@ use Rattle.ir_machine.specs.Machine.{Made, Follows, asks, start, started, ShowsF
 abbrev pub Shows : Module → Name → Input → ℕ → List Item → Type 0
 Shows m f input n items = MatchOption (start m f input) ⊥ (λ s. ShowsFrom m n s items)
 
--- the module can show these items, or undefined behaviour after a first part of them
+-- from the state a run can show these items, or undefined behaviour after a first part of them
+abbrev pub MayShowFrom : Module → State → List Item → Type 0
+MayShowFrom m s items = ((n : ℕ) × ShowsFrom m n s items)
+    ⊎ ((n : ℕ) × (seen : List Item) × (rest : List Item) × (items ≡ seen ++ rest) × ShowsFrom m n s (seen ++ Wrong ∷ []))
+
+-- the same from the start of that function on that input
 abbrev pub MayShow : Module → Name → Input → List Item → Type 0
-MayShow m f input items = ((n : ℕ) × Shows m f input n items)
-    ⊎ ((n : ℕ) × (seen : List Item) × (rest : List Item) × (items ≡ seen ++ rest) × Shows m f input n (seen ++ Wrong ∷ []))
+MayShow m f input items = MatchOption (start m f input) ⊥ (λ s. MayShowFrom m s items)
 
 -- The target refines the source: whatever function is entered, on whatever input, what the target can show the source can
 -- show too, unless it has undefined behaviour first.
@@ -57,8 +61,7 @@ abbrev pub ShowsOn : Module → Function → Input → ℕ → List Item → Typ
 ShowsOn m f input n items = MatchOption (started f input) ⊥ (λ s. ShowsFrom m n s items)
 
 abbrev pub MayShowOn : Module → Function → Input → List Item → Type 0
-MayShowOn m f input items = ((n : ℕ) × ShowsOn m f input n items)
-    ⊎ ((n : ℕ) × (seen : List Item) × (rest : List Item) × (items ≡ seen ++ rest) × ShowsOn m f input n (seen ++ Wrong ∷ []))
+MayShowOn m f input items = MatchOption (started f input) ⊥ (λ s. MayShowFrom m s items)
 
 -- the target's function g refines the source's function f
 abbrev pub FunctionRefines : Module → Function → Module → Function → Type 0
