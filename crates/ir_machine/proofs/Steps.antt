@@ -25,14 +25,13 @@ use Rattle.ir_machine.specs.declared.machine.Progress.TheVariants as progress
 use Rattle.ir_machine.specs.Registers.{Registers, read, set, kind_of, operand_value}
 use Rattle.ir_machine.specs.State.{State, Over}
 use Rattle.ir_machine.specs.Machine.{Asks, Does, asks, return_step, binary_result}
-use Rattle.ir_machine.specs.Choices.{ComesTo, IsStep}
+use Rattle.ir_machine.specs.Choices.{Did, answer}
 use Rattle.ir_machine.specs.Places.{state_at, in_block, next_line, progress_of}
-use Rattle.ir_machine.proofs.Telling.{does_step, comes_to_step}
 use Rattle.ir_machine.proofs.Standing.{line_asks, trap_asks, term_asks, stands}
 
 -- a line that was done
-abbrev pub Did : Stepped → Place → Option Place → Registers → Registers → Type 0
-Did stepped p place after registers = (stepped.items ≡ []) × (stepped.progress ≡ progress.Goes) × (place ≡ Some (next_line p)) × (after ≡ registers)
+abbrev pub LineDid : Stepped → Place → Option Place → Registers → Registers → Type 0
+LineDid stepped p place after registers = (stepped.items ≡ []) × (stepped.progress ≡ progress.Goes) × (place ≡ Some (next_line p)) × (after ≡ registers)
 
 abbrev pub WentWrong : Stepped → Option Place → Type 0
 WentWrong stepped place = (stepped.items ≡ Wrong ∷ []) × (stepped.progress ≡ progress.IsWrong) × (place ≡ None)
@@ -40,20 +39,20 @@ WentWrong stepped place = (stepped.items ≡ Wrong ∷ []) × (stepped.progress 
 module _ (m : Module) (place : Option Place) (p : Place) (registers : Registers) (f : Function) (b : Block)
     (at : place ≡ Some p) (some : slice_get m.functions p.function ≡ Some f) (block : slice_get f.blocks p.block ≡ Some b) where
   abbrev StepsTo : List Choice → List Choice → Stepped → State → Type 0
-  StepsTo before after stepped state = IsStep (asks m (state_at m place registers)) before after stepped.items state × (stepped.progress ≡ progress_of stepped.items state)
+  StepsTo before after stepped state = (answer (asks m (state_at m place registers)) before ≡ Did stepped.items state after) × (stepped.progress ≡ progress_of stepped.items state)
 
   here : state_at m place registers ≡ state_at m (Some p) registers
   here = ap (λ (o : Option Place). state_at m o registers) at
 
   line_did : (i : Binary) → p.line < length b.body → line.Binary i ≡ get_or b.body p.line (line.Binary i)
       → (v : Value) → binary_result registers i ≡ Gives v → (stepped : Stepped) (next : Option Place) (after : Registers) (script : List Choice)
-      → Did stepped p next after (set registers i.name (kind_of i.ty) v) → StepsTo script script stepped (state_at m next after)
+      → LineDid stepped p next after (set registers i.name (kind_of i.ty) v) → StepsTo script script stepped (state_at m next after)
   line_did i within is v e stepped next after script did =
       let reached : state_at m (Some (next_line p)) (set registers i.name (kind_of i.ty) v) ≡ state_at m next after = cc (did.2, did.3) in
       let stands_after : state_at m next after ≡ in_block f (Some b) (p.line + 1) after = ap (λ (o : Option Place). state_at m o after) did.2 ∙ stands m (next_line p) after f b some block in
       let asked : asks m (state_at m place registers) ≡ Does stepped.items (state_at m next after) =
       ap (asks m) here ∙ line_asks m p registers f b i v some block within is e ∙ cc (did.0, reached) in (
-        does_step (asks m (state_at m place registers)) script stepped.items (state_at m next after) asked,
+        ap (λ (tree : Asks). answer tree script) asked,
         did.1 ∙ ap (λ (s : State). progress_of stepped.items s) (sym stands_after),
       )
 
@@ -64,13 +63,13 @@ module _ (m : Module) (place : Option Place) (p : Place) (registers : Registers)
       let reached : state_at m next after ≡ Over = ap (λ (o : Option Place). state_at m o after) wrong.2 in
       let asked : asks m (state_at m place registers) ≡ Does stepped.items (state_at m next after) =
       ap (asks m) here ∙ trap_asks m p registers f b i some block within is e ∙ cc (wrong.0, reached) in (
-        does_step (asks m (state_at m place registers)) script stepped.items (state_at m next after) asked,
+        ap (λ (tree : Asks). answer tree script) asked,
         cc (wrong.1, ap (λ (items : List Item). progress_of items Over) wrong.0, ap (λ (s : State). progress_of stepped.items s) reached),
       )
 
   line_done_at : (i : Binary) → p.line < length b.body → line.Binary i ≡ get_or b.body p.line (line.Binary i)
       → (o : Outcome) → binary_result registers i ≡ o → {E : Type 0} (r : Result Stepped E) (next : Option Place) (after : Registers) (script : List Choice)
-      → ((v : Value) → binary_result registers i ≡ Gives v → IfOk r (λ stepped. Did stepped p next after (set registers i.name (kind_of i.ty) v)))
+      → ((v : Value) → binary_result registers i ≡ Gives v → IfOk r (λ stepped. LineDid stepped p next after (set registers i.name (kind_of i.ty) v)))
       → (binary_result registers i ≡ Trap → IfOk r (λ stepped. WentWrong stepped next))
       → IfOk r (λ stepped. StepsTo script script stepped (state_at m next after))
   line_done_at i within is (Gives v) e (Ok stepped) next after script gives traps = line_did i within is v e stepped next after script (gives v e)
@@ -78,7 +77,7 @@ module _ (m : Module) (place : Option Place) (p : Place) (registers : Registers)
   line_done_at i within is o e (Err x) next after script gives traps = tt
 
   pub line_done : (i : Instr) → p.line < length b.body → i ≡ get_or b.body p.line i → {E : Type 0} (r : Result Stepped E) (next : Option Place) (after : Registers) (script : List Choice)
-      → ((l : Binary) → i ≡ line.Binary l → (v : Value) → binary_result registers l ≡ Gives v → IfOk r (λ stepped. Did stepped p next after (set registers l.name (kind_of l.ty) v)))
+      → ((l : Binary) → i ≡ line.Binary l → (v : Value) → binary_result registers l ≡ Gives v → IfOk r (λ stepped. LineDid stepped p next after (set registers l.name (kind_of l.ty) v)))
       → ((l : Binary) → i ≡ line.Binary l → binary_result registers l ≡ Trap → IfOk r (λ stepped. WentWrong stepped next))
       → IfOk r (λ stepped. StepsTo script script stepped (state_at m next after))
   line_done (line.Binary l) within is r next after script gives traps =
@@ -86,13 +85,13 @@ module _ (m : Module) (place : Option Place) (p : Place) (registers : Registers)
 
   pub return_done : (t : Term) (k : Option Kind) (v : Value) → b.term ≡ t → length b.body ≤ p.line
       → ((o : Operand Name) → t ≡ Ret o → k ≡ kind_of o.ty) → ((o : Operand Name) → t ≡ Ret o → v ≡ operand_value (read registers) o)
-      → (before after : List Choice) (items : List Item) → ComesTo (return_step k v [] tt) before (Does items Over) after
-      → IsStep (asks m (state_at m place registers)) before after items Over
+      → (before after : List Choice) (items : List Item) → answer (return_step k v [] tt) before ≡ Did items Over after
+      → answer (asks m (state_at m place registers)) before ≡ Did items Over after
   return_done (Ret o) k v is past kind value before after items h =
       let asked : return_step k v [] tt ≡ asks m (state_at m place registers) =
       ap (λ (j : Option Kind). return_step j v [] tt) (kind o refl) ∙ ap (λ (w : Value). return_step (kind_of o.ty) w [] tt) (value o refl)
       ∙ sym (ap (asks m) here ∙ term_asks m p registers f b o some block past is) in
-      comes_to_step (asks m (state_at m place registers)) before after items Over (subst (λ (tree : Asks). ComesTo tree before (Does items Over) after) asked h)
+      subst (λ (tree : Asks). answer tree before ≡ Did items Over after) asked h
 
 -- one part of what holds of the value of an Ok
 pub if_ok_first : {T E : Type 0} (P Q : T → Type 0) (r : Result T E) → IfOk r (λ x. P x × Q x) → IfOk r P

@@ -1,110 +1,113 @@
 -- How choices that are told answer a step.
-use Rattle.std.proofs.Common.{◌≡◌, inl, inr, ℕ, true, false, List, [], ◌∷◌, ◌++◌, Option, None, Some, refl, sym, ap, ◌∙◌, subst}
+use Rattle.std.proofs.Common.{◌≡◌, ℕ, Bool, true, false, cond, List, [], ◌∷◌, ◌++◌, Option, None, Some, refl, sym, ap, subst}
+use Rattle.std.proofs.lemmas.List.{append_cancel_right}
 use Rattle.ir_core.specs.declared.values.Value.{Value}
 use Rattle.ir_core.specs.declared.values.Value.TheVariants as value
 use Rattle.ir_core.specs.declared.values.Kind.{Kind}
 use Rattle.ir_machine.specs.declared.items.Item.{Item}
+use Rattle.ir_machine.specs.declared.items.Item.TheVariants.{Turn, Returned, Wrong}
 use Rattle.ir_machine.specs.declared.items.Shown.{Shown}
 use Rattle.ir_machine.specs.declared.items.Shown.TheVariants as shown
 use Rattle.ir_machine.specs.declared.items.Choice.{Choice}
-use Rattle.ir_machine.specs.State.{State}
-use Rattle.ir_machine.specs.Machine.{Asks, Does, Ask, Never, Made, Follows, is_pick, picked, show}
 use Rattle.ir_machine.specs.declared.choosing.Showing.{Showing}
 use Rattle.ir_machine.specs.declared.choosing.Showing.TheVariants as showing
-use Rattle.ir_machine.specs.Choices.{ComesTo, LacksChoice, ShowingComesTo, IsStep}
+use Rattle.ir_machine.specs.State.{State, Over}
+use Rattle.ir_machine.specs.Machine.{Asks, Does, Ask, Never, Made, Follows, is_pick, picked, show, return_step}
+use Rattle.ir_machine.specs.Choices.{Answer, Did, Lacks, answer, Leaves, TakesAsked, AnswersAreSteps, AnswersTakeAsked}
+use Rattle.ir_machine.specs.Showing.{ShowingAnswers}
 
--- without choices told, a tree is as it was
-pub stays : (tree : Asks) (script : List Choice) → ComesTo tree script tree script
-stays (Does items after) script = (refl, refl)
-stays (Ask fits next) script = inl (refl, refl)
-stays Never script = (refl, refl)
+-- a step that the tree allows is its answer
+follows_answers : (tree : Asks) (made : Made) (left : List Choice) → Follows tree made → answer tree (made.told ++ left) ≡ Did made.items made.after left
+follows_answers (Does items after) made left f = rw f refl
+follows_answers (Ask fits next) made left f =
+    let more : answer (next f.0) (f.1.told ++ left) ≡ Did f.1.items f.1.after left = follows_answers (next f.0) f.1 left f.3 in
+    rw (f.4, f.2) more
+follows_answers Never made left f = absurd f
 
--- a tree that comes down to a step allows it
-pub comes_to_step : (tree : Asks) (before after : List Choice) (items : List Item) (state : State) → ComesTo tree before (Does items state) after → IsStep tree before after items state
-comes_to_step (Does shows leads) before after items state h =
-    let parts : (items, state) ≡ (shows, leads) = cc (h.0) in
-    ([], h.1, ap (λ (p : List Item × State). record { told = []; items = p.0; after = p.1 }) parts)
-comes_to_step (Ask fits next) before after items state (inl h) = absurd (cc (h.0))
-comes_to_step (Ask fits next) before after items state (inr h) =
-    let more : IsStep (next h.0) h.1 after items state = comes_to_step (next h.0) h.1 after items state h.4 in
-    (h.0 ∷ more.0, h.2 ∙ ap (λ (l : List Choice). h.0 ∷ l) more.1, (h.0, record { told = more.0; items = items; after = state }, h.3, more.2, refl))
-comes_to_step Never before after items state h = absurd (cc (h.0))
+-- a step that is the answer to some choices is one that the tree allows, told the first of them
+abbrev pub Allows : Asks → List Choice → List Choice → List Item → State → Type 0
+Allows tree before left items state = (told : List Choice) × (before ≡ told ++ left) × Follows tree (record { told = told; items = items; after = state })
+
+answer_allows : (tree : Asks) (before left : List Choice) (items : List Item) (state : State) → answer tree before ≡ Did items state left → Allows tree before left items state
+answer_allows (Does shows leads) before left items state e =
+    let rest : before ≡ left = cc in
+    let parts : (items, state) ≡ (shows, leads) = cc in
+    ([], rest, ap (λ (p : List Item × State). record { told = []; items = p.0; after = p.1 }) parts)
+answer_allows (Ask fits next) [] left items state e = absurd (cc)
+answer_allows (Ask fits next) (c ∷ before) left items state e = by_fit (fits c) refl e (λ h. answer_allows (next c) before left items state h)
+  where
+    by_fit : (fit : Bool) → fits c ≡ fit → cond fit (answer (next c) before) (Lacks before) ≡ Did items state left
+        → (answer (next c) before ≡ Did items state left → Allows (next c) before left items state) → Allows (Ask fits next) (c ∷ before) left items state
+    by_fit true is e more =
+        let rest : Allows (next c) before left items state = more e in
+        (c ∷ rest.0, ap (λ (l : List Choice). c ∷ l) rest.1, (c, record { told = rest.0; items = items; after = state }, is, rest.2, refl))
+    by_fit false is e more = absurd (cc)
+answer_allows Never before left items state e = absurd (cc)
+
+answer_follows : (tree : Asks) (made : Made) (left : List Choice) → answer tree (made.told ++ left) ≡ Did made.items made.after left → Follows tree made
+answer_follows tree made left e =
+    let allowed : Allows tree (made.told ++ left) left made.items made.after = answer_allows tree (made.told ++ left) left made.items made.after e in
+    let same : allowed.0 ≡ made.told = append_cancel_right allowed.0 made.told left (sym allowed.1) in
+    subst (λ (told : List Choice). Follows tree (record { told = told; items = made.items; after = made.after })) same allowed.2
+
+pub answers_are_steps : AnswersAreSteps
+answers_are_steps tree made left = (follows_answers tree made left, answer_follows tree made left)
+
+pub answers_take_asked : AnswersTakeAsked
+answers_take_asked (Does items after) told left e = ([], e, refl)
+answers_take_asked (Ask fits next) [] left e = ([], e, refl)
+answers_take_asked (Ask fits next) (c ∷ told) left e = by_fit (fits c) refl e (λ h. answers_take_asked (next c) told left h)
+  where
+    by_fit : (fit : Bool) → fits c ≡ fit → Leaves (cond fit (answer (next c) told) (Lacks told)) left
+        → (Leaves (answer (next c) told) left → TakesAsked (next c) told left) → TakesAsked (Ask fits next) (c ∷ told) left
+    by_fit true is e more =
+        let rest : TakesAsked (next c) told left = more e in
+        (c ∷ rest.0, ap (λ (l : List Choice). c ∷ l) rest.1, rw is rest.2)
+    by_fit false is e more = (c ∷ [], ap (λ (l : List Choice). c ∷ l) e, rw is refl)
+answers_take_asked Never told left e = absurd e
+
+-- where there is a step, no choice need have been taken
+pub takes_none : (tree : Asks) (made : Made) (script : List Choice) → Follows tree made → TakesAsked tree script script
+takes_none (Does items after) made script f = ([], refl, refl)
+takes_none (Ask fits next) made script f = ([], refl, refl)
+takes_none Never made script f = absurd f
+
+leaves_of : (a b : Answer) (left : List Choice) → a ≡ b → Leaves b left → Leaves a left
+leaves_of a b left e h = subst (λ (x : Answer). Leaves x left) (sym e) h
+
+pub did_takes_asked : (tree : Asks) (before after : List Choice) (items : List Item) (state : State) → answer tree before ≡ Did items state after → TakesAsked tree before after
+did_takes_asked tree before after items state e = answers_take_asked tree before after (leaves_of (answer tree before) (Did items state after) after e refl)
+
+pub lacks_takes_asked : (tree : Asks) (before after : List Choice) → answer tree before ≡ Lacks after → TakesAsked tree before after
+lacks_takes_asked tree before after e = answers_take_asked tree before after (leaves_of (answer tree before) (Lacks after) after e refl)
 
 pub show_number : (k : Option Kind) (v : Value) (n : ℕ) (poison : Asks) (next : Shown → Asks) (script : List Choice) → v ≡ value.Num n
-    → ComesTo (show k v poison next) script (next (shown.Num n)) script
-show_number k v n poison next script e = rw e (stays (next (shown.Num n)) script)
+    → answer (show k v poison next) script ≡ answer (next (shown.Num n)) script
+show_number k v n poison next script e = rw e refl
 
 pub show_poison : (k : Option Kind) (v : Value) (poison : Asks) (next : Shown → Asks) (script : List Choice) → v ≡ value.Poison
-    → ComesTo (show k v poison next) script poison script
-show_poison k v poison next script e = rw e (stays poison script)
+    → answer (show k v poison next) script ≡ answer poison script
+show_poison k v poison next script e = rw e refl
 
 pub show_kindless : (k : Option Kind) (v : Value) (poison : Asks) (next : Shown → Asks) (script : List Choice) → v ≡ value.Undef → k ≡ None
-    → ComesTo (show k v poison next) script poison script
-show_kindless k v poison next script e none = rw (e, none) (stays poison script)
+    → answer (show k v poison next) script ≡ answer poison script
+show_kindless k v poison next script e none = rw (e, none) refl
 
 pub show_picks : (k : Option Kind) (v : Value) (own : Kind) (c : Choice) (poison : Asks) (next : Shown → Asks) (before after : List Choice) → v ≡ value.Undef → k ≡ Some own
-    → before ≡ c ∷ after → is_pick own c ≡ true → ComesTo (show k v poison next) before (next (picked c)) after
-show_picks k v own c poison next before after e some taken fits = rw (e, some) (inr (c, after, taken, fits, stays (next (picked c)) after))
+    → before ≡ c ∷ after → is_pick own c ≡ true → answer (show k v poison next) before ≡ answer (next (picked c)) after
+show_picks k v own c poison next before after e some taken fits = rw (e, some, taken, fits) refl
 
 pub show_lacks : (k : Option Kind) (v : Value) (own : Kind) (poison : Asks) (next : Shown → Asks) (before after : List Choice) → v ≡ value.Undef → k ≡ Some own
-    → before ≡ [] → after ≡ [] → LacksChoice (show k v poison next) before after
-show_lacks k v own poison next before after e some none left = rw (e, some, none) left
+    → before ≡ [] → after ≡ [] → answer (show k v poison next) before ≡ Lacks after
+show_lacks k v own poison next before after e some none left = rw (e, some, none, left) refl
 
 pub show_misfits : (k : Option Kind) (v : Value) (own : Kind) (c : Choice) (poison : Asks) (next : Shown → Asks) (before after : List Choice) → v ≡ value.Undef → k ≡ Some own
-    → before ≡ c ∷ after → is_pick own c ≡ false → LacksChoice (show k v poison next) before after
-show_misfits k v own c poison next before after e some taken misfit = rw (e, some, taken) (inl (misfit, refl))
+    → before ≡ c ∷ after → is_pick own c ≡ false → answer (show k v poison next) before ≡ Lacks after
+show_misfits k v own c poison next before after e some taken misfit = rw (e, some, taken, misfit) refl
 
-pub does_step : (tree : Asks) (script : List Choice) (items : List Item) (state : State) → tree ≡ Does items state → IsStep tree script script items state
-does_step tree script items state e = comes_to_step tree script script items state (subst (λ (t : Asks). ComesTo t script (Does items state) script) (sym e) (refl, refl))
-
--- where a choice is lacking there is no step
-pub lacking_has_none : (tree : Asks) (script left : List Choice) → LacksChoice tree script left → (told after : List Choice) (items : List Item) (state : State)
-    → script ≡ told ++ after → Follows tree (record { told = told; items = items; after = state }) → ⊥
-lacking_has_none (Does shows leads) script left lacks told after items state e f = lacks
-lacking_has_none Never script left lacks told after items state e f = lacks
-lacking_has_none (Ask fits next) [] left lacks told after items state e f =
-    let same : told ≡ f.0 ∷ f.1.told = ap (λ (m : Made). m.told) f.4 in cc (e, ap (λ (l : List Choice). l ++ after) same)
-lacking_has_none (Ask fits next) (c ∷ script) left (inl misfit) told after items state e f =
-    let same : told ≡ f.0 ∷ f.1.told = ap (λ (m : Made). m.told) f.4 in
-    let next_told : c ∷ script ≡ f.0 ∷ f.1.told ++ after = e ∙ ap (λ (l : List Choice). l ++ after) same in
-    let first : c ≡ f.0 = cc in cc (misfit.0, f.2, ap fits first)
-lacking_has_none (Ask fits next) (c ∷ script) left (inr lacks) told after items state e f =
-    let same : told ≡ f.0 ∷ f.1.told = ap (λ (m : Made). m.told) f.4 in
-    let next_told : c ∷ script ≡ f.0 ∷ f.1.told ++ after = e ∙ ap (λ (l : List Choice). l ++ after) same in
-    let first : f.0 ≡ c = cc in
-    let rest : script ≡ f.1.told ++ after = cc in
-    lacking_has_none (next c) script left lacks.1 f.1.told after f.1.items f.1.after rest (subst (λ (d : Choice). Follows (next d) f.1) first f.3)
-
-pub lacking_has_no_step : (tree : Asks) (before left after : List Choice) (items : List Item) (state : State) → LacksChoice tree before left → IsStep tree before after items state → ⊥
-lacking_has_no_step tree before left after items state lacks h = lacking_has_none tree before left lacks h.0 after items state h.1 h.2
-
--- what was told of the choices before, where those after are left
-abbrev pub WasTold : List Choice → List Choice → Type 0
-WasTold before after = (told : List Choice) × (before ≡ told ++ after)
-
-told_more : (c : Choice) (before left after : List Choice) → before ≡ c ∷ left → WasTold left after → WasTold before after
-told_more c before left after e h = (c ∷ h.0, e ∙ ap (λ (l : List Choice). c ∷ l) h.1)
-
-comes_to_told : (tree : Asks) (before : List Choice) (end : Asks) (after : List Choice) → ComesTo tree before end after → WasTold before after
-comes_to_told (Does items state) before end after h = ([], h.1)
-comes_to_told Never before end after h = ([], h.1)
-comes_to_told (Ask fits next) before end after (inl h) = ([], h.1)
-comes_to_told (Ask fits next) before end after (inr h) = told_more h.0 before h.1 after h.2 (comes_to_told (next h.0) h.1 end after h.4)
-
-lacking_told : (tree : Asks) (before after : List Choice) → LacksChoice tree before after → WasTold before after
-lacking_told (Does items state) before after h = absurd h
-lacking_told Never before after h = absurd h
-lacking_told (Ask fits next) [] after h = ([], sym h)
-lacking_told (Ask fits next) (c ∷ left) after (inl h) = (c ∷ [], ap (λ (l : List Choice). c ∷ l) (sym h.1))
-lacking_told (Ask fits next) (c ∷ left) after (inr h) = told_more c (c ∷ left) left after refl (lacking_told (next c) left after h.1)
-
-showing_told : (s : Showing) (tree : Asks) (before : List Choice) (poison : Asks) (next : Shown → Asks) (after : List Choice)
-    → ShowingComesTo s tree before poison next after → WasTold before after
-showing_told (showing.Shows shows) tree before poison next after h = comes_to_told tree before (next shows) after h
-showing_told showing.IsPoison tree before poison next after h = comes_to_told tree before poison after h
-showing_told showing.LacksChoice tree before poison next after h = lacking_told tree before after h
-
--- whatever showing a value leads to, a first part of the choices was told
-pub shown_told : (s : Showing) (k : Option Kind) (v : Value) (before after : List Choice)
-    → ((poison : Asks) (next : Shown → Asks) → ShowingComesTo s (show k v poison next) before poison next after) → WasTold before after
-shown_told s k v before after h = showing_told s (show k v Never (λ x. Never)) before Never (λ x. Never) after (h Never (λ x. Never))
+-- whatever showing the result leads to, the choices that were taken are asked for
+pub return_takes_asked : (s : Showing) (k : Option Kind) (v : Value) (before after : List Choice)
+    → ((poison : Asks) (next : Shown → Asks) → ShowingAnswers s (show k v poison next) before poison next after) → TakesAsked (return_step k v [] tt) before after
+return_takes_asked (showing.Shows s) k v before after h = did_takes_asked (return_step k v [] tt) before after (Turn ∷ Returned (Some s) ∷ []) Over (h _ _)
+return_takes_asked showing.IsPoison k v before after h = did_takes_asked (return_step k v [] tt) before after (Turn ∷ Wrong ∷ []) Over (h _ (λ s. Does (Turn ∷ Returned (Some s) ∷ []) Over))
+return_takes_asked showing.LacksChoice k v before after h = lacks_takes_asked (return_step k v [] tt) before after (h _ _)

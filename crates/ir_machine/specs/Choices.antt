@@ -1,41 +1,49 @@
 -- How a step is answered by choices that are told one after the other.
-use Rattle.std.specs.Prelude.{◌≡◌, ◌⊎◌, true, false, List, [], ◌∷◌, ◌++◌, Option, None, Some}
+use Rattle.std.specs.Prelude.{◌≡◌, ◌≢◌, ◌↔◌, cond, List, [], ◌∷◌, ◌++◌, Option, None, Some}
+use Rattle.ir_core.specs.declared.functions.Module.{Module}
 use Rattle.ir_machine.specs.declared.items.Item.{Item}
-use Rattle.ir_machine.specs.declared.items.Shown.{Shown}
 use Rattle.ir_machine.specs.declared.items.Choice.{Choice}
-use Rattle.ir_machine.specs.declared.choosing.Showing.{Showing}
-use Rattle.ir_machine.specs.declared.choosing.Showing.TheVariants as showing
-use Rattle.ir_machine.specs.State.{State}
-use Rattle.ir_machine.specs.Machine.{Asks, Does, Ask, Never, Follows}
+use Rattle.ir_machine.specs.State.{State, Over}
+use Rattle.ir_machine.specs.Machine.{Asks, Does, Ask, Never, Made, Follows, asks}
 
 -- the first of the choices is told, where there is one
 abbrev pub TakesNext : Option Choice → List Choice → List Choice → Type 0
 TakesNext None before after = (before ≡ []) × (after ≡ [])
 TakesNext (Some c) before after = before ≡ c ∷ after
 
--- answered by the first choices before, of which those after are left, the tree comes down to another
-abbrev pub ComesTo : Asks → List Choice → Asks → List Choice → Type 0
-ComesTo (Does items state) before end after = (end ≡ Does items state) × (before ≡ after)
-ComesTo Never before end after = (end ≡ Never) × (before ≡ after)
-ComesTo (Ask fits next) before end after = ((end ≡ Ask fits next) × (before ≡ after))
-    ⊎ ((c : Choice) × (left : List Choice) × (before ≡ c ∷ left) × (fits c ≡ true) × ComesTo (next c) left end after)
+-- What a tree answers to the choices that are told. The step is made, and these choices are left of them; or a choice is
+-- due, and there is none, or the next doesn't fit, and these are left after it; or there is no step.
+pub data Answer : Type 0 where
+  Did : List Item → State → List Choice → Answer
+  Lacks : List Choice → Answer
+  NoStep : Answer
 
--- A choice is due, and there is none, or the next doesn't fit. Those before it fit; after are those that are left.
-abbrev pub LacksChoice : Asks → List Choice → List Choice → Type 0
-LacksChoice (Does items state) before after = ⊥
-LacksChoice Never before after = ⊥
-LacksChoice (Ask fits next) [] after = after ≡ []
-LacksChoice (Ask fits next) (c ∷ left) after = ((fits c ≡ false) × (after ≡ left))
-    ⊎ ((fits c ≡ true) × LacksChoice (next c) left after)
+abbrev pub answer : Asks → List Choice → Answer
+answer (Does items after) told = Did items after told
+answer (Ask fits next) [] = Lacks []
+answer (Ask fits next) (c ∷ told) = cond (fits c) (answer (next c) told) (Lacks told)
+answer Never told = NoStep
 
--- what showing a value leads to: the value is shown, or it is poison, or the choice that it wants is lacking
-abbrev pub ShowingComesTo : Showing → Asks → List Choice → Asks → (Shown → Asks) → List Choice → Type 0
-ShowingComesTo (showing.Shows s) tree before poison next after = ComesTo tree before (next s) after
-ShowingComesTo showing.IsPoison tree before poison next after = ComesTo tree before poison after
-ShowingComesTo showing.LacksChoice tree before poison next after = LacksChoice tree before after
+-- the choices that are left
+abbrev pub Leaves : Answer → List Choice → Type 0
+Leaves (Did items after rest) left = rest ≡ left
+Leaves (Lacks rest) left = rest ≡ left
+Leaves NoStep left = ⊥
 
--- The tree allows the step that shows these items and leads to this state, where the choices told are those before up to
--- those after.
-abbrev pub IsStep : Asks → List Choice → List Choice → List Item → State → Type 0
-IsStep tree before after items state = (told : List Choice) × (before ≡ told ++ after)
-    × Follows tree (record { told = told; items = items; after = state })
+-- The choices before are those that are taken and then those after, and the tree asks for each that is taken: told them
+-- alone, it leaves none.
+abbrev pub TakesAsked : Asks → List Choice → List Choice → Type 0
+TakesAsked tree before after = (taken : List Choice) × (before ≡ taken ++ after) × Leaves (answer tree taken) []
+
+-- The tree allows a step exactly where it answers with that step what the step was told, whatever else is told after it.
+abbrev pub AnswersAreSteps : Type 0
+AnswersAreSteps = (tree : Asks) (made : Made) (left : List Choice)
+    → Follows tree made ↔ (answer tree (made.told ++ left) ≡ Did made.items made.after left)
+
+-- what an answer leaves is what stays once the choices that the tree asks for are taken
+abbrev pub AnswersTakeAsked : Type 0
+AnswersTakeAsked = (tree : Asks) (told left : List Choice) → Leaves (answer tree told) left → TakesAsked tree told left
+
+-- where a run isn't over, a step is made or lacks a choice, whatever is told
+abbrev pub RunsAnswer : Type 0
+RunsAnswer = (m : Module) (s : State) (told : List Choice) → s ≢ Over → answer (asks m s) told ≢ NoStep

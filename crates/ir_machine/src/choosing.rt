@@ -3,7 +3,8 @@ ghost use Rattle.ir_machine.specs.declared.items.Choice.{Choice};
 ghost use Rattle.ir_machine.specs.declared.items.Shown.{Shown};
 ghost use Rattle.ir_machine.specs.Registers as registers;
 ghost use Rattle.ir_machine.specs.Machine as machine;
-ghost use Rattle.ir_machine.specs.Choices.{TakesNext, ShowingComesTo};
+ghost use Rattle.ir_machine.specs.Choices.{TakesNext};
+ghost use Rattle.ir_machine.specs.Showing.{ShowingAnswers};
 
 use crate::operands::is_shown_of;
 use crate::{Choice, Shown};
@@ -45,7 +46,7 @@ fn picked(choice: &Choice) -> Shown
 #[tactic(auto, using(crate::proofs::Telling::show_number, crate::proofs::Telling::show_poison, crate::proofs::Telling::show_kindless, crate::proofs::Telling::show_picks, crate::proofs::Telling::show_lacks, crate::proofs::Telling::show_misfits))]
 pub(crate) fn show<C: Chooser>(kind: Option<Kind>, value: Value, chooser: &mut C) -> Showing
     ensures { (poison : machine.Asks) (next : Shown → machine.Asks)
-        → ShowingComesTo result (machine.show kind value poison next)
+        → ShowingAnswers result (machine.show kind value poison next)
         (C.script chooser.old) poison next (C.script chooser.new) }
 {
     let own = match (value, kind) {

@@ -6,7 +6,7 @@ ghost use Rattle.ir_machine.specs.declared.machine.Progress.TheVariants as progr
 ghost use Rattle.ir_machine.specs.Registers as registers;
 ghost use Rattle.ir_machine.specs.State.{Over};
 ghost use Rattle.ir_machine.specs.Machine as machine;
-ghost use Rattle.ir_machine.specs.Choices.{ComesTo, LacksChoice, IsStep};
+ghost use Rattle.ir_machine.specs.Choices.{Did, Lacks, answer, TakesAsked};
 ghost use Rattle.ir_machine.specs.Places.{registers_in, state_of, progress_of, next_line};
 
 use crate::choosing::{Showing, show};
@@ -41,13 +41,12 @@ fn last_return<C: Chooser>(
     value: Value,
     chooser: &mut C,
 ) -> Result<Stepped, StepEnd>
-    ensures made { IfOk result (λ stepped. ComesTo
-        (machine.return_step kind value [] tt) (C.script chooser.old)
-        (machine.Does stepped.items Over) (C.script chooser.new)) }
+    ensures made { IfOk result (λ stepped. answer (machine.return_step kind value [] tt) (C.script chooser.old)
+        ≡ Did stepped.items Over (C.script chooser.new)) }
     ensures progress { IfOk result (λ stepped. stepped.progress ≡ progress_of stepped.items Over) }
     ensures no_choice { IsErrOf result StepEnd.NoChoice
-        → LacksChoice (machine.return_step kind value [] tt) (C.script chooser.old) (C.script chooser.new) }
-    ensures told { (told : List Choice) × (C.script chooser.old ≡ told ++ C.script chooser.new) }
+        → answer (machine.return_step kind value [] tt) (C.script chooser.old) ≡ Lacks (C.script chooser.new) }
+    ensures told { TakesAsked (machine.return_step kind value [] tt) (C.script chooser.old) (C.script chooser.new) }
 {
     match show(kind, value, chooser) {
         Showing::LacksChoice => Err(StepEnd::NoChoice),
@@ -118,21 +117,21 @@ pub fn step<C: Chooser>(
     chooser: &mut C,
 ) -> Result<Stepped, StepEnd>
     requires running { state_of «module».now state.old ≢ Over }
-    ensures made { IfOk result (λ stepped. IsStep
-        (machine.asks «module».now (state_of «module».now state.old))
-        (C.script chooser.old) (C.script chooser.new) stepped.items (state_of «module».now state.new)) }
+    ensures made { IfOk result (λ stepped.
+        answer (machine.asks «module».now (state_of «module».now state.old)) (C.script chooser.old)
+        ≡ Did stepped.items (state_of «module».now state.new) (C.script chooser.new)) }
     ensures progress { IfOk result
         (λ stepped. stepped.progress ≡ progress_of stepped.items (state_of «module».now state.new)) }
     ensures goes_on { IfOk result
         (λ stepped. stepped.progress ≡ progress.Goes → state_of «module».now state.new ≢ Over) }
-    ensures no_choice { IsErrOf result StepEnd.NoChoice → LacksChoice
-        (machine.asks «module».now (state_of «module».now state.old))
+    ensures no_choice { IsErrOf result StepEnd.NoChoice
+        → answer (machine.asks «module».now (state_of «module».now state.old)) (C.script chooser.old)
+        ≡ Lacks (C.script chooser.new) }
+    ensures lacking { (left : List Choice)
+        → answer (machine.asks «module».now (state_of «module».now state.old)) (C.script chooser.old)
+        ≡ Lacks left → IsErr result }
+    ensures told { TakesAsked (machine.asks «module».now (state_of «module».now state.old))
         (C.script chooser.old) (C.script chooser.new) }
-    ensures lacking { (left : List Choice) → LacksChoice
-        (machine.asks «module».now (state_of «module».now state.old))
-        (C.script chooser.old) left
-        → IsErr result }
-    ensures told { (told : List Choice) × (C.script chooser.old ≡ told ++ C.script chooser.new) }
     ensures as_before { OnErr result (state_of «module».now state.new ≡ state_of «module».now state.old) }
 {
     let Some(place) = state.place else {
