@@ -1,5 +1,5 @@
 -- A run that isn't over can make a step, and shows how it ends.
-use Rattle.std.proofs.Common.{◌≡◌, ◌↔◌, ◌^◌, true, List, [], ◌∷◌, ◌++◌, Option, None, Some, refl, subst}
+use Rattle.std.proofs.Common.{◌≡◌, ◌↔◌, ◌^◌, Bool, true, false, cond, List, [], ◌∷◌, ◌++◌, Option, None, Some, refl, subst}
 use Rattle.std.specs.Prelude.{nat_lt}
 use Rattle.std.proofs.lemmas.Bool.{lt-ltb}
 use Rattle.std.proofs.lemmas.Nat.{pow_pos}
@@ -19,10 +19,12 @@ use Rattle.ir_machine.specs.declared.items.Item.{Item}
 use Rattle.ir_machine.specs.declared.items.Item.TheVariants.{Turn, Returned, Wrong}
 use Rattle.ir_machine.specs.declared.items.Shown.{Shown}
 use Rattle.ir_machine.specs.declared.items.Shown.TheVariants as shown
+use Rattle.ir_machine.specs.declared.items.Choice.{Choice}
 use Rattle.ir_machine.specs.declared.items.Choice.TheVariants.{Pick}
 use Rattle.ir_machine.specs.Registers.{kind_of, read, operand_value}
 use Rattle.ir_machine.specs.State.{Frame, Pending, World, State, Running, Over}
-use Rattle.ir_machine.specs.Machine.{Asks, Does, Made, Follows, asks, show, set_to, frame_step, term_step, return_step, binary_result}
+use Rattle.ir_machine.specs.Machine.{Asks, Does, Ask, Never, Made, Follows, asks, picked, show, set_to, frame_step, term_step, return_step, binary_result}
+use Rattle.ir_machine.specs.Choices.{Lacks, NoStep, answer, RunsAnswer}
 use Rattle.ir_machine.specs.Refinement.{IsEnd, EndTheRun, NoneIsStuck, EndsAreShown}
 use Rattle.ir_machine.proofs.Trees.{AllDo, all_do_made, all_do_show, all_do_set_to}
 
@@ -103,3 +105,45 @@ step_shows_end m Over = tt
 
 pub ends_are_shown : EndsAreShown
 ends_are_shown m s made follows = all_do_made ShowsItsEnd (asks m s) made (step_shows_end m s) follows
+
+-- wherever choices that fit lead, there is a step
+abbrev AlwaysSteps : Asks → Type 0
+AlwaysSteps (Does items after) = Unit {0}
+AlwaysSteps (Ask fits next) = (c : Choice) → fits c ≡ true → AlwaysSteps (next c)
+AlwaysSteps Never = ⊥
+
+show_always : (k : Option Kind) (v : Value) (poison : Asks) (next : Shown → Asks) → AlwaysSteps poison → ((s : Shown) → AlwaysSteps (next s)) → AlwaysSteps (show k v poison next)
+show_always k value.Poison poison next bad good = bad
+show_always k (value.Num n) poison next bad good = good (shown.Num n)
+show_always None value.Undef poison next bad good = bad
+show_always (Some k) value.Undef poison next bad good = λ c fits. good (picked c)
+
+return_always : (k : Option Kind) (v : Value) (rest : List Pending) (world : World) → AlwaysSteps (return_step k v rest world)
+return_always k v [] world = show_always k v _ _ tt (λ s. tt)
+return_always k v (p ∷ ps) world = tt
+
+term_always : (t : Term) (frame : Frame) (rest : List Pending) (world : World) → AlwaysSteps (term_step t frame rest world)
+term_always (Ret o) frame rest world = return_always (kind_of o.ty) (operand_value (read frame.registers) o) rest world
+
+set_always : (k : Option Kind) (x : Name) (o : Outcome) (frame : Frame) (rest : List Pending) (world : World) → AlwaysSteps (set_to k x o frame rest world)
+set_always k x (Gives v) frame rest world = tt
+set_always k x Trap frame rest world = tt
+
+frame_always : (lines : List Instr) (frame : Frame) (rest : List Pending) (world : World) → AlwaysSteps (frame_step lines frame rest world)
+frame_always (line.Binary b ∷ left) frame rest world =
+    set_always (kind_of b.ty) b.name (binary_result frame.registers b) (record frame { lines = left }) rest world
+frame_always [] frame rest world = term_always frame.term frame rest world
+
+always_answers : (tree : Asks) (told : List Choice) → AlwaysSteps tree → answer tree told ≡ NoStep → ⊥
+always_answers (Does items after) told always none = cc
+always_answers (Ask fits next) [] always none = cc
+always_answers (Ask fits next) (c ∷ told) always none = by_fit (fits c) refl none (λ is e. always_answers (next c) told (always c is) e)
+  where
+    by_fit : (fit : Bool) → fits c ≡ fit → cond fit (answer (next c) told) (Lacks told) ≡ NoStep → (fits c ≡ true → answer (next c) told ≡ NoStep → ⊥) → ⊥
+    by_fit true is e more = more is e
+    by_fit false is e more = cc
+always_answers Never told always none = always
+
+pub runs_answer : RunsAnswer
+runs_answer m (Running frame rest world) told h = always_answers (asks m (Running frame rest world)) told (frame_always frame.lines frame rest world)
+runs_answer m Over told h = absurd (h refl)

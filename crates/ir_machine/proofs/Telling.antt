@@ -66,12 +66,6 @@ answers_take_asked (Ask fits next) (c ∷ told) left e = by_fit (fits c) refl e 
     by_fit false is e more = (c ∷ [], ap (λ (l : List Choice). c ∷ l) e, rw is refl)
 answers_take_asked Never told left e = absurd e
 
--- where there is a step, no choice need have been taken
-pub takes_none : (tree : Asks) (made : Made) (script : List Choice) → Follows tree made → TakesAsked tree script script
-takes_none (Does items after) made script f = ([], refl, refl)
-takes_none (Ask fits next) made script f = ([], refl, refl)
-takes_none Never made script f = absurd f
-
 leaves_of : (a b : Answer) (left : List Choice) → a ≡ b → Leaves b left → Leaves a left
 leaves_of a b left e h = subst (λ (x : Answer). Leaves x left) (sym e) h
 

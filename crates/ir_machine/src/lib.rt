@@ -19,7 +19,7 @@ mod tests;
 pub use choosing::{Chooser, Showing};
 pub use items::{Choice, Input, Item, Shown};
 pub use machine::{Place, Progress, RunState, StartEnd, StepEnd, Stepped};
-pub use refinement::{no_run_is_stuck, refinement_is_a_preorder};
+pub use refinement::{answers_are_steps, no_run_is_stuck, refinement_is_a_preorder};
 pub use registers::{Assigned, RegisterFile};
 pub use starting::start;
 pub use stepping::step;

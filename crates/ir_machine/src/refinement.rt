@@ -1,4 +1,5 @@
 ghost use Rattle.ir_machine.specs.Refinement.{IsReflexive, IsTransitive, WrongIsLast, NoneIsStuck, EndsAreShown};
+ghost use Rattle.ir_machine.specs.Choices.{AnswersAreSteps, AnswersTakeAsked, RunsAnswer};
 
 /// Each module refines itself, a module that refines a second refines what the second refines, and no run
 /// shows anything after undefined behaviour.
@@ -14,4 +15,12 @@ pub fn refinement_is_a_preorder()
 pub fn no_run_is_stuck()
     ensures goes_on { NoneIsStuck }
     ensures ends { EndsAreShown }
+{}
+
+/// What a tree answers to the choices that are told says which steps it allows, and takes only choices that it
+/// asked for; and a run that isn't over has an answer.
+pub fn answers_are_steps()
+    ensures steps { AnswersAreSteps }
+    ensures taken { AnswersTakeAsked }
+    ensures answered { RunsAnswer }
 {}
