@@ -31,11 +31,11 @@ pub fn eval_binary(op: BinOp, flags: Flags, width: u32, a: &Value, b: &Value) ->
     Outcome::Gives(Value::Num(wrapped(op, width, left, right)))
 }
 
-/// Whether `a` is less defined than `b` (Crellvm's lessdef).
-pub fn refines(a: &Value, b: &Value) -> bool
-    ensures { IsTrue result ↔ IsLessDefined a.now b.now }
+/// Whether the target's value refines the source's: the source's is less defined (Crellvm's lessdef).
+pub fn refines(source: &Value, target: &Value) -> bool
+    ensures { IsTrue result ↔ IsLessDefined source.now target.now }
 {
-    match (a, b) {
+    match (source, target) {
         (Value::Poison, _) => true,
         (Value::Undef, Value::Poison) => false,
         (Value::Undef, _) => true,
@@ -239,7 +239,7 @@ mod tests {
     }
 
     #[test]
-    fn a_number_refines_undef_alone(rt: HostRuntime) {
+    fn more_defined_values_refine(rt: HostRuntime) {
         assert!(rt; refines(&Value::Undef, &Value::Num(3)));
         assert!(rt; !refines(&Value::Num(3), &Value::Undef));
         assert!(rt; !refines(&Value::Undef, &Value::Poison));
