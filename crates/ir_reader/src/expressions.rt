@@ -1,4 +1,4 @@
-ghost use Rattle.std.specs.Prelude.{◌≡◌, IfOk, IfErr, Some, None};
+ghost use Rattle.std.specs.Prelude.{◌≡◌, ◌<◌, ◌^◌, length, IfOk, IfErr, Some, None, Err};
 ghost use Rattle.ir_reader.specs.Expressions.{now_atom, plain, binary, expression, expression_of};
 ghost use Rattle.ir_reader.specs.Reading.{Reads};
 
@@ -75,6 +75,8 @@ fn expression(alloc: Global, kinds: &[TokenKind]) -> Result<Expr0, TextFault>
 pub fn read_expr(alloc: Global, text: &[u8]) -> Result<Expr0, TextFault>
     ensures spelled { IfOk result (λ e. expression_of text.now ≡ Some e) }
     ensures none { IfErr result (λ fault. fault ≡ TextFault.NotOfTheFirstForm → expression_of text.now ≡ None) }
+    // A text of more than 2 to the 24 bytes is refused before anything grows.
+    ensures long { 2 ^ 24 < length text.now → result ≡ Err TextFault.NotOfTheFirstForm }
 {
     let kinds = kinds_of(alloc, text)?;
     expression(alloc, kinds.as_slice())

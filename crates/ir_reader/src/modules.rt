@@ -1,4 +1,4 @@
-ghost use Rattle.std.specs.Prelude.{◌≡◌, ◌≤◌, ◌^◌, length, IfOk, IfErr};
+ghost use Rattle.std.specs.Prelude.{◌≡◌, ◌≤◌, ◌<◌, ◌^◌, length, IfOk, IfErr, Err};
 ghost use Rattle.ir_core.specs.declared.functions.Module.{Module};
 ghost use Rattle.ir_reader.specs.Reading.{Reads};
 ghost use Rattle.ir_reader.specs.Order.{IsInOrder};
@@ -15,7 +15,8 @@ use std::alloc::Global;
 
 /// The module that is read from the text, from the left.
 fn module_in(alloc: Global, text: &[u8]) -> Result<Module, TextFault>
-    ensures { Reads (λ m. m) result (module_in text.now) }
+    ensures reads { Reads (λ m. m) result (module_in text.now) }
+    ensures long { 2 ^ 24 < length text.now → result ≡ Err TextFault.NotOfTheFirstForm }
 {
     let kinds = kinds_of(alloc, text)?;
     let definition = definition_at(alloc, kinds.as_slice())?;
@@ -34,6 +35,8 @@ pub fn read_module(alloc: Global, text: &[u8]) -> Result<Module, TextFault>
     ensures short { IfOk result (λ m. length text.now ≤ 2 ^ 24) }
     ensures none { IfErr result (λ fault. fault ≡ TextFault.NotOfTheFirstForm
         → length text.now ≤ 2 ^ 24 → (m : Module) → HasFirstForm text.now m → ⊥) }
+    // A text of more than 2 to the 24 bytes is refused before anything grows.
+    ensures long { 2 ^ 24 < length text.now → result ≡ Err TextFault.NotOfTheFirstForm }
 {
     module_in(alloc, text)
 }

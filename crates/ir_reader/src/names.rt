@@ -1,4 +1,4 @@
-ghost use Rattle.std.specs.Prelude.{◌≡◌, IfOk, IfErr, Some, None};
+ghost use Rattle.std.specs.Prelude.{◌≡◌, ◌<◌, ◌^◌, length, IfOk, IfErr, Some, None, Err};
 ghost use Rattle.ir_reader.specs.Names.{name_in, only_name, name_of};
 ghost use Rattle.ir_reader.specs.Reading.{Reads};
 
@@ -40,6 +40,8 @@ fn only_name(alloc: Global, sigil: Sigil, kinds: &[TokenKind]) -> Result<Name, T
 pub fn read_name(alloc: Global, sigil: Sigil, text: &[u8]) -> Result<Name, TextFault>
     ensures spelled { IfOk result (λ name. name_of sigil text.now ≡ Some name) }
     ensures none { IfErr result (λ fault. fault ≡ TextFault.NotOfTheFirstForm → name_of sigil text.now ≡ None) }
+    // A text of more than 2 to the 24 bytes is refused before anything grows.
+    ensures long { 2 ^ 24 < length text.now → result ≡ Err TextFault.NotOfTheFirstForm }
 {
     let kinds = kinds_of(alloc, text)?;
     only_name(alloc, sigil, kinds.as_slice())

@@ -1,4 +1,4 @@
-ghost use Rattle.std.specs.Prelude.{◌≡◌, IfOk, map};
+ghost use Rattle.std.specs.Prelude.{◌≡◌, ◌^◌, ◌<◌, length, IfOk, Err, map};
 ghost use Rattle.ir_lexer.specs.declared.token.Token.{Token};
 ghost use Rattle.ir_reader.specs.Reading.{Reads, kinds_of};
 
@@ -19,7 +19,9 @@ fn kinds(alloc: Global, tokens: Vec<Token>) -> Result<Vec<TokenKind>, AllocError
 
 /// The tokens of a text, without their places.
 pub fn kinds_of(alloc: Global, text: &[u8]) -> Result<Vec<TokenKind>, TextFault>
-    ensures { Reads (λ kinds. kinds.items) result (kinds_of text.now) }
+    ensures reads { Reads (λ kinds. kinds.items) result (kinds_of text.now) }
+    // A text of more than 2 to the 24 bytes is refused before anything grows.
+    ensures long { 2 ^ 24 < length text.now → result ≡ Err TextFault.NotOfTheFirstForm }
 {
     match lex(alloc, text) {
         Ok(tokens) => Ok(kinds(alloc, tokens)?),

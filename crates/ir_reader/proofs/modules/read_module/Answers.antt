@@ -3,19 +3,19 @@ use Rattle.ir_reader.proofs.Grammar.{spelled_by, well_formed_by, in_order_by, on
 use Rattle.ir_reader.proofs.modules.read_module.Goals as goal
 
 pub returns-clause-spelled : goal.returns-clause-spelled
-returns-clause-spelled c = spelled_by c.args.text.now c.module_in.result c.module_in.ensures
+returns-clause-spelled c = spelled_by c.args.text.now c.module_in.result c.module_in.ensures.reads
 
 pub returns-clause-well_formed : goal.returns-clause-well_formed
-returns-clause-well_formed c = well_formed_by c.args.text.now c.module_in.result c.module_in.ensures
+returns-clause-well_formed c = well_formed_by c.args.text.now c.module_in.result c.module_in.ensures.reads
 
 pub returns-clause-only : goal.returns-clause-only
-returns-clause-only c = only_by c.args.text.now c.module_in.result c.module_in.ensures
+returns-clause-only c = only_by c.args.text.now c.module_in.result c.module_in.ensures.reads
 
 pub returns-clause-short : goal.returns-clause-short
-returns-clause-short c = short_by c.args.text.now c.module_in.result c.module_in.ensures
+returns-clause-short c = short_by c.args.text.now c.module_in.result c.module_in.ensures.reads
 
 pub returns-clause-none : goal.returns-clause-none
-returns-clause-none c = none_by c.args.text.now c.module_in.result c.module_in.ensures
+returns-clause-none c = none_by c.args.text.now c.module_in.result c.module_in.ensures.reads
 
 pub returns-clause-order : goal.returns-clause-order
-returns-clause-order c = in_order_by c.args.text.now c.module_in.result c.module_in.ensures
+returns-clause-order c = in_order_by c.args.text.now c.module_in.result c.module_in.ensures.reads
