@@ -1,6 +1,6 @@
 use crate::{TextFault, read_expr, read_module, read_name};
 use ir_core::{Atom, BinOp, Const, Instr, Name, Sigil};
-use std::alloc::Global;
+use std::alloc::{AllocError, Global};
 use std::test::*;
 
 /// Texts, each behind `+` where it has the first form and behind `-` where it has not; a byte 1 ends each.
@@ -36,6 +36,27 @@ const MODULES: &[u8] = b"\
 -define i32 @f() { ret i32 1 } define i32 @g() { ret i32 1 }\x01\
 -define i32 @f(i32,) { ret i32 1 }\x01\
 -define i32 @f() { ret i32 1\x01\
+-define i32 @f) { ret i32 1 }\x01\
+-define i32 @f() ret i32 1 }\x01\
+-define i32 @f() { %x add i32 1, 2 ret i32 1 }\x01\
+-define i32 @f() { add i32 1 2 ret i32 1 }\x01\
+-define i32 @f(i32 %x i32 %y) { ret i32 1 }\x01\
+-define i32 () { ret i32 1 }\x01\
+-define i32 %f() { ret i32 1 }\x01\
+-define\x01\
+-define i32\x01\
+-define i32 @f\x01\
+-define i32 @f(\x01\
+-define i32 @f(i32\x01\
+-define i32 @f(i32 %x\x01\
+-define i32 @f(i32,\x01\
+-define i32 @f()\x01\
+-define i32 @f() {\x01\
+-define i32 @f() { a:\x01\
+-define i32 @f() { %x\x01\
+-define i32 @f() { add\x01\
+-define i32 @f() { ret\x01\
+-define i32 @f() { ret i32\x01\
 -define i32 @f() { ret i32 0 }\0\x01\
 -define i32 @f() { ret i32 0 }\xff\x01\
 -define i032 @f() { ret i32 0 }\x01\
@@ -90,7 +111,12 @@ const EXPRESSIONS: &[u8] = b"\
 +i32 undef\x01\
 +add nuw nsw i32 %\"a b\", -1\x01\
 +sub\ti32 1,\n%2\x01\
+-\x01\
+-;\x01\
 -i32\x01\
+-add\x01\
+-add i32 1, \x01\
+-add i32 1 2\x01\
 -i32 7 7\x01\
 -i64 7\x01\
 -7\x01\
@@ -143,16 +169,32 @@ fn names(rt: HostRuntime) {
     assert!(rt; is_no_name(rt.alloc(), Sigil::Local, b"%7 %8"));
     assert!(rt; is_no_name(rt.alloc(), Sigil::Local, b"%7 \""));
     assert!(rt; is_no_name(rt.alloc(), Sigil::Local, b""));
+    assert!(rt; is_no_name(rt.alloc(), Sigil::Local, b" ; %7"));
+    assert!(rt; is_no_name(rt.alloc(), Sigil::Local, b"%\"\""));
+    assert!(rt; is_no_name(rt.alloc(), Sigil::Global, b"@"));
+}
+
+/// A definition of so many lines and `ret`.
+fn of_lines(alloc: Global, lines: usize) -> Result<Vec<u8>, AllocError> {
+    let mut text = Vec::new(alloc);
+    text.extend_from_slice(b"define i32 @f(i32 %x) {\n")?;
+    for _ in 0..lines {
+        text.extend_from_slice(b"sub i32 %x,1\n")?;
+    }
+    text.extend_from_slice(b"ret i32 %x\n}\n")?;
+    Ok(text)
 }
 
 #[test]
 fn many_lines(rt: HostRuntime) -> Result<(), Fail> {
-    let mut text = Vec::new(rt.alloc());
-    text.extend_from_slice(b"define i32 @f(i32 %x) {\n")?;
-    for _ in 0..10_000 {
-        text.extend_from_slice(b"  add nuw i32 %x, 4000000000\n")?;
-    }
-    text.extend_from_slice(b"  ret i32 %10000\n}\n")?;
-    assert!(rt; read_module(rt.alloc(), text.as_slice()).is_ok());
+    let most = of_lines(rt.alloc(), 1_048_575)?;
+    assert!(rt; read_module(rt.alloc(), most.as_slice()).is_ok());
+    let more = of_lines(rt.alloc(), 1_048_576)?;
+    assert!(rt;
+        matches!(
+            read_module(rt.alloc(), more.as_slice()),
+            Err(TextFault::NotOfTheFirstForm)
+        )
+    );
     Ok(())
 }
