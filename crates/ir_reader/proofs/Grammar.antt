@@ -1,6 +1,6 @@
 -- Reading from the left is the grammar, so a text spells what is read, and nothing else; and what it spells is read where
 -- it is well-formed.
-use Rattle.std.proofs.Common.{◌≡◌, ℕ, ◌≤◌, ◌^◌, Bool, true, false, cond, List, length, Some, Result, Ok, Err, IfOk, IfErr, refl, ap, sym, ◌∙◌}
+use Rattle.std.proofs.Common.{◌≡◌, ℕ, ◌≤◌, ◌^◌, Bool, true, false, cond, List, length, Some, Result, Ok, Err, IfOk, IfErr, refl, ap, sym, subst, ◌∙◌}
 use Rattle.std.specs.Prelude.{nat_lt}
 use Rattle.std.proofs.lemmas.Bool.{le-ltb, ltb-false}
 use Rattle.ir_core.specs.declared.functions.Module.{Module}
@@ -8,7 +8,6 @@ use Rattle.ir_lexer.specs.declared.token.LexFault.TheVariants.{Limit}
 use Rattle.ir_lexer.specs.declared.token.TokenKind.{TokenKind}
 use Rattle.ir_lexer.specs.Cut.{Cut, cut}
 use Rattle.ir_reader.specs.Definitions.{definition_at}
-use Rattle.ir_reader.specs.Modules.{module_of}
 use Rattle.ir_reader.specs.Ordered.{module_in, ordered_module}
 use Rattle.ir_reader.specs.declared.fault.TextFault.{TextFault}
 use Rattle.ir_reader.specs.declared.fault.TextFault.TheVariants.{NotOfTheFirstForm, Memory}
@@ -16,13 +15,13 @@ use Rattle.ir_reader.specs.declared.texts.DefinitionText.{DefinitionText}
 use Rattle.ir_reader.specs.Reading.{◌>>=◌, kinds_cut, kinds_of, tokens_of, Reads}
 use Rattle.ir_reader.specs.Order.{IsInOrder}
 use Rattle.ir_reader.specs.Grammar.{written}
-use Rattle.ir_reader.specs.Spells.{HasFirstForm, Spells}
+use Rattle.ir_reader.specs.Spells.{HasFirstForm, Names, Spells}
 use Rattle.ir_reader.specs.WellFormed.{IsWellFormed}
-use Rattle.ir_reader.proofs.Order.{in_order}
+use Rattle.ir_reader.proofs.Order.{in_order, named_and_formed}
 use Rattle.ir_reader.proofs.Again.{definition_again}
 use Rattle.ir_reader.proofs.Takes.{definition_takes}
 use Rattle.ir_reader.proofs.Tools.{bind_ok, some_is, not_both}
-use Rattle.ir_reader.proofs.WellFormed.{ordered_spelled, spelled_ordered}
+use Rattle.ir_reader.proofs.Named.{named_once, named_ordered}
 
 -- what is cut within a limit is cut without it
 limit_passed : (over : Bool) (text : Cut) (kinds : List TokenKind) → kinds_cut (cond over (Err Limit) text) ≡ Some kinds → (over ≡ false) × (kinds_cut text ≡ Some kinds)
@@ -58,24 +57,23 @@ how_read bytes m e =
 
 -- what is read is spelled
 spelled : (bytes : List ℕ) (m : Module) → HowRead bytes m → Spells bytes m
-spelled bytes m how = record { definition = how.definition; tokens = how.tokens; names = ordered_spelled how.definition m how.names }
+spelled bytes m how = record { definition = how.definition; tokens = how.tokens; names = (named_and_formed how.definition m how.names).0 }
 
 -- a text spells one module
 spelled_once : (bytes : List ℕ) (a b : Module) → Spells bytes a → Spells bytes b → a ≡ b
 spelled_once bytes a b s t =
-    some_is a b (sym s.names
-    ∙ sym (ap (λ d. d >>= module_of) (definition_again s.definition))
-    ∙ sym (ap (λ kinds. kinds >>= definition_at >>= module_of) s.tokens)
-    ∙ ap (λ kinds. kinds >>= definition_at >>= module_of) t.tokens
-    ∙ ap (λ d. d >>= module_of) (definition_again t.definition)
-    ∙ t.names)
+    let same : s.definition ≡ t.definition = some_is s.definition t.definition (sym (definition_again s.definition)
+    ∙ sym (ap (λ kinds. kinds >>= definition_at) s.tokens)
+    ∙ ap (λ kinds. kinds >>= definition_at) t.tokens
+    ∙ definition_again t.definition) in
+    named_once t.definition a b (subst (λ d. Names d a) same s.names) t.names
 
 -- what a short text spells is read where it is well-formed
 read : (bytes : List ℕ) (m : Module) → length bytes ≤ 2 ^ 24 → HasFirstForm bytes m → module_in bytes ≡ Some m
 read bytes m short (s, formed) =
     ap (λ kinds. kinds >>= definition_at >>= ordered_module) (tokens_within bytes short ∙ s.tokens)
     ∙ ap (λ d. d >>= ordered_module) (definition_again s.definition)
-    ∙ spelled_ordered s.definition m s.names formed
+    ∙ named_ordered s.definition m s.names formed
 
 -- the clauses of the reader, from what it answers
 module _ (bytes : List ℕ) where
@@ -97,9 +95,9 @@ module _ (bytes : List ℕ) where
   none_by (Err Memory) e = λ same. cc
 
   pub in_order_by : (answer : Result Module TextFault) → Reads (λ m. m) answer (module_in bytes) → IfOk answer IsInOrder
-  in_order_by (Ok m) e = let how = how_read bytes m e in (in_order how.definition m how.names).0
+  in_order_by (Ok m) e = let how = how_read bytes m e in in_order how.definition m (named_and_formed how.definition m how.names).0
   in_order_by (Err fault) e = tt
 
   pub well_formed_by : (answer : Result Module TextFault) → Reads (λ m. m) answer (module_in bytes) → IfOk answer (λ m. IsWellFormed m)
-  well_formed_by (Ok m) e = let how = how_read bytes m e in (in_order how.definition m how.names).1
+  well_formed_by (Ok m) e = let how = how_read bytes m e in (named_and_formed how.definition m how.names).1
   well_formed_by (Err fault) e = tt

@@ -3,8 +3,8 @@ pub mod Eaches
 pub mod FlagSteps
 pub mod Grammar
 pub mod Inserts
+pub mod Named
 pub mod Order
 pub mod Repeats
 pub mod Takes
 pub mod Tools
-pub mod WellFormed

@@ -1,6 +1,6 @@
--- The module that a definition names: its names come first, and then the values that its lines use, so a use may stand
--- before the definition of its register.
-use Rattle.std.specs.Prelude.{◌+◌, ◌^◌, ◌==◌, List, [], ◌∷◌, length, Option, Some, None, nat_lt, if◌then◌else◌}
+-- The parts of a definition as they are read from the left, each with the names that are defined before it: words of private
+-- functions. What module a definition names is `Names`, in Spells.
+use Rattle.std.specs.Prelude.{◌==◌, List, [], ◌∷◌, Option, Some, None, if◌then◌else◌}
 use Rattle.ir_core.specs.declared.functions.Instr.{Instr}
 use Rattle.ir_core.specs.declared.functions.Instr.TheVariants as instr
 use Rattle.ir_core.specs.declared.functions.Module.{Module}
@@ -12,8 +12,6 @@ use Rattle.ir_core.specs.declared.operands.Atom.{Atom}
 use Rattle.ir_core.specs.declared.operands.Atom.TheVariants.{Constant, Register}
 use Rattle.ir_core.specs.declared.operands.Const.TheVariants as const
 use Rattle.ir_reader.specs.declared.scopes.Scope.{Scope}
-use Rattle.ir_reader.specs.declared.texts.DefinitionText.{DefinitionText}
-use Rattle.ir_reader.specs.declared.texts.LineText.{LineText}
 use Rattle.ir_reader.specs.declared.texts.OperationText.{OperationText}
 use Rattle.ir_reader.specs.declared.texts.ParamText.{ParamText}
 use Rattle.ir_reader.specs.declared.texts.ValueText.{ValueText}
@@ -21,7 +19,7 @@ use Rattle.ir_reader.specs.declared.texts.ValueText.TheVariants as text
 use Rattle.ir_reader.specs.Expressions.{i32}
 use Rattle.ir_reader.specs.Operations.{flags_of}
 use Rattle.ir_reader.specs.Reading.{◌>>=◌}
-use Rattle.ir_reader.specs.Scopes.{is_among, start, with_register, with_block, each_in}
+use Rattle.ir_reader.specs.Scopes.{is_among, with_register}
 use Rattle.ir_reader.specs.Values.{kept, number_atom}
 
 -- A register that is used is one of those that are known.
@@ -35,31 +33,10 @@ param_in scope p = do
   named ← with_register scope p.name
   Some (record { name = named.0; ty = i32 }, named.1)
 
--- a line with the name of its register
-unfoldable pub line_name : Scope → LineText → Option ((Name × LineText) × Scope)
-line_name scope l = do
-  named ← with_register scope l.register
-  Some ((named.0, l), named.1)
-
 -- the line of this name, operation and operands
 abbrev pub line_of : Name → OperationText → Atom Name → Atom Name → Instr
 line_of name o left right =
     instr.Binary (record { name = name; op = o.op; flags = flags_of o.flags; ty = i32; left = left; right = right })
-
--- what a line with its name is, where these registers are known
-unfoldable pub line_in : Scope → Name × LineText → Option Instr
-line_in known named = do
-  left ← value_in known named.1.operation.left
-  right ← value_in known named.1.operation.right
-  Some (line_of named.0 named.1.operation left right)
-
--- what each item of a list is, if each is something
-unfoldable pub each : {A B : Type 0} → (A → Option B) → List A → Option (List B)
-each f [] = Some []
-each f (x ∷ xs) = do
-  first ← f x
-  more ← each f xs
-  Some (first ∷ more)
 
 -- The one function has the number 0, where it has one.
 unfoldable pub function_name : Name → Option Name
@@ -76,14 +53,3 @@ module_from name params block body result = record {
     blocks = record { name = block; phis = []; body = body; term = Ret (record { ty = i32; atom = result }) } ∷ [];
   } ∷ [];
 }
-
--- A function has at most 2 to the 20 lines, `ret` among them.
-unfoldable pub module_of : DefinitionText → Option Module
-module_of d = if nat_lt (2 ^ 20) (length d.lines + 1) then None else (do
-  name ← function_name d.name
-  params ← each_in param_in start d.params
-  block ← with_block params.1 d.label
-  named ← each_in line_name block.1 d.lines
-  body ← each (line_in named.1) named.0
-  result ← value_in named.1 d.result
-  Some (module_from name params.0 block.0 body result))

@@ -1,5 +1,5 @@
--- A definition read line by line, so that names and well-formedness are tested at once: a word of private functions. What is
--- read so is what `module_of` names where that is well-formed.
+-- A definition read line by line, so that names and well-formedness are tested at once: words of private functions. What is
+-- read so is the module that the definition names (`Names`, in Spells), where that is well-formed.
 use Rattle.std.specs.Prelude.{ℕ, ◌+◌, ◌^◌, List, length, Option, Some, None, nat_lt, if◌then◌else◌}
 use Rattle.ir_core.specs.declared.functions.Instr.{Instr}
 use Rattle.ir_core.specs.declared.functions.Module.{Module}
