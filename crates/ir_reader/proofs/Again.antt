@@ -25,7 +25,7 @@ unfolding operator_at operator_of
 operator_again Add rest = refl
 operator_again Sub rest = refl
 
-value_again : (v : ValueText) (rest : List TokenKind) → value_at (value v ∷ rest) ≡ Some (v, rest)
+pub value_again : (v : ValueText) (rest : List TokenKind) → value_at (value v ∷ rest) ≡ Some (v, rest)
 unfolding value_at value_of
 value_again (text.Number n) rest = refl
 value_again text.Undef rest = refl
@@ -58,7 +58,7 @@ unfolding operation_at
 operation_read op fs l r rest =
     rw (operator_again op (map flag fs ++ (i32_word ∷ value l ∷ comma ∷ value r ∷ rest)), flags_again fs (i32_word ∷ value l ∷ comma ∷ value r ∷ rest) (no_flags _), drop_flags fs (i32_word ∷ value l ∷ comma ∷ value r ∷ rest), word_again (value l ∷ comma ∷ value r ∷ rest), value_again l (comma ∷ value r ∷ rest), comma_again (value r ∷ rest), value_again r rest) refl
 
-operation_again : (o : OperationText) (rest : List TokenKind) → operation_at (operation o ++ rest) ≡ Some (o, rest)
+pub operation_again : (o : OperationText) (rest : List TokenKind) → operation_at (operation o ++ rest) ≡ Some (o, rest)
 operation_again o rest =
     ap (λ kinds. operation_at (operator o.op ∷ kinds)) (append_assoc (map flag o.flags) (i32_word ∷ value o.left ∷ comma ∷ value o.right ∷ []) rest)
     ∙ operation_read o.op o.flags o.left o.right rest

@@ -1,18 +1,13 @@
 -- Reading from the left is the grammar, so a text spells what is read, and nothing else; and what it spells is read where
 -- it is well-formed.
-use Rattle.std.proofs.Common.{◌≡◌, ℕ, ◌≤◌, ◌^◌, Bool, true, false, cond, List, length, Some, Result, Ok, Err, IfOk, IfErr, refl, ap, sym, subst, ◌∙◌}
-use Rattle.std.specs.Prelude.{nat_lt}
-use Rattle.std.proofs.lemmas.Bool.{le-ltb, ltb-false}
+use Rattle.std.proofs.Common.{◌≡◌, ℕ, ◌≤◌, ◌^◌, List, length, Some, Result, Ok, Err, IfOk, IfErr, ap, sym, subst, ◌∙◌}
 use Rattle.ir_core.specs.declared.functions.Module.{Module}
-use Rattle.ir_lexer.specs.declared.token.LexFault.TheVariants.{Limit}
-use Rattle.ir_lexer.specs.declared.token.TokenKind.{TokenKind}
-use Rattle.ir_lexer.specs.Cut.{Cut, cut}
 use Rattle.ir_reader.specs.Definitions.{definition_at}
 use Rattle.ir_reader.specs.Ordered.{module_in, ordered_module}
 use Rattle.ir_reader.specs.declared.fault.TextFault.{TextFault}
 use Rattle.ir_reader.specs.declared.fault.TextFault.TheVariants.{NotOfTheFirstForm, Memory}
 use Rattle.ir_reader.specs.declared.texts.DefinitionText.{DefinitionText}
-use Rattle.ir_reader.specs.Reading.{◌>>=◌, kinds_cut, kinds_of, tokens_of, Reads}
+use Rattle.ir_reader.specs.Reading.{◌>>=◌, kinds_of, tokens_of, Reads}
 use Rattle.ir_reader.specs.Order.{IsInOrder}
 use Rattle.ir_reader.specs.Grammar.{written}
 use Rattle.ir_reader.specs.Spells.{HasFirstForm, Names, Spells}
@@ -20,21 +15,9 @@ use Rattle.ir_reader.specs.WellFormed.{IsWellFormed}
 use Rattle.ir_reader.proofs.Order.{in_order, named_and_formed}
 use Rattle.ir_reader.proofs.Again.{definition_again}
 use Rattle.ir_reader.proofs.Takes.{definition_takes}
+use Rattle.ir_reader.proofs.Readers.{kinds_within, tokens_within}
 use Rattle.ir_reader.proofs.Tools.{bind_ok, some_is, not_both}
 use Rattle.ir_reader.proofs.Named.{named_once, named_ordered}
-
--- what is cut within a limit is cut without it
-limit_passed : (over : Bool) (text : Cut) (kinds : List TokenKind) → kinds_cut (cond over (Err Limit) text) ≡ Some kinds → (over ≡ false) × (kinds_cut text ≡ Some kinds)
-limit_passed true text kinds e = cc
-limit_passed false text kinds e = (refl, e)
-
-kinds_within : (bytes : List ℕ) (kinds : List TokenKind) → kinds_of bytes ≡ Some kinds → (length bytes ≤ 2 ^ 24) × (tokens_of bytes ≡ Some kinds)
-kinds_within bytes kinds e =
-    let both = limit_passed (nat_lt (2 ^ 24) (length bytes)) (cut 0 0 bytes) kinds e in
-    (ltb-false (2 ^ 24) (length bytes) both.0, both.1)
-
-tokens_within : (bytes : List ℕ) → length bytes ≤ 2 ^ 24 → kinds_of bytes ≡ tokens_of bytes
-tokens_within bytes short = ap (λ over. kinds_cut (cond over (Err Limit) (cut 0 0 bytes))) (le-ltb (2 ^ 24) (length bytes) short)
 
 -- how a module was read: the tokens, and the definition that they are
 pub record HowRead (bytes : List ℕ) (m : Module) : Type 0 where

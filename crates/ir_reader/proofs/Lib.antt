@@ -1,10 +1,12 @@
 pub mod Again
+pub mod Alone
 pub mod Eaches
 pub mod FlagSteps
 pub mod Grammar
 pub mod Inserts
 pub mod Named
 pub mod Order
+pub mod Readers
 pub mod Repeats
 pub mod Takes
 pub mod Tools

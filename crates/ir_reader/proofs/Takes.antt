@@ -24,7 +24,7 @@ use Rattle.ir_reader.specs.Terminals.{end_at, is_mark, is_word, mark_at, word_at
 use Rattle.ir_reader.specs.Values.{value_at, value_of, with_rest}
 use Rattle.ir_reader.proofs.Tools.{bind_ok, some_is, guard_ok, chosen}
 
-is_word_is : (bytes : List ℕ) (k : TokenKind) → is_word bytes k ≡ true → k ≡ kind.Word bytes
+pub is_word_is : (bytes : List ℕ) (k : TokenKind) → is_word bytes k ≡ true → k ≡ kind.Word bytes
 is_word_is bytes (kind.Word word) e = ap kind.Word ((bytes_eq-Decides word bytes).0 e)
 is_word_is bytes _ e = cc
 

@@ -1,6 +1,6 @@
 -- The expressions of the logic, as far as they are read: a value, or `add` or `sub` of two values, of type i32
 -- and over registers as they are now.
-use Rattle.std.specs.Prelude.{ℕ, List, [], ◌∷◌, Option, Some, None, if◌then◌else◌, codes}
+use Rattle.std.specs.Prelude.{◌≡◌, ℕ, List, [], ◌∷◌, Option, Some, None, if◌then◌else◌, codes}
 use Rattle.ir_core.specs.declared.expressions.Expr0.{Expr0}
 use Rattle.ir_core.specs.declared.expressions.Expr0.TheVariants.{Plain, Binary}
 use Rattle.ir_core.specs.declared.expressions.Reg.{Reg}
@@ -11,17 +11,45 @@ use Rattle.ir_core.specs.declared.operands.Const.TheVariants as const
 use Rattle.ir_core.specs.declared.operands.Ty.{Ty}
 use Rattle.ir_core.specs.declared.operands.Ty.TheVariants.{Int}
 use Rattle.ir_lexer.specs.declared.token.TokenKind.{TokenKind}
+use Rattle.ir_reader.specs.declared.texts.OperationText.{OperationText}
 use Rattle.ir_reader.specs.declared.texts.ValueText.{ValueText}
 use Rattle.ir_reader.specs.declared.texts.ValueText.TheVariants as text
+use Rattle.ir_reader.specs.Grammar.{i32_word, operation, value}
 use Rattle.ir_reader.specs.Operations.{operation_at, flags_of}
-use Rattle.ir_reader.specs.Reading.{◌>>=◌, kinds_of}
+use Rattle.ir_reader.specs.Reading.{◌>>=◌, kinds_of, tokens_of}
 use Rattle.ir_reader.specs.Terminals.{is_word, end_at}
 use Rattle.ir_reader.specs.Values.{value_at, kept, number_atom}
 
 abbrev pub i32 : Ty
 i32 = Int 32
 
--- what a written value is in an expression; a number out of range is none
+-- what a written value is in an expression: a register is the one as it is now
+abbrev pub IsNow : ValueText → Atom Reg → Type 0
+IsNow (text.Number n) atom = (v : ℕ) × (kept n ≡ Some v) × (atom ≡ Constant (const.Number v))
+IsNow text.Undef atom = atom ≡ Constant const.Undef
+IsNow (text.Local name) atom = atom ≡ Register (Now name)
+
+-- These tokens are the expression, all of them: `i32 V`, or `op flags i32 V, V`.
+abbrev pub IsExpression : List TokenKind → Expr0 → Type 0
+IsExpression kinds (Plain operand) =
+    (v : ValueText) × (kinds ≡ i32_word ∷ value v ∷ []) × (operand.ty ≡ i32) × IsNow v operand.atom
+IsExpression kinds (Binary b) =
+    (o : OperationText)
+    × (kinds ≡ operation o)
+    × (b.op ≡ o.op)
+    × (b.flags ≡ flags_of o.flags)
+    × (b.ty ≡ i32)
+    × IsNow o.left b.left
+    × IsNow o.right b.right
+
+-- What expression a text spells, however long the text is: `sub nsw i32 %x, -1` spells `sub nsw` of i32, of the register
+-- `x` as it is now and the number 2^32 - 1.
+abbrev pub SpellsExpression : List ℕ → Expr0 → Type 0
+SpellsExpression bytes e = (kinds : List TokenKind) × (tokens_of bytes ≡ Some kinds) × IsExpression kinds e
+
+-- ---- the same, read from the left
+
+-- a number out of range is none
 abbrev pub now_atom : ValueText → Option (Atom Reg)
 now_atom (text.Number n) = number_atom (kept n)
 now_atom text.Undef = Some (Constant const.Undef)
@@ -49,6 +77,6 @@ unfoldable pub expression : List TokenKind → Option Expr0
 expression [] = None
 expression (k ∷ rest) = if is_word (codes "i32") k then plain rest else binary (k ∷ rest)
 
--- the expression that a text spells
+-- the expression that a text of at most 2^24 bytes spells; a longer one has none
 abbrev pub expression_of : List ℕ → Option Expr0
 expression_of text = kinds_of text >>= expression

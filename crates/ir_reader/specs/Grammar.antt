@@ -2,6 +2,8 @@
 use Rattle.std.specs.Prelude.{List, [], ◌∷◌, ◌++◌, map, Option, Some, None, codes}
 use Rattle.std.specs.List.{flat_map}
 use Rattle.ir_core.specs.declared.names.Name.{Name}
+use Rattle.ir_core.specs.declared.names.Sigil.{Sigil}
+use Rattle.ir_core.specs.declared.names.Sigil.TheVariants as sigil
 use Rattle.ir_core.specs.declared.operands.BinOp.{BinOp}
 use Rattle.ir_core.specs.declared.operands.BinOp.TheVariants.{Add, Sub}
 use Rattle.ir_lexer.specs.declared.token.TokenKind.{TokenKind}
@@ -33,6 +35,11 @@ operator Sub = kind.Word (codes "sub")
 abbrev pub flag : FlagWord → TokenKind
 flag Nuw = kind.Word (codes "nuw")
 flag Nsw = kind.Word (codes "nsw")
+
+-- a name behind its sigil
+abbrev pub name : Sigil → Name → TokenKind
+name sigil.Local n = kind.Local n
+name sigil.Global n = kind.Global n
 
 -- op {nuw|nsw} i32 V, V
 abbrev pub operation : OperationText → List TokenKind

@@ -1,5 +1,6 @@
-ghost use Rattle.std.specs.Prelude.{◌≡◌, ◌<◌, ◌^◌, length, IfOk, IfErr, Some, None, Err};
-ghost use Rattle.ir_reader.specs.Expressions.{now_atom, plain, binary, expression, expression_of};
+ghost use Rattle.std.specs.Prelude.{◌≡◌, ◌<◌, ◌≤◌, ◌^◌, length, IfOk, IfErr, Some, None, Err};
+ghost use Rattle.ir_core.specs.declared.expressions.Expr0.{Expr0};
+ghost use Rattle.ir_reader.specs.Expressions.{now_atom, plain, binary, expression, expression_of, SpellsExpression};
 ghost use Rattle.ir_reader.specs.Reading.{Reads};
 
 use crate::TextFault;
@@ -71,13 +72,29 @@ fn expression(alloc: Global, kinds: &[TokenKind]) -> Result<Expr0, TextFault>
     }
 }
 
-/// The expression that the text spells.
-pub fn read_expr(alloc: Global, text: &[u8]) -> Result<Expr0, TextFault>
-    ensures spelled { IfOk result (λ e. expression_of text.now ≡ Some e) }
-    ensures none { IfErr result (λ fault. fault ≡ TextFault.NotOfTheFirstForm → expression_of text.now ≡ None) }
-    // A text of more than 2 to the 24 bytes is refused before anything grows.
+/// The expression that is read from the text, from the left.
+fn expression_in(alloc: Global, text: &[u8]) -> Result<Expr0, TextFault>
+    ensures reads { Reads (λ e. e) result (expression_of text.now) }
     ensures long { 2 ^ 24 < length text.now → result ≡ Err TextFault.NotOfTheFirstForm }
 {
     let kinds = kinds_of(alloc, text)?;
     expression(alloc, kinds.as_slice())
+}
+
+/// The expression that the text spells.
+pub fn read_expr(alloc: Global, text: &[u8]) -> Result<Expr0, TextFault>
+    ensures spelled { IfOk result (λ e. SpellsExpression text.now e) }
+    // The text spells no other expression.
+    ensures only { IfOk result (λ e. (other : Expr0) → SpellsExpression text.now other → other ≡ e) }
+    // Only texts of at most 2 to the 24 bytes are read.
+    ensures short { IfOk result (λ e. length text.now ≤ 2 ^ 24) }
+    ensures none { IfErr result (λ fault. fault ≡ TextFault.NotOfTheFirstForm
+        → length text.now ≤ 2 ^ 24 → (e : Expr0) → SpellsExpression text.now e → ⊥) }
+    // A text of more than 2 to the 24 bytes is refused before anything grows.
+    ensures long { 2 ^ 24 < length text.now → result ≡ Err TextFault.NotOfTheFirstForm }
+    // The same, said of what is read from the left.
+    ensures read { IfOk result (λ e. expression_of text.now ≡ Some e) }
+    ensures not_read { IfErr result (λ fault. fault ≡ TextFault.NotOfTheFirstForm → expression_of text.now ≡ None) }
+{
+    expression_in(alloc, text)
 }
