@@ -3,3 +3,4 @@ pub mod Shelf
 pub mod Sink
 pub mod MemShelf
 pub mod MemSink
+pub mod Host

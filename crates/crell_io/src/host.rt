@@ -1,6 +1,11 @@
-// The shelf and the sinks of the system. They tell nothing of the bytes.
-ghost use Rattle.std.specs.Prelude.{◌≡◌, ◌≤◌, None, vec_len, IfOk, length};
+// The shelf and the sinks of the system. They tell nothing of the bytes; what a read and a write do to
+// the bytes of a reader and a writer that are known stands at the functions that they call.
+ghost use Rattle.std.specs.Prelude.{◌≡◌, ◌≢◌, ◌≤◌, ◌<◌, ◌+◌, ◌-◌, ◌^◌, [], None, vec_len, IfOk, IfErr, OnOk, OnErr, IsErrOf, IfSome, length};
+ghost use Rattle.std.specs.Io.{ReadsAtMost, WritesAtMost};
+ghost use Rattle.std.specs.Io.KnownBytes.{Keeps, IsAtEnd, ReadConsumes, WriteAppends};
+ghost use Rattle.crell_io.specs.Count.{raised_by};
 ghost use Rattle.crell_io.specs.Shelf.Told.{Untold};
+ghost use Rattle.crell_io.specs.Host.{AppendsTaken, TakesFirst, IsReadFault};
 
 use crate::{Shelf, ShelfEnd, Sink, SinkFault};
 use std::alloc::{AllocError, Global};
@@ -36,13 +41,17 @@ impl<R: Files + Drop> HostShelf<R> {
 }
 
 // Room for the bytes of a turn.
-fn new_piece(alloc: Global) -> Result<Vec<u8>, AllocError> {
+fn new_piece(alloc: Global) -> Result<Vec<u8>, AllocError>
+    ensures { IfOk result (λ piece. vec_len piece ≡ PIECE) }
+{
     vec![in alloc; 0u8; PIECE]
 }
 
 // One read, tried again where a signal interrupts it.
 fn read_some<F: Read>(file: &mut F, piece: &mut [u8]) -> Result<usize, ShelfEnd>
-    ensures { IfOk result (λ count. count ≤ length piece.old) }
+    ensures bound { ReadsAtMost result piece.new }
+    ensures bytes { ReadConsumes (F.remaining file.old) (F.remaining file.new) result piece.new }
+    ensures fault { IfErr result IsReadFault }
 {
     for _ in 0..TRIES {
         match file.read(piece) {
@@ -57,25 +66,83 @@ fn read_some<F: Read>(file: &mut F, piece: &mut [u8]) -> Result<usize, ShelfEnd>
     Err(ShelfEnd::Failed)
 }
 
-// Appends what a file has left, up to so many bytes in all. Each turn takes a byte or more.
-fn read_up_to<F: Read>(
+// Appends what one read gives. There is room for it before, so that no byte is lost where memory is refused.
+fn append_some<F: Read>(
     file: &mut F,
     piece: &mut [u8],
+    bytes: &mut Vec<u8>,
+) -> Result<usize, ShelfEnd>
+    ensures length { IfOk result (λ count. vec_len bytes.new ≡ vec_len bytes.old + count) }
+    ensures within { IfOk result (λ count. count ≤ length piece.old) }
+    ensures bytes { IfOk result (λ count. AppendsTaken
+        (F.remaining file.old) (F.remaining file.new) bytes.old.items bytes.new.items) }
+    ensures end { IfOk result (λ count. count ≡ 0 → 0 < length piece.old → IsAtEnd (F.remaining file.new)) }
+    ensures nothing { OnErr result (Keeps (F.remaining file.old) (F.remaining file.new)) }
+    ensures kept { OnErr result (bytes.new.items ≡ bytes.old.items) }
+    ensures fault { IfErr result IsReadFault }
+{
+    bytes.reserve(piece.len())?;
+    let count = read_some(file, piece)?;
+    bytes.extend_from_slice(&piece[..count]).unwrap();
+    Ok(count)
+}
+
+// Appends what a file has left, up to so many bytes in all. Each turn takes a byte or more.
+fn read_up_to<F: Read>(
+    alloc: Global,
+    file: &mut F,
     bytes: &mut Vec<u8>,
     most: u64,
 ) -> Result<(), ShelfEnd>
     requires { vec_len bytes.old ≤ most }
-    ensures { vec_len bytes.new ≤ most }
+    ensures most { vec_len bytes.new ≤ most }
+    ensures taken { AppendsTaken
+        (F.remaining file.old) (F.remaining file.new) bytes.old.items bytes.new.items }
+    ensures end { OnOk result (vec_len bytes.new < most → IsAtEnd (F.remaining file.new)) }
+    ensures fault { IfErr result IsReadFault }
 {
+    let mut piece = new_piece(alloc)?;
     for _ in 0..most {
         let room = piece.len().min((most - bytes.len() as u64) as usize);
-        let count = read_some(file, &mut piece[..room])?;
-        if count == 0 {
+        if append_some(file, &mut piece[..room], bytes)? == 0 {
             return Ok(());
         }
-        bytes.extend_from_slice(&piece[..count])?;
     }
     Ok(())
+}
+
+// All that a file has left, if it is at most `limit` bytes. What is taken from the file is counted.
+fn read_whole<F: Read>(
+    alloc: Global,
+    file: &mut F,
+    limit: u64,
+    taken: &mut u64,
+) -> Result<Vec<u8>, ShelfEnd>
+    requires { limit < 2 ^ 64 - 1 }
+
+    ensures within { IfOk result (λ bytes. vec_len bytes ≤ limit) }
+    ensures whole { IfOk result
+        (λ bytes. IfSome (F.remaining file.old) (λ held. bytes.items ≡ held)) }
+    ensures longer { IsErrOf result ShelfEnd.TooLong →
+        IfSome (F.remaining file.old) (λ held. limit < length held) }
+    ensures fault { IfErr result (λ end. end ≢ ShelfEnd.TooLong → IsReadFault end) }
+
+    // A first part was taken, and counted: all that is given, or as far as one byte past the limit.
+    ensures taken { TakesFirst (F.remaining file.old) (F.remaining file.new) taken.old taken.new }
+    ensures rises { taken.old ≤ taken.new }
+    ensures taken_all { IfOk result (λ bytes. taken.new ≡ raised_by (length bytes.items) taken.old) }
+    ensures taken_above { IsErrOf result ShelfEnd.TooLong →
+        taken.new ≡ raised_by (limit + 1) taken.old }
+{
+    let mut bytes = Vec::new(alloc);
+    let read = read_up_to(alloc, file, &mut bytes, limit + 1);
+    let length = bytes.len() as u64;
+    *taken = taken.saturating_add(length);
+    read?;
+    if length > limit {
+        return Err(ShelfEnd::TooLong);
+    }
+    Ok(bytes)
 }
 
 impl<R: Files + Drop> Shelf for HostShelf<R> {
@@ -91,21 +158,32 @@ impl<R: Files + Drop> Shelf for HostShelf<R> {
             self.faults = self.faults.saturating_add(1);
             return Err(ShelfEnd::Failed);
         };
-        let mut piece = new_piece(alloc)?;
-        let mut bytes = Vec::new(alloc);
-        let read = read_up_to(&mut file, &mut piece, &mut bytes, limit + 1);
-        let length = bytes.len() as u64;
-        self.taken = self.taken.saturating_add(length);
-        match read {
-            Ok(()) if length > limit => Err(ShelfEnd::TooLong),
-            Ok(()) => Ok(bytes),
-            Err(ShelfEnd::Memory) => Err(ShelfEnd::Memory),
-            Err(_) => {
-                self.faults = self.faults.saturating_add(1);
-                Err(ShelfEnd::Failed)
+        let read = read_whole(alloc, &mut file, limit, &mut self.taken);
+        if read == Err(ShelfEnd::Failed) {
+            self.faults = self.faults.saturating_add(1);
+        }
+        read
+    }
+}
+
+// One write, tried again where a signal interrupts it. Taking nothing of a piece that isn't empty is a fault.
+fn write_some<W: Write>(writer: &mut W, piece: &[u8]) -> Result<usize, SinkFault>
+    ensures bound { WritesAtMost result piece.now }
+    ensures bytes { WriteAppends (W.contents writer.old) (W.contents writer.new) result piece.now }
+    ensures some { IfOk result (λ count. count ≡ 0 → piece.now ≡ []) }
+{
+    for _ in 0..TRIES {
+        match writer.write(piece) {
+            Ok(count) if count > 0 || piece.is_empty() => return Ok(count),
+            Ok(_) => break,
+            Err(e) => {
+                if e.kind() != ErrorKind::Interrupted {
+                    break;
+                }
             }
         }
     }
+    Err(SinkFault::Failed)
 }
 
 /// Standard output or standard error, as `HostSink::new(rt.stdout())` and
@@ -129,21 +207,12 @@ impl<W: Write + Drop> Sink for HostSink<W> {
 
     ghost faults = { λ sink. sink.faults };
 
-    /// Writes once, and again where a signal interrupted the write.
     fn put(&mut self, piece: &[u8]) -> Result<usize, SinkFault> {
-        for _ in 0..TRIES {
-            match self.writer.write(piece) {
-                Ok(count) if count > 0 || piece.is_empty() => return Ok(count),
-                Ok(_) => break,
-                Err(e) => {
-                    if e.kind() != ErrorKind::Interrupted {
-                        break;
-                    }
-                }
-            }
+        let put = write_some(&mut self.writer, piece);
+        if put.is_err() {
+            self.faults = self.faults.saturating_add(1);
         }
-        self.faults = self.faults.saturating_add(1);
-        Err(SinkFault::Failed)
+        put
     }
 }
 

@@ -1,6 +1,6 @@
 ghost use Rattle.std.specs.Prelude.{◌≤◌, IfOk};
 
-use super::{HostShelf, HostSink, TRIES, read_up_to};
+use super::{HostShelf, HostSink, TRIES, read_up_to, read_whole, write_some};
 use crate::{Shelf, ShelfEnd, Sink, SinkFault};
 use std::io::{ErrorKind, Read, Write};
 use std::test::Fail;
@@ -63,10 +63,51 @@ fn a_reader_is_read_to_the_limit_or_its_fault(rt: HostRuntime) -> Result<(), Fai
             most,
         };
         let mut bytes = Vec::new(alloc);
-        let got = read_up_to(&mut file, &mut [0; 4], &mut bytes, 10);
+        let got = read_up_to(alloc, &mut file, &mut bytes, 10);
         assert_eq!(rt; got, read, "{interrupted}, {steps}, {most}");
         assert_eq!(rt; bytes.len(), length, "{interrupted}, {steps}, {most}");
     }
+    Ok(())
+}
+
+#[test]
+fn a_reader_is_read_whole_or_not_at_all(rt: HostRuntime) -> Result<(), Fail> {
+    let alloc = rt.alloc();
+    let mut taken = 0;
+    for (limit, longer, total) in [(4, true, 5), (8, true, 14), (9, false, 23), (99, false, 32)] {
+        let mut text: &[u8] = b"some text";
+        match read_whole(alloc, &mut text, limit, &mut taken) {
+            Ok(bytes) => {
+                assert_eq!(rt; bytes.as_slice(), b"some text".as_slice());
+                assert!(rt; !longer, "{limit}");
+            }
+            Err(end) => {
+                assert_eq!(rt; end, ShelfEnd::TooLong);
+                assert!(rt; longer, "{limit}");
+            }
+        }
+        assert_eq!(rt; taken, total, "{limit}");
+    }
+    // The third read fails.
+    let mut file = Fake {
+        interrupted: 0,
+        steps: 2,
+        most: 3,
+    };
+    assert_eq!(rt;
+        read_whole(alloc, &mut file, 99, &mut taken),
+        Err(ShelfEnd::Failed)
+    );
+    assert_eq!(rt; taken, 38);
+    Ok(())
+}
+
+#[test]
+fn a_writer_in_memory_takes_a_piece(rt: HostRuntime) -> Result<(), Fail> {
+    let mut written = Vec::new(rt.alloc());
+    assert_eq!(rt; write_some(&mut written, b"abc"), Ok(3));
+    assert_eq!(rt; write_some(&mut written, b""), Ok(0));
+    assert_eq!(rt; written.as_slice(), b"abc".as_slice());
     Ok(())
 }
 

@@ -1,0 +1,21 @@
+-- What reading a file takes from it, and how it ends.
+use Rattle.std.specs.Prelude.{◌≡◌, ℕ, List, ◌++◌, length, Option}
+use Rattle.std.specs.Io.KnownBytes.{Consumes}
+use Rattle.crell_io.specs.Count.{raised_by}
+use Rattle.crell_io.specs.declared.shelf.ShelfEnd.{ShelfEnd}
+use Rattle.crell_io.specs.declared.shelf.ShelfEnd.TheVariants.{Failed, Absent, TooLong, Memory}
+
+-- a first part of what remained, where that is known, was taken, and stands after the bytes before
+abbrev pub AppendsTaken : Option (List ℕ) → Option (List ℕ) → List ℕ → List ℕ → Type 0
+AppendsTaken remaining after bytes more = (part : List ℕ) × Consumes remaining after part × (more ≡ bytes ++ part)
+
+-- a first part of what remained, where that is known, was taken, and the count of bytes has risen by its length
+abbrev pub TakesFirst : Option (List ℕ) → Option (List ℕ) → ℕ → ℕ → Type 0
+TakesFirst remaining after taken more = (part : List ℕ) × Consumes remaining after part × (more ≡ raised_by (length part) taken)
+
+-- a read failed, or memory was refused
+abbrev pub IsReadFault : ShelfEnd → Type 0
+IsReadFault Failed = Unit {0}
+IsReadFault Absent = ⊥
+IsReadFault TooLong = ⊥
+IsReadFault Memory = Unit {0}
