@@ -7,7 +7,7 @@ pub data Told : Type 0 where
   NoSuch : Told
   Bytes : List ℕ → Told
 
--- if anything is told, it is that there are contents, and they are such
+-- it isn't told that there is no such name; and if contents are told, they are such
 abbrev pub IfTold : Told → (List ℕ → Type 0) → Type 0
 IfTold Untold P = Unit {0}
 IfTold NoSuch P = ⊥

@@ -10,9 +10,9 @@ use Rattle.crell_program.specs.declared.answer.Answer.{Answer}
 use Rattle.crell_program.specs.Answer.{usage, not_of_the_first_form, read_failed, past_limit, absent}
 use Rattle.crell_program.specs.Command.{Files}
 use Rattle.crell_program.specs.VerdictText.{verdict_answer}
-use Rattle.crell_program.specs.Due.{ShelfSeen, Held, Missing, Long, Broken, MayCome, DueOfFile, DueOfFiles, DueOfTexts, IsDue, text_limit, json_limit}
-use Rattle.crell_program.specs.Statuses.{IsRefusal, AreJudged, OneIsUnfit, SomeFileIsUnfit, SomeFileIsLonger, SomeFileIsMissing}
-use Rattle.crell_program.proofs.Bytes.{if_told_three}
+use Rattle.crell_program.specs.Due.{ShelfSeen, Held, Missing, Long, Broken, MayCome, DueOfFile, DueOfFiles, DueOfTexts, IsDue, NamesNoModule, HoldsNoHints, text_limit, json_limit}
+use Rattle.crell_program.specs.Statuses.{IsRefusal, AreJudged, NoneIsAbsent, NamesSomeModule, HoldsSomeHints, SomeFileIsUnfit, SomeFileIsLonger, SomeFileIsMissing}
+use Rattle.crell_program.proofs.Bytes.{if_told, if_told_three, not_absent}
 
 -- What a status says: of the words and files; that out is silent, or both are wholly; that a sink failed; that memory was refused.
 abbrev pub Says : Rules → ShelfSeen → Option Files → Type 0 → Type 0 → Type 0 → Type 0 → ℕ → Type 0
@@ -47,35 +47,37 @@ says_verdict rules shelf files modules.Valid refusal = some_isnt_none files
 says_verdict rules shelf files (modules.Differs what) refusal = refusal (λ e. cc)
 says_verdict rules shelf files (modules.Refused function block spot reason) refusal = refusal (λ e. cc)
 
+none_absent : (shelf : ShelfSeen) (files : Files) (source target hints : List ℕ)
+    → IfTold (shelf.told files.source) (λ held. source ≡ held)
+    → IfTold (shelf.told files.target) (λ held. target ≡ held)
+    → IfTold (shelf.told files.hints) (λ held. hints ≡ held)
+    → NoneIsAbsent shelf.told files
+none_absent shelf files source target hints a b c = (not_absent _ source a, not_absent _ target b, not_absent _ hints c)
+
 says_texts : (rules : Rules) (shelf : ShelfSeen) (files : Files) (answer : Answer) (source target hints : List ℕ)
     → IfTold (shelf.told files.source) (λ held. source ≡ held)
     → IfTold (shelf.told files.target) (λ held. target ≡ held)
     → IfTold (shelf.told files.hints) (λ held. hints ≡ held)
     → DueOfTexts rules files answer source target hints → SaysOf rules shelf (Some files) answer
 says_texts rules shelf files answer source target hints a b c (inl (unread, e)) =
-    along rules shelf (Some files) answer (not_of_the_first_form files.source) e (
-      if_told_three (shelf.told files.source) (shelf.told files.target) (shelf.told files.hints) source target hints
-          OneIsUnfit a b c (inl unread),
-      refl,
-    )
+    along rules shelf (Some files) answer (not_of_the_first_form files.source) e
+    ((none_absent shelf files source target hints a b c, inl (if_told _ source NamesNoModule a unread)), refl)
 says_texts rules shelf files answer source target hints a b c (inr (s, sp, inl (unread, e))) =
-    along rules shelf (Some files) answer (not_of_the_first_form files.target) e (
-      if_told_three (shelf.told files.source) (shelf.told files.target) (shelf.told files.hints) source target hints
-          OneIsUnfit a b c (inr (inl unread)),
-      refl,
-    )
+    along rules shelf (Some files) answer (not_of_the_first_form files.target) e
+    ((none_absent shelf files source target hints a b c, inr (inl (if_told _ target NamesNoModule b unread))), refl)
 says_texts rules shelf files answer source target hints a b c (inr (s, sp, inr (t, tp, inl (unread, e)))) =
-    along rules shelf (Some files) answer (not_of_the_first_form files.hints) e (
-      if_told_three (shelf.told files.source) (shelf.told files.target) (shelf.told files.hints) source target hints
-          OneIsUnfit a b c (inr (inr unread)),
-      refl,
-    )
+    along rules shelf (Some files) answer (not_of_the_first_form files.hints) e
+    ((none_absent shelf files source target hints a b c, inr (inr (if_told _ hints HoldsNoHints c unread))), refl)
 says_texts rules shelf files answer source target hints a b c (inr (s, sp, inr (t, tp, inr (h, hp, e)))) =
     along rules shelf (Some files) answer (verdict_answer (module_verdict rules s t h)) e
-    (says_verdict rules shelf files (module_verdict rules s t h) (λ other.
-    if_told_three (shelf.told files.source) (shelf.told files.target) (shelf.told files.hints) source target hints
-    (AreJudged rules (λ v. v ≢ modules.Valid))
-    a b c (s, t, h, sp.0, tp.0, hp, other)))
+    (says_verdict rules shelf files (module_verdict rules s t h) (λ other. (
+      none_absent shelf files source target hints a b c,
+      if_told _ source NamesSomeModule a (s, sp.0),
+      if_told _ target NamesSomeModule b (t, tp.0),
+      if_told _ hints HoldsSomeHints c (h, hp),
+      if_told_three (shelf.told files.source) (shelf.told files.target) (shelf.told files.hints) source target hints
+          (AreJudged rules (λ v. v ≢ modules.Valid)) a b c (s, t, h, sp.0, tp.0, hp, other),
+    )))
 
 -- A file decides, or leads on with its bytes.
 by_file : (rules : Rules) (shelf : ShelfSeen) (files : Files) (answer : Answer) (limit : ℕ) (limit_name name : List ℕ) (next : List ℕ → Type 0)

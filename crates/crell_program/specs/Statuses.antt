@@ -56,17 +56,29 @@ SomeFileIsLonger shelf (Some files) =
 abbrev pub OneIsUnfit : List ℕ → List ℕ → List ℕ → Type 0
 OneIsUnfit source target hints = NamesNoModule source ⊎ NamesNoModule target ⊎ HoldsNoHints hints
 
+-- the text has the first form of a module
+abbrev pub NamesSomeModule : List ℕ → Type 0
+NamesSomeModule text = (m : Module) × HasFirstForm text m
+
+-- the text states hints
+abbrev pub HoldsSomeHints : List ℕ → Type 0
+HoldsSomeHints text = (h : Hints) × HintsOf text h
+
 -- The texts have their first forms, and the checker's verdict on them is such.
 abbrev pub AreJudged : Rules → (ModuleVerdict → Type 0) → List ℕ → List ℕ → List ℕ → Type 0
 AreJudged rules P source target hints =
     (s : Module) × (t : Module) × (h : Hints) × HasFirstForm source s × HasFirstForm target t × HintsOf hints h × P (module_verdict rules s t h)
 
--- if the shelf tells all three files, their texts are such
-abbrev pub IfAllTold : (List ℕ → Told) → Option Files → (List ℕ → List ℕ → List ℕ → Type 0) → Type 0
-IfAllTold told None P = ⊥
-IfAllTold told (Some files) P =
+-- If the shelf tells all three files, their texts are such. (A file that is told to be absent, where those before it are told,
+-- is against this.)
+abbrev pub IfAllTold : (List ℕ → Told) → Files → (List ℕ → List ℕ → List ℕ → Type 0) → Type 0
+IfAllTold told files P =
     IfTold (told files.source) (λ source. IfTold (told files.target) (λ target. IfTold (told files.hints) (λ hints.
     P source target hints)))
+
+-- none of the three files is told to be absent
+abbrev pub NoneIsAbsent : (List ℕ → Told) → Files → Type 0
+NoneIsAbsent told files = (told files.source ≢ NoSuch) × (told files.target ≢ NoSuch) × (told files.hints ≢ NoSuch)
 
 -- the words are a command's, the shelf tells all three files, they are within their limits, and their texts are such
 abbrev pub HoldsAll : (List ℕ → Told) → Option Files → (List ℕ → List ℕ → List ℕ → Type 0) → Type 0
@@ -75,13 +87,24 @@ HoldsAll told (Some files) P =
     IsBytesAnd (told files.source) (λ source. IsBytesAnd (told files.target) (λ target. IsBytesAnd (told files.hints) (λ hints.
     (length source ≤ text_limit) × (length target ≤ text_limit) × (length hints ≤ json_limit) × P source target hints)))
 
--- if the shelf tells all three files, one of their texts hasn't its first form
+-- The words are a command's, and none of its files is told to be absent. The source, if it is told, has the first form of no
+-- module, or the target, if it is told, hasn't, or the hints, if they are told, are none.
 abbrev pub SomeFileIsUnfit : (List ℕ → Told) → Option Files → Type 0
-SomeFileIsUnfit told command = IfAllTold told command OneIsUnfit
+SomeFileIsUnfit told None = ⊥
+SomeFileIsUnfit told (Some files) =
+    NoneIsAbsent told files
+    × (IfTold (told files.source) NamesNoModule ⊎ IfTold (told files.target) NamesNoModule ⊎ IfTold (told files.hints) HoldsNoHints)
 
--- if the shelf tells all three files, the checker's verdict on their texts isn't that the pair is valid
+-- The words are a command's, and none of its files is told to be absent. The source, if it is told, has its first form, and so
+-- have the target and the hints. If all three are told, the checker's verdict on them isn't that the pair is valid.
 abbrev pub IsRefusal : Rules → (List ℕ → Told) → Option Files → Type 0
-IsRefusal rules told command = IfAllTold told command (AreJudged rules (λ v. v ≢ modules.Valid))
+IsRefusal rules told None = ⊥
+IsRefusal rules told (Some files) =
+    NoneIsAbsent told files
+    × IfTold (told files.source) NamesSomeModule
+    × IfTold (told files.target) NamesSomeModule
+    × IfTold (told files.hints) HoldsSomeHints
+    × IfAllTold told files (AreJudged rules (λ v. v ≢ modules.Valid))
 
 -- the shelf tells all three files, they are within their limits, and the checker's verdict on their texts is such
 abbrev pub HasVerdict : Rules → (List ℕ → Told) → Option Files → (ModuleVerdict → Type 0) → Type 0

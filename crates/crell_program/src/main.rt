@@ -1,7 +1,7 @@
 //! `crell check SRC TGT HINTS`: whether the target module refines the source module, by hints that say why.
 #![tactic(auto)]
 
-ghost use Rattle.std.specs.Prelude.{◌≡◌, ◌↔◌, None, IfOk, map, string_bytes};
+ghost use Rattle.std.specs.Prelude.{◌≡◌, ◌≢◌, ◌↔◌, None, IfOk, OnErr, map, string_bytes};
 ghost use Rattle.crell_program.specs.Command.{command_of};
 ghost use Rattle.crell_program.specs.Statuses.{IsStatus};
 
@@ -17,26 +17,25 @@ mod verdict_text;
 use crell_io::{HostShelf, HostSink};
 pub use program::crell;
 use rule_base::{InferRule, Rule, RuleBook};
-use std::alloc::AllocError;
-use std::env;
+use std::alloc::{AllocError, Global};
+use std::env::{self, Env};
 use std::io::ErrorKind;
 use std::process::ExitCode;
 
 fn main(rt: HostRuntime) -> ExitCode {
-    ExitCode::from(start(&rt))
+    ExitCode::from(start(&rt, words(&rt)))
 }
 
-/// Runs the command that the words of the process name, and gives its status.
-fn start(rt: &HostRuntime) -> u8
-    ensures { IsStatus result }
+/// Runs the command that these words name, and gives its status. Memory may have been refused to the words.
+fn start(rt: &HostRuntime, words: Result<Vec<String>, AllocError>) -> u8
+    ensures unread { OnErr words (result ≡ 8) }
+    ensures usage { IfOk words (λ words. result ≢ 8 →
+        (result ≡ 2 ↔ (command_of (map string_bytes words.items) ≡ None))) }
+    ensures statuses { IsStatus result }
 {
-    let Ok(words) = words(rt) else {
-        return program::WANT_OF_MEMORY;
-    };
-    match run_words(rt, &words) {
-        Ok(status) => status,
-        Err(_) => program::WANT_OF_MEMORY,
-    }
+    words
+        .and_then(|words| run_words(rt, &words))
+        .unwrap_or(program::WANT_OF_MEMORY)
 }
 
 /// Runs the command that the words name, under the shipped rules, over the files and the outputs of the system.
@@ -61,19 +60,10 @@ fn run_words(rt: &HostRuntime, words: &[String]) -> Result<u8, AllocError>
 }
 
 /// The words of the command line; none where one of them isn't UTF-8.
-fn words(rt: &HostRuntime) -> Result<Vec<String>, AllocError> {
-    let mut words = Vec::new(rt.alloc());
+fn words<R: Env + Alloc<A = Global>>(rt: &R) -> Result<Vec<String>, AllocError> {
     match env::args(rt) {
-        Ok(args) => {
-            for word in args {
-                words.push(word)?;
-            }
-        }
-        Err(error) => {
-            if error.kind() == ErrorKind::OutOfMemory {
-                return Err(AllocError);
-            }
-        }
+        Ok(args) => args.collect(rt.alloc()),
+        Err(error) if error.kind() == ErrorKind::OutOfMemory => Err(AllocError),
+        Err(_) => Ok(Vec::new(rt.alloc())),
     }
-    Ok(words)
 }

@@ -1,9 +1,10 @@
 ghost use Rattle.std.specs.Prelude.{◌≤◌};
 
-use crate::crell;
+use crate::{crell, run_words, start, words};
 use crell_io::{Entry, MemShelf, MemSink};
 use rule_base::{InferRule, Rule, RuleBook};
 use std::alloc::{AllocError, Global};
+use std::env::{Env, FillError};
 use std::test::Fail;
 
 const EXAMPLE_SOURCE: &str = "define i32 @f() {\n  %y = add i32 undef, 0\n  ret i32 %y\n}\n";
@@ -334,5 +335,61 @@ fn a_sink_that_fails_keeps_a_first_part(rt: HostRuntime) -> Result<(), Fail> {
     assert_eq!(rt; run(alloc, &CHECK, &mut shelf, &mut out, &mut err)?, 7);
     assert_eq!(rt; out.bytes(), b"".as_slice());
     assert_eq!(rt; err.bytes(), b"a.ll: ".as_slice());
+    Ok(())
+}
+
+/// A process with these words.
+#[derive(Clone, Copy)]
+struct Process<'a>(&'a [&'a [u8]]);
+
+impl Env for Process<'_> {
+    fn arg(&self, i: usize, buf: &mut [u8]) -> Result<usize, FillError> {
+        let Some(word) = self.0.get(i) else {
+            return Err(FillError::NotPresent);
+        };
+        if word.len() > buf.len() {
+            return Err(FillError::TooLong);
+        }
+        buf[..word.len()].copy_from_slice(word);
+        Ok(word.len())
+    }
+
+    fn var(&self, _name: &str, _buf: &mut [u8]) -> Result<usize, FillError> {
+        Err(FillError::NotPresent)
+    }
+
+    fn var_at(&self, _i: usize, _buf: &mut [u8]) -> Result<usize, FillError> {
+        Err(FillError::NotPresent)
+    }
+}
+
+#[test]
+fn all_words_are_read_or_none(rt: HostRuntime) -> Result<(), Fail> {
+    let six: [&[u8]; 6] = [b"crell", b"check", b"a.ll", b"b.ll", b"", b"h.json"];
+    let read = words(&(Process(&six), rt.alloc()))?;
+    assert_eq!(rt; read.len(), 6);
+    for (word, bytes) in read.iter().zip(&six) {
+        assert_eq!(rt; word.as_bytes(), *bytes);
+    }
+    let no_text: [&[u8]; 3] = [b"crell", b"\xff", b"a.ll"];
+    assert_eq!(rt; words(&(Process(&no_text), rt.alloc()))?.len(), 0);
+    Ok(())
+}
+
+#[test]
+fn the_process_ends_with_its_status(rt: HostRuntime) -> Result<(), Fail> {
+    let alloc = rt.alloc();
+    // The words of a test process are no command's.
+    assert_eq!(rt; start(&rt, words(&rt)), 2);
+    assert_eq!(rt; start(&rt, Err(AllocError)), 8);
+    assert_eq!(rt; run_words(&rt, &[]), Ok(2));
+
+    // None of the files can be opened.
+    let mut given = Vec::new(alloc);
+    for word in ["crell", "check", "no folder/a.ll", "no folder/b.ll", "no folder/h.json"] {
+        given.push(String::from_str(alloc, word)?)?;
+    }
+    assert_eq!(rt; run_words(&rt, &given), Ok(6));
+    assert_eq!(rt; start(&rt, Ok(given)), 6);
     Ok(())
 }
