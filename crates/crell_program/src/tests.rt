@@ -46,6 +46,29 @@ const PLUS_ZERO_HINTS_SECOND: &str =
 {"at":1,"rule":"trans","side":"src","from":[["ge","i32 %y","add i32 %x, 0"],["ge","add i32 %x, 0","i32 %x"]],"to":["ge","i32 %y","i32 %x"]}]}]}}}
 "#;
 
+const UNUSED: &str = "define i32 @f(i32 %x) {\n  %y = add i32 %x, 0\n  ret i32 %x\n}\n";
+
+const UNUSED_HINTS: &str =
+    r#"{"format":1,"functions":{"@f":{"blocks":[{"at":"%0","lines":"t","steps":[]}]}}}"#;
+
+const SUM: &str = "define i32 @f(i32 %x) {\n  %z = add i32 %x, %x\n  ret i32 %z\n}\n";
+
+const SUM_AGAIN: &str =
+    "define i32 @f(i32 %x) {\n  %z = add i32 %x, %x\n  %y = add i32 %x, %x\n  ret i32 %y\n}\n";
+
+const SUM_AGAIN_HINTS: &str =
+    r#"{"format":1,"functions":{"@f":{"blocks":[{"at":"%0","lines":"bt","steps":[
+{"at":2,"rule":"trans","side":"tgt","from":[["ge","i32 %z","add i32 %x, %x"],["ge","add i32 %x, %x","i32 %y"]],"to":["ge","i32 %z","i32 %y"]}]}]}}}
+"#;
+
+const SUM_AGAIN_HINTS_ON_SOURCE: &str =
+    r#"{"format":1,"functions":{"@f":{"blocks":[{"at":"%0","lines":"bt","steps":[
+{"at":2,"rule":"trans","side":"src","from":[["ge","i32 %z","add i32 %x, %x"],["ge","add i32 %x, %x","i32 %y"]],"to":["ge","i32 %z","i32 %y"]}]}]}}}
+"#;
+
+const SUM_AGAIN_HINTS_WITHOUT: &str =
+    r#"{"format":1,"functions":{"@f":{"blocks":[{"at":"%0","lines":"bt"}]}}}"#;
+
 const WRAPPING: &str = "define i32 @f() {\n  %y = add i32 2147483647, 1\n  ret i32 %y\n}\n";
 
 const NOT_WRAPPING: &str = "define i32 @f() {\n  %y = add nsw i32 2147483647, 1\n  ret i32 %y\n}\n";
@@ -108,6 +131,7 @@ fn pairs_are_judged(rt: HostRuntime) -> Result<(), Fail> {
     let alloc = rt.alloc();
     let missing_seven = "refused @f %0 1: missing premise [\"ge\",\"i32 undef\",\"i32 7\"]\n";
     let missing_sum = "refused @f %0 1: missing premise [\"ge\",\"add i32 %x, 0\",\"i32 %x\"]\n";
+    let missing_again = "refused @f %0 2: missing premise [\"ge\",\"add i32 %x, %x\",\"i32 %y\"]\n";
     let aligned = one_step(alloc, "b", "zero_right", "add i32 %x, 0")?;
     let unknown = one_step(alloc, "s", "zero_left", "add i32 %x, 0")?;
     let unfit = one_step(alloc, "s", "zero_right", "add i32 %x, 1")?;
@@ -129,6 +153,16 @@ fn pairs_are_judged(rt: HostRuntime) -> Result<(), Fail> {
             "refused @f %0 1: unmatched %y %x\n",
         ),
         (PLUS_ZERO, ARGUMENT, PLUS_ZERO_HINTS_SECOND, 1, missing_sum),
+        (ARGUMENT, UNUSED, UNUSED_HINTS, 0, "valid\n"),
+        (SUM, SUM_AGAIN, SUM_AGAIN_HINTS, 0, "valid\n"),
+        (SUM, SUM_AGAIN, SUM_AGAIN_HINTS_ON_SOURCE, 1, missing_again),
+        (
+            SUM,
+            SUM_AGAIN,
+            SUM_AGAIN_HINTS_WITHOUT,
+            1,
+            "refused @f %0 2: unmatched %z %y\n",
+        ),
         (
             WRAPPING,
             NOT_WRAPPING,
@@ -386,7 +420,13 @@ fn the_process_ends_with_its_status(rt: HostRuntime) -> Result<(), Fail> {
 
     // None of the files can be opened.
     let mut given = Vec::new(alloc);
-    for word in ["crell", "check", "no folder/a.ll", "no folder/b.ll", "no folder/h.json"] {
+    for word in [
+        "crell",
+        "check",
+        "no folder/a.ll",
+        "no folder/b.ll",
+        "no folder/h.json",
+    ] {
         given.push(String::from_str(alloc, word)?)?;
     }
     assert_eq!(rt; run_words(&rt, &given), Ok(6));
