@@ -18,6 +18,3 @@ pub enum CheckEnd {
     /// No memory is left.
     Memory,
 }
-
-#[cfg(test)]
-mod tests;
