@@ -12,3 +12,6 @@ pub use hints::{
     PlacedStep, RuleStep,
 };
 pub use verdict::{Difference, ModuleVerdict, Reason, Spot, Verdict};
+
+#[cfg(test)]
+mod tests;
