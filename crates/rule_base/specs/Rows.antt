@@ -1,5 +1,6 @@
 -- What the shipped rules take, as tests that compute. A fact `a >= b` says that a is less defined than b.
-use Rattle.std.specs.Prelude.{ℕ, ◌^◌, Bool, true, false, ◌&&◌, nat_lt, nat_eq, List, [], ◌∷◌, codes}
+use Rattle.std.specs.Prelude.{ℕ, ◌^◌, Bool, true, false, ◌&&◌, not, nat_lt, nat_eq, List, [], ◌∷◌, codes}
+use Rattle.std.specs.List.{list_any}
 use Rattle.ir_core.specs.declared.operands.Ty.{Ty}
 use Rattle.ir_core.specs.declared.operands.Ty.TheVariants as ty
 use Rattle.ir_core.specs.declared.operands.Const.{Const}
@@ -10,7 +11,7 @@ use Rattle.ir_core.specs.declared.expressions.Reg.{Reg}
 use Rattle.ir_core.specs.declared.expressions.Expr0.{Expr0}
 use Rattle.ir_core.specs.declared.expressions.Expr0.TheVariants.{Plain, Binary}
 use Rattle.ir_core.specs.Types.{is_width}
-use Rattle.ir_core.specs.Same.{same_ty, same_atom, same_reg, same_expr}
+use Rattle.ir_core.specs.Same.{same_list, same_ty, same_atom, same_reg, same_expr}
 use Rattle.erhl_assert.specs.declared.facts.Fact.{Fact}
 use Rattle.erhl_assert.specs.declared.facts.Fact.TheVariants.{LessDef}
 use Rattle.erhl_assert.specs.declared.facts.Schema.{Schema}
@@ -80,6 +81,11 @@ abbrev pub name_of : Rule → List ℕ
 name_of Trans = codes "trans"
 name_of UndefConst = codes "undef_const"
 name_of ZeroRight = codes "zero_right"
+
+-- no name stands twice
+abbrev pub stand_apart : List (List ℕ) → Bool
+stand_apart [] = true
+stand_apart (x ∷ xs) = not (list_any (same_list nat_eq x) xs) && stand_apart xs
 
 -- no row asks anything of types and globals, as none can be written yet
 abbrev pub takes_row : Rule → Scope → Schema → Bool

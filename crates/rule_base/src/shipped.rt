@@ -1,8 +1,8 @@
-ghost use Rattle.std.specs.Prelude.{◌≡◌, ◌^◌, nat_lt, Contains};
+ghost use Rattle.std.specs.Prelude.{◌≡◌, ◌^◌, true, nat_lt, [], ◌∷◌, map, Contains};
 ghost use Rattle.ir_core.specs.Types.{is_width};
 ghost use Rattle.erhl_assert.specs.Facts.{type_of};
 ghost use Rattle.rule_base.specs.declared.shipped.Rule.{Rule};
-ghost use Rattle.rule_base.specs.Rows.{name_of, is_constant_of, is_atom_of, is_typed, have_one_type, is_trans, is_undef_const, is_zero_right, is_undef, is_constant, is_zero};
+ghost use Rattle.rule_base.specs.Rows.{name_of, stand_apart, is_constant_of, is_atom_of, is_typed, have_one_type, is_trans, is_undef_const, is_zero_right, is_undef, is_constant, is_zero};
 
 use crate::InferRule;
 use erhl_assert::{Fact, Schema};
@@ -52,10 +52,11 @@ impl InferRule for Rule {
     }
 }
 
-/// Each rule stands in the table, and no two of them have one name.
+/// The table: each rule stands there once, in this order, and no two of them have one name.
 pub fn rules_stand_in_the_table()
+    ensures table { Rule.ALL ≡ Rule.Trans ∷ Rule.UndefConst ∷ Rule.ZeroRight ∷ [] }
     ensures whole { (rule : Rule) → Contains Rule.ALL rule }
-    ensures named_apart { (a b : Rule) → name_of a ≡ name_of b → a ≡ b }
+    ensures named_apart { stand_apart (map name_of Rule.ALL) ≡ true }
 {}
 
 fn is_width(width: u32) -> bool
