@@ -47,11 +47,10 @@ some_from p a fs = p a || list_any (from_fact p a) fs
 abbrev pub some_into : (Operand Reg → Bool) → Operand Reg → List Fact → Bool
 some_into p b fs = p b || list_any (into_fact p b) fs
 
-abbrev pub have_kind : Option Kind → Option Kind → Bool
-have_kind None None = true
-have_kind (Some j) (Some k) = same_kind j k
-have_kind None (Some k) = false
-have_kind (Some j) None = false
+-- a type's kind is k; a type without values has none
+abbrev pub is_kind : Option Kind → Kind → Bool
+is_kind None k = false
+is_kind (Some j) k = same_kind j k
 
 -- one constant of one stated type, or one register that doesn't differ
 abbrev pub meet_at : List Reg → Operand Reg → Operand Reg → Atom Reg → Atom Reg → Bool
@@ -61,14 +60,18 @@ meet_at diff c d (atom.Constant m) (atom.Register y) = false
 meet_at diff c d (atom.Register x) (atom.Constant n) = false
 
 -- the two are one c of that kind
-abbrev pub meet : List Reg → Option Kind → Operand Reg → Operand Reg → Bool
-meet diff k c d = have_kind (kind_of c.ty) k && have_kind (kind_of d.ty) k && meet_at diff c d c.atom d.atom
+abbrev pub meet : List Reg → Kind → Operand Reg → Operand Reg → Bool
+meet diff k c d = is_kind (kind_of c.ty) k && is_kind (kind_of d.ty) k && meet_at diff c d c.atom d.atom
 
--- a and b have one type, and there is a c, a constant or a register that doesn't differ, such that a is c or is known on the
--- source to be less defined than c, and b is c or c is known on the target to be less defined than b
+-- there is a c of that kind, a constant or a register that doesn't differ, such that a is c or is known on the source to be
+-- less defined than c, and b is c or c is known on the target to be less defined than b
+abbrev pub matched_at : Assertion → Option Kind → Operand Reg → Operand Reg → Bool
+matched_at known None a b = false
+matched_at known (Some k) a b = some_from (λ c. some_into (λ d. meet known.diff k c d) b known.tgt) a known.src
+
+-- a and b have one type, which has values, and are matched at its kind
 abbrev pub matched_reg : Assertion → Operand Reg → Operand Reg → Bool
-matched_reg known a b =
-    same_ty a.ty b.ty && some_from (λ c. some_into (λ d. meet known.diff (kind_of a.ty) c d) b known.tgt) a known.src
+matched_reg known a b = same_ty a.ty b.ty && matched_at known (kind_of a.ty) a b
 
 abbrev pub matched : Assertion → Operand Name → Operand Name → Bool
 matched known a b = matched_reg known (now_operand a) (now_operand b)

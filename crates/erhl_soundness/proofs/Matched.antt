@@ -6,7 +6,6 @@ use Rattle.ir_core.specs.declared.names.Name.{Name}
 use Rattle.ir_core.specs.declared.values.Value.{Value}
 use Rattle.ir_core.specs.declared.values.Kind.{Kind}
 use Rattle.ir_core.specs.declared.operands.Ty.{Ty}
-use Rattle.ir_core.specs.declared.operands.Const.{Const}
 use Rattle.ir_core.specs.declared.operands.Atom.{Atom}
 use Rattle.ir_core.specs.declared.operands.Atom.TheVariants as atom
 use Rattle.ir_core.specs.declared.operands.Operand.{Operand}
@@ -17,13 +16,13 @@ use Rattle.ir_core.specs.Same.{same_ty, same_const, same_reg, same_expr}
 use Rattle.ir_core.proofs.SameLaws.{left_true, right_true, same_ty_true, same_const_true, same_reg_true, same_expr_true}
 use Rattle.ir_values.specs.Values.{IsLessDefined}
 use Rattle.ir_values.proofs.KindLaws.{same_kind_true}
-use Rattle.ir_machine.specs.Registers.{Registers, read, kind_of, constant_value, atom_value, operand_value}
+use Rattle.ir_machine.specs.Registers.{Registers, read, kind_of, constant_value, atom_at, atom_value, operand_value}
 use Rattle.erhl_assert.specs.declared.facts.Fact.{Fact}
 use Rattle.erhl_assert.specs.declared.facts.Fact.TheVariants.{LessDef}
 use Rattle.erhl_assert.specs.declared.facts.Assertion.{Assertion}
 use Rattle.erhl_assert.specs.Sides.{SideState, side_of, read_reg, has_reg, AreRelated}
 use Rattle.erhl_assert.specs.Facts.{Holds, AssertionHolds}
-use Rattle.erhl_assert.specs.Matched.{now_operand, from_fact, into_fact, some_from, some_into, have_kind, meet_at, meet, matched_reg, matched, atoms_matched}
+use Rattle.erhl_assert.specs.Matched.{now_operand, from_fact, into_fact, some_from, some_into, is_kind, meet_at, meet, matched_at, matched_reg, matched, atoms_matched}
 use Rattle.ir_values.proofs.OperationLaws.{less_defined_refl, less_defined_trans}
 use Rattle.erhl_soundness.proofs.Lines.{now_atom_value}
 
@@ -70,60 +69,49 @@ module _ (side : SideState) (p : Operand Reg → Bool) where
   some_below b fs h all =
       ⊎_elim (λ e. (b, e, less_defined_refl (value_on side b))) (λ e. below_by_facts b fs e all) (or_cases (p b) (list_any (into_fact p b) fs) h)
 
-pub have_kind_true : (j k : Option Kind) → have_kind j k ≡ true → j ≡ k
-have_kind_true None None h = refl
-have_kind_true (Some j) (Some k) h = ap Some (same_kind_true j k h)
-have_kind_true None (Some k) h = absurd (false≢true h)
-have_kind_true (Some j) None h = absurd (false≢true h)
+pub is_kind_true : (o : Option Kind) (k : Kind) → is_kind o k ≡ true → o ≡ Some k
+is_kind_true None k h = absurd (false≢true h)
+is_kind_true (Some j) k h = ap Some (same_kind_true j k h)
 
--- a constant is worth the same on both sides
-constant_less : (source target : SideState) (k : Option Kind) (c : Const)
-    → IsLessDefined (atom_value (read_reg source) k (atom.Constant c)) (atom_value (read_reg target) k (atom.Constant c))
-constant_less source target None c = tt
-constant_less source target (Some k) c = less_defined_refl (constant_value k c)
-
-register_less : (diff : List Reg) (source target : SideState) → AreRelated diff source target → (k : Option Kind) (r : Reg) → has_reg r diff ≡ false
-    → IsLessDefined (atom_value (read_reg source) k (atom.Register r)) (atom_value (read_reg target) k (atom.Register r))
-register_less diff source target related None r h = tt
-register_less diff source target related (Some k) r h = related r k h
-
-meet_at_less : (diff : List Reg) (source target : SideState) → AreRelated diff source target → (k : Option Kind) (c d : Operand Reg) (x y : Atom Reg)
-    → meet_at diff c d x y ≡ true → IsLessDefined (atom_value (read_reg source) k x) (atom_value (read_reg target) k y)
+meet_at_less : (diff : List Reg) (source target : SideState) → AreRelated diff source target → (k : Kind) (c d : Operand Reg) (x y : Atom Reg)
+    → meet_at diff c d x y ≡ true → IsLessDefined (atom_at (read_reg source) k x) (atom_at (read_reg target) k y)
 meet_at_less diff source target related k c d (atom.Constant m) (atom.Constant n) h =
     let same = same_const_true m n (right_true (same_ty c.ty d.ty) (same_const m n) h) in
-    subst (λ i. IsLessDefined (atom_value (read_reg source) k (atom.Constant m)) (atom_value (read_reg target) k (atom.Constant i))) same
-    (constant_less source target k m)
+    subst (λ i. IsLessDefined (constant_value k m) (constant_value k i)) same (less_defined_refl (constant_value k m))
 meet_at_less diff source target related k c d (atom.Register x) (atom.Register y) h =
     let same = same_reg_true x y (left_true (same_reg x y) (not (has_reg x diff)) h) in
     let free = not-true (has_reg x diff) (right_true (same_reg x y) (not (has_reg x diff)) h) in
-    subst (λ r. IsLessDefined (atom_value (read_reg source) k (atom.Register x)) (atom_value (read_reg target) k (atom.Register r))) same
-    (register_less diff source target related k x free)
+    subst (λ r. IsLessDefined (read_reg source k x) (read_reg target k r)) same (related x k free)
 meet_at_less diff source target related k c d (atom.Constant m) (atom.Register y) h = absurd (false≢true h)
 meet_at_less diff source target related k c d (atom.Register x) (atom.Constant n) h = absurd (false≢true h)
 
-meet_less : (diff : List Reg) (source target : SideState) → AreRelated diff source target → (k : Option Kind) (c d : Operand Reg)
+meet_less : (diff : List Reg) (source target : SideState) → AreRelated diff source target → (k : Kind) (c d : Operand Reg)
     → meet diff k c d ≡ true → IsLessDefined (value_on source c) (value_on target d)
 meet_less diff source target related k c d h =
     let at = meet_at diff c d c.atom d.atom in
-    let kinds = left_true (have_kind (kind_of c.ty) k && have_kind (kind_of d.ty) k) at h in
-    let of_c = have_kind_true (kind_of c.ty) k (left_true (have_kind (kind_of c.ty) k) (have_kind (kind_of d.ty) k) kinds) in
-    let of_d = have_kind_true (kind_of d.ty) k (right_true (have_kind (kind_of c.ty) k) (have_kind (kind_of d.ty) k) kinds) in
+    let kinds = left_true (is_kind (kind_of c.ty) k && is_kind (kind_of d.ty) k) at h in
+    let of_c = is_kind_true (kind_of c.ty) k (left_true (is_kind (kind_of c.ty) k) (is_kind (kind_of d.ty) k) kinds) in
+    let of_d = is_kind_true (kind_of d.ty) k (right_true (is_kind (kind_of c.ty) k) (is_kind (kind_of d.ty) k) kinds) in
     subst₂ (λ i j. IsLessDefined (atom_value (read_reg source) i c.atom) (atom_value (read_reg target) j d.atom)) (sym of_c) (sym of_d)
     (meet_at_less diff source target related k c d c.atom d.atom
-    (right_true (have_kind (kind_of c.ty) k && have_kind (kind_of d.ty) k) at h))
+    (right_true (is_kind (kind_of c.ty) k && is_kind (kind_of d.ty) k) at h))
 
-pub matched_reg_less : (known : Assertion) (source target : SideState) → AssertionHolds known source target → (a b : Operand Reg)
-    → matched_reg known a b ≡ true → IsLessDefined (value_on source a) (value_on target b)
-matched_reg_less known source target holds a b h =
-    let k = kind_of a.ty in
+matched_at_less : (known : Assertion) (source target : SideState) → AssertionHolds known source target → (o : Option Kind) (a b : Operand Reg)
+    → matched_at known o a b ≡ true → IsLessDefined (value_on source a) (value_on target b)
+matched_at_less known source target holds None a b h = absurd (false≢true h)
+matched_at_less known source target holds (Some k) a b h =
     let through = λ (c : Operand Reg). some_into (λ d. meet known.diff k c d) b known.tgt in
-    let found : SomeAbove source through a =
-    some_above source through a known.src (right_true (same_ty a.ty b.ty) (some_from through a known.src) h) holds.source_facts in
+    let found : SomeAbove source through a = some_above source through a known.src h holds.source_facts in
     let back : SomeBelow target (λ d. meet known.diff k found.0 d) b =
     some_below target (λ d. meet known.diff k found.0 d) b known.tgt found.1 holds.target_facts in
     less_defined_trans (value_on source a) (value_on source found.0) (value_on target b) found.2
     (less_defined_trans (value_on source found.0) (value_on target back.0) (value_on target b)
     (meet_less known.diff source target holds.related k found.0 back.0 back.1) back.2)
+
+pub matched_reg_less : (known : Assertion) (source target : SideState) → AssertionHolds known source target → (a b : Operand Reg)
+    → matched_reg known a b ≡ true → IsLessDefined (value_on source a) (value_on target b)
+matched_reg_less known source target holds a b h =
+    matched_at_less known source target holds (kind_of a.ty) a b (right_true (same_ty a.ty b.ty) (matched_at known (kind_of a.ty) a b) h)
 
 -- the operands of two functions
 pub matched_less : (known : Assertion) (source target : Registers) → AssertionHolds known (side_of source) (side_of target) → (a b : Operand Name)
@@ -134,8 +122,7 @@ matched_less known source target holds a b h =
 
 pub matched_type : (known : Assertion) (a b : Operand Name) → matched known a b ≡ true → a.ty ≡ b.ty
 matched_type known a b h =
-    same_ty_true a.ty b.ty
-    (left_true (same_ty a.ty b.ty) (some_from (λ c. some_into (λ d. meet known.diff (kind_of a.ty) c d) (now_operand b) known.tgt) (now_operand a) known.src) h)
+    same_ty_true a.ty b.ty (left_true (same_ty a.ty b.ty) (matched_at known (kind_of a.ty) (now_operand a) (now_operand b)) h)
 
 pub atoms_matched_less : (known : Assertion) (source target : Registers) → AssertionHolds known (side_of source) (side_of target)
     → (s : Ty) (a : Atom Name) (t : Ty) (b : Atom Name) → atoms_matched known s a t b ≡ true

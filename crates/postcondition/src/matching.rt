@@ -7,7 +7,7 @@ ghost use Rattle.ir_core.specs.declared.expressions.Expr0.TheVariants.{Plain};
 ghost use Rattle.ir_core.specs.Same.{same_reg, same_atom, same_expr};
 ghost use Rattle.ir_machine.specs.Registers.{kind_of};
 ghost use Rattle.erhl_assert.specs.Sides.{has_reg};
-ghost use Rattle.erhl_assert.specs.Matched.{now_atom, now_operand, of_plain, from_fact, some_into, have_kind, meet, matched, atoms_matched};
+ghost use Rattle.erhl_assert.specs.Matched.{now_atom, now_operand, of_plain, from_fact, some_into, is_kind, meet, matched_at, matched, atoms_matched};
 ghost use Rattle.postcondition.specs.InLogic.{atom_in_logic};
 
 use contents::Seq;
@@ -85,32 +85,32 @@ fn kind_of(ty: &Ty) -> Option<Kind>
     }
 }
 
-/// Whether both types have values of one kind, or neither has values.
-fn have_kind(a: &Ty, b: &Ty) -> bool
-    ensures { result ≡ have_kind (kind_of a.now) (kind_of b.now) }
+/// Whether the type's values are of that kind.
+fn is_kind(ty: &Ty, kind: Kind) -> bool
+    ensures { result ≡ is_kind (kind_of ty.now) kind }
 {
-    match (kind_of(a), kind_of(b)) {
-        (Some(Kind::Int(v)), Some(Kind::Int(w))) => v == w,
-        (None, None) => true,
-        _ => false,
+    let Kind::Int(width) = kind;
+    match kind_of(ty) {
+        Some(Kind::Int(other)) => other == width,
+        None => false,
     }
 }
 
-/// Whether c and the target's operand are one, of the kind of `like`.
+/// Whether c and the target's operand are one, of that kind.
 fn meets_now<R: InLogic>(
     diff: &Seq<Reg>,
-    like: &Ty,
+    kind: Kind,
     s: &Ty,
     c: &Atom<R>,
     t: &Ty,
     b: &Atom<Name>,
 ) -> bool
     ensures { result
-        ≡ meet diff.now (kind_of like.now) (record { ty = s.now; atom = atom_in_logic R.in_logic c.now })
+        ≡ meet diff.now kind (record { ty = s.now; atom = atom_in_logic R.in_logic c.now })
         (now_operand (record { ty = t.now; atom = b.now })) }
 {
-    have_kind(s, like)
-        && have_kind(t, like)
+    is_kind(s, kind)
+        && is_kind(t, kind)
         && match (c, b) {
             (Atom::Constant(m), Atom::Constant(n)) => same_ty(s, t) && same_const(m, n),
             (Atom::Register(x), Atom::Register(y)) => x.is_now(y) && !may_differ(x, diff),
@@ -118,13 +118,13 @@ fn meets_now<R: InLogic>(
         }
 }
 
-/// Whether c and an operand of a fact are one, of the kind of `like`.
-fn meets_reg<R: InLogic>(diff: &Seq<Reg>, like: &Ty, s: &Ty, c: &Atom<R>, d: &Operand<Reg>) -> bool
+/// Whether c and an operand of a fact are one, of that kind.
+fn meets_reg<R: InLogic>(diff: &Seq<Reg>, kind: Kind, s: &Ty, c: &Atom<R>, d: &Operand<Reg>) -> bool
     ensures { result
-        ≡ meet diff.now (kind_of like.now) (record { ty = s.now; atom = atom_in_logic R.in_logic c.now }) d.now }
+        ≡ meet diff.now kind (record { ty = s.now; atom = atom_in_logic R.in_logic c.now }) d.now }
 {
-    have_kind(s, like)
-        && have_kind(&d.ty, like)
+    is_kind(s, kind)
+        && is_kind(&d.ty, kind)
         && match (c, &d.atom) {
             (Atom::Constant(m), Atom::Constant(n)) => same_ty(s, &d.ty) && same_const(m, n),
             (Atom::Register(x), Atom::Register(y)) => x.is_reg(y) && !may_differ(x, diff),
@@ -132,14 +132,14 @@ fn meets_reg<R: InLogic>(diff: &Seq<Reg>, like: &Ty, s: &Ty, c: &Atom<R>, d: &Op
         }
 }
 
-fn meets_plain<R: InLogic>(diff: &Seq<Reg>, like: &Ty, s: &Ty, c: &Atom<R>, expr: &Expr0) -> bool
+fn meets_plain<R: InLogic>(diff: &Seq<Reg>, kind: Kind, s: &Ty, c: &Atom<R>, expr: &Expr0) -> bool
     ensures { result
         ≡ of_plain
-        (λ d. meet diff.now (kind_of like.now) (record { ty = s.now; atom = atom_in_logic R.in_logic c.now }) d)
+        (λ d. meet diff.now kind (record { ty = s.now; atom = atom_in_logic R.in_logic c.now }) d)
         expr.now }
 {
     match expr {
-        Expr0::Plain(d) => meets_reg(diff, like, s, c, d),
+        Expr0::Plain(d) => meets_reg(diff, kind, s, c, d),
         Expr0::Binary(_) => false,
     }
 }
@@ -167,7 +167,7 @@ fn is_plain_now(expr: &Expr0, ty: &Ty, atom: &Atom<Name>) -> bool
 /// Whether c is the target's operand, or is known on the target to be less defined than it.
 fn reaches<R: InLogic>(
     known: &Assertion,
-    like: &Ty,
+    kind: Kind,
     s: &Ty,
     c: &Atom<R>,
     t: &Ty,
@@ -175,60 +175,80 @@ fn reaches<R: InLogic>(
 ) -> bool
     ensures { result
         ≡ some_into
-        (λ d. meet known.now.diff (kind_of like.now)
+        (λ d. meet known.now.diff kind
         (record { ty = s.now; atom = atom_in_logic R.in_logic c.now }) d)
         (now_operand (record { ty = t.now; atom = b.now })) known.now.tgt }
 {
-    if meets_now(&known.diff, like, s, c, t, b) {
+    if meets_now(&known.diff, kind, s, c, t, b) {
         return true;
     }
     for fact in known.tgt.as_slice() {
         let Fact::LessDef(x, y) = fact;
-        if is_plain_now(y, t, b) && meets_plain(&known.diff, like, s, c, x) {
+        if is_plain_now(y, t, b) && meets_plain(&known.diff, kind, s, c, x) {
             return true;
         }
     }
     false
 }
 
-fn plain_reaches(known: &Assertion, like: &Ty, expr: &Expr0, t: &Ty, b: &Atom<Name>) -> bool
+fn plain_reaches(known: &Assertion, kind: Kind, expr: &Expr0, t: &Ty, b: &Atom<Name>) -> bool
     ensures { result
         ≡ of_plain
-        (λ c. some_into (λ d. meet known.now.diff (kind_of like.now) c d)
+        (λ c. some_into (λ d. meet known.now.diff kind c d)
         (now_operand (record { ty = t.now; atom = b.now })) known.now.tgt)
         expr.now }
 {
     match expr {
-        Expr0::Plain(c) => reaches(known, like, &c.ty, &c.atom, t, b),
+        Expr0::Plain(c) => reaches(known, kind, &c.ty, &c.atom, t, b),
         Expr0::Binary(_) => false,
     }
 }
 
 /// Whether the source's operand is known to be less defined than some c that reaches the target's.
-fn reaches_by_fact(known: &Assertion, s: &Ty, a: &Atom<Name>, t: &Ty, b: &Atom<Name>) -> bool
+fn reaches_by_fact(
+    known: &Assertion,
+    kind: Kind,
+    s: &Ty,
+    a: &Atom<Name>,
+    t: &Ty,
+    b: &Atom<Name>,
+) -> bool
     ensures { result
         ≡ list_any
         (from_fact
-        (λ c. some_into (λ d. meet known.now.diff (kind_of s.now) c d)
+        (λ c. some_into (λ d. meet known.now.diff kind c d)
         (now_operand (record { ty = t.now; atom = b.now })) known.now.tgt)
         (now_operand (record { ty = s.now; atom = a.now })))
         known.now.src }
 {
     for fact in known.src.as_slice() {
         let Fact::LessDef(x, y) = fact;
-        if is_plain_now(x, s, a) && plain_reaches(known, s, y, t, b) {
+        if is_plain_now(x, s, a) && plain_reaches(known, kind, y, t, b) {
             return true;
         }
     }
     false
 }
 
-/// Whether two atoms at their types are matched.
+/// Whether two atoms are matched at the kind of the first one's type.
 #[tactic(auto, using(crate::proofs::Atoms::now_in_logic))]
+fn atoms_meet(known: &Assertion, s: &Ty, a: &Atom<Name>, t: &Ty, b: &Atom<Name>) -> bool
+    ensures { result
+        ≡ matched_at known.now (kind_of s.now) (now_operand (record { ty = s.now; atom = a.now }))
+        (now_operand (record { ty = t.now; atom = b.now })) }
+{
+    // At a type without values nothing is matched.
+    let Some(kind) = kind_of(s) else {
+        return false;
+    };
+    reaches(known, kind, s, a, t, b) || reaches_by_fact(known, kind, s, a, t, b)
+}
+
+/// Whether two atoms at their types are matched.
 pub fn atoms_matched(known: &Assertion, s: &Ty, a: &Atom<Name>, t: &Ty, b: &Atom<Name>) -> bool
     ensures { result ≡ atoms_matched known.now s.now a.now t.now b.now }
 {
-    same_ty(s, t) && (reaches(known, s, s, a, t, b) || reaches_by_fact(known, s, a, t, b))
+    same_ty(s, t) && atoms_meet(known, s, a, t, b)
 }
 
 pub fn matched(known: &Assertion, a: &Operand<Name>, b: &Operand<Name>) -> bool

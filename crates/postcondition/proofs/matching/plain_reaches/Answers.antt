@@ -1,7 +1,6 @@
 use Rattle.std.proofs.Common.{◌∙◌, ap}
 use Rattle.ir_core.specs.declared.operands.Atom.{Atom}
 use Rattle.ir_core.specs.declared.expressions.Reg.{Reg}
-use Rattle.ir_machine.specs.Registers.{kind_of}
 use Rattle.erhl_assert.specs.Matched.{now_operand, some_into, meet}
 use Rattle.postcondition.proofs.Atoms.{reg_in_logic}
 use Rattle.postcondition.proofs.matching.plain_reaches.Goals as goal
@@ -9,6 +8,6 @@ use Rattle.postcondition.proofs.matching.plain_reaches.Goals as goal
 pub returns-in-Plain : goal.returns-in-Plain
 returns-in-Plain c =
     let known = c.args.known.now in
-    let at = λ (a : Atom Reg). some_into (λ d. meet known.diff (kind_of c.args.like.now) (record { ty = c.in-Plain.c.ty; atom = a }) d)
+    let at = λ (a : Atom Reg). some_into (λ d. meet known.diff c.args.kind (record { ty = c.in-Plain.c.ty; atom = a }) d)
     (now_operand (record { ty = c.args.t.now; atom = c.args.b.now })) known.tgt in
     rw c.in-Plain.is (c.reaches.ensures ∙ ap at (reg_in_logic c.in-Plain.c.atom))

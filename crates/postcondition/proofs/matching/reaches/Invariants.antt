@@ -1,11 +1,10 @@
 use Rattle.std.proofs.Common.{◌≡◌, drop}
 use Rattle.std.specs.List.{list_any}
-use Rattle.ir_machine.specs.Registers.{kind_of}
 use Rattle.erhl_assert.specs.Matched.{now_operand, into_fact, meet}
 use Rattle.postcondition.specs.InLogic.{atom_in_logic}
 use Rattle.postcondition.proofs.matching.reaches.Given as goal
 
 abbrev pub invariant-loop-fact : goal.invariant-loop-fact
 invariant-loop-fact g l =
-    list_any (into_fact (λ d. meet l.known.diff (kind_of l.like) (record { ty = l.s; atom = atom_in_logic g.R.InLogic.in_logic l.c }) d) (now_operand (record { ty = l.t; atom = l.b }))) (drop l.fact-index l.fact-items)
-    ≡ list_any (into_fact (λ d. meet l.known.diff (kind_of l.like) (record { ty = l.s; atom = atom_in_logic g.R.InLogic.in_logic l.c }) d) (now_operand (record { ty = l.t; atom = l.b }))) l.known.tgt
+    list_any (into_fact (λ d. meet l.known.diff l.kind (record { ty = l.s; atom = atom_in_logic g.R.InLogic.in_logic l.c }) d) (now_operand (record { ty = l.t; atom = l.b }))) (drop l.fact-index l.fact-items)
+    ≡ list_any (into_fact (λ d. meet l.known.diff l.kind (record { ty = l.s; atom = atom_in_logic g.R.InLogic.in_logic l.c }) d) (now_operand (record { ty = l.t; atom = l.b }))) l.known.tgt
