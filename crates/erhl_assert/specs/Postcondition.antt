@@ -1,6 +1,5 @@
 -- What is known after an aligned line, from what was known before it.
-use Rattle.std.specs.Prelude.{Bool, ◌&&◌, ◌||◌, cond, not, filter, List, [], ◌∷◌, ◌++◌, Option, None, Some}
-use Rattle.ir_core.specs.declared.operands.Flags.{Flags}
+use Rattle.std.specs.Prelude.{Bool, ◌&&◌, cond, not, filter, List, [], ◌∷◌, ◌++◌, Option, None, Some}
 use Rattle.ir_core.specs.declared.operands.Atom.TheVariants as atom
 use Rattle.ir_core.specs.declared.functions.Binary.{Binary}
 use Rattle.ir_core.specs.declared.functions.Instr.{Instr}
@@ -10,6 +9,7 @@ use Rattle.ir_core.specs.declared.expressions.Reg.TheVariants.{Now}
 use Rattle.ir_core.specs.declared.expressions.Expr0.{Expr0}
 use Rattle.ir_core.specs.declared.expressions.Expr0.TheVariants as expr
 use Rattle.ir_core.specs.Same.{same_name, same_ty, same_op, same_reg}
+use Rattle.ir_values.specs.Laws.{flags_among}
 use Rattle.erhl_assert.specs.declared.facts.Fact.{Fact}
 use Rattle.erhl_assert.specs.declared.facts.Fact.TheVariants.{LessDef}
 use Rattle.erhl_assert.specs.declared.facts.Assertion.{Assertion}
@@ -37,14 +37,10 @@ abbrev pub facts_after : Option Instr → List Fact → List Fact
 facts_after None fs = fs
 facts_after (Some (line.Binary b)) fs = facts_after_line b fs
 
--- each flag of the target is one of the source's
-abbrev pub flags_among : Flags → Flags → Bool
-flags_among source target = (not target.nuw || source.nuw) && (not target.nsw || source.nsw)
-
 -- one operator, one type, flags of the target among the source's, and operands that are matched
 abbrev pub lines_agree : Assertion → Binary → Binary → Bool
 lines_agree known s t =
-    same_op s.op t.op && same_ty s.ty t.ty && flags_among s.flags t.flags
+    same_op s.op t.op && same_ty s.ty t.ty && flags_among t.flags s.flags
     && atoms_matched known s.ty s.left t.ty t.left && atoms_matched known s.ty s.right t.ty t.right
 
 abbrev pub without_reg : Reg → List Reg → List Reg

@@ -17,6 +17,7 @@ use Rattle.ir_core.specs.declared.expressions.Reg.TheVariants as reg
 use Rattle.ir_core.specs.Same.{same_name, same_ty, same_op, same_reg}
 use Rattle.ir_core.proofs.SameLaws.{left_true, right_true, same_name_true, same_name_refl, same_ty_true, same_op_true, same_reg_true, same_reg_refl}
 use Rattle.ir_values.specs.Values.{IsLessDefined, same_kind}
+use Rattle.ir_values.specs.Laws.{flags_among}
 use Rattle.ir_machine.specs.Registers.{Registers, AreInKind, held_at, holding, read, set, kind_of, atom_value}
 use Rattle.ir_machine.proofs.Runs.{read_set_at, read_set_other}
 use Rattle.erhl_assert.specs.declared.facts.Assertion.{Assertion}
@@ -24,7 +25,7 @@ use Rattle.erhl_assert.specs.Sides.{side_of, read_reg, has_reg, AreRelated}
 use Rattle.erhl_assert.specs.Facts.{AssertionHolds}
 use Rattle.erhl_assert.specs.Matched.{atoms_matched}
 use Rattle.erhl_assert.specs.Alignment.{Line}
-use Rattle.erhl_assert.specs.Postcondition.{flags_among, lines_agree, without_reg, with_reg, diff_after, after_line}
+use Rattle.erhl_assert.specs.Postcondition.{lines_agree, without_reg, with_reg, diff_after, after_line}
 use Rattle.ir_values.proofs.OperationLaws.{binary_monotone}
 use Rattle.erhl_soundness.proofs.Lines.{result_value, line_value, after_binary, after_binary_in_kind}
 use Rattle.erhl_soundness.proofs.Facts.{facts_after_hold}
@@ -106,7 +107,7 @@ related_both diff source target x o v w less related r k out = ⊎_elim
     (related r k (outside_without r (reg.Now x) diff e out)))
     (cases_Bool (same_reg (reg.Now x) r))
 
-result_monotone : (op : BinOp) (many few : Flags) (k : Option Kind) (a b c d : Value) → flags_among many few ≡ true → IsLessDefined a c → IsLessDefined b d
+result_monotone : (op : BinOp) (many few : Flags) (k : Option Kind) (a b c d : Value) → flags_among few many ≡ true → IsLessDefined a c → IsLessDefined b d
     → IsLessDefined (result_value op many k a b) (result_value op few k c d)
 result_monotone op many few None a b c d h p q = tt
 result_monotone op many few (Some (kind.Int width)) a b c d h p q = binary_monotone op many few width a b c d h p q
@@ -115,7 +116,7 @@ result_monotone op many few (Some (kind.Int width)) a b c d h p q = binary_monot
 record Agree (known : Assertion) (s t : Binary) : Type 0 where
   op : s.op ≡ t.op
   type : s.ty ≡ t.ty
-  flags : flags_among s.flags t.flags ≡ true
+  flags : flags_among t.flags s.flags ≡ true
   left : atoms_matched known s.ty s.left t.ty t.left ≡ true
   right : atoms_matched known s.ty s.right t.ty t.right ≡ true
 
@@ -123,7 +124,7 @@ agree_parts : (known : Assertion) (s t : Binary) → lines_agree known s t ≡ t
 agree_parts known s t h =
     let op = same_op s.op t.op in
     let type = same_ty s.ty t.ty in
-    let flags = flags_among s.flags t.flags in
+    let flags = flags_among t.flags s.flags in
     let left = atoms_matched known s.ty s.left t.ty t.left in
     let right = atoms_matched known s.ty s.right t.ty t.right in
     let four : (op && type && flags && left) ≡ true = left_true (op && type && flags && left) right h in

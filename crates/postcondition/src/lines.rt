@@ -4,8 +4,9 @@ ghost use Rattle.ir_core.specs.Same.{same_name};
 ghost use Rattle.std.specs.Option.{option_copied};
 ghost use Rattle.ir_core.specs.declared.expressions.Reg.TheVariants.{Now};
 ghost use Rattle.ir_core.specs.declared.functions.Instr.TheVariants as line;
+ghost use Rattle.ir_values.specs.Laws.{flags_among};
 ghost use Rattle.erhl_assert.specs.Matched.{now_atom};
-ghost use Rattle.erhl_assert.specs.Postcondition.{right_side, register_of, facts_after_line, flags_among, lines_agree, without_reg, with_reg, after_line};
+ghost use Rattle.erhl_assert.specs.Postcondition.{right_side, register_of, facts_after_line, lines_agree, without_reg, with_reg, after_line};
 
 use crate::facts::expr_names;
 use crate::{atoms_matched, with_reg, without_naming, without_reg};
@@ -65,10 +66,11 @@ fn facts_after(alloc: Global, line: &Binary, facts: Seq<Fact>) -> Result<Seq<Fac
     Ok(kept)
 }
 
-fn flags_among(source: &Flags, target: &Flags) -> bool
-    ensures { result ≡ flags_among source.now target.now }
+/// Whether each flag of the first is one of the second's.
+fn flags_among(few: &Flags, many: &Flags) -> bool
+    ensures { result ≡ flags_among few.now many.now }
 {
-    (!target.nuw || source.nuw) && (!target.nsw || source.nsw)
+    (!few.nuw || many.nuw) && (!few.nsw || many.nsw)
 }
 
 fn lines_agree(known: &Assertion, s: &Binary, t: &Binary) -> bool
@@ -76,7 +78,7 @@ fn lines_agree(known: &Assertion, s: &Binary, t: &Binary) -> bool
 {
     same_op(&s.op, &t.op)
         && same_ty(&s.ty, &t.ty)
-        && flags_among(&s.flags, &t.flags)
+        && flags_among(&t.flags, &s.flags)
         && atoms_matched(known, &s.ty, &s.left, &t.ty, &t.left)
         && atoms_matched(known, &s.ty, &s.right, &t.ty, &t.right)
 }
