@@ -2,6 +2,7 @@ mod Lines
 mod Facts
 mod Matched
 mod Related
+mod Frames
 mod Steps
 mod Bodies
 mod Returns

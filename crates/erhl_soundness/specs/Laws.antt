@@ -1,14 +1,47 @@
--- The soundness laws of the logic (Crellvm's soundness theorem; the idea of checking each result of a compiler and proving
+-- The laws of the logic's words, and then its soundness laws (Crellvm's soundness theorem; the idea of checking each result of a compiler and proving
 -- the checker is credible compilation).
-use Rattle.std.specs.Prelude.{◌≡◌}
+use Rattle.std.specs.Prelude.{◌≡◌, true, List, [], Option, None, Some}
+use Rattle.ir_core.specs.declared.names.Name.{Name}
+use Rattle.ir_core.specs.declared.operands.Operand.{Operand}
+use Rattle.ir_core.specs.declared.functions.Instr.{Instr}
 use Rattle.ir_core.specs.declared.functions.Function.{Function}
 use Rattle.ir_core.specs.declared.functions.Module.{Module}
+use Rattle.ir_values.specs.Values.{IsLessDefined}
+use Rattle.ir_machine.specs.Registers.{Registers, read, operand_value}
+use Rattle.ir_machine.specs.State.{Frame, Pending, World, Running}
+use Rattle.ir_machine.specs.Machine.{Does, line_step}
 use Rattle.ir_machine.specs.Refinement.{FunctionRefines, Refines}
+use Rattle.erhl_assert.specs.declared.facts.Assertion.{Assertion}
 use Rattle.erhl_assert.specs.declared.hints.Hint.{Hint}
 use Rattle.erhl_assert.specs.declared.hints.Hints.{Hints}
 use Rattle.erhl_assert.specs.declared.verdict.ModuleVerdict.TheVariants as modules
+use Rattle.erhl_assert.specs.Sides.{side_of}
+use Rattle.erhl_assert.specs.Facts.{AssertionHolds}
+use Rattle.erhl_assert.specs.Matched.{matched}
+use Rattle.erhl_assert.specs.Alignment.{Line}
+use Rattle.erhl_assert.specs.Postcondition.{after_line}
 use Rattle.erhl_assert.specs.Steps.{Rules, AreSound}
 use Rattle.erhl_assert.specs.Acceptance.{Accepts, module_verdict}
+
+-- the line, or a no-op, takes the frame to another one
+abbrev pub Leads : Option Instr → Frame → Frame → Type 0
+Leads None before after = after ≡ before
+Leads (Some i) before after =
+    (rest : List Pending) × (world : World) × (line_step i before rest world ≡ Does [] (Running after rest world))
+
+-- Where an assertion holds of two frames, what `after_line` gives holds of the frames that the two lines lead to.
+abbrev pub ALineKeepsWhatHolds : Type 0
+ALineKeepsWhatHolds = (known : Assertion) (l : Line) (source target source_after target_after : Frame)
+    → AssertionHolds known (side_of source.registers) (side_of target.registers)
+    → Leads l.source source source_after → Leads l.target target target_after
+    → AssertionHolds (after_line known l) (side_of source_after.registers) (side_of target_after.registers)
+
+-- Where an assertion holds of two frames' registers, and a and b are matched, a's value on the source is less defined than
+-- b's on the target.
+abbrev pub MatchedOperandsAreRelated : Type 0
+MatchedOperandsAreRelated = (known : Assertion) (source target : Registers) (a b : Operand Name)
+    → AssertionHolds known (side_of source) (side_of target) → matched known a b ≡ true
+    → IsLessDefined (operand_value (read source) a) (operand_value (read target) b)
 
 -- Where the rules are sound and the pair is accepted, the target's function refines the source's, in whatever modules they stand.
 abbrev pub AcceptedFunctionsRefine : Type 0

@@ -6,7 +6,17 @@
 //! in place of proving the optimiser, is credible compilation (Rinard).
 #![tactic(auto)]
 
-ghost use Rattle.erhl_soundness.specs.Laws.{AcceptedFunctionsRefine, AcceptedModulesRefine};
+ghost use Rattle.erhl_soundness.specs.Laws.{ALineKeepsWhatHolds, MatchedOperandsAreRelated, AcceptedFunctionsRefine, AcceptedModulesRefine};
+
+/// After an aligned line of two frames of which an assertion holds, what the postcondition gives holds of the two frames.
+pub fn a_line_keeps_what_holds()
+    ensures { ALineKeepsWhatHolds }
+{}
+
+/// Where an assertion holds of two frames and two operands are matched, the source's value is less defined than the target's.
+pub fn matched_operands_are_related()
+    ensures { MatchedOperandsAreRelated }
+{}
 
 /// Where every step that the rules take is sound, and the verdict on a source's and a target's function is `Valid`, under
 /// whatever hint, the target's function refines the source's: whatever input the two are entered on, what the target can show
