@@ -47,6 +47,7 @@ scope_of m = tt
 abbrev pub IsSound : Scope → Schema → Type 0
 IsSound scope schema = (side : SideState) → IsSideInKind side → AllByRecursion (Holds side) schema.from → Holds side schema.to
 
+-- true exactly of equal facts, which is the contract of `same_fact_is_equality`
 abbrev pub same_fact : Fact → Fact → Bool
 same_fact (LessDef a b) (LessDef c d) = same_expr a c && same_expr b d
 

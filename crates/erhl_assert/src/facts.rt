@@ -1,3 +1,7 @@
+ghost use Rattle.std.specs.Prelude.{◌≡◌};
+ghost use Rattle.ir_core.specs.Same.{IsEquality};
+ghost use Rattle.erhl_assert.specs.Facts.{same_fact};
+
 use contents::{Exact, Seq};
 use ir_core::{Expr0, Reg};
 use std::alloc::{AllocError, Global};
@@ -51,3 +55,15 @@ impl Exact for Fact {
         }
     }
 }
+
+#[tactic(auto, using(crate::proofs::SameFact::same_fact_true, crate::proofs::SameFact::same_fact_refl))]
+pub fn same_fact(a: &Fact, b: &Fact) -> bool
+    ensures { result ≡ same_fact a.now b.now }
+{
+    a.is(b)
+}
+
+/// The test of two facts is true exactly of equal ones.
+pub fn same_fact_is_equality()
+    ensures { IsEquality same_fact }
+{}

@@ -6,7 +6,7 @@ mod facts;
 mod hints;
 mod verdict;
 
-pub use facts::{Assertion, Expr, Fact, Schema, Side};
+pub use facts::{Assertion, Expr, Fact, Schema, Side, same_fact, same_fact_is_equality};
 pub use hints::{
     FunctionHint, FunctionLoops, Hint, HintBlock, HintStep, Hints, Letter, Loop, LoopHints,
     PlacedStep, RuleStep,

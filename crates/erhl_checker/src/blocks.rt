@@ -175,16 +175,6 @@ fn along(
     )
 }
 
-fn copy_of(alloc: Global, known: &Assertion) -> Result<Assertion, AllocError>
-    ensures { IfOk result (λ copy. copy ≡ known.now) }
-{
-    Ok(Assertion {
-        src: known.src.copy(alloc)?,
-        tgt: known.tgt.copy(alloc)?,
-        diff: known.diff.copy(alloc)?,
-    })
-}
-
 /// Two entry blocks with the hint that is given for them. Nothing is known of registers on entry, so the hint may want no fact.
 #[tactic(auto, using(crate::proofs::Progressing::walked_unaligned))]
 fn hinted(
@@ -217,7 +207,11 @@ fn hinted(
     if !is_aligned(letters, source.body.as_slice(), target.body.as_slice()) {
         return refused(alloc, &source.name, Spot::Start, Reason::AlignmentDiffers);
     }
-    let entry = copy_of(alloc, &hint.entry)?;
+    let entry = Assertion {
+        src: Seq::new(alloc),
+        tgt: Seq::new(alloc),
+        diff: hint.entry.diff.copy(alloc)?,
+    };
     along(
         alloc,
         module,

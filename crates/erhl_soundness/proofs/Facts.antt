@@ -14,8 +14,6 @@ use Rattle.ir_core.specs.declared.expressions.Reg.{Reg}
 use Rattle.ir_core.specs.declared.expressions.Reg.TheVariants as reg
 use Rattle.ir_core.specs.declared.expressions.Expr0.{Expr0}
 use Rattle.ir_core.specs.declared.expressions.Expr0.TheVariants.{Plain, Binary as Binary'}
-use Rattle.ir_core.specs.Same.{same_expr}
-use Rattle.ir_core.proofs.SameLaws.{left_true, right_true, same_expr_true}
 use Rattle.ir_values.specs.declared.operations.Outcome.TheVariants.{Gives}
 use Rattle.ir_values.specs.Operations.{IsOutcomeLessDefined}
 use Rattle.ir_machine.specs.Registers.{Registers, set, kind_of, atom_value, binary_at}
@@ -25,12 +23,9 @@ use Rattle.erhl_assert.specs.declared.facts.Fact.TheVariants.{LessDef}
 use Rattle.erhl_assert.specs.Sides.{SideState, side_of, read_reg, worth}
 use Rattle.erhl_assert.specs.Facts.{Holds, same_fact, has_fact, with_fact, atom_names, expr_names, fact_names, without_naming}
 use Rattle.erhl_assert.specs.Postcondition.{right_side, register_of, facts_after_line}
+use Rattle.erhl_assert.proofs.SameFact.{same_fact_true}
 use Rattle.ir_values.proofs.OperationLaws.{less_defined_refl}
 use Rattle.erhl_soundness.proofs.Lines.{result_value, line_value, after_binary, right_side_gives}
-
-pub same_fact_true : (a b : Fact) → same_fact a b ≡ true → a ≡ b
-same_fact_true (LessDef a b) (LessDef c d) h =
-    ap₂ LessDef (same_expr_true a c (left_true (same_expr a c) (same_expr b d) h)) (same_expr_true b d (right_true (same_expr a c) (same_expr b d) h))
 
 -- a fact that stands in a list of facts that hold
 pub has_fact_holds : (side : SideState) (f : Fact) (fs : List Fact) → has_fact f fs ≡ true → AllByRecursion (Holds side) fs → Holds side f

@@ -4,17 +4,12 @@ use Rattle.std.specs.List.{list_any}
 use Rattle.ir_core.specs.declared.functions.Binary.{Binary}
 use Rattle.ir_core.specs.declared.expressions.Reg.{Reg}
 use Rattle.ir_core.specs.declared.expressions.Reg.TheVariants.{Now}
-use Rattle.ir_core.specs.declared.expressions.Expr0.{Expr0}
-use Rattle.ir_core.specs.Same.{same_expr}
-use Rattle.ir_core.proofs.SameLaws.{left_true, right_true, same_expr_true, same_reg_refl}
+use Rattle.ir_core.proofs.SameLaws.{same_reg_refl}
 use Rattle.erhl_assert.specs.declared.facts.Fact.{Fact}
 use Rattle.erhl_assert.specs.declared.facts.Fact.TheVariants.{LessDef}
 use Rattle.erhl_assert.specs.Facts.{same_fact, has_fact, with_fact, expr_names, fact_names, without_naming}
 use Rattle.erhl_assert.specs.Postcondition.{right_side, register_of, facts_after_line}
-
-same_fact_true : (f g : Fact) → same_fact f g ≡ true → f ≡ g
-same_fact_true (LessDef a b) (LessDef c d) h =
-    cc (same_expr_true a c (left_true (same_expr a c) (same_expr b d) h), same_expr_true b d (right_true (same_expr a c) (same_expr b d) h))
+use Rattle.erhl_assert.proofs.SameFact.{same_fact_true}
 
 true_or_false : (b : Bool) → (b ≡ true → ⊥) → b ≡ false
 true_or_false true h = absurd (h refl)

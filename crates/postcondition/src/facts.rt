@@ -1,19 +1,11 @@
 //! Lists of facts.
 ghost use Rattle.std.specs.Prelude.{◌≡◌, IfOk};
-ghost use Rattle.erhl_assert.specs.Facts.{same_fact, has_fact, with_fact, atom_names, expr_names, fact_names, without_naming};
+ghost use Rattle.erhl_assert.specs.Facts.{has_fact, with_fact, atom_names, expr_names, fact_names, without_naming};
 
 use contents::Seq;
-use erhl_assert::Fact;
-use ir_core::{Atom, Expr0, Reg, same_expr, same_reg};
+use erhl_assert::{Fact, same_fact};
+use ir_core::{Atom, Expr0, Reg, same_reg};
 use std::alloc::AllocError;
-
-pub fn same_fact(a: &Fact, b: &Fact) -> bool
-    ensures { result ≡ same_fact a.now b.now }
-{
-    match (a, b) {
-        (Fact::LessDef(x, y), Fact::LessDef(v, w)) => same_expr(x, v) && same_expr(y, w),
-    }
-}
 
 /// Whether the fact stands in the list.
 pub fn has_fact(fact: &Fact, facts: &Seq<Fact>) -> bool
@@ -66,7 +58,7 @@ fn fact_names(register: &Reg, fact: &Fact) -> bool
 }
 
 /// The facts that don't name the register.
-pub fn without_naming(register: &Reg, facts: Seq<Fact>) -> Seq<Fact>
+pub(crate) fn without_naming(register: &Reg, facts: Seq<Fact>) -> Seq<Fact>
     ensures { result ≡ without_naming register.now facts }
 {
     let mut kept = facts.into_vec();

@@ -6,10 +6,9 @@ mod lines;
 mod matching;
 mod registers;
 
-pub use facts::{has_fact, same_fact, with_fact, without_naming};
+pub use facts::{has_fact, with_fact};
 pub use lines::after_line;
-pub use matching::{atoms_matched, matched};
-pub use registers::{has_reg, with_reg, without_reg};
+pub use matching::matched;
 
 #[cfg(test)]
 mod tests;

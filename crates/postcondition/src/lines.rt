@@ -8,8 +8,9 @@ ghost use Rattle.ir_values.specs.Laws.{flags_among};
 ghost use Rattle.erhl_assert.specs.Matched.{now_atom};
 ghost use Rattle.erhl_assert.specs.Postcondition.{right_side, register_of, facts_after_line, lines_agree, without_reg, with_reg, after_line};
 
-use crate::facts::expr_names;
-use crate::{atoms_matched, with_reg, without_naming, without_reg};
+use crate::facts::{expr_names, without_naming};
+use crate::matching::atoms_matched;
+use crate::registers::{with_reg, without_reg};
 use contents::{Exact, Seq};
 use erhl_assert::{Assertion, Fact};
 use ir_core::{

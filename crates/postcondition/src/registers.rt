@@ -7,7 +7,7 @@ use contents::Seq;
 use ir_core::{Reg, same_reg};
 use std::alloc::AllocError;
 
-pub fn has_reg(register: &Reg, registers: &Seq<Reg>) -> bool
+pub(crate) fn has_reg(register: &Reg, registers: &Seq<Reg>) -> bool
     ensures { result ≡ has_reg register.now registers.now }
 {
     for other in registers.as_slice() {
@@ -19,7 +19,7 @@ pub fn has_reg(register: &Reg, registers: &Seq<Reg>) -> bool
 }
 
 /// The list with the register at its end, where it isn't there yet.
-pub fn with_reg(register: Reg, mut registers: Seq<Reg>) -> Result<Seq<Reg>, AllocError>
+pub(crate) fn with_reg(register: Reg, mut registers: Seq<Reg>) -> Result<Seq<Reg>, AllocError>
     ensures { IfOk result (λ more. more ≡ with_reg register registers) }
 {
     if !has_reg(&register, &registers) {
@@ -28,7 +28,7 @@ pub fn with_reg(register: Reg, mut registers: Seq<Reg>) -> Result<Seq<Reg>, Allo
     Ok(registers)
 }
 
-pub fn without_reg(register: &Reg, registers: Seq<Reg>) -> Seq<Reg>
+pub(crate) fn without_reg(register: &Reg, registers: Seq<Reg>) -> Seq<Reg>
     ensures { result ≡ without_reg register.now registers }
 {
     let mut kept = registers.into_vec();
