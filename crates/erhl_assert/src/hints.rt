@@ -38,7 +38,7 @@ pub struct HintBlock {
     pub at: Name,
     /// One letter for each aligned line. Without it all lines stand on both sides.
     pub lines: Option<Seq<Letter>>,
-    /// What holds at the block's start.
+    /// What the hint claims at the block's start.
     pub entry: Assertion,
     pub steps: Seq<PlacedStep>,
 }

@@ -14,7 +14,7 @@ pub enum Spot {
 /// Why a test failed.
 #[derive(Debug, Drop)]
 pub enum Reason {
-    /// The headers differ, or the block's lines don't give back both bodies.
+    /// The headers, the numbers of blocks or the names of blocks differ, or a block's lines don't give back both bodies.
     AlignmentDiffers,
     /// These operands, the source's and the target's, aren't known to be related.
     Unmatched(Operand<Name>, Operand<Name>),

@@ -37,14 +37,11 @@ fn plain(width: u32, is: Is) -> Expr0 {
     })
 }
 
-/// `OP nsw iWIDTH LEFT, RIGHT`
-fn binary(op: BinOp, width: u32, left: Is, right: Is) -> Expr0 {
+/// `OP iWIDTH LEFT, RIGHT`, with `nsw` or without
+fn binary(op: BinOp, nsw: bool, width: u32, left: Is, right: Is) -> Expr0 {
     Expr0::Binary(BinaryExpr {
         op,
-        flags: Flags {
-            nuw: false,
-            nsw: true,
-        },
+        flags: Flags { nuw: false, nsw },
         ty: Ty::Int(width),
         left: atom(left),
         right: atom(right),
@@ -159,8 +156,19 @@ fn zero_is_neutral_on_the_right(rt: HostRuntime) -> Result<(), Fail> {
             "Unfit",
         ),
     ] {
-        let schema = from_nothing(alloc, binary(op, width, x, right), plain(width, x));
+        let schema = from_nothing(alloc, binary(op, true, width, x, right), plain(width, x));
         assert_eq!(rt; answer(alloc, name, &schema)?, want);
+    }
+    Ok(())
+}
+
+#[test]
+fn a_sum_with_undef_is_no_instance(rt: HostRuntime) -> Result<(), Fail> {
+    let alloc = rt.alloc();
+    for name in ["trans", "undef_const", "zero_right"] {
+        let sum = binary(BinOp::Add, false, 32, Is::Register, Is::Undef);
+        let schema = from_nothing(alloc, sum, plain(32, Is::Register));
+        assert_eq!(rt; answer(alloc, name, &schema)?, "Unfit");
     }
     Ok(())
 }
