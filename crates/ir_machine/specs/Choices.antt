@@ -35,12 +35,13 @@ Leaves NoStep left = ⊥
 abbrev pub TakesAsked : Asks → List Choice → List Choice → Type 0
 TakesAsked tree before after = (taken : List Choice) × (before ≡ taken ++ after) × Leaves (answer tree taken) []
 
--- The tree allows a step exactly where it answers with that step what the step was told, whatever else is told after it.
+-- The tree allows a step exactly where that step is its answer to the choices that the step was told, whatever choices come
+-- after them.
 abbrev pub AnswersAreSteps : Type 0
 AnswersAreSteps = (tree : Asks) (made : Made) (left : List Choice)
     → Follows tree made ↔ (answer tree (made.told ++ left) ≡ Did made.items made.after left)
 
--- what an answer leaves is what stays once the choices that the tree asks for are taken
+-- what an answer leaves is what is left once choices that the tree asks for are taken
 abbrev pub AnswersTakeAsked : Type 0
 AnswersTakeAsked = (tree : Asks) (told left : List Choice) → Leaves (answer tree told) left → TakesAsked tree told left
 
