@@ -76,7 +76,7 @@ set_into_in_kind registers None k v h p = h
 set_into_in_kind registers (Some x) k v h p = set_in_kind registers x.0 (Some x.1) (held_at x.1 (holding k v)) h (holding_in_kind k x.1 v p)
 
 return_in_kind : (k : Option Kind) (v : Value) (rest : List Pending) (world : World) → IsInKindOf k v → AllInKind rest → AllDo LeadsInKind (return_step k v rest world)
-return_in_kind k v [] world p h = all_do_show LeadsInKind k v _ _ tt (λ s. tt)
+return_in_kind k v [] world p h = all_do_show LeadsInKind k v world _ _ tt (λ s after. tt)
 return_in_kind k v (q ∷ qs) world p h = (set_into_in_kind q.frame.registers q.into k v h.0 p, h.1)
 
 term_in_kind : (t : Term) (frame : Frame) (rest : List Pending) (world : World) → AreInKind frame.registers → AllInKind rest → AllDo LeadsInKind (term_step t frame rest world)

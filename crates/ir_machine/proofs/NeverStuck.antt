@@ -35,19 +35,19 @@ does_step : (items : List Item) (after : State) → CanStep (Does items after)
 does_step items after = (record { told = []; items = items; after = after }, refl)
 
 -- of each width there is a number, 0
-show_can_step : (k : Option Kind) (v : Value) (poison : Asks) (next : Shown → Asks) → CanStep poison → ((s : Shown) → CanStep (next s)) → CanStep (show k v poison next)
-show_can_step k value.Poison poison next bad good = bad
-show_can_step k (value.Num n) poison next bad good = good (shown.Num n)
-show_can_step None value.Undef poison next bad good = bad
-show_can_step (Some (Int width)) value.Undef poison next bad good =
-    let more : CanStep (next (shown.Num 0)) = good (shown.Num 0) in
+show_can_step : (k : Option Kind) (v : Value) (world : World) (poison : Asks) (next : Shown → World → Asks) → CanStep poison → ((s : Shown) (after : World) → CanStep (next s after)) → CanStep (show k v world poison next)
+show_can_step k value.Poison world poison next bad good = bad
+show_can_step k (value.Num n) world poison next bad good = good (shown.Num n) world
+show_can_step None value.Undef world poison next bad good = bad
+show_can_step (Some (Int width)) value.Undef world poison next bad good =
+    let more : CanStep (next (shown.Num 0) world) = good (shown.Num 0) world in
     let fits : nat_lt 0 (2 ^ width) ≡ true = lt-ltb 0 (2 ^ width) (pow_pos width) in (
       record { told = Pick (shown.Num 0) ∷ more.0.told; items = more.0.items; after = more.0.after },
       (Pick (shown.Num 0), more.0, fits, more.1, refl),
     )
 
 return_can_step : (k : Option Kind) (v : Value) (rest : List Pending) (world : World) → CanStep (return_step k v rest world)
-return_can_step k v [] world = show_can_step k v _ _ (does_step (Turn ∷ Wrong ∷ []) Over) (λ s. does_step (Turn ∷ Returned (Some s) ∷ []) Over)
+return_can_step k v [] world = show_can_step k v world _ _ (does_step (Turn ∷ Wrong ∷ []) Over) (λ s after. does_step (Turn ∷ Returned (Some s) ∷ []) Over)
 return_can_step k v (p ∷ ps) world = does_step (Turn ∷ []) _
 
 term_can_step : (t : Term) (frame : Frame) (rest : List Pending) (world : World) → CanStep (term_step t frame rest world)
@@ -85,9 +85,9 @@ goes_on : (items : List Item) (frame : Frame) (rest : List Pending) (world : Wor
 goes_on items frame rest world none = (λ over. absurd (cc), λ shows. absurd (none shows))
 
 return_shows_end : (k : Option Kind) (v : Value) (rest : List Pending) (world : World) → AllDo ShowsItsEnd (return_step k v rest world)
-return_shows_end k v [] world = all_do_show ShowsItsEnd k v _ _
+return_shows_end k v [] world = all_do_show ShowsItsEnd k v world _ _
     (ends (Turn ∷ Wrong ∷ []) (Turn ∷ []) Wrong refl tt)
-    (λ s. ends (Turn ∷ Returned (Some s) ∷ []) (Turn ∷ []) (Returned (Some s)) refl tt)
+    (λ s after. ends (Turn ∷ Returned (Some s) ∷ []) (Turn ∷ []) (Returned (Some s)) refl tt)
 return_shows_end k v (p ∷ ps) world = goes_on (Turn ∷ []) _ ps world turn_is_no_end
 
 term_shows_end : (t : Term) (frame : Frame) (rest : List Pending) (world : World) → AllDo ShowsItsEnd (term_step t frame rest world)
@@ -112,14 +112,14 @@ AlwaysSteps (Does items after) = Unit {0}
 AlwaysSteps (Ask fits next) = (c : Choice) → fits c ≡ true → AlwaysSteps (next c)
 AlwaysSteps Never = ⊥
 
-show_always : (k : Option Kind) (v : Value) (poison : Asks) (next : Shown → Asks) → AlwaysSteps poison → ((s : Shown) → AlwaysSteps (next s)) → AlwaysSteps (show k v poison next)
-show_always k value.Poison poison next bad good = bad
-show_always k (value.Num n) poison next bad good = good (shown.Num n)
-show_always None value.Undef poison next bad good = bad
-show_always (Some k) value.Undef poison next bad good = λ c fits. good (picked c)
+show_always : (k : Option Kind) (v : Value) (world : World) (poison : Asks) (next : Shown → World → Asks) → AlwaysSteps poison → ((s : Shown) (after : World) → AlwaysSteps (next s after)) → AlwaysSteps (show k v world poison next)
+show_always k value.Poison world poison next bad good = bad
+show_always k (value.Num n) world poison next bad good = good (shown.Num n) world
+show_always None value.Undef world poison next bad good = bad
+show_always (Some k) value.Undef world poison next bad good = λ c fits. good (picked c) world
 
 return_always : (k : Option Kind) (v : Value) (rest : List Pending) (world : World) → AlwaysSteps (return_step k v rest world)
-return_always k v [] world = show_always k v _ _ tt (λ s. tt)
+return_always k v [] world = show_always k v world _ _ tt (λ s after. tt)
 return_always k v (p ∷ ps) world = tt
 
 term_always : (t : Term) (frame : Frame) (rest : List Pending) (world : World) → AlwaysSteps (term_step t frame rest world)

@@ -19,7 +19,7 @@ use Rattle.ir_values.specs.declared.operations.Outcome.TheVariants.{Gives, Trap}
 use Rattle.ir_machine.specs.declared.items.Item.TheVariants.{Wrong}
 use Rattle.ir_machine.specs.declared.machine.Place.{Place}
 use Rattle.ir_machine.specs.Registers.{Registers, read, set, kind_of, operand_value}
-use Rattle.ir_machine.specs.State.{State, Running, Over}
+use Rattle.ir_machine.specs.State.{no_world, State, Running, Over}
 use Rattle.ir_machine.specs.Machine.{Asks, Does, asks, term_step, return_step, set_to, binary_result}
 use Rattle.ir_machine.specs.Places.{state_at, in_function, in_block, next_line}
 
@@ -38,7 +38,7 @@ pub stands : (m : Module) (p : Place) (registers : Registers) (f : Function) (b 
 stands m p registers f b some block = ap (λ (o : Option Function). in_function o p.block p.line registers) some ∙ ap (λ (o : Option Block). in_block f o p.line registers) block
 
 abbrev asks_over : Module → Function → Block → List Instr → Registers → Asks
-asks_over m f b lines registers = asks m (Running (record { function = f.name; block = b.name; lines = lines; term = b.term; registers = registers }) [] tt)
+asks_over m f b lines registers = asks m (Running (record { function = f.name; block = b.name; lines = lines; term = b.term; registers = registers }) [] no_world)
 
 pub line_asks : (m : Module) (p : Place) (registers : Registers) (f : Function) (b : Block) (i : Binary) (v : Value)
     → slice_get m.functions p.function ≡ Some f → slice_get f.blocks p.block ≡ Some b → p.line < length b.body → line.Binary i ≡ get_or b.body p.line (line.Binary i)
@@ -50,7 +50,7 @@ line_asks m p registers f b i v some block within is gives =
     let lines : asks m (in_block f (Some b) p.line registers) ≡ asks_over m f b (line.Binary i ∷ drop (p.line + 1) b.body) registers =
     ap (λ (l : List Instr). asks_over m f b l registers) (drop_at b.body p.line (line.Binary i) within is) in
     let sets : asks_over m f b (line.Binary i ∷ drop (p.line + 1) b.body) registers ≡ Does [] (in_block f (Some b) (p.line + 1) after) =
-    ap (λ (o : Outcome). set_to (kind_of i.ty) i.name o (record { function = f.name; block = b.name; lines = drop (p.line + 1) b.body; term = b.term; registers = registers }) [] tt) gives in
+    ap (λ (o : Outcome). set_to (kind_of i.ty) i.name o (record { function = f.name; block = b.name; lines = drop (p.line + 1) b.body; term = b.term; registers = registers }) [] no_world) gives in
     here ∙ lines ∙ sets ∙ ap (λ (s : State). Does [] s) (sym (stands m (next_line p) after f b some block))
 
 pub trap_asks : (m : Module) (p : Place) (registers : Registers) (f : Function) (b : Block) (i : Binary)
@@ -62,16 +62,16 @@ trap_asks m p registers f b i some block within is traps =
     let lines : asks m (in_block f (Some b) p.line registers) ≡ asks_over m f b (line.Binary i ∷ drop (p.line + 1) b.body) registers =
     ap (λ (l : List Instr). asks_over m f b l registers) (drop_at b.body p.line (line.Binary i) within is) in
     let sets : asks_over m f b (line.Binary i ∷ drop (p.line + 1) b.body) registers ≡ Does (Wrong ∷ []) Over =
-    ap (λ (o : Outcome). set_to (kind_of i.ty) i.name o (record { function = f.name; block = b.name; lines = drop (p.line + 1) b.body; term = b.term; registers = registers }) [] tt) traps in
+    ap (λ (o : Outcome). set_to (kind_of i.ty) i.name o (record { function = f.name; block = b.name; lines = drop (p.line + 1) b.body; term = b.term; registers = registers }) [] no_world) traps in
     here ∙ lines ∙ sets
 
 pub term_asks : (m : Module) (p : Place) (registers : Registers) (f : Function) (b : Block) (o : Operand Name)
     → slice_get m.functions p.function ≡ Some f → slice_get f.blocks p.block ≡ Some b → length b.body ≤ p.line → b.term ≡ Ret o
-    → asks m (state_at m (Some p) registers) ≡ return_step (kind_of o.ty) (operand_value (read registers) o) [] tt
+    → asks m (state_at m (Some p) registers) ≡ return_step (kind_of o.ty) (operand_value (read registers) o) [] no_world
 term_asks m p registers f b o some block past returns =
     let here : asks m (state_at m (Some p) registers) ≡ asks m (in_block f (Some b) p.line registers) = ap (asks m) (stands m p registers f b some block) in
     let lines : asks m (in_block f (Some b) p.line registers) ≡ asks_over m f b [] registers =
     ap (λ (l : List Instr). asks_over m f b l registers) (drop_of_length-le b.body past) in
-    let ends : asks_over m f b [] registers ≡ return_step (kind_of o.ty) (operand_value (read registers) o) [] tt =
-    ap (λ (t : Term). term_step t (record { function = f.name; block = b.name; lines = []; term = b.term; registers = registers }) [] tt) returns in
+    let ends : asks_over m f b [] registers ≡ return_step (kind_of o.ty) (operand_value (read registers) o) [] no_world =
+    ap (λ (t : Term). term_step t (record { function = f.name; block = b.name; lines = []; term = b.term; registers = registers }) [] no_world) returns in
     here ∙ lines ∙ ends

@@ -23,7 +23,7 @@ use Rattle.ir_machine.specs.declared.machine.Stepped.{Stepped}
 use Rattle.ir_machine.specs.declared.machine.Progress.{Progress}
 use Rattle.ir_machine.specs.declared.machine.Progress.TheVariants as progress
 use Rattle.ir_machine.specs.Registers.{Registers, read, set, kind_of, operand_value}
-use Rattle.ir_machine.specs.State.{State, Over}
+use Rattle.ir_machine.specs.State.{no_world, State, Over}
 use Rattle.ir_machine.specs.Machine.{Asks, Does, asks, return_step, binary_result}
 use Rattle.ir_machine.specs.Choices.{Did, answer}
 use Rattle.ir_machine.specs.Places.{state_at, in_block, next_line, progress_of}
@@ -85,11 +85,11 @@ module _ (m : Module) (place : Option Place) (p : Place) (registers : Registers)
 
   pub return_done : (t : Term) (k : Option Kind) (v : Value) → b.term ≡ t → length b.body ≤ p.line
       → ((o : Operand Name) → t ≡ Ret o → k ≡ kind_of o.ty) → ((o : Operand Name) → t ≡ Ret o → v ≡ operand_value (read registers) o)
-      → (before after : List Choice) (items : List Item) → answer (return_step k v [] tt) before ≡ Did items Over after
+      → (before after : List Choice) (items : List Item) → answer (return_step k v [] no_world) before ≡ Did items Over after
       → answer (asks m (state_at m place registers)) before ≡ Did items Over after
   return_done (Ret o) k v is past kind value before after items h =
-      let asked : return_step k v [] tt ≡ asks m (state_at m place registers) =
-      ap (λ (j : Option Kind). return_step j v [] tt) (kind o refl) ∙ ap (λ (w : Value). return_step (kind_of o.ty) w [] tt) (value o refl)
+      let asked : return_step k v [] no_world ≡ asks m (state_at m place registers) =
+      ap (λ (j : Option Kind). return_step j v [] no_world) (kind o refl) ∙ ap (λ (w : Value). return_step (kind_of o.ty) w [] no_world) (value o refl)
       ∙ sym (ap (asks m) here ∙ term_asks m p registers f b o some block past is) in
       subst (λ (tree : Asks). answer tree before ≡ Did items Over after) asked h
 

@@ -11,7 +11,7 @@ use Rattle.ir_machine.specs.declared.items.Shown.TheVariants as shown
 use Rattle.ir_machine.specs.declared.items.Choice.{Choice}
 use Rattle.ir_machine.specs.declared.choosing.Showing.{Showing}
 use Rattle.ir_machine.specs.declared.choosing.Showing.TheVariants as showing
-use Rattle.ir_machine.specs.State.{State, Over}
+use Rattle.ir_machine.specs.State.{World, no_world, State, Over}
 use Rattle.ir_machine.specs.Machine.{Asks, Does, Ask, Never, Made, Follows, is_pick, picked, show, return_step}
 use Rattle.ir_machine.specs.Choices.{Answer, Did, Lacks, answer, Leaves, TakesAsked, AnswersAreSteps, AnswersTakeAsked}
 use Rattle.ir_machine.specs.Showing.{ShowingAnswers}
@@ -75,33 +75,33 @@ did_takes_asked tree before after items state e = answers_take_asked tree before
 pub lacks_takes_asked : (tree : Asks) (before after : List Choice) → answer tree before ≡ Lacks after → TakesAsked tree before after
 lacks_takes_asked tree before after e = answers_take_asked tree before after (leaves_of (answer tree before) (Lacks after) after e refl)
 
-pub show_number : (k : Option Kind) (v : Value) (n : ℕ) (poison : Asks) (next : Shown → Asks) (script : List Choice) → v ≡ value.Num n
-    → answer (show k v poison next) script ≡ answer (next (shown.Num n)) script
-show_number k v n poison next script e = rw e refl
+pub show_number : (k : Option Kind) (v : Value) (n : ℕ) (world : World) (poison : Asks) (next : Shown → World → Asks) (script : List Choice) → v ≡ value.Num n
+    → answer (show k v world poison next) script ≡ answer (next (shown.Num n) world) script
+show_number k v n world poison next script e = rw e refl
 
-pub show_poison : (k : Option Kind) (v : Value) (poison : Asks) (next : Shown → Asks) (script : List Choice) → v ≡ value.Poison
-    → answer (show k v poison next) script ≡ answer poison script
-show_poison k v poison next script e = rw e refl
+pub show_poison : (k : Option Kind) (v : Value) (world : World) (poison : Asks) (next : Shown → World → Asks) (script : List Choice) → v ≡ value.Poison
+    → answer (show k v world poison next) script ≡ answer poison script
+show_poison k v world poison next script e = rw e refl
 
-pub show_kindless : (k : Option Kind) (v : Value) (poison : Asks) (next : Shown → Asks) (script : List Choice) → v ≡ value.Undef → k ≡ None
-    → answer (show k v poison next) script ≡ answer poison script
-show_kindless k v poison next script e none = rw (e, none) refl
+pub show_kindless : (k : Option Kind) (v : Value) (world : World) (poison : Asks) (next : Shown → World → Asks) (script : List Choice) → v ≡ value.Undef → k ≡ None
+    → answer (show k v world poison next) script ≡ answer poison script
+show_kindless k v world poison next script e none = rw (e, none) refl
 
-pub show_picks : (k : Option Kind) (v : Value) (own : Kind) (c : Choice) (poison : Asks) (next : Shown → Asks) (before after : List Choice) → v ≡ value.Undef → k ≡ Some own
-    → before ≡ c ∷ after → is_pick own c ≡ true → answer (show k v poison next) before ≡ answer (next (picked c)) after
-show_picks k v own c poison next before after e some taken fits = rw (e, some, taken, fits) refl
+pub show_picks : (k : Option Kind) (v : Value) (own : Kind) (c : Choice) (world : World) (poison : Asks) (next : Shown → World → Asks) (before after : List Choice) → v ≡ value.Undef → k ≡ Some own
+    → before ≡ c ∷ after → is_pick own c ≡ true → answer (show k v world poison next) before ≡ answer (next (picked c) world) after
+show_picks k v own c world poison next before after e some taken fits = rw (e, some, taken, fits) refl
 
-pub show_lacks : (k : Option Kind) (v : Value) (own : Kind) (poison : Asks) (next : Shown → Asks) (before after : List Choice) → v ≡ value.Undef → k ≡ Some own
-    → before ≡ [] → after ≡ [] → answer (show k v poison next) before ≡ Lacks after
-show_lacks k v own poison next before after e some none left = rw (e, some, none, left) refl
+pub show_lacks : (k : Option Kind) (v : Value) (own : Kind) (world : World) (poison : Asks) (next : Shown → World → Asks) (before after : List Choice) → v ≡ value.Undef → k ≡ Some own
+    → before ≡ [] → after ≡ [] → answer (show k v world poison next) before ≡ Lacks after
+show_lacks k v own world poison next before after e some none left = rw (e, some, none, left) refl
 
-pub show_misfits : (k : Option Kind) (v : Value) (own : Kind) (c : Choice) (poison : Asks) (next : Shown → Asks) (before after : List Choice) → v ≡ value.Undef → k ≡ Some own
-    → before ≡ c ∷ after → is_pick own c ≡ false → answer (show k v poison next) before ≡ Lacks after
-show_misfits k v own c poison next before after e some taken misfit = rw (e, some, taken, misfit) refl
+pub show_misfits : (k : Option Kind) (v : Value) (own : Kind) (c : Choice) (world : World) (poison : Asks) (next : Shown → World → Asks) (before after : List Choice) → v ≡ value.Undef → k ≡ Some own
+    → before ≡ c ∷ after → is_pick own c ≡ false → answer (show k v world poison next) before ≡ Lacks after
+show_misfits k v own c world poison next before after e some taken misfit = rw (e, some, taken, misfit) refl
 
 -- whatever showing the result leads to, the choices that were taken are asked for
-pub return_takes_asked : (s : Showing) (k : Option Kind) (v : Value) (before after : List Choice)
-    → ((poison : Asks) (next : Shown → Asks) → ShowingAnswers s (show k v poison next) before poison next after) → TakesAsked (return_step k v [] tt) before after
-return_takes_asked (showing.Shows s) k v before after h = did_takes_asked (return_step k v [] tt) before after (Turn ∷ Returned (Some s) ∷ []) Over (h _ _)
-return_takes_asked showing.IsPoison k v before after h = did_takes_asked (return_step k v [] tt) before after (Turn ∷ Wrong ∷ []) Over (h _ (λ s. Does (Turn ∷ Returned (Some s) ∷ []) Over))
-return_takes_asked showing.LacksChoice k v before after h = lacks_takes_asked (return_step k v [] tt) before after (h _ _)
+pub return_takes_asked : (shows : Showing) (k : Option Kind) (v : Value) (before after : List Choice)
+    → ((world : World) (poison : Asks) (next : Shown → World → Asks) → ShowingAnswers shows (show k v world poison next) before poison (λ s. next s world) after) → TakesAsked (return_step k v [] no_world) before after
+return_takes_asked (showing.Shows s) k v before after h = did_takes_asked (return_step k v [] no_world) before after (Turn ∷ Returned (Some s) ∷ []) Over (h no_world _ _)
+return_takes_asked showing.IsPoison k v before after h = did_takes_asked (return_step k v [] no_world) before after (Turn ∷ Wrong ∷ []) Over (h no_world _ (λ s after. Does (Turn ∷ Returned (Some s) ∷ []) Over))
+return_takes_asked showing.LacksChoice k v before after h = lacks_takes_asked (return_step k v [] no_world) before after (h no_world _ _)

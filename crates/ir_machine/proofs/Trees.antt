@@ -27,12 +27,12 @@ all_do_made P (Ask fits next) made h f =
     subst (λ (o : Made). P o.items o.after) (sym f.4) (all_do_made P (next f.0) f.1 (h f.0 f.2) f.3)
 all_do_made P Never made h f = absurd f
 
-pub all_do_show : (P : List Item → State → Type 0) (k : Option Kind) (v : Value) (bad : Asks) (next : Shown → Asks)
-    → AllDo P bad → ((s : Shown) → AllDo P (next s)) → AllDo P (show k v bad next)
-all_do_show P k value.Poison bad next b h = b
-all_do_show P k (value.Num n) bad next b h = h (shown.Num n)
-all_do_show P None value.Undef bad next b h = b
-all_do_show P (Some k) value.Undef bad next b h = λ c e. h (picked c)
+pub all_do_show : (P : List Item → State → Type 0) (k : Option Kind) (v : Value) (world : World) (bad : Asks) (next : Shown → World → Asks)
+    → AllDo P bad → ((s : Shown) (after : World) → AllDo P (next s after)) → AllDo P (show k v world bad next)
+all_do_show P k value.Poison world bad next b h = b
+all_do_show P k (value.Num n) world bad next b h = h (shown.Num n) world
+all_do_show P None value.Undef world bad next b h = b
+all_do_show P (Some k) value.Undef world bad next b h = λ c e. h (picked c) world
 
 pub all_do_set_to : (P : List Item → State → Type 0) (k : Option Kind) (x : Name) (o : Outcome) (frame : Frame) (rest : List Pending) (world : World)
     → ((v : Value) → o ≡ Gives v → P [] (Running (record frame { registers = set frame.registers x k v }) rest world))

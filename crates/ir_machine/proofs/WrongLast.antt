@@ -62,9 +62,9 @@ abbrev pub WrongOnlyLast : List Item → State → Type 0
 WrongOnlyLast items after = IsCalm items ⊎ ((after ≡ Over) × EndsWrong items)
 
 return_ends : (k : Option Kind) (v : Value) (rest : List Pending) (world : World) → AllDo WrongOnlyLast (return_step k v rest world)
-return_ends k v [] world = all_do_show WrongOnlyLast k v _ _
+return_ends k v [] world = all_do_show WrongOnlyLast k v world _ _
     (inr (refl, ends_later Turn (Wrong ∷ []) turn_other ends_here))
-    (λ s. inl (calm_more Turn (Returned (Some s) ∷ []) turn_other (returned_calm (Some s))))
+    (λ s after. inl (calm_more Turn (Returned (Some s) ∷ []) turn_other (returned_calm (Some s))))
 return_ends k v (p ∷ ps) world = inl (calm_more Turn [] turn_other calm_none)
 
 term_ends : (t : Term) (frame : Frame) (rest : List Pending) (world : World) → AllDo WrongOnlyLast (term_step t frame rest world)

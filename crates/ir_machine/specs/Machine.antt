@@ -26,7 +26,7 @@ use Rattle.ir_machine.specs.declared.items.Choice.{Choice}
 use Rattle.ir_machine.specs.declared.items.Choice.TheVariants.{Pick}
 use Rattle.ir_machine.specs.declared.items.Input.{Input}
 use Rattle.ir_machine.specs.Registers.{Registers, no_registers, held_at, holding, read, set, kind_of, atom_value, operand_value, binary_at}
-use Rattle.ir_machine.specs.State.{Frame, Pending, World, State, Running, Over}
+use Rattle.ir_machine.specs.State.{Frame, Pending, World, no_world, State, Running, Over}
 
 -- What a step does: it shows items and leads to a state; or it asks for a choice that fits, and goes on with it; or there is
 -- no step.
@@ -46,12 +46,13 @@ is_pick k (Pick s) = is_shown_of k s
 abbrev pub picked : Choice → Shown
 picked (Pick s) = s
 
--- A value is shown to the outside: a number as itself, undef as what is picked. Showing poison is undefined behaviour.
-abbrev pub show : Option Kind → Value → Asks → (Shown → Asks) → Asks
-show k value.Poison poison next = poison
-show k (value.Num n) poison next = next (shown.Num n)
-show None value.Undef poison next = poison
-show (Some k) value.Undef poison next = Ask (is_pick k) (λ c. next (picked c))
+-- A value is shown to the outside: a number as itself, undef as what is picked. Showing poison is undefined behaviour. What
+-- follows takes what is shown, and the world after it.
+abbrev pub show : Option Kind → Value → World → Asks → (Shown → World → Asks) → Asks
+show k value.Poison world poison next = poison
+show k (value.Num n) world poison next = next (shown.Num n) world
+show None value.Undef world poison next = poison
+show (Some k) value.Undef world poison next = Ask (is_pick k) (λ c. next (picked c) world)
 
 -- a line sets its register to its outcome; a trap is undefined behaviour
 abbrev pub set_to : Option Kind → Name → Outcome → Frame → List Pending → World → Asks
@@ -78,7 +79,7 @@ resumed p k v = record p.frame { registers = set_into p.frame.registers p.into k
 
 -- The last frame's value is the result of the run: the turn and then the value, or undefined behaviour for poison.
 abbrev pub return_step : Option Kind → Value → List Pending → World → Asks
-return_step k v [] world = show k v (Does (Turn ∷ Wrong ∷ []) Over) (λ s. Does (Turn ∷ Returned (Some s) ∷ []) Over)
+return_step k v [] world = show k v world (Does (Turn ∷ Wrong ∷ []) Over) (λ s after. Does (Turn ∷ Returned (Some s) ∷ []) Over)
 return_step k v (p ∷ ps) world = Does (Turn ∷ []) (Running (resumed p k v) ps world)
 
 abbrev pub term_step : Term → Frame → List Pending → World → Asks
@@ -136,7 +137,7 @@ abbrev pub at_block : Name → Block → Registers → Frame
 at_block f b registers = record { function = f; block = b.name; lines = b.body; term = b.term; registers = registers }
 
 abbrev pub at_entry : Name → List Block → Option Registers → Option State
-at_entry f (b ∷ bs) (Some registers) = Some (Running (at_block f b registers) [] tt)
+at_entry f (b ∷ bs) (Some registers) = Some (Running (at_block f b registers) [] no_world)
 at_entry f [] registers = None
 at_entry f (b ∷ bs) None = None
 

@@ -11,12 +11,12 @@ use Rattle.ir_machine.specs.declared.machine.Progress.{Progress}
 use Rattle.ir_machine.specs.declared.machine.Progress.TheVariants as progress
 use Rattle.ir_machine.specs.declared.registers.RegisterFile.{RegisterFile}
 use Rattle.ir_machine.specs.Registers.{Registers}
-use Rattle.ir_machine.specs.State.{State, Running, Over}
+use Rattle.ir_machine.specs.State.{no_world, State, Running, Over}
 use Rattle.ir_machine.specs.Kept.{registers_of}
 
 abbrev pub in_block : Function → Option Block → ℕ → Registers → State
 in_block f (Some b) line registers =
-    Running (record { function = f.name; block = b.name; lines = drop line b.body; term = b.term; registers = registers }) [] tt
+    Running (record { function = f.name; block = b.name; lines = drop line b.body; term = b.term; registers = registers }) [] no_world
 in_block f None line registers = Over
 
 abbrev pub in_function : Option Function → ℕ → ℕ → Registers → State

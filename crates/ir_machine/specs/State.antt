@@ -24,6 +24,9 @@ pub record Pending : Type 0 where
 abbrev pub World : Type 0
 World = Unit {0}
 
+abbrev pub no_world : World
+no_world = tt
+
 pub data State : Type 0 where
   Running : Frame → List Pending → World → State
   Over : State

@@ -2,6 +2,7 @@ ghost use Rattle.std.specs.Prelude.{◌≡◌, List};
 ghost use Rattle.ir_machine.specs.declared.items.Choice.{Choice};
 ghost use Rattle.ir_machine.specs.declared.items.Shown.{Shown};
 ghost use Rattle.ir_machine.specs.Registers as registers;
+ghost use Rattle.ir_machine.specs.State.{World};
 ghost use Rattle.ir_machine.specs.Machine as machine;
 ghost use Rattle.ir_machine.specs.Choices.{TakesNext};
 ghost use Rattle.ir_machine.specs.Showing.{ShowingAnswers};
@@ -45,9 +46,9 @@ fn picked(choice: &Choice) -> Shown
 
 #[tactic(auto, using(crate::proofs::Telling::show_number, crate::proofs::Telling::show_poison, crate::proofs::Telling::show_kindless, crate::proofs::Telling::show_picks, crate::proofs::Telling::show_lacks, crate::proofs::Telling::show_misfits))]
 pub(crate) fn show<C: Chooser>(kind: Option<Kind>, value: Value, chooser: &mut C) -> Showing
-    ensures { (poison : machine.Asks) (next : Shown → machine.Asks)
-        → ShowingAnswers result (machine.show kind value poison next)
-        (C.script chooser.old) poison next (C.script chooser.new) }
+    ensures { (world : World) (poison : machine.Asks) (next : Shown → World → machine.Asks)
+        → ShowingAnswers result (machine.show kind value world poison next)
+        (C.script chooser.old) poison (λ s. next s world) (C.script chooser.new) }
 {
     let own = match (value, kind) {
         (Value::Num(n), _) => return Showing::Shows(Shown::Num(n)),

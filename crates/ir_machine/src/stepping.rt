@@ -4,7 +4,7 @@ ghost use Rattle.ir_machine.specs.declared.items.Item.TheVariants as item;
 ghost use Rattle.ir_machine.specs.declared.items.Choice.{Choice};
 ghost use Rattle.ir_machine.specs.declared.machine.Progress.TheVariants as progress;
 ghost use Rattle.ir_machine.specs.Registers as registers;
-ghost use Rattle.ir_machine.specs.State.{Over};
+ghost use Rattle.ir_machine.specs.State.{no_world, Over};
 ghost use Rattle.ir_machine.specs.Machine as machine;
 ghost use Rattle.ir_machine.specs.Choices.{Did, Lacks, answer, TakesAsked};
 ghost use Rattle.ir_machine.specs.Places.{registers_in, state_of, progress_of, next_line};
@@ -41,12 +41,12 @@ fn last_return<C: Chooser>(
     value: Value,
     chooser: &mut C,
 ) -> Result<Stepped, StepEnd>
-    ensures made { IfOk result (λ stepped. answer (machine.return_step kind value [] tt) (C.script chooser.old)
+    ensures made { IfOk result (λ stepped. answer (machine.return_step kind value [] no_world) (C.script chooser.old)
         ≡ Did stepped.items Over (C.script chooser.new)) }
     ensures progress { IfOk result (λ stepped. stepped.progress ≡ progress_of stepped.items Over) }
     ensures no_choice { IsErrOf result StepEnd.NoChoice
-        → answer (machine.return_step kind value [] tt) (C.script chooser.old) ≡ Lacks (C.script chooser.new) }
-    ensures told { TakesAsked (machine.return_step kind value [] tt) (C.script chooser.old) (C.script chooser.new) }
+        → answer (machine.return_step kind value [] no_world) (C.script chooser.old) ≡ Lacks (C.script chooser.new) }
+    ensures told { TakesAsked (machine.return_step kind value [] no_world) (C.script chooser.old) (C.script chooser.new) }
 {
     match show(kind, value, chooser) {
         Showing::LacksChoice => Err(StepEnd::NoChoice),
