@@ -3,6 +3,9 @@ use Rattle.std.proofs.Common.{◌≡◌, ◌≤◌, ℕ, List, sym, inl, inr, ar
 use Rattle.crell_io.specs.Count.{HasRisen, HasRisenAbove}
 use Rattle.crell_io.specs.Shelf.{Told}
 use Rattle.crell_program.specs.declared.answer.Answer.{Answer}
+use Rattle.crell_program.specs.declared.fetch.Stop.{Stop}
+use Rattle.crell_program.specs.declared.fetch.Stop.TheVariants as stop
+use Rattle.crell_program.specs.Fetching.{IfDue}
 use Rattle.crell_program.specs.Command.{Files}
 use Rattle.crell_program.specs.Due.{ShelfSeen, shelf_seen, Got, Held, Missing, Long, Broken, MayCome, DueAfter, DueOfFile, DueOfFiles, text_limit, json_limit}
 
@@ -64,3 +67,7 @@ pub files_stop : (shelf : ShelfSeen) (files : Files) (answer : Answer) (next : L
 files_stop shelf files answer next d =
     file_then shelf text_limit _ files.source answer _ _ (λ source. file_then shelf text_limit _ files.target answer _ _
     (λ target. file_then shelf json_limit _ files.hints answer _ _ (λ hints unread. absurd unread))) d
+
+pub if_due : (end : Stop) (P Q : Answer → Type 0) → ((answer : Answer) → P answer → Q answer) → IfDue end P → IfDue end Q
+if_due (stop.Due answer) P Q f d = f answer d
+if_due stop.Memory P Q f d = tt

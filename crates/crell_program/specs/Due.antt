@@ -42,7 +42,7 @@ shelf_seen told faults taken old new =
     record { told = told old; faults = faults old; faults_after = faults new; taken = taken old; taken_after = taken new }
 
 -- What may come of asking for a file of that name under a limit: its bytes, as the shelf tells them; that it is missing,
--- where the shelf tells so; that it is too long, where more bytes were taken; or that reading failed, where that was counted.
+-- where the shelf tells so; that it is too long, where more bytes were taken; or that reading failed, where a fault was counted in the run.
 abbrev pub MayCome : ShelfSeen → ℕ → List ℕ → Got → Type 0
 MayCome shelf limit name (Held bytes) = (length bytes ≤ limit) × IfTold (shelf.told name) (λ held. bytes ≡ held)
 MayCome shelf limit name Missing = shelf.told name ≡ NoSuch
@@ -57,11 +57,11 @@ DueAfter Missing limit name answer next = answer ≡ absent name
 DueAfter Long limit name answer next = answer ≡ past_limit limit name
 DueAfter Broken limit name answer next = answer ≡ read_failed name
 
--- one file is asked for, under a limit that has a name
+-- one file is judged, under a limit that has a name
 abbrev pub DueOfFile : ShelfSeen → ℕ → List ℕ → List ℕ → Answer → (List ℕ → Type 0) → Type 0
 DueOfFile shelf limit limit_name name answer next = (got : Got) × MayCome shelf limit name got × DueAfter got limit_name name answer next
 
--- the three files are asked for, one after another
+-- the three files are judged, one after another
 abbrev pub DueOfFiles : ShelfSeen → Files → Answer → (List ℕ → List ℕ → List ℕ → Type 0) → Type 0
 DueOfFiles shelf files answer next =
     DueOfFile shelf text_limit (codes "text") files.source answer (λ source.

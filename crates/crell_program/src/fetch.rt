@@ -1,6 +1,6 @@
-ghost use Rattle.std.specs.Prelude.{◌≡◌, ◌≤◌, ◌<◌, ◌^◌, ◌-◌, IfOk};
-ghost use Rattle.crell_program.specs.Due.{shelf_seen};
-ghost use Rattle.crell_program.specs.Fetching.{IsFetched, IsGathered};
+ghost use Rattle.std.specs.Prelude.{◌≡◌, ◌≤◌, ◌<◌, ◌^◌, ◌-◌, IfOk, IfErr};
+ghost use Rattle.crell_program.specs.Due.{shelf_seen, DueOfFile, DueOfFiles};
+ghost use Rattle.crell_program.specs.Fetching.{IsHeld, AreHeld, IfDue};
 ghost use Rattle.crell_program.specs.Command.{shown_files};
 
 use crate::answer::{self, Answer};
@@ -14,11 +14,21 @@ const TEXT_LIMIT: u64 = 1 << 24;
 /// A JSON file may have 64 MiB.
 const JSON_LIMIT: u64 = 1 << 26;
 
-/// A file's bytes, or the answer that is due where it isn't held.
+/// Why there are no bytes: a file isn't held, and this answer is due; or memory was refused.
 #[derive(Debug, Drop)]
-pub enum Fetched {
-    Text(Vec<u8>),
-    Fault(Answer),
+pub enum Stop {
+    Due(Answer),
+    Memory,
+}
+
+impl From<AllocError> for Stop {
+    ghost use Rattle.crell_program.specs.declared.fetch.Stop.TheVariants.{Memory};
+
+    ghost from_gives = { λ _ stop. stop ≡ Memory };
+
+    fn from(_: AllocError) -> Stop {
+        Stop::Memory
+    }
 }
 
 /// The bytes of the three files.
@@ -29,44 +39,28 @@ pub struct Texts {
     pub hints: Vec<u8>,
 }
 
-/// The bytes of the three files, or the answer that is due where one of them isn't held.
-#[derive(Debug, Drop)]
-pub enum Gathered {
-    Texts(Texts),
-    Fault(Answer),
-}
-
-/// Asks the shelf for the three files in their order, up to the first that isn't held.
-pub fn gather<S: Shelf>(
-    alloc: Global,
-    shelf: &mut S,
-    files: &FileNames<'_>,
-) -> Result<Gathered, AllocError>
+/// Asks the shelf for the three files, up to the first that isn't held.
+pub fn gather<S: Shelf>(alloc: Global, shelf: &mut S, files: &FileNames<'_>) -> Result<Texts, Stop>
     ensures told { S.told shelf.new ≡ S.told shelf.old }
     ensures faults { S.faults shelf.old ≤ S.faults shelf.new }
     ensures taken { S.taken shelf.old ≤ S.taken shelf.new }
-    ensures gathered { IfOk result
-        (λ gathered. IsGathered gathered
+    ensures held { IfOk result
+        (λ texts. AreHeld texts
         (shelf_seen S.told S.faults S.taken shelf.old shelf.new)
         (shown_files files.now)) }
+    ensures due { IfErr result
+        (λ stop. IfDue stop (λ answer. DueOfFiles
+        (shelf_seen S.told S.faults S.taken shelf.old shelf.new)
+        (shown_files files.now) answer (λ source target hints. ⊥))) }
 {
-    let source = match fetch(alloc, shelf, files.source, TEXT_LIMIT, b"text")? {
-        Fetched::Text(bytes) => bytes,
-        Fetched::Fault(answer) => return Ok(Gathered::Fault(answer)),
-    };
-    let target = match fetch(alloc, shelf, files.target, TEXT_LIMIT, b"text")? {
-        Fetched::Text(bytes) => bytes,
-        Fetched::Fault(answer) => return Ok(Gathered::Fault(answer)),
-    };
-    let hints = match fetch(alloc, shelf, files.hints, JSON_LIMIT, b"json")? {
-        Fetched::Text(bytes) => bytes,
-        Fetched::Fault(answer) => return Ok(Gathered::Fault(answer)),
-    };
-    Ok(Gathered::Texts(Texts {
+    let source = fetch(alloc, shelf, files.source, TEXT_LIMIT, b"text")?;
+    let target = fetch(alloc, shelf, files.target, TEXT_LIMIT, b"text")?;
+    let hints = fetch(alloc, shelf, files.hints, JSON_LIMIT, b"json")?;
+    Ok(Texts {
         source,
         target,
         hints,
-    }))
+    })
 }
 
 /// Asks the shelf for a file, under the limit of that name.
@@ -76,20 +70,24 @@ fn fetch<S: Shelf>(
     file: &str,
     limit: u64,
     limit_name: &[u8],
-) -> Result<Fetched, AllocError>
+) -> Result<Vec<u8>, Stop>
     requires { limit < 2 ^ 64 - 1 }
     ensures told { S.told shelf.new ≡ S.told shelf.old }
     ensures faults { S.faults shelf.old ≤ S.faults shelf.new }
     ensures taken { S.taken shelf.old ≤ S.taken shelf.new }
-    ensures fetched { IfOk result
-        (λ fetched. IsFetched fetched
-        (shelf_seen S.told S.faults S.taken shelf.old shelf.new) limit limit_name.now file.now) }
+    ensures held { IfOk result
+        (λ bytes. IsHeld bytes.items
+        (shelf_seen S.told S.faults S.taken shelf.old shelf.new) limit file.now) }
+    ensures due { IfErr result
+        (λ stop. IfDue stop (λ answer. DueOfFile
+        (shelf_seen S.told S.faults S.taken shelf.old shelf.new) limit limit_name.now file.now
+        answer (λ bytes. ⊥))) }
 {
     match shelf.get(alloc, file, limit) {
-        Ok(bytes) => Ok(Fetched::Text(bytes)),
-        Err(ShelfEnd::Failed) => Ok(Fetched::Fault(answer::read_failed(alloc, file)?)),
-        Err(ShelfEnd::Absent) => Ok(Fetched::Fault(answer::absent(alloc, file)?)),
-        Err(ShelfEnd::TooLong) => Ok(Fetched::Fault(answer::past_limit(alloc, limit_name, file)?)),
-        Err(ShelfEnd::Memory) => Err(AllocError),
+        Ok(bytes) => Ok(bytes),
+        Err(ShelfEnd::Failed) => Err(Stop::Due(answer::read_failed(alloc, file)?)),
+        Err(ShelfEnd::Absent) => Err(Stop::Due(answer::absent(alloc, file)?)),
+        Err(ShelfEnd::TooLong) => Err(Stop::Due(answer::past_limit(alloc, limit_name, file)?)),
+        Err(ShelfEnd::Memory) => Err(Stop::Memory),
     }
 }

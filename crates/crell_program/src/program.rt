@@ -12,7 +12,7 @@ ghost use Rattle.crell_program.specs.Statuses.{IsAnswered, AreRefined, IsRefinem
 use crate::answer::{self, Answer};
 use crate::command::{FileNames, command_of};
 use crate::delivery::deliver;
-use crate::fetch::{Gathered, gather};
+use crate::fetch::{Stop, gather};
 use crate::verdict_text::verdict_answer;
 use crell_io::{Shelf, Sink};
 use erhl_assert::{Hints, ModuleVerdict};
@@ -234,8 +234,8 @@ fn check_files<S: Shelf>(
     ensures faults { S.faults shelf.old ≤ S.faults shelf.new }
     ensures taken { S.taken shelf.old ≤ S.taken shelf.new }
 {
-    match gather(alloc, shelf, files)? {
-        Gathered::Texts(texts) => check_texts(
+    match gather(alloc, shelf, files) {
+        Ok(texts) => check_texts(
             alloc,
             files,
             rules,
@@ -243,7 +243,8 @@ fn check_files<S: Shelf>(
             texts.target.as_slice(),
             texts.hints.as_slice(),
         ),
-        Gathered::Fault(answer) => Ok(answer),
+        Err(Stop::Due(answer)) => Ok(answer),
+        Err(Stop::Memory) => Err(AllocError),
     }
 }
 

@@ -1,10 +1,12 @@
 use Rattle.std.proofs.Common.{refl, ◌∙◌, arith}
-use Rattle.crell_program.specs.Due.{Held, text_limit, json_limit}
-use Rattle.crell_program.proofs.Fetches.{within, come_within, due_within}
+use Rattle.std.proofs.lemmas.Result.{err_from_is_err_and}
+use Rattle.crell_program.specs.Command.{shown_files}
+use Rattle.crell_program.specs.Due.{shelf_seen, Held, DueOfFiles, text_limit, json_limit}
+use Rattle.crell_program.proofs.Fetches.{within, come_within, due_within, if_due}
 use Rattle.crell_program.proofs.fetch.gather.Goals as goal
 
-pub returns-in-Fault-2-clause-gathered : goal.returns-in-Fault-2-clause-gathered
-returns-in-Fault-2-clause-gathered g c =
+pub returns-in_err-target-clause-due : goal.returns-in_err-target-clause-due
+returns-in_err-target-clause-due g c =
     let told = g.S.Shelf.told in
     let faults = g.S.Shelf.faults in
     let taken = g.S.Shelf.taken in
@@ -15,15 +17,17 @@ returns-in-Fault-2-clause-gathered g c =
     (omega arith) (omega (arith, c.fetch-2.ensures.faults)) (omega arith) (omega (arith, c.fetch-2.ensures.taken)) in
     let second = within told faults taken start one two two c.fetch.ensures.told
     (omega (arith, c.fetch.ensures.faults)) (omega arith) (omega (arith, c.fetch.ensures.taken)) (omega arith) in
-    let source = rw c.in-Text.is at c.in_ok-bytes.ensures.fetched in
-    let fault = rw c.in-Fault-2.is at c.in_ok-bytes-2.ensures.fetched in (
-      Held c.in-Text.bytes.items,
-      come_within _ _ first text_limit c.args.files.now.source.now (Held c.in-Text.bytes.items) source,
-      due_within _ _ second text_limit _ c.args.files.now.target.now c.in-Fault-2.answer _ fault,
-    )
+    let exit = err_from_is_err_and c.from_residual-in_err-target.result c.from_residual-in_err-target.ensures.1 in
+    let whole = shelf_seen told faults taken start two in
+    let files = shown_files c.args.files.now in
+    rw (exit.1, exit.2) (if_due _ _ (λ answer. DueOfFiles whole files answer (λ _ _ _. ⊥)) (λ answer fault. (
+      Held c.in_ok-source.source.items,
+      come_within _ _ first text_limit c.args.files.now.source.now (Held c.in_ok-source.source.items) c.in_ok-source.ensures.held,
+      due_within _ _ second text_limit _ c.args.files.now.target.now answer _ fault,
+    )) c.in_err-target.ensures.due)
 
-pub returns-in-Fault-3-clause-gathered : goal.returns-in-Fault-3-clause-gathered
-returns-in-Fault-3-clause-gathered g c =
+pub returns-in_err-hints-clause-due : goal.returns-in_err-hints-clause-due
+returns-in_err-hints-clause-due g c =
     let told = g.S.Shelf.told in
     let faults = g.S.Shelf.faults in
     let taken = g.S.Shelf.taken in
@@ -37,14 +41,15 @@ returns-in-Fault-3-clause-gathered g c =
     (omega (arith, c.fetch.ensures.faults)) (omega (arith, c.fetch-3.ensures.faults)) (omega (arith, c.fetch.ensures.taken)) (omega (arith, c.fetch-3.ensures.taken)) in
     let third = within told faults taken start two three three (c.fetch-2.ensures.told ∙ c.fetch.ensures.told)
     (omega (arith, c.fetch.ensures.faults, c.fetch-2.ensures.faults)) (omega arith) (omega (arith, c.fetch.ensures.taken, c.fetch-2.ensures.taken)) (omega arith) in
-    let source = rw c.in-Text.is at c.in_ok-bytes.ensures.fetched in
-    let target = rw c.in-Text-2.is at c.in_ok-bytes-2.ensures.fetched in
-    let fault = rw c.in-Fault-3.is at c.in_ok-bytes-3.ensures.fetched in (
-      Held c.in-Text.bytes.items,
-      come_within _ _ first text_limit c.args.files.now.source.now (Held c.in-Text.bytes.items) source,
+    let exit = err_from_is_err_and c.from_residual-in_err-hints.result c.from_residual-in_err-hints.ensures.1 in
+    let whole = shelf_seen told faults taken start three in
+    let files = shown_files c.args.files.now in
+    rw (exit.1, exit.2) (if_due _ _ (λ answer. DueOfFiles whole files answer (λ _ _ _. ⊥)) (λ answer fault. (
+      Held c.in_ok-source.source.items,
+      come_within _ _ first text_limit c.args.files.now.source.now (Held c.in_ok-source.source.items) c.in_ok-source.ensures.held,
       (
-        Held c.in-Text-2.bytes.items,
-        come_within _ _ second text_limit c.args.files.now.target.now (Held c.in-Text-2.bytes.items) target,
-        due_within _ _ third json_limit _ c.args.files.now.hints.now c.in-Fault-3.answer _ fault,
+        Held c.in_ok-target.target.items,
+        come_within _ _ second text_limit c.args.files.now.target.now (Held c.in_ok-target.target.items) c.in_ok-target.ensures.held,
+        due_within _ _ third json_limit _ c.args.files.now.hints.now answer _ fault,
       ),
-    )
+    )) c.in_err-hints.ensures.due)
