@@ -162,6 +162,23 @@ fn operands_are_matched_through_one_constant(rt: HostRuntime) -> Result<(), Fail
     Ok(())
 }
 
+/// `iWIDTH undef`
+fn undef_of(width: u32) -> Operand<Name> {
+    Operand {
+        ty: Ty::Int(width),
+        atom: Atom::Constant(Const::Undef),
+    }
+}
+
+#[test]
+fn nothing_is_matched_at_a_type_without_values(rt: HostRuntime) -> Result<(), Fail> {
+    let known = nothing(rt.alloc());
+    for (width, want) in [(0, false), (1, true), (64, true), (65, false)] {
+        assert_eq!(rt; matched(&known, &undef_of(width), &undef_of(width)), want);
+    }
+    Ok(())
+}
+
 #[test]
 fn a_line_adds_its_facts_at_the_end(rt: HostRuntime) -> Result<(), Fail> {
     let alloc = rt.alloc();
