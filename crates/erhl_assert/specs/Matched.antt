@@ -1,5 +1,5 @@
 -- When the source's operand a and the target's operand b are known to be related.
-use Rattle.std.specs.Prelude.{Bool, true, false, ◌&&◌, ◌||◌, not, List, Option, None, Some}
+use Rattle.std.specs.Prelude.{Bool, false, ◌&&◌, ◌||◌, not, List, Option, None, Some}
 use Rattle.std.specs.List.{list_any}
 use Rattle.ir_core.specs.declared.names.Name.{Name}
 use Rattle.ir_core.specs.declared.values.Kind.{Kind}
@@ -63,8 +63,8 @@ meet_at diff c d (atom.Register x) (atom.Constant n) = false
 abbrev pub meet : List Reg → Kind → Operand Reg → Operand Reg → Bool
 meet diff k c d = is_kind (kind_of c.ty) k && is_kind (kind_of d.ty) k && meet_at diff c d c.atom d.atom
 
--- there is a c of that kind, a constant or a register that doesn't differ, such that a is c or is known on the source to be
--- less defined than c, and b is c or c is known on the target to be less defined than b
+-- There is a c of that kind, a constant or a register that doesn't differ, such that a is c or is known on the source to be
+-- less defined than c, and b is c or c is known on the target to be less defined than b. Without a kind there is none.
 abbrev pub matched_at : Assertion → Option Kind → Operand Reg → Operand Reg → Bool
 matched_at known None a b = false
 matched_at known (Some k) a b = some_from (λ c. some_into (λ d. meet known.diff k c d) b known.tgt) a known.src

@@ -1,5 +1,5 @@
--- The laws of the logic's words, and then its soundness laws (Crellvm's soundness theorem; the idea of checking each result of a compiler and proving
--- the checker is credible compilation).
+-- The laws of the logic's words, and then its soundness laws (Crellvm's soundness theorem; the idea of checking each result
+-- of a compiler and proving the checker is credible compilation).
 use Rattle.std.specs.Prelude.{◌≡◌, true, List, [], Option, None, Some}
 use Rattle.ir_core.specs.declared.names.Name.{Name}
 use Rattle.ir_core.specs.declared.operands.Operand.{Operand}
@@ -23,7 +23,7 @@ use Rattle.erhl_assert.specs.Postcondition.{after_line}
 use Rattle.erhl_assert.specs.Steps.{Rules, AreSound}
 use Rattle.erhl_assert.specs.Acceptance.{Accepts, module_verdict}
 
--- the line, or a no-op, takes the frame to another one
+-- the line's step takes the frame to that one; a no-op leaves it
 abbrev pub Leads : Option Instr → Frame → Frame → Type 0
 Leads None before after = after ≡ before
 Leads (Some i) before after =

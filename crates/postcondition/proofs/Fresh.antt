@@ -1,13 +1,12 @@
 -- Where the facts that name a line's register have gone, neither fact that the line adds is there yet.
-use Rattle.std.proofs.Common.{◌≡◌, ◌∙◌, Bool, true, false, ◌&&◌, ◌||◌, cond, not, filter, List, [], ◌∷◌, ◌++◌, refl, sym, ap}
-use Rattle.std.specs.List.{list_any}
+use Rattle.std.proofs.Common.{◌≡◌, ◌∙◌, Bool, true, false, ◌||◌, cond, not, List, [], ◌∷◌, ◌++◌, refl, sym, ap}
 use Rattle.ir_core.specs.declared.functions.Binary.{Binary}
 use Rattle.ir_core.specs.declared.expressions.Reg.{Reg}
 use Rattle.ir_core.specs.declared.expressions.Reg.TheVariants.{Now}
 use Rattle.ir_core.proofs.SameLaws.{same_reg_refl}
 use Rattle.erhl_assert.specs.declared.facts.Fact.{Fact}
 use Rattle.erhl_assert.specs.declared.facts.Fact.TheVariants.{LessDef}
-use Rattle.erhl_assert.specs.Facts.{same_fact, has_fact, with_fact, expr_names, fact_names, without_naming}
+use Rattle.erhl_assert.specs.Facts.{same_fact, has_fact, expr_names, fact_names, without_naming}
 use Rattle.erhl_assert.specs.Postcondition.{right_side, register_of, facts_after_line}
 use Rattle.erhl_assert.proofs.SameFact.{same_fact_true}
 

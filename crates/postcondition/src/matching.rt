@@ -245,7 +245,13 @@ fn atoms_meet(known: &Assertion, s: &Ty, a: &Atom<Name>, t: &Ty, b: &Atom<Name>)
 }
 
 /// Whether two atoms at their types are matched.
-pub(crate) fn atoms_matched(known: &Assertion, s: &Ty, a: &Atom<Name>, t: &Ty, b: &Atom<Name>) -> bool
+pub(crate) fn atoms_matched(
+    known: &Assertion,
+    s: &Ty,
+    a: &Atom<Name>,
+    t: &Ty,
+    b: &Atom<Name>,
+) -> bool
     ensures { result ≡ atoms_matched known.now s.now a.now t.now b.now }
 {
     same_ty(s, t) && atoms_meet(known, s, a, t, b)
