@@ -11,6 +11,7 @@ use Rattle.ir_machine.specs.Registers.{Registers, kind_of}
 use Rattle.ir_machine.specs.State.{State, Running}
 use Rattle.ir_machine.specs.Machine.{Does, Made, Follows, ShowsFrom, set_to, asks}
 use Rattle.ir_machine.proofs.Runs.{MayShowFrom, may_step_on}
+use Rattle.erhl_assert.specs.Sides.{SideState}
 use Rattle.erhl_soundness.proofs.Lines.{binary_gives, after_binary}
 use Rattle.erhl_soundness.proofs.Related.{after_instr}
 
@@ -42,20 +43,20 @@ abbrev pub with_line : Option Instr → List Instr → List Instr
 with_line None left = left
 with_line (Some i) left = i ∷ left
 
--- a run over a line or a no-op
-pub source_line : (m : Module) (f b : Name) (i : Option Instr) (left : List Instr) (term : Term) (registers : Registers) (items : List Item)
-    → MayShowFrom m (at_lines f b left term (after_instr registers i)) items → MayShowFrom m (at_lines f b (with_line i left) term registers) items
-source_line m f b None left term registers items h = h
-source_line m f b (Some (line.Binary x)) left term registers items h =
-    let after = at_lines f b left term (after_binary registers x) in
+-- a run of a side's frame over a line or a no-op
+pub source_line : (m : Module) (f b : Name) (i : Option Instr) (left : List Instr) (term : Term) (side : SideState) (items : List Item)
+    → MayShowFrom m (at_lines f b left term (after_instr side i).now) items → MayShowFrom m (at_lines f b (with_line i left) term side.now) items
+source_line m f b None left term side items h = h
+source_line m f b (Some (line.Binary x)) left term side items h =
+    let after = at_lines f b left term (after_binary side.now x) in
     let made : Made = record { told = []; items = []; after = after } in
-    may_step_on m (at_lines f b (line.Binary x ∷ left) term registers) made items
-    (subst (λ a. Follows a made) (sym (binary_step m f b x left term registers)) refl) h
+    may_step_on m (at_lines f b (line.Binary x ∷ left) term side.now) made items
+    (subst (λ a. Follows a made) (sym (binary_step m f b x left term side.now)) refl) h
 
-pub target_line : (m : Module) (f b : Name) (i : Option Instr) (left : List Instr) (term : Term) (registers : Registers) (n : ℕ) (items : List Item)
-    → ShowsFrom m n (at_lines f b (with_line i left) term registers) items
-    → (items ≡ []) ⊎ ((j : ℕ) × ShowsFrom m j (at_lines f b left term (after_instr registers i)) items)
-target_line m f b None left term registers n items h = inr (n, h)
-target_line m f b (Some (line.Binary x)) left term registers n items h =
-    only_step m (at_lines f b (line.Binary x ∷ left) term registers) (at_lines f b left term (after_binary registers x))
-    (binary_step m f b x left term registers) n items h
+pub target_line : (m : Module) (f b : Name) (i : Option Instr) (left : List Instr) (term : Term) (side : SideState) (n : ℕ) (items : List Item)
+    → ShowsFrom m n (at_lines f b (with_line i left) term side.now) items
+    → (items ≡ []) ⊎ ((j : ℕ) × ShowsFrom m j (at_lines f b left term (after_instr side i).now) items)
+target_line m f b None left term side n items h = inr (n, h)
+target_line m f b (Some (line.Binary x)) left term side n items h =
+    only_step m (at_lines f b (line.Binary x ∷ left) term side.now) (at_lines f b left term (after_binary side.now x))
+    (binary_step m f b x left term side.now) n items h

@@ -31,7 +31,7 @@ use Rattle.erhl_assert.specs.Steps.{Rules, AreSound}
 use Rattle.erhl_assert.specs.Acceptance.{on_lines, from_entry, reached_verdict, unless_unaligned, Accepts}
 use Rattle.ir_values.proofs.OperationLaws.{less_defined_refl}
 use Rattle.erhl_soundness.proofs.Bodies.{at_lines}
-use Rattle.erhl_soundness.proofs.Simulation.{refused_not_valid, source_lines, target_lines, lines_refine}
+use Rattle.erhl_soundness.proofs.Simulation.{refused_not_valid, source_lines, target_lines, side_in_kind, lines_refine}
 
 -- aligned lines give both bodies back
 after_first_some : (l : Line) (o : Option (List Line)) (ls : List Line) → after_first l o ≡ Some ls → (rest : List Line) × (o ≡ Some rest) × (ls ≡ l ∷ rest)
@@ -90,8 +90,10 @@ module _ (rules : Rules) (m : Module) (hint : Hint) (sound : AreSound rules) (so
         target_facts = rw no_tgt tt;
         related = λ r k _. less_defined_refl (read_reg (side_of registers) k r);
       } in
+      let side = side_of registers in
+      let in_kind = side_in_kind registers kind in
       subst (λ xs. MayShowFrom source (at_lines f b.name xs b.term registers) items) (sym back.0)
-      (lines_refine rules m sound source target f g b.name b.name c.name h.steps ls 0 b.term c.term h.entry registers registers holds kind kind valid
+      (lines_refine rules m sound source target f g b.name b.name c.name h.steps ls 0 b.term c.term h.entry side side holds in_kind in_kind valid
       n items (subst (λ ys. ShowsFrom target n (at_lines g c.name ys c.term registers) items) back.1 shows))
 
   from_entry_refine : (fs gs : List Fact) → (block_hint hint b.name).entry.src ≡ fs → (block_hint hint b.name).entry.tgt ≡ gs

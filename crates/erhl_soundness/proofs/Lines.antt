@@ -1,5 +1,5 @@
--- What a body line sets its register to.
-use Rattle.std.proofs.Common.{◌≡◌, Option, None, Some, refl, ◌∙◌, ap₂}
+-- What a body line sets its register to, and the side after it.
+use Rattle.std.proofs.Common.{◌≡◌, false, Option, None, Some, refl, ◌∙◌, ap₂}
 use Rattle.ir_core.specs.declared.names.Name.{Name}
 use Rattle.ir_core.specs.declared.values.Value.{Value}
 use Rattle.ir_core.specs.declared.values.Value.TheVariants.{Poison}
@@ -10,12 +10,15 @@ use Rattle.ir_core.specs.declared.operands.Atom.TheVariants as atom
 use Rattle.ir_core.specs.declared.operands.BinOp.{BinOp}
 use Rattle.ir_core.specs.declared.operands.Flags.{Flags}
 use Rattle.ir_core.specs.declared.functions.Binary.{Binary}
+use Rattle.ir_core.specs.declared.expressions.Reg.{Reg}
+use Rattle.ir_core.specs.declared.expressions.Reg.TheVariants as reg
+use Rattle.ir_core.specs.Same.{same_reg}
 use Rattle.ir_values.specs.declared.operations.Outcome.TheVariants.{Gives}
 use Rattle.ir_values.specs.Operations.{binary_value}
-use Rattle.ir_machine.specs.Registers.{Registers, read, set, AreInKind, kind_of, atom_value, binary_at}
+use Rattle.ir_machine.specs.Registers.{Registers, read, set, kind_of, atom_value, binary_at}
 use Rattle.ir_machine.specs.Machine.{binary_result}
-use Rattle.ir_machine.proofs.Runs.{IsInKindOf, set_in_kind}
-use Rattle.erhl_assert.specs.Sides.{side_of, read_reg, worth}
+use Rattle.ir_machine.proofs.Runs.{IsInKindOf, set_in_kind, read_set_other}
+use Rattle.erhl_assert.specs.Sides.{SideState, IsSideInKind, read_reg, worth}
 use Rattle.erhl_assert.specs.Matched.{now_atom}
 use Rattle.erhl_assert.specs.Postcondition.{right_side}
 use Rattle.ir_values.proofs.OperationLaws.{binary_value_in_kind}
@@ -45,19 +48,39 @@ after_binary registers b = set registers b.name (kind_of b.ty) (line_value regis
 pub binary_gives : (registers : Registers) (b : Binary) → binary_result registers b ≡ Gives (line_value registers b)
 binary_gives registers b = gives_result b.op b.flags (kind_of b.ty) (atom_value (read registers) (kind_of b.ty) b.left) (atom_value (read registers) (kind_of b.ty) b.right)
 
-pub after_binary_in_kind : (registers : Registers) (b : Binary) → AreInKind registers → AreInKind (after_binary registers b)
-after_binary_in_kind registers b known =
-    set_in_kind registers b.name (kind_of b.ty) (line_value registers b) known
-    (result_in_kind b.op b.flags (kind_of b.ty) (atom_value (read registers) (kind_of b.ty) b.left) (atom_value (read registers) (kind_of b.ty) b.right))
+-- a side of which a register is set: old and ghost registers stay
+abbrev pub set_now : SideState → Name → Option Kind → Value → SideState
+set_now side x o v = record side { now = set side.now x o v }
+
+-- every other register reads as before
+pub read_reg_other : (side : SideState) (x : Name) (o : Option Kind) (v : Value) (k : Kind) (r : Reg) → same_reg (reg.Now x) r ≡ false
+    → read_reg (set_now side x o v) k r ≡ read_reg side k r
+read_reg_other side x o v k (reg.Now y) h = read_set_other side.now x y o k v h
+read_reg_other side x o v k (reg.Old y) h = refl
+read_reg_other side x o v k (reg.Ghost y) h = refl
+
+-- a side after a line
+abbrev pub side_after : SideState → Binary → SideState
+side_after side b = set_now side b.name (kind_of b.ty) (line_value side.now b)
+
+pub side_after_in_kind : (side : SideState) (b : Binary) → IsSideInKind side → IsSideInKind (side_after side b)
+side_after_in_kind side b h =
+    let reading = read side.now in
+    let k = kind_of b.ty in
+    record {
+      now = set_in_kind side.now b.name k (line_value side.now b) h.now (result_in_kind b.op b.flags k (atom_value reading k b.left) (atom_value reading k b.right));
+      old = h.old;
+      ghost = h.ghost;
+    }
 
 -- an atom of the function is worth the same as the logic's name for it
-pub now_atom_value : (registers : Registers) (k : Option Kind) (a : Atom Name) → atom_value (read_reg (side_of registers)) k (now_atom a) ≡ atom_value (read registers) k a
-now_atom_value registers None a = refl
-now_atom_value registers (Some k) (atom.Constant c) = refl
-now_atom_value registers (Some k) (atom.Register x) = refl
+pub now_atom_value : (side : SideState) (k : Option Kind) (a : Atom Name) → atom_value (read_reg side) k (now_atom a) ≡ atom_value (read side.now) k a
+now_atom_value side None a = refl
+now_atom_value side (Some k) (atom.Constant c) = refl
+now_atom_value side (Some k) (atom.Register x) = refl
 
 -- so the right side of a line is worth the line's value
-pub right_side_gives : (registers : Registers) (b : Binary) → worth (side_of registers) (right_side b) ≡ Gives (line_value registers b)
-right_side_gives registers b =
-    ap₂ (binary_at b.op b.flags (kind_of b.ty)) (now_atom_value registers (kind_of b.ty) b.left) (now_atom_value registers (kind_of b.ty) b.right)
-    ∙ binary_gives registers b
+pub right_side_gives : (side : SideState) (b : Binary) → worth side (right_side b) ≡ Gives (line_value side.now b)
+right_side_gives side b =
+    ap₂ (binary_at b.op b.flags (kind_of b.ty)) (now_atom_value side (kind_of b.ty) b.left) (now_atom_value side (kind_of b.ty) b.right)
+    ∙ binary_gives side.now b

@@ -16,11 +16,11 @@ use Rattle.ir_core.specs.Same.{same_ty, same_const, same_reg, same_expr}
 use Rattle.ir_core.proofs.SameLaws.{left_true, right_true, same_ty_true, same_const_true, same_reg_true, same_expr_true}
 use Rattle.ir_values.specs.Values.{IsLessDefined}
 use Rattle.ir_values.proofs.KindLaws.{same_kind_true}
-use Rattle.ir_machine.specs.Registers.{Registers, read, kind_of, constant_value, atom_at, atom_value, operand_value}
+use Rattle.ir_machine.specs.Registers.{read, kind_of, constant_value, atom_at, atom_value, operand_value}
 use Rattle.erhl_assert.specs.declared.facts.Fact.{Fact}
 use Rattle.erhl_assert.specs.declared.facts.Fact.TheVariants.{LessDef}
 use Rattle.erhl_assert.specs.declared.facts.Assertion.{Assertion}
-use Rattle.erhl_assert.specs.Sides.{SideState, side_of, read_reg, has_reg, AreRelated}
+use Rattle.erhl_assert.specs.Sides.{SideState, read_reg, has_reg, AreRelated}
 use Rattle.erhl_assert.specs.Facts.{Holds, AssertionHolds}
 use Rattle.erhl_assert.specs.Matched.{now_operand, from_fact, into_fact, some_from, some_into, is_kind, meet_at, meet, matched_at, matched_reg, matched, atoms_matched}
 use Rattle.ir_values.proofs.OperationLaws.{less_defined_refl, less_defined_trans}
@@ -114,18 +114,16 @@ matched_reg_less known source target holds a b h =
     matched_at_less known source target holds (kind_of a.ty) a b (right_true (same_ty a.ty b.ty) (matched_at known (kind_of a.ty) a b) h)
 
 -- the operands of two functions
-pub matched_less : (known : Assertion) (source target : Registers) → AssertionHolds known (side_of source) (side_of target) → (a b : Operand Name)
-    → matched known a b ≡ true → IsLessDefined (operand_value (read source) a) (operand_value (read target) b)
-matched_less known source target holds a b h =
-    subst₂ IsLessDefined (now_atom_value source (kind_of a.ty) a.atom) (now_atom_value target (kind_of b.ty) b.atom)
-    (matched_reg_less known (side_of source) (side_of target) holds (now_operand a) (now_operand b) h)
+module _ (known : Assertion) (source target : SideState) (holds : AssertionHolds known source target) where
+  pub matched_less : (a b : Operand Name) → matched known a b ≡ true → IsLessDefined (operand_value (read source.now) a) (operand_value (read target.now) b)
+  matched_less a b h =
+      subst₂ IsLessDefined (now_atom_value source (kind_of a.ty) a.atom) (now_atom_value target (kind_of b.ty) b.atom)
+      (matched_reg_less known source target holds (now_operand a) (now_operand b) h)
+
+  pub atoms_matched_less : (s : Ty) (a : Atom Name) (t : Ty) (b : Atom Name) → atoms_matched known s a t b ≡ true
+      → IsLessDefined (atom_value (read source.now) (kind_of s) a) (atom_value (read target.now) (kind_of t) b)
+  atoms_matched_less s a t b h = matched_less (record { ty = s; atom = a }) (record { ty = t; atom = b }) h
 
 pub matched_type : (known : Assertion) (a b : Operand Name) → matched known a b ≡ true → a.ty ≡ b.ty
 matched_type known a b h =
     same_ty_true a.ty b.ty (left_true (same_ty a.ty b.ty) (matched_at known (kind_of a.ty) (now_operand a) (now_operand b)) h)
-
-pub atoms_matched_less : (known : Assertion) (source target : Registers) → AssertionHolds known (side_of source) (side_of target)
-    → (s : Ty) (a : Atom Name) (t : Ty) (b : Atom Name) → atoms_matched known s a t b ≡ true
-    → IsLessDefined (atom_value (read source) (kind_of s) a) (atom_value (read target) (kind_of t) b)
-atoms_matched_less known source target holds s a t b h =
-    matched_less known source target holds (record { ty = s; atom = a }) (record { ty = t; atom = b }) h

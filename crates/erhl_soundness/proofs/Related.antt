@@ -1,5 +1,6 @@
 -- Registers stay related over an aligned line, but for those that it lets differ.
 use Rattle.std.proofs.Common.{◌≡◌, Bool, true, false, ◌&&◌, ◌||◌, not, cond, List, [], ◌∷◌, ◌++◌, Option, None, Some, refl, sym, ap, ◌∙◌, subst, subst₂, ⊎_elim}
+use Rattle.std.specs.List.{AllByRecursion}
 use Rattle.std.proofs.lemmas.Bool.{false≢true, cond_both, false_from_ne_true, or_parts, or_from, cases_Bool, not_from_false, not_from_true, cond-true, cond-false}
 use Rattle.std.proofs.lemmas.List.Folds.{list_any-append}
 use Rattle.ir_core.specs.declared.names.Name.{Name}
@@ -18,16 +19,17 @@ use Rattle.ir_core.specs.Same.{same_name, same_ty, same_op, same_reg}
 use Rattle.ir_core.proofs.SameLaws.{left_true, right_true, same_name_true, same_name_refl, same_ty_true, same_op_true, same_reg_true, same_reg_refl}
 use Rattle.ir_values.specs.Values.{IsLessDefined, same_kind}
 use Rattle.ir_values.specs.Laws.{flags_among}
-use Rattle.ir_machine.specs.Registers.{Registers, AreInKind, held_at, holding, read, set, kind_of, atom_value}
-use Rattle.ir_machine.proofs.Runs.{read_set_at, read_set_other}
+use Rattle.ir_machine.specs.Registers.{held_at, holding, read, kind_of, atom_value}
+use Rattle.ir_machine.proofs.Runs.{read_set_at}
+use Rattle.erhl_assert.specs.declared.facts.Fact.{Fact}
 use Rattle.erhl_assert.specs.declared.facts.Assertion.{Assertion}
-use Rattle.erhl_assert.specs.Sides.{side_of, read_reg, has_reg, AreRelated}
-use Rattle.erhl_assert.specs.Facts.{AssertionHolds}
+use Rattle.erhl_assert.specs.Sides.{SideState, IsSideInKind, read_reg, has_reg, AreRelated}
+use Rattle.erhl_assert.specs.Facts.{Holds, AssertionHolds}
 use Rattle.erhl_assert.specs.Matched.{atoms_matched}
 use Rattle.erhl_assert.specs.Alignment.{Line}
-use Rattle.erhl_assert.specs.Postcondition.{lines_agree, without_reg, with_reg, diff_after, after_line}
+use Rattle.erhl_assert.specs.Postcondition.{facts_after, lines_agree, without_reg, with_reg, diff_after, after_line}
 use Rattle.ir_values.proofs.OperationLaws.{binary_monotone}
-use Rattle.erhl_soundness.proofs.Lines.{result_value, line_value, after_binary, after_binary_in_kind}
+use Rattle.erhl_soundness.proofs.Lines.{result_value, line_value, set_now, read_reg_other, side_after, side_after_in_kind}
 use Rattle.erhl_soundness.proofs.Facts.{facts_after_hold}
 use Rattle.erhl_soundness.proofs.Matched.{atoms_matched_less}
 
@@ -67,25 +69,17 @@ outside_without q r (s ∷ rs) other h = ⊎_elim
     or_from (same_reg q s) (has_reg q rs) parts.0 (outside_without q r rs other parts.1))
     (cases_Bool (same_reg r s))
 
--- another register reads as before
-pub read_reg_other : (registers : Registers) (x : Name) (o : Option Kind) (v : Value) (k : Kind) (q : Reg) → same_reg (reg.Now x) q ≡ false
-    → read_reg (side_of (set registers x o v)) k q ≡ read_reg (side_of registers) k q
-read_reg_other registers x o v k (reg.Now y) h = read_set_other registers x y o k v h
-read_reg_other registers x o v k (reg.Old y) h = refl
-read_reg_other registers x o v k (reg.Ghost y) h = refl
-
 -- a line of the source alone, and of the target alone
-pub related_source : (diff : List Reg) (source target : Registers) (x : Name) (o : Option Kind) (v : Value)
-    → AreRelated diff (side_of source) (side_of target) → AreRelated (with_reg (reg.Now x) diff) (side_of (set source x o v)) (side_of target)
-related_source diff source target x o v related r k out =
-    let parts = outside_with r (reg.Now x) diff out in
-    subst (λ a. IsLessDefined a (read_reg (side_of target) k r)) (sym (read_reg_other source x o v k r parts.1)) (related r k parts.0)
+module _ (diff : List Reg) (source target : SideState) (related : AreRelated diff source target) (x : Name) (o : Option Kind) (v : Value) where
+  pub related_source : AreRelated (with_reg (reg.Now x) diff) (set_now source x o v) target
+  related_source r k out =
+      let parts = outside_with r (reg.Now x) diff out in
+      subst (λ a. IsLessDefined a (read_reg target k r)) (sym (read_reg_other source x o v k r parts.1)) (related r k parts.0)
 
-pub related_target : (diff : List Reg) (source target : Registers) (x : Name) (o : Option Kind) (v : Value)
-    → AreRelated diff (side_of source) (side_of target) → AreRelated (with_reg (reg.Now x) diff) (side_of source) (side_of (set target x o v))
-related_target diff source target x o v related r k out =
-    let parts = outside_with r (reg.Now x) diff out in
-    subst (λ b. IsLessDefined (read_reg (side_of source) k r) b) (sym (read_reg_other target x o v k r parts.1)) (related r k parts.0)
+  pub related_target : AreRelated (with_reg (reg.Now x) diff) source (set_now target x o v)
+  related_target r k out =
+      let parts = outside_with r (reg.Now x) diff out in
+      subst (λ b. IsLessDefined (read_reg source k r) b) (sym (read_reg_other target x o v k r parts.1)) (related r k parts.0)
 
 -- two lines that set one register to related values
 at_less : (b : Bool) (v w : Value) → IsLessDefined v w → IsLessDefined (cond b v Poison) (cond b w Poison)
@@ -96,12 +90,12 @@ held_less : (o : Option Kind) (k : Kind) (v w : Value) → IsLessDefined v w →
 held_less None k v w h = tt
 held_less (Some j) k v w h = at_less (same_kind j k) v w h
 
-pub related_both : (diff : List Reg) (source target : Registers) (x : Name) (o : Option Kind) (v w : Value) → IsLessDefined v w
-    → AreRelated diff (side_of source) (side_of target) → AreRelated (without_reg (reg.Now x) diff) (side_of (set source x o v)) (side_of (set target x o w))
+pub related_both : (diff : List Reg) (source target : SideState) (x : Name) (o : Option Kind) (v w : Value) → IsLessDefined v w
+    → AreRelated diff source target → AreRelated (without_reg (reg.Now x) diff) (set_now source x o v) (set_now target x o w)
 related_both diff source target x o v w less related r k out = ⊎_elim
     (λ e.
-    subst (λ q. IsLessDefined (read_reg (side_of (set source x o v)) k q) (read_reg (side_of (set target x o w)) k q)) (same_reg_true (reg.Now x) r e)
-    (subst₂ IsLessDefined (sym (read_set_at source x x o k v (same_name_refl x))) (sym (read_set_at target x x o k w (same_name_refl x))) (held_less o k v w less)))
+    subst (λ q. IsLessDefined (read_reg (set_now source x o v) k q) (read_reg (set_now target x o w) k q)) (same_reg_true (reg.Now x) r e)
+    (subst₂ IsLessDefined (sym (read_set_at source.now x x o k v (same_name_refl x))) (sym (read_set_at target.now x x o k w (same_name_refl x))) (held_less o k v w less)))
     (λ e.
     subst₂ IsLessDefined (sym (read_reg_other source x o v k r e)) (sym (read_reg_other target x o w k r e))
     (related r k (outside_without r (reg.Now x) diff e out)))
@@ -139,65 +133,64 @@ agree_parts known s t h =
     }
 
 -- lines that agree
-module _ (known : Assertion) (source target : Registers) (holds : AssertionHolds known (side_of source) (side_of target)) (s t : Binary) where
-  agree_less : Agree known s t → IsLessDefined (line_value source s) (line_value target t)
+module _ (known : Assertion) (source target : SideState) (holds : AssertionHolds known source target) (s t : Binary) where
+  agree_less : Agree known s t → IsLessDefined (line_value source.now s) (line_value target.now t)
   agree_less agree =
-      let a = atom_value (read source) (kind_of s.ty) s.left in
-      let b = atom_value (read source) (kind_of s.ty) s.right in
-      let c = atom_value (read target) (kind_of t.ty) t.left in
-      let d = atom_value (read target) (kind_of t.ty) t.right in
+      let a = atom_value (read source.now) (kind_of s.ty) s.left in
+      let b = atom_value (read source.now) (kind_of s.ty) s.right in
+      let c = atom_value (read target.now) (kind_of t.ty) t.left in
+      let d = atom_value (read target.now) (kind_of t.ty) t.right in
       subst₂ (λ o k. IsLessDefined (result_value s.op s.flags (kind_of s.ty) a b) (result_value o t.flags k c d)) agree.op (ap kind_of agree.type)
       (result_monotone s.op s.flags t.flags (kind_of s.ty) a b c d agree.flags
       (atoms_matched_less known source target holds s.ty s.left t.ty t.left agree.left)
       (atoms_matched_less known source target holds s.ty s.right t.ty t.right agree.right))
 
   agree_related : (same_name s.name t.name && lines_agree known s t) ≡ true
-      → AreRelated (without_reg (reg.Now s.name) known.diff) (side_of (after_binary source s)) (side_of (after_binary target t))
+      → AreRelated (without_reg (reg.Now s.name) known.diff) (side_after source s) (side_after target t)
   agree_related h =
       let agree = agree_parts known s t (right_true (same_name s.name t.name) (lines_agree known s t) h) in
       let name = same_name_true s.name t.name (left_true (same_name s.name t.name) (lines_agree known s t) h) in
-      subst₂ (λ x k. AreRelated (without_reg (reg.Now s.name) known.diff) (side_of (after_binary source s)) (side_of (set target x k (line_value target t))))
+      subst₂ (λ x k. AreRelated (without_reg (reg.Now s.name) known.diff) (side_after source s) (set_now target x k (line_value target.now t)))
       name (ap kind_of agree.type)
-      (related_both known.diff source target s.name (kind_of s.ty) (line_value source s) (line_value target t) (agree_less agree) holds.related)
+      (related_both known.diff source target s.name (kind_of s.ty) (line_value source.now s) (line_value target.now t) (agree_less agree) holds.related)
 
-  both_related : AreRelated (diff_after known (Some (line.Binary s)) (Some (line.Binary t))) (side_of (after_binary source s)) (side_of (after_binary target t))
+  both_related : AreRelated (diff_after known (Some (line.Binary s)) (Some (line.Binary t))) (side_after source s) (side_after target t)
   both_related =
       cond_both (same_name s.name t.name && lines_agree known s t) (without_reg (reg.Now s.name) known.diff)
       (with_reg (reg.Now t.name) (with_reg (reg.Now s.name) known.diff))
-      (λ diff. AreRelated diff (side_of (after_binary source s)) (side_of (after_binary target t)))
+      (λ diff. AreRelated diff (side_after source s) (side_after target t))
       agree_related
       (λ e.
-      related_target (with_reg (reg.Now s.name) known.diff) (after_binary source s) target t.name (kind_of t.ty) (line_value target t)
-      (related_source known.diff source target s.name (kind_of s.ty) (line_value source s) holds.related))
+      related_target (with_reg (reg.Now s.name) known.diff) (side_after source s) target
+      (related_source known.diff source target holds.related s.name (kind_of s.ty) (line_value source.now s))
+      t.name (kind_of t.ty) (line_value target.now t))
 
--- the registers after a line, or after a no-op
-abbrev pub after_instr : Registers → Option Instr → Registers
-after_instr registers None = registers
-after_instr registers (Some (line.Binary b)) = after_binary registers b
+-- a side after a line, or after a no-op
+abbrev pub after_instr : SideState → Option Instr → SideState
+after_instr side None = side
+after_instr side (Some (line.Binary b)) = side_after side b
 
-pub after_instr_in_kind : (registers : Registers) (i : Option Instr) → AreInKind registers → AreInKind (after_instr registers i)
-after_instr_in_kind registers None known = known
-after_instr_in_kind registers (Some (line.Binary b)) known = after_binary_in_kind registers b known
+pub after_instr_in_kind : (side : SideState) (i : Option Instr) → IsSideInKind side → IsSideInKind (after_instr side i)
+after_instr_in_kind side None h = h
+after_instr_in_kind side (Some (line.Binary b)) h = side_after_in_kind side b h
+
+-- the facts after a line, or after a no-op, hold after it
+pub after_instr_holds : (side : SideState) (i : Option Instr) (fs : List Fact) → AllByRecursion (Holds side) fs
+    → AllByRecursion (Holds (after_instr side i)) (facts_after i fs)
+after_instr_holds side None fs all = all
+after_instr_holds side (Some (line.Binary b)) fs all = facts_after_hold side b fs all
 
 -- the assertion after an aligned line holds after it
-pub after_line_holds : (known : Assertion) (source target : Registers) (l : Line) → AssertionHolds known (side_of source) (side_of target)
-    → AssertionHolds (after_line known l) (side_of (after_instr source l.source)) (side_of (after_instr target l.target))
-after_line_holds known source target l holds = go l.source l.target
-  where
-    go : (i j : Option Instr) → AssertionHolds (after_line known (record { source = i; target = j })) (side_of (after_instr source i)) (side_of (after_instr target j))
-    go None None = holds
-    go (Some (line.Binary s)) None = record {
-      source_facts = facts_after_hold source s known.src holds.source_facts;
-      target_facts = holds.target_facts;
-      related = related_source known.diff source target s.name (kind_of s.ty) (line_value source s) holds.related;
-    }
-    go None (Some (line.Binary t)) = record {
-      source_facts = holds.source_facts;
-      target_facts = facts_after_hold target t known.tgt holds.target_facts;
-      related = related_target known.diff source target t.name (kind_of t.ty) (line_value target t) holds.related;
-    }
-    go (Some (line.Binary s)) (Some (line.Binary t)) = record {
-      source_facts = facts_after_hold source s known.src holds.source_facts;
-      target_facts = facts_after_hold target t known.tgt holds.target_facts;
-      related = both_related known source target holds s t;
-    }
+module _ (known : Assertion) (source target : SideState) (holds : AssertionHolds known source target) where
+  lines_related : (i j : Option Instr) → AreRelated (diff_after known i j) (after_instr source i) (after_instr target j)
+  lines_related None None = holds.related
+  lines_related (Some (line.Binary s)) None = related_source known.diff source target holds.related s.name (kind_of s.ty) (line_value source.now s)
+  lines_related None (Some (line.Binary t)) = related_target known.diff source target holds.related t.name (kind_of t.ty) (line_value target.now t)
+  lines_related (Some (line.Binary s)) (Some (line.Binary t)) = both_related known source target holds s t
+
+  pub after_line_holds : (l : Line) → AssertionHolds (after_line known l) (after_instr source l.source) (after_instr target l.target)
+  after_line_holds l = record {
+    source_facts = after_instr_holds source l.source known.src holds.source_facts;
+    target_facts = after_instr_holds target l.target known.tgt holds.target_facts;
+    related = lines_related l.source l.target;
+  }

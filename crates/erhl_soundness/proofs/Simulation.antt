@@ -44,6 +44,7 @@ target_lines (l ∷ ls) = with_line l.target (target_lines ls)
 pub refused_not_valid : (block : Name) (where_ : Spot) (why : Reason) → verdict.Refused block where_ why ≡ verdict.Valid → ⊥
 refused_not_valid block where_ why h = cc
 
+-- on entry a side is in kind: its old and ghost registers aren't set
 pub side_in_kind : (registers : Registers) → AreInKind registers → IsSideInKind (side_of registers)
 side_in_kind registers h = record { now = h; old = no_registers_in_kind; ghost = no_registers_in_kind }
 
@@ -54,39 +55,34 @@ after_steps_valid : (s t : SideState) (sk : IsSideInKind s) (tk : IsSideInKind t
 after_steps_valid s t sk tk block k (Refuses why) next holds h = absurd (refused_not_valid block (spot.Line k) why h)
 after_steps_valid s t sk tk block k (Knows known) next holds h = (known, holds, h)
 
+-- Two frames with an assertion that holds of their sides: what the target's shows, the source's may show.
 module _ (rules : Rules) (m : Module) (sound : AreSound rules) (source target : Module) (f g : Name) (block b c : Name) (steps : List PlacedStep) where
-  terms_refine : (k : ℕ) (s t : Term) (known : Assertion) (rs rt : Registers) → AssertionHolds known (side_of rs) (side_of rt) → AreInKind rt
-      → term_verdict block k s t known ≡ verdict.Valid
-      → (n : ℕ) (items : List Item) → ShowsFrom target n (at_lines g c [] t rt) items → MayShowFrom source (at_lines f b [] s rs) items
-  terms_refine k (Ret p) (Ret q) known rs rt holds kind valid = ⊎_elim
-      (λ e. returns_refine source target f b g c p q rs rt (matched_type known p q e) (matched_less known rs rt holds p q e) kind)
+  terms_refine : (k : ℕ) (p q : Term) (known : Assertion) (s t : SideState) → AssertionHolds known s t → IsSideInKind t
+      → term_verdict block k p q known ≡ verdict.Valid
+      → (n : ℕ) (items : List Item) → ShowsFrom target n (at_lines g c [] q t.now) items → MayShowFrom source (at_lines f b [] p s.now) items
+  terms_refine k (Ret x) (Ret y) known s t holds kind valid = ⊎_elim
+      (λ e. returns_refine source target f b g c x y s.now t.now (matched_type known x y e) (matched_less known s t holds x y e) kind.now)
       (λ e.
-      absurd (refused_not_valid block (spot.Line k) (Unmatched p q)
-      (sym (cond-false (matched known p q) verdict.Valid (verdict.Refused block (spot.Line k) (Unmatched p q)) e) ∙ valid)))
-      (cases_Bool (matched known p q))
+      absurd (refused_not_valid block (spot.Line k) (Unmatched x y)
+      (sym (cond-false (matched known x y) verdict.Valid (verdict.Refused block (spot.Line k) (Unmatched x y)) e) ∙ valid)))
+      (cases_Bool (matched known x y))
 
-  pub lines_refine : (ls : List Line) (k : ℕ) (s t : Term) (known : Assertion) (rs rt : Registers) → AssertionHolds known (side_of rs) (side_of rt)
-      → AreInKind rs → AreInKind rt → lines_verdict rules m block steps k ls s t known ≡ verdict.Valid
-      → (n : ℕ) (items : List Item) → ShowsFrom target n (at_lines g c (target_lines ls) t rt) items
-      → MayShowFrom source (at_lines f b (source_lines ls) s rs) items
-  lines_refine [] k s t known rs rt holds rsk rtk valid n items shows =
-      let sk = side_in_kind rs rsk in
-      let tk = side_in_kind rt rtk in
-      let stepped = after_steps rules m (steps_at k steps) known in
-      let after = after_steps_valid (side_of rs) (side_of rt) sk tk block k stepped (term_verdict block k s t)
-      (steps_hold (side_of rs) (side_of rt) sk tk rules m sound (steps_at k steps) known holds) valid in
-      terms_refine k s t after.0 rs rt after.1 rtk after.2 n items shows
-  lines_refine (l ∷ ls) k s t known rs rt holds rsk rtk valid n items shows =
-      let sk = side_in_kind rs rsk in
-      let tk = side_in_kind rt rtk in
-      let stepped = after_steps rules m (steps_at k steps) known in
-      let after = after_steps_valid (side_of rs) (side_of rt) sk tk block k stepped
-      (λ known'. lines_verdict rules m block steps (k + 1) ls s t (after_line known' l))
-      (steps_hold (side_of rs) (side_of rt) sk tk rules m sound (steps_at k steps) known holds) valid in
+  pub lines_refine : (ls : List Line) (k : ℕ) (p q : Term) (known : Assertion) (s t : SideState) → AssertionHolds known s t
+      → IsSideInKind s → IsSideInKind t → lines_verdict rules m block steps k ls p q known ≡ verdict.Valid
+      → (n : ℕ) (items : List Item) → ShowsFrom target n (at_lines g c (target_lines ls) q t.now) items
+      → MayShowFrom source (at_lines f b (source_lines ls) p s.now) items
+  lines_refine [] k p q known s t holds sk tk valid n items shows =
+      let after = after_steps_valid s t sk tk block k (after_steps rules m (steps_at k steps) known) (term_verdict block k p q)
+      (steps_hold s t sk tk rules m sound (steps_at k steps) known holds) valid in
+      terms_refine k p q after.0 s t after.1 tk after.2 n items shows
+  lines_refine (l ∷ ls) k p q known s t holds sk tk valid n items shows =
+      let after = after_steps_valid s t sk tk block k (after_steps rules m (steps_at k steps) known)
+      (λ known'. lines_verdict rules m block steps (k + 1) ls p q (after_line known' l))
+      (steps_hold s t sk tk rules m sound (steps_at k steps) known holds) valid in
       ⊎_elim
       (λ e. inl (0, e))
       (λ r.
-      source_line source f b l.source (source_lines ls) s rs items
-      (lines_refine ls (k + 1) s t (after_line after.0 l) (after_instr rs l.source) (after_instr rt l.target)
-      (after_line_holds after.0 rs rt l after.1) (after_instr_in_kind rs l.source rsk) (after_instr_in_kind rt l.target rtk) after.2 r.0 items r.1))
-      (target_line target g c l.target (target_lines ls) t rt n items shows)
+      source_line source f b l.source (source_lines ls) p s items
+      (lines_refine ls (k + 1) p q (after_line after.0 l) (after_instr s l.source) (after_instr t l.target) (after_line_holds after.0 s t after.1 l)
+      (after_instr_in_kind s l.source sk) (after_instr_in_kind t l.target tk) after.2 r.0 items r.1))
+      (target_line target g c l.target (target_lines ls) q t n items shows)

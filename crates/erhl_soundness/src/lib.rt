@@ -8,12 +8,13 @@
 
 ghost use Rattle.erhl_soundness.specs.Laws.{ALineKeepsWhatHolds, MatchedOperandsAreRelated, AcceptedFunctionsRefine, AcceptedModulesRefine};
 
-/// After an aligned line of two frames of which an assertion holds, what the postcondition gives holds of the two frames.
+/// After an aligned line of two sides of which an assertion holds, what the postcondition gives holds of the two sides,
+/// whatever their old and ghost registers are.
 pub fn a_line_keeps_what_holds()
     ensures { ALineKeepsWhatHolds }
 {}
 
-/// Where an assertion holds of two frames and two operands are matched, the source's value is less defined than the target's.
+/// Where an assertion holds of two sides and two operands are matched, the source's value is less defined than the target's.
 pub fn matched_operands_are_related()
     ensures { MatchedOperandsAreRelated }
 {}
