@@ -23,6 +23,21 @@ i32_word = kind.Word (codes "i32")
 abbrev pub comma : TokenKind
 comma = kind.Mark 44
 
+abbrev pub equals : TokenKind
+equals = kind.Mark 61
+
+abbrev pub open_paren : TokenKind
+open_paren = kind.Mark 40
+
+abbrev pub close_paren : TokenKind
+close_paren = kind.Mark 41
+
+abbrev pub open_brace : TokenKind
+open_brace = kind.Mark 123
+
+abbrev pub close_brace : TokenKind
+close_brace = kind.Mark 125
+
 abbrev pub value : ValueText → TokenKind
 value (text.Number n) = kind.Number n
 value text.Undef = kind.Word (codes "undef")
@@ -48,7 +63,7 @@ operation o = operator o.op ∷ (map flag o.flags ++ (i32_word ∷ value o.left 
 -- [LOCAL =]
 abbrev pub register : Option Name → List TokenKind
 register None = []
-register (Some name) = kind.Local name ∷ kind.Mark 61 ∷ []
+register (Some name) = kind.Local name ∷ equals ∷ []
 
 abbrev pub line : LineText → List TokenKind
 line l = register l.register ++ operation l.operation
@@ -77,10 +92,10 @@ label (Some name) = kind.Label name ∷ []
 
 -- ret i32 V }
 abbrev pub ending : ValueText → List TokenKind
-ending result = kind.Word (codes "ret") ∷ i32_word ∷ value result ∷ kind.Mark 125 ∷ []
+ending result = kind.Word (codes "ret") ∷ i32_word ∷ value result ∷ close_brace ∷ []
 
 -- define i32 GLOBAL ( params ) { [LABEL] {line} ret i32 V }
 abbrev pub written : DefinitionText → List TokenKind
 written d =
-    kind.Word (codes "define") ∷ i32_word ∷ kind.Global d.name ∷ kind.Mark 40 ∷ (params d.params
-    ++ (kind.Mark 41 ∷ kind.Mark 123 ∷ (label d.label ++ (flat_map line d.lines ++ ending d.result))))
+    kind.Word (codes "define") ∷ i32_word ∷ kind.Global d.name ∷ open_paren ∷ (params d.params
+    ++ (close_paren ∷ open_brace ∷ (label d.label ++ (flat_map line d.lines ++ ending d.result))))
