@@ -3,13 +3,13 @@ use Rattle.std.specs.Prelude.{◌≡◌, ℕ, ◌+◌, Bool, true, ◌&&◌, con
 use Rattle.ir_core.specs.declared.names.Name.{Name}
 use Rattle.ir_core.specs.declared.functions.Term.{Term}
 use Rattle.ir_core.specs.declared.functions.Term.TheVariants.{Ret}
-use Rattle.ir_core.specs.declared.functions.Block.{Block}
 use Rattle.ir_core.specs.declared.functions.Function.{Function}
 use Rattle.ir_core.specs.declared.functions.Module.{Module}
 use Rattle.ir_core.specs.Same.{same_list, same_name, same_ty}
 use Rattle.erhl_assert.specs.declared.facts.Fact.{Fact}
 use Rattle.erhl_assert.specs.declared.facts.Assertion.{Assertion}
 use Rattle.erhl_assert.specs.declared.hints.PlacedStep.{PlacedStep}
+use Rattle.erhl_assert.specs.declared.hints.HintBlock.{HintBlock}
 use Rattle.erhl_assert.specs.declared.hints.Hint.{Hint}
 use Rattle.erhl_assert.specs.declared.hints.FunctionHint.{FunctionHint}
 use Rattle.erhl_assert.specs.declared.hints.Hints.{Hints}
@@ -21,7 +21,7 @@ use Rattle.erhl_assert.specs.declared.verdict.Difference.TheVariants as differen
 use Rattle.erhl_assert.specs.declared.verdict.ModuleVerdict.{ModuleVerdict}
 use Rattle.erhl_assert.specs.declared.verdict.ModuleVerdict.TheVariants as modules
 use Rattle.erhl_assert.specs.Matched.{matched}
-use Rattle.erhl_assert.specs.Alignment.{Line, block_hint, block_lines, alignment_fault}
+use Rattle.erhl_assert.specs.Alignment.{Line, AlignedBlock, Alignment, Aligned, Differs, block_hint, alignment}
 use Rattle.erhl_assert.specs.Postcondition.{after_line}
 use Rattle.erhl_assert.specs.Steps.{Rules, Stepped, Refuses, Knows, after_steps, steps_at}
 
@@ -44,32 +44,24 @@ lines_verdict rules m block steps k (l ∷ ls) s t known =
     after_steps_at block k (after_steps rules m (steps_at k steps) known)
     (λ after. lines_verdict rules m block steps (k + 1) ls s t (after_line after l))
 
-abbrev pub on_lines : Rules → Module → Hint → Block → Block → Option (List Line) → Verdict
-on_lines rules m hint b c None = verdict.Refused b.name spot.Start AlignmentDiffers
-on_lines rules m hint b c (Some ls) =
-    let h = block_hint hint b.name in lines_verdict rules m b.name h.steps 0 ls b.term c.term h.entry
-
 -- nothing is known of registers on entry, so the entry's facts must be none
-abbrev pub from_entry : Rules → Module → Hint → Block → Block → List Fact → List Fact → Verdict
-from_entry rules m hint b c (f ∷ fs) gs = verdict.Refused b.name spot.Start (MissingFact f)
-from_entry rules m hint b c [] (g ∷ gs) = verdict.Refused b.name spot.Start (MissingFact g)
-from_entry rules m hint b c [] [] = on_lines rules m hint b c (block_lines hint b c)
+abbrev pub from_entry : Rules → Module → HintBlock → AlignedBlock → List Fact → List Fact → Verdict
+from_entry rules m h b (f ∷ fs) gs = verdict.Refused b.name spot.Start (MissingFact f)
+from_entry rules m h b [] (g ∷ gs) = verdict.Refused b.name spot.Start (MissingFact g)
+from_entry rules m h b [] [] = lines_verdict rules m b.name h.steps 0 b.lines b.source b.target h.entry
 
--- No terminator leads to another block yet, so the entry alone is reached.
-abbrev pub reached_verdict : Rules → Module → Hint → List Block → List Block → Verdict
-reached_verdict rules m hint (b ∷ bs) (c ∷ cs) =
-    let h = block_hint hint b.name in from_entry rules m hint b c h.entry.src h.entry.tgt
-reached_verdict rules m hint (b ∷ bs) [] = verdict.Refused b.name spot.Start AlignmentDiffers
-reached_verdict rules m hint [] (c ∷ cs) = verdict.Refused c.name spot.Start AlignmentDiffers
-reached_verdict rules m hint [] [] = verdict.Valid
+-- No terminator leads to another block yet, so the first alone is reached.
+abbrev pub reached_verdict : Rules → Module → Hint → List AlignedBlock → Verdict
+reached_verdict rules m hint [] = verdict.Valid
+reached_verdict rules m hint (b ∷ bs) = let h = block_hint hint b.name in from_entry rules m h b h.entry.src h.entry.tgt
 
-abbrev pub unless_unaligned : Option Name → Verdict → Verdict
-unless_unaligned (Some block) rest = verdict.Refused block spot.Start AlignmentDiffers
-unless_unaligned None rest = rest
+abbrev pub aligned_verdict : Rules → Module → Hint → Alignment → Verdict
+aligned_verdict rules m hint (Differs block) = verdict.Refused block spot.Start AlignmentDiffers
+aligned_verdict rules m hint (Aligned blocks) = reached_verdict rules m hint blocks
 
 -- THE verdict on a function pair: the alignment of all blocks, then the blocks that are reached
 abbrev pub function_verdict : Rules → Module → Function → Function → Hint → Verdict
-function_verdict rules m f g hint = unless_unaligned (alignment_fault hint f g) (reached_verdict rules m hint f.blocks g.blocks)
+function_verdict rules m f g hint = aligned_verdict rules m hint (alignment hint f g)
 
 -- the pair is accepted
 abbrev pub Accepts : Rules → Module → Function → Function → Hint → Type 0

@@ -1,9 +1,12 @@
 -- Alignment of two bodies line by line, with no-ops.
-use Rattle.std.specs.Prelude.{ℕ, Bool, true, false, ◌&&◌, cond, List, [], ◌∷◌, length, replicate, nat_eq, Option, None, Some, find}
+use Rattle.std.specs.Prelude.{ℕ, Bool, ◌&&◌, cond, List, [], ◌∷◌, length, replicate, nat_eq, Option, None, Some, find}
+use Rattle.std.specs.List.{zip}
+use Rattle.std.specs.Option.{option_map}
 use Rattle.ir_core.specs.declared.names.Name.{Name}
 use Rattle.ir_core.specs.declared.names.Name.TheVariants.{Number}
 use Rattle.ir_core.specs.declared.functions.Instr.{Instr}
 use Rattle.ir_core.specs.declared.functions.Param.{Param}
+use Rattle.ir_core.specs.declared.functions.Term.{Term}
 use Rattle.ir_core.specs.declared.functions.Block.{Block}
 use Rattle.ir_core.specs.declared.functions.Function.{Function}
 use Rattle.ir_core.specs.Same.{same_list, same_name, same_ty}
@@ -52,20 +55,34 @@ entry_or_empty x None = record { at = x; lines = None; entry = no_facts; steps =
 abbrev pub block_hint : Hint → Name → HintBlock
 block_hint hint x = entry_or_empty x (find (λ h. same_name h.at x) hint.blocks)
 
--- the aligned lines of two blocks
+-- the aligned lines of two blocks; the blocks must have one name
 abbrev pub block_lines : Hint → Block → Block → Option (List Line)
-block_lines hint b c = aligned (letters_or_both (block_hint hint b.name).lines (length b.body)) b.body c.body
+block_lines hint b c = cond (same_name b.name c.name) (aligned (letters_or_both (block_hint hint b.name).lines (length b.body)) b.body c.body) None
 
-abbrev pub is_aligned : Option (List Line) → Bool
-is_aligned None = false
-is_aligned (Some ls) = true
+-- two blocks aligned: their name, their aligned lines, and their terminators
+pub record AlignedBlock : Type 0 where
+  pub name : Name
+  pub lines : List Line
+  pub source : Term
+  pub target : Term
 
--- the first block whose names differ or whose lines don't align
-abbrev pub first_unaligned : Hint → List Block → List Block → Option Name
-first_unaligned hint (b ∷ bs) (c ∷ cs) =
-    cond (same_name b.name c.name && is_aligned (block_lines hint b c)) (first_unaligned hint bs cs) (Some b.name)
-first_unaligned hint [] cs = None
-first_unaligned hint (b ∷ bs) [] = None
+abbrev pub block_aligned : Hint → Block → Block → Option AlignedBlock
+block_aligned hint b c = option_map (λ ls. record { name = b.name; lines = ls; source = b.term; target = c.term }) (block_lines hint b c)
+
+-- what aligning two functions gives: their blocks, or the block at fault
+pub data Alignment : Type 0 where
+  Aligned : List AlignedBlock → Alignment
+  Differs : Name → Alignment
+
+abbrev pub with_block : Name → Option AlignedBlock → Alignment → Alignment
+with_block x None rest = Differs x
+with_block x (Some b) (Aligned bs) = Aligned (b ∷ bs)
+with_block x (Some b) (Differs y) = Differs y
+
+-- pairs of blocks in their order: the first that doesn't align is at fault
+abbrev pub blocks_aligned : Hint → List (Block × Block) → Alignment
+blocks_aligned hint [] = Aligned []
+blocks_aligned hint (p ∷ ps) = with_block p.0.name (block_aligned hint p.0 p.1) (blocks_aligned hint ps)
 
 abbrev pub same_param : Param → Param → Bool
 same_param p q = same_name p.name q.name && same_ty p.ty q.ty
@@ -79,7 +96,7 @@ abbrev pub first_block : List Block → Name
 first_block [] = Number 0
 first_block (b ∷ bs) = b.name
 
--- the block at which alignment fails: the source's first where headers or the numbers of blocks differ
-abbrev pub alignment_fault : Hint → Function → Function → Option Name
-alignment_fault hint f g =
-    cond (same_header f g && nat_eq (length f.blocks) (length g.blocks)) (first_unaligned hint f.blocks g.blocks) (Some (first_block f.blocks))
+-- All blocks align, or one is at fault: the source's first where headers or the numbers of blocks differ.
+abbrev pub alignment : Hint → Function → Function → Alignment
+alignment hint f g =
+    cond (same_header f g && nat_eq (length f.blocks) (length g.blocks)) (blocks_aligned hint (zip f.blocks g.blocks)) (Differs (first_block f.blocks))

@@ -1,11 +1,13 @@
 -- Alignment, one letter at a time.
-use Rattle.std.proofs.Common.{◌≡◌, ◌&&◌, true, List, [], ◌∷◌, refl}
+use Rattle.std.proofs.Common.{◌≡◌, ◌&&◌, ◌∙◌, true, List, [], ◌∷◌, refl, sym, ap}
 use Rattle.std.specs.Prelude.{Option, None, Some}
 use Rattle.ir_core.specs.declared.functions.Instr.{Instr}
 use Rattle.erhl_assert.specs.declared.hints.Letter.{Letter}
 use Rattle.erhl_assert.specs.declared.hints.Letter.TheVariants.{Both, Source, Target}
-use Rattle.erhl_assert.specs.Alignment.{Line, after_first, aligned, is_aligned}
-use Rattle.erhl_checker.specs.Cursor.{on_source, on_target, left, is_none, stands, line_at}
+use Rattle.erhl_assert.specs.Alignment.{Line, after_first, aligned}
+use Rattle.erhl_checker.specs.Cursor.{on_source, on_target, left, is_none, stands, line_at, is_aligned}
+use Rattle.erhl_checker.specs.Lent.{lines_under}
+use Rattle.ir_core.proofs.SameLaws.{left_true, right_true}
 
 is_aligned_after : (l : Line) (o : Option (List Line)) → is_aligned (after_first l o) ≡ is_aligned o
 is_aligned_after l None = refl
@@ -43,3 +45,16 @@ aligned_more Source ls (x ∷ xs) (y ∷ ys) h = refl
 aligned_more Target ls xs [] h = cc
 aligned_more Target ls [] (y ∷ ys) h = refl
 aligned_more Target ls (x ∷ xs) (y ∷ ys) h = refl
+
+-- where letters give back both bodies, the aligned lines are those that the letters take
+pub aligned_under : (ls : List Letter) (xs ys : List Instr) → is_aligned (aligned ls xs ys) ≡ true → aligned ls xs ys ≡ Some (lines_under ls xs ys)
+aligned_under [] [] [] h = refl
+aligned_under [] [] (y ∷ ys) h = absurd (cc)
+aligned_under [] (x ∷ xs) ys h = absurd (cc)
+aligned_under (l ∷ ls) xs ys h =
+    let xs' = left (on_source l) xs in
+    let ys' = left (on_target l) ys in
+    let rest = is_aligned (aligned ls xs' ys') in
+    let split : (stands l xs ys && rest) ≡ true = sym (is_aligned_more l ls xs ys) ∙ h in
+    aligned_more l ls xs ys (left_true (stands l xs ys) rest split)
+    ∙ ap (after_first (line_at l xs ys)) (aligned_under ls xs' ys' (right_true (stands l xs ys) rest split))

@@ -1,3 +1,4 @@
 pub mod Alignments
 pub mod Differing
+pub mod Lending
 pub mod Progressing

@@ -1,5 +1,5 @@
 -- A place in two bodies that are gone through letter by letter: the lines that stand there, and those that are left.
-use Rattle.std.specs.Prelude.{zero, Bool, true, false, ◌&&◌, not, cond, List, [], ◌∷◌, slice_get, Option, None}
+use Rattle.std.specs.Prelude.{zero, Bool, true, false, ◌&&◌, not, cond, List, [], ◌∷◌, slice_get, Option, None, Some}
 use Rattle.ir_core.specs.declared.functions.Instr.{Instr}
 use Rattle.erhl_assert.specs.declared.hints.Letter.{Letter}
 use Rattle.erhl_assert.specs.declared.hints.Letter.TheVariants.{Both, Source, Target}
@@ -34,3 +34,7 @@ stands l xs ys = not (on_source l && is_none xs) && not (on_target l && is_none 
 
 abbrev pub line_at : Letter → List Instr → List Instr → Line
 line_at l xs ys = record { source = taken (on_source l) xs; target = taken (on_target l) ys }
+
+abbrev pub is_aligned : Option (List Line) → Bool
+is_aligned None = false
+is_aligned (Some ls) = true

@@ -1,22 +1,13 @@
 -- What the checker has in hand while it goes on.
-use Rattle.std.specs.Prelude.{ℕ, List, [], ◌∷◌, Option, None, Some}
-use Rattle.ir_core.specs.declared.names.Name.{Name}
-use Rattle.ir_core.specs.declared.functions.Term.{Term}
-use Rattle.ir_core.specs.declared.functions.Block.{Block}
+use Rattle.std.specs.Prelude.{ℕ, List}
 use Rattle.ir_core.specs.declared.functions.Module.{Module}
-use Rattle.erhl_assert.specs.declared.facts.Fact.{Fact}
 use Rattle.erhl_assert.specs.declared.facts.Assertion.{Assertion}
 use Rattle.erhl_assert.specs.declared.hints.PlacedStep.{PlacedStep}
 use Rattle.erhl_assert.specs.declared.hints.RuleStep.{RuleStep}
-use Rattle.erhl_assert.specs.declared.hints.HintBlock.{HintBlock}
-use Rattle.erhl_assert.specs.declared.verdict.Reason.TheVariants.{AlignmentDiffers, MissingFact, UnknownRule, RuleUnfit}
-use Rattle.erhl_assert.specs.declared.verdict.Spot.TheVariants as spot
-use Rattle.erhl_assert.specs.declared.verdict.Verdict.{Verdict}
-use Rattle.erhl_assert.specs.declared.verdict.Verdict.TheVariants as verdict
+use Rattle.erhl_assert.specs.declared.verdict.Reason.TheVariants.{UnknownRule, RuleUnfit}
 use Rattle.erhl_assert.specs.Alignment.{Line}
 use Rattle.erhl_assert.specs.Postcondition.{after_line}
 use Rattle.erhl_assert.specs.Steps.{Rules, Stepped, Refuses, Knows, and_then, after_steps, steps_at, concluded, first_missing, facts_of}
-use Rattle.erhl_assert.specs.Acceptance.{lines_verdict}
 use Rattle.rule_base.specs.declared.rule_book.Answer.{Answer}
 use Rattle.rule_base.specs.declared.rule_book.Answer.TheVariants.{Unknown, Unfit, Fits}
 use Rattle.erhl_checker.specs.declared.steps.Progress.{Progress}
@@ -35,14 +26,3 @@ on_answer Fits step known = concluded (first_missing (facts_of step.side known) 
 -- the steps before an aligned line, and then the line
 abbrev pub past_line : Rules → Module → List PlacedStep → ℕ → Line → Assertion → Stepped
 past_line rules m steps k l known = and_then (after_steps rules m (steps_at k steps) known) (λ after. Knows (after_line after l))
-
--- the verdict on the lines that are left of two blocks, where they align
-abbrev pub walked : Rules → Module → Name → List PlacedStep → ℕ → Option (List Line) → Term → Term → Assertion → Verdict
-walked rules m block steps k None s t known = verdict.Refused block spot.Start AlignmentDiffers
-walked rules m block steps k (Some ls) s t known = lines_verdict rules m block steps k ls s t known
-
--- the verdict on two blocks under the hint that is given for them
-abbrev pub hinted : Rules → Module → HintBlock → Block → Block → Option (List Line) → List Fact → List Fact → Verdict
-hinted rules m h b c ls (f ∷ fs) gs = verdict.Refused b.name spot.Start (MissingFact f)
-hinted rules m h b c ls [] (g ∷ gs) = verdict.Refused b.name spot.Start (MissingFact g)
-hinted rules m h b c ls [] [] = walked rules m b.name h.steps 0 ls b.term c.term h.entry

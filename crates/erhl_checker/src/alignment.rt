@@ -1,15 +1,34 @@
-//! Whether two functions align: their headers, and each block's lines under its hint's letters.
-ghost use Rattle.std.specs.Prelude.{◌≡◌, ◌&&◌, IfOk, length, map, find, replicate};
-ghost use Rattle.std.specs.Option.{option_copied};
+//! The alignment of two functions: their headers, and each block's lines under its hint's letters.
+ghost use Rattle.std.specs.Prelude.{◌≡◌, IfOk, length, map, find, replicate};
+ghost use Rattle.std.specs.List.{zip};
+ghost use Rattle.std.specs.Option.{option_copied, option_map};
 ghost use Rattle.ir_core.specs.Same as same;
 ghost use Rattle.erhl_assert.specs.declared.hints.Letter.TheVariants.{Both};
 ghost use Rattle.erhl_assert.specs.Alignment as alignment;
+ghost use Rattle.erhl_checker.specs.Cursor.{is_aligned};
+ghost use Rattle.erhl_checker.specs.Lent.{lent_block, lent};
 
 use crate::cursor::{is_end, left, on_source, on_target, stands};
 use contents::{Exact, Seq};
 use erhl_assert::{Hint, HintBlock, Letter};
 use ir_core::{Block, Function, Instr, Name, Param, same_name, same_ty};
 use std::alloc::{AllocError, Global};
+
+/// Two blocks that align, lent, with the letters of their lines.
+#[derive(Debug, Drop)]
+pub(crate) struct AlignedBlock<'a> {
+    pub(crate) letters: Seq<Letter>,
+    pub(crate) source: &'a Block,
+    pub(crate) target: &'a Block,
+}
+
+/// What aligning two functions gives.
+#[derive(Debug, Drop)]
+pub(crate) enum Alignment<'a> {
+    Aligned(Seq<AlignedBlock<'a>>),
+    /// The block at fault.
+    Differs(Name),
+}
 
 /// The block's hint: the first entry of its name.
 pub(crate) fn hint_of<'a>(hint: &'a Hint, block: &Name) -> Option<&'a HintBlock>
@@ -57,11 +76,7 @@ fn letters_or_both(
 }
 
 /// The letters of a block: those of its hint, or that all of its lines stand on both sides.
-pub(crate) fn letters_of(
-    alloc: Global,
-    hint: &Hint,
-    block: &Block,
-) -> Result<Seq<Letter>, AllocError>
+fn letters_of(alloc: Global, hint: &Hint, block: &Block) -> Result<Seq<Letter>, AllocError>
     ensures { IfOk result
         (λ letters. letters
         ≡ alignment.letters_or_both (alignment.block_hint hint.now block.now.name).lines (length block.now.body)) }
@@ -74,8 +89,8 @@ pub(crate) fn letters_of(
 
 /// Whether the letters give back both bodies.
 #[tactic(auto, using(crate::proofs::Alignments::is_aligned_more, crate::proofs::Alignments::is_aligned_end))]
-pub(crate) fn is_aligned(letters: &[Letter], source: &[Instr], target: &[Instr]) -> bool
-    ensures { result ≡ alignment.is_aligned (alignment.aligned letters.now source.now target.now) }
+fn is_aligned(letters: &[Letter], source: &[Instr], target: &[Instr]) -> bool
+    ensures { result ≡ is_aligned (alignment.aligned letters.now source.now target.now) }
 {
     let mut xs = source;
     let mut ys = target;
@@ -120,51 +135,57 @@ fn same_header(source: &Function, target: &Function) -> bool
         && same_params(source.params.as_slice(), target.params.as_slice())
 }
 
-/// Whether two blocks have one name and align.
-fn blocks_align(
+/// Two blocks, where they have one name and their lines align.
+#[tactic(auto, using(crate::proofs::Lending::block_lent, crate::proofs::Lending::block_unaligned, crate::proofs::Lending::block_misnamed))]
+fn align_block<'a>(
     alloc: Global,
     hint: &Hint,
-    source: &Block,
-    target: &Block,
-) -> Result<bool, AllocError>
-    ensures { IfOk result
-        (λ align. align
-        ≡ (same.same_name source.now.name target.now.name
-        && alignment.is_aligned (alignment.block_lines hint.now source.now target.now))) }
+    source: &'a Block,
+    target: &'a Block,
+) -> Result<Option<AlignedBlock<'a>>, AllocError>
+    ensures { IfOk result (λ block. option_map lent_block block ≡ alignment.block_aligned hint.now source.now target.now) }
 {
+    if !same_name(&source.name, &target.name) {
+        return Ok(None);
+    }
     let letters = letters_of(alloc, hint, source)?;
-    Ok(
-        same_name(&source.name, &target.name)
-            && is_aligned(
-                letters.as_slice(),
-                source.body.as_slice(),
-                target.body.as_slice(),
-            ),
-    )
+    if !is_aligned(
+        letters.as_slice(),
+        source.body.as_slice(),
+        target.body.as_slice(),
+    ) {
+        return Ok(None);
+    }
+    Ok(Some(AlignedBlock {
+        letters,
+        source,
+        target,
+    }))
 }
 
-/// The first block whose names differ or whose lines don't align.
-fn first_unaligned(
+/// Blocks in pairs, as far as both lists have some.
+#[tactic(auto, using(crate::proofs::Lending::blocks_end, crate::proofs::Lending::blocks_short))]
+fn align_blocks<'a>(
     alloc: Global,
     hint: &Hint,
-    source: &[Block],
-    target: &[Block],
-) -> Result<Option<Name>, AllocError>
-    ensures { IfOk result (λ name. name ≡ alignment.first_unaligned hint.now source.now target.now) }
+    source: &'a [Block],
+    target: &'a [Block],
+) -> Result<Alignment<'a>, AllocError>
+    ensures { IfOk result (λ blocks. lent blocks ≡ alignment.blocks_aligned hint.now (zip source.now target.now)) }
 {
     let mut rest = target;
+    let mut found = Seq::new(alloc);
     for b in source {
-        match rest.split_first() {
-            Some((c, after)) => {
-                if !blocks_align(alloc, hint, b, c)? {
-                    return Ok(Some(b.name.copy(alloc)?));
-                }
-                rest = after;
-            }
-            None => return Ok(None),
+        let Some((c, after)) = rest.split_first() else {
+            return Ok(Alignment::Aligned(found));
+        };
+        match align_block(alloc, hint, b, c)? {
+            Some(block) => found.push(block)?,
+            None => return Ok(Alignment::Differs(b.name.copy(alloc)?)),
         }
+        rest = after;
     }
-    Ok(None)
+    Ok(Alignment::Aligned(found))
 }
 
 fn first_block(alloc: Global, blocks: &[Block]) -> Result<Name, AllocError>
@@ -176,23 +197,23 @@ fn first_block(alloc: Global, blocks: &[Block]) -> Result<Name, AllocError>
     }
 }
 
-/// The block at which alignment fails.
-pub(crate) fn alignment_fault(
+/// The blocks of two functions aligned, or the block at fault.
+pub(crate) fn align<'a>(
     alloc: Global,
     hint: &Hint,
-    source: &Function,
-    target: &Function,
-) -> Result<Option<Name>, AllocError>
-    ensures { IfOk result (λ name. name ≡ alignment.alignment_fault hint.now source.now target.now) }
+    source: &'a Function,
+    target: &'a Function,
+) -> Result<Alignment<'a>, AllocError>
+    ensures { IfOk result (λ blocks. lent blocks ≡ alignment.alignment hint.now source.now target.now) }
 {
     if same_header(source, target) && source.blocks.len() == target.blocks.len() {
-        first_unaligned(
+        align_blocks(
             alloc,
             hint,
             source.blocks.as_slice(),
             target.blocks.as_slice(),
         )
     } else {
-        Ok(Some(first_block(alloc, source.blocks.as_slice())?))
+        Ok(Alignment::Differs(first_block(alloc, source.blocks.as_slice())?))
     }
 }

@@ -1,14 +1,15 @@
 //! Along two blocks, line by line.
-ghost use Rattle.std.specs.Prelude.{◌≡◌, true, None, IfOk};
+ghost use Rattle.std.specs.Prelude.{◌≡◌, None, IfOk};
 ghost use Rattle.ir_core.specs.declared.functions.Term.TheVariants.{Ret};
-ghost use Rattle.erhl_assert.specs.Alignment.{aligned, is_aligned, block_hint, entry_or_empty};
+ghost use Rattle.erhl_assert.specs.Alignment.{block_hint, entry_or_empty};
 ghost use Rattle.erhl_assert.specs.Steps.{after_steps, steps_at};
-ghost use Rattle.erhl_assert.specs.Acceptance.{term_verdict, after_steps_at, from_entry};
+ghost use Rattle.erhl_assert.specs.Acceptance.{term_verdict, after_steps_at, lines_verdict, from_entry};
 ghost use Rattle.rule_base.specs.Book.{meanings_of};
 ghost use Rattle.erhl_checker.specs.Cursor.{line_at};
-ghost use Rattle.erhl_checker.specs.Progress.{stepped, past_line, walked, hinted};
+ghost use Rattle.erhl_checker.specs.Lent.{lines_under, lent_block};
+ghost use Rattle.erhl_checker.specs.Progress.{stepped, past_line};
 
-use crate::alignment::{hint_of, is_aligned, letters_of};
+use crate::alignment::{AlignedBlock, hint_of};
 use crate::cursor::{left, on_source, on_target, taken};
 use crate::steps::{Progress, after_steps};
 use contents::{Exact, Seq};
@@ -18,12 +19,7 @@ use postcondition::{after_line, matched};
 use rule_base::{InferRule, RuleBook};
 use std::alloc::{AllocError, Global};
 
-pub(crate) fn refused(
-    alloc: Global,
-    block: &Name,
-    spot: Spot,
-    reason: Reason,
-) -> Result<Verdict, AllocError>
+fn refused(alloc: Global, block: &Name, spot: Spot, reason: Reason) -> Result<Verdict, AllocError>
     ensures { IfOk result (λ v. v ≡ Verdict.Refused block.now spot reason) }
 {
     Ok(Verdict::Refused {
@@ -126,8 +122,8 @@ fn past_line(
     }
 }
 
-/// Along two blocks whose lines align under the letters.
-#[tactic(auto, using(crate::proofs::Progressing::fits_more, crate::proofs::Progressing::walked_more, crate::proofs::Progressing::walked_refused, crate::proofs::Progressing::walked_end))]
+/// Along the lines that the letters take of two blocks.
+#[tactic(auto, using(crate::proofs::Progressing::lines_more, crate::proofs::Progressing::lines_refused))]
 fn along(
     alloc: Global,
     module: &Module,
@@ -138,15 +134,14 @@ fn along(
     target: &Block,
     entry: Assertion,
 ) -> Result<Verdict, AllocError>
-    requires { is_aligned (aligned letters.now source.now.body target.now.body) ≡ true }
     ensures { IfOk result
         (λ v. v
-        ≡ walked
+        ≡ lines_verdict
         (meanings_of
         (λ b. (⟦<dyn InferRule as InferRule>⟧ b.vtable).called b.value)
         (λ b. (⟦<dyn InferRule as InferRule>⟧ b.vtable).takes b.value)
         book.now.rules.items)
-        «module».now source.now.name steps.now 0 (aligned letters.now source.now.body target.now.body)
+        «module».now source.now.name steps.now 0 (lines_under letters.now source.now.body target.now.body)
         source.now.term target.now.term entry) }
 {
     let mut known = entry;
@@ -176,36 +171,29 @@ fn along(
 }
 
 /// Two entry blocks with the hint that is given for them. Nothing is known of registers on entry, so the hint may want no fact.
-#[tactic(auto, using(crate::proofs::Progressing::walked_unaligned))]
 fn hinted(
     alloc: Global,
     module: &Module,
     book: &RuleBook,
     hint: &HintBlock,
-    letters: &[Letter],
-    source: &Block,
-    target: &Block,
+    block: &AlignedBlock<'_>,
 ) -> Result<Verdict, AllocError>
     ensures { IfOk result
         (λ v. v
-        ≡ hinted
+        ≡ from_entry
         (meanings_of
         (λ b. (⟦<dyn InferRule as InferRule>⟧ b.vtable).called b.value)
         (λ b. (⟦<dyn InferRule as InferRule>⟧ b.vtable).takes b.value)
         book.now.rules.items)
-        «module».now hint.now source.now target.now
-        (aligned letters.now source.now.body target.now.body) hint.now.entry.src hint.now.entry.tgt) }
+        «module».now hint.now (lent_block block.now) hint.now.entry.src hint.now.entry.tgt) }
 {
     if let Some(fact) = hint.entry.src.as_slice().first() {
         let reason = Reason::MissingFact(fact.copy(alloc)?);
-        return refused(alloc, &source.name, Spot::Start, reason);
+        return refused(alloc, &block.source.name, Spot::Start, reason);
     }
     if let Some(fact) = hint.entry.tgt.as_slice().first() {
         let reason = Reason::MissingFact(fact.copy(alloc)?);
-        return refused(alloc, &source.name, Spot::Start, reason);
-    }
-    if !is_aligned(letters, source.body.as_slice(), target.body.as_slice()) {
-        return refused(alloc, &source.name, Spot::Start, Reason::AlignmentDiffers);
+        return refused(alloc, &block.source.name, Spot::Start, reason);
     }
     let entry = Assertion {
         src: Seq::new(alloc),
@@ -217,9 +205,9 @@ fn hinted(
         module,
         book,
         &hint.steps,
-        letters,
-        source,
-        target,
+        block.letters.as_slice(),
+        block.source,
+        block.target,
         entry,
     )
 }
@@ -240,14 +228,12 @@ fn empty_hint(alloc: Global, block: &Name) -> Result<HintBlock, AllocError>
 }
 
 /// The verdict on two entry blocks.
-#[tactic(auto, using(crate::proofs::Progressing::entry_hinted))]
 pub(crate) fn entry_verdict(
     alloc: Global,
     module: &Module,
     book: &RuleBook,
     hint: &Hint,
-    source: &Block,
-    target: &Block,
+    block: &AlignedBlock<'_>,
 ) -> Result<Verdict, AllocError>
     ensures { IfOk result
         (λ v. v
@@ -256,31 +242,14 @@ pub(crate) fn entry_verdict(
         (λ b. (⟦<dyn InferRule as InferRule>⟧ b.vtable).called b.value)
         (λ b. (⟦<dyn InferRule as InferRule>⟧ b.vtable).takes b.value)
         book.now.rules.items)
-        «module».now hint.now source.now target.now
-        (block_hint hint.now source.now.name).entry.src (block_hint hint.now source.now.name).entry.tgt) }
+        «module».now (block_hint hint.now block.now.source.now.name) (lent_block block.now)
+        (block_hint hint.now block.now.source.now.name).entry.src (block_hint hint.now block.now.source.now.name).entry.tgt) }
 {
-    let letters = letters_of(alloc, hint, source)?;
-    match hint_of(hint, &source.name) {
-        Some(entry) => hinted(
-            alloc,
-            module,
-            book,
-            entry,
-            letters.as_slice(),
-            source,
-            target,
-        ),
+    match hint_of(hint, &block.source.name) {
+        Some(entry) => hinted(alloc, module, book, entry, block),
         None => {
-            let empty = empty_hint(alloc, &source.name)?;
-            hinted(
-                alloc,
-                module,
-                book,
-                &empty,
-                letters.as_slice(),
-                source,
-                target,
-            )
+            let empty = empty_hint(alloc, &block.source.name)?;
+            hinted(alloc, module, book, &empty, block)
         }
     }
 }

@@ -1,16 +1,17 @@
 //! The verdict on two functions.
-ghost use Rattle.std.specs.Prelude.{◌≡◌, ◌↔◌, IfOk};
+ghost use Rattle.std.specs.Prelude.{◌≡◌, ◌↔◌, IfOk, map};
 ghost use Rattle.ir_core.specs.declared.functions.Module.{Module};
 ghost use Rattle.ir_machine.specs.Refinement.{FunctionRefines};
 ghost use Rattle.erhl_assert.specs.Acceptance.{Accepts, function_verdict, reached_verdict};
 ghost use Rattle.rule_base.specs.Book.{meanings_of};
+ghost use Rattle.erhl_checker.specs.Lent.{lent_block};
 
 use crate::CheckEnd;
-use crate::alignment::alignment_fault;
-use crate::blocks::{entry_verdict, refused};
+use crate::alignment::{AlignedBlock, Alignment, align};
+use crate::blocks::entry_verdict;
 use erhl_assert::{Hint, Reason, Spot, Verdict};
 use erhl_soundness::accepted_functions_refine;
-use ir_core::{Block, Function, Module};
+use ir_core::{Function, Module};
 use rule_base::{InferRule, RuleBook, book_is_sound};
 use std::alloc::{AllocError, Global};
 
@@ -20,8 +21,7 @@ fn reached_verdict(
     module: &Module,
     book: &RuleBook,
     hint: &Hint,
-    source: &[Block],
-    target: &[Block],
+    blocks: &[AlignedBlock<'_>],
 ) -> Result<Verdict, AllocError>
     ensures { IfOk result
         (λ v. v
@@ -30,17 +30,11 @@ fn reached_verdict(
         (λ b. (⟦<dyn InferRule as InferRule>⟧ b.vtable).called b.value)
         (λ b. (⟦<dyn InferRule as InferRule>⟧ b.vtable).takes b.value)
         book.now.rules.items)
-        «module».now hint.now source.now target.now) }
+        «module».now hint.now (map lent_block blocks.now)) }
 {
-    match source.first() {
-        Some(b) => match target.first() {
-            Some(c) => entry_verdict(alloc, module, book, hint, b, c),
-            None => refused(alloc, &b.name, Spot::Start, Reason::AlignmentDiffers),
-        },
-        None => match target.first() {
-            Some(c) => refused(alloc, &c.name, Spot::Start, Reason::AlignmentDiffers),
-            None => Ok(Verdict::Valid),
-        },
+    match blocks.first() {
+        Some(block) => entry_verdict(alloc, module, book, hint, block),
+        None => Ok(Verdict::Valid),
     }
 }
 
@@ -61,20 +55,13 @@ pub(crate) fn function_verdict(
         book.now.rules.items)
         «module».now source.now target.now hint.now) }
 {
-    match alignment_fault(alloc, hint, source, target)? {
-        Some(block) => Ok(Verdict::Refused {
+    match align(alloc, hint, source, target)? {
+        Alignment::Aligned(blocks) => reached_verdict(alloc, module, book, hint, blocks.as_slice()),
+        Alignment::Differs(block) => Ok(Verdict::Refused {
             block,
             spot: Spot::Start,
             reason: Reason::AlignmentDiffers,
         }),
-        None => reached_verdict(
-            alloc,
-            module,
-            book,
-            hint,
-            source.blocks.as_slice(),
-            target.blocks.as_slice(),
-        ),
     }
 }
 

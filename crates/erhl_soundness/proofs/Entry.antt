@@ -1,7 +1,9 @@
 -- From the verdict on two functions to the simulation of their entry blocks.
-use Rattle.std.proofs.Common.{◌≡◌, ℕ, suc, true, ◌&&◌, List, [], ◌∷◌, length, Option, None, Some, MatchOption, refl, sym, ap, ◌∙◌, subst, ⊎_elim, arith}
+use Rattle.std.proofs.Common.{◌≡◌, ℕ, suc, true, false, Bool, ◌&&◌, cond, List, [], ◌∷◌, length, Option, None, Some, MatchOption, refl, sym, ap, ◌∙◌, subst, ⊎_elim, arith}
 use Rattle.std.specs.Prelude.{nat_eq}
-use Rattle.std.proofs.lemmas.Bool.{cond-false, cases_Bool}
+use Rattle.std.specs.List.{zip}
+use Rattle.std.specs.Option.{option_map}
+use Rattle.std.proofs.lemmas.Bool.{cond-true, cond-false, cases_Bool}
 use Rattle.ir_core.specs.declared.names.Name.{Name}
 use Rattle.ir_core.specs.declared.functions.Instr.{Instr}
 use Rattle.ir_core.specs.declared.functions.Param.{Param}
@@ -26,9 +28,9 @@ use Rattle.erhl_assert.specs.declared.verdict.Verdict.{Verdict}
 use Rattle.erhl_assert.specs.declared.verdict.Verdict.TheVariants as verdict
 use Rattle.erhl_assert.specs.Sides.{side_of, read_reg}
 use Rattle.erhl_assert.specs.Facts.{AssertionHolds}
-use Rattle.erhl_assert.specs.Alignment.{Line, after_first, aligned, letters_or_both, block_hint, block_lines, first_unaligned, same_param, same_header, first_block, alignment_fault}
+use Rattle.erhl_assert.specs.Alignment.{Line, AlignedBlock, Alignment, Aligned, Differs, after_first, aligned, letters_or_both, block_hint, block_aligned, with_block, blocks_aligned, same_param, same_header, first_block}
 use Rattle.erhl_assert.specs.Steps.{Rules, AreSound}
-use Rattle.erhl_assert.specs.Acceptance.{on_lines, from_entry, reached_verdict, unless_unaligned, Accepts}
+use Rattle.erhl_assert.specs.Acceptance.{from_entry, aligned_verdict, Accepts}
 use Rattle.ir_values.proofs.OperationLaws.{less_defined_refl}
 use Rattle.erhl_soundness.proofs.Bodies.{at_lines}
 use Rattle.erhl_soundness.proofs.Simulation.{refused_not_valid, source_lines, target_lines, side_in_kind, lines_refine}
@@ -77,17 +79,24 @@ params_equal f g h =
 
 -- two entry blocks that are accepted
 module _ (rules : Rules) (m : Module) (hint : Hint) (sound : AreSound rules) (source target : Module) (f g : Name) (b c : Block) (registers : Registers) (kind : AreInKind registers) where
-  on_lines_refine : (o : Option (List Line)) → block_lines hint b c ≡ o → on_lines rules m hint b c o ≡ verdict.Valid
-      → (block_hint hint b.name).entry.src ≡ [] → (block_hint hint b.name).entry.tgt ≡ []
-      → (n : ℕ) (items : List Item) → ShowsFrom target n (at_lines g c.name c.body c.term registers) items
+  abbrev block_of : List Line → AlignedBlock
+  block_of ls = record { name = b.name; lines = ls; source = b.term; target = c.term }
+
+  abbrev Refined : Type 0
+  Refined = (n : ℕ) (items : List Item) → ShowsFrom target n (at_lines g c.name c.body c.term registers) items
       → MayShowFrom source (at_lines f b.name b.body b.term registers) items
-  on_lines_refine None is valid no_src no_tgt n items shows = absurd (refused_not_valid b.name spot.Start AlignmentDiffers valid)
-  on_lines_refine (Some ls) is valid no_src no_tgt n items shows =
+
+  on_lines_refine : (ls : List Line) → aligned (letters_or_both (block_hint hint b.name).lines (length b.body)) b.body c.body ≡ Some ls
+      → (fs gs : List Fact) → (block_hint hint b.name).entry.src ≡ fs → (block_hint hint b.name).entry.tgt ≡ gs
+      → from_entry rules m (block_hint hint b.name) (block_of ls) fs gs ≡ verdict.Valid → Refined
+  on_lines_refine ls is (x ∷ fs) gs is_src is_tgt valid n items shows = absurd (refused_not_valid b.name spot.Start (MissingFact x) valid)
+  on_lines_refine ls is [] (x ∷ gs) is_src is_tgt valid n items shows = absurd (refused_not_valid b.name spot.Start (MissingFact x) valid)
+  on_lines_refine ls is [] [] is_src is_tgt valid n items shows =
       let h = block_hint hint b.name in
       let back = aligned_gives_back (letters_or_both h.lines (length b.body)) b.body c.body ls is in
       let holds : AssertionHolds h.entry (side_of registers) (side_of registers) = record {
-        source_facts = rw no_src tt;
-        target_facts = rw no_tgt tt;
+        source_facts = rw is_src tt;
+        target_facts = rw is_tgt tt;
         related = λ r k _. less_defined_refl (read_reg (side_of registers) k r);
       } in
       let side = side_of registers in
@@ -96,16 +105,32 @@ module _ (rules : Rules) (m : Module) (hint : Hint) (sound : AreSound rules) (so
       (lines_refine rules m sound source target f g b.name b.name c.name h.steps ls 0 b.term c.term h.entry side side holds in_kind in_kind valid
       n items (subst (λ ys. ShowsFrom target n (at_lines g c.name ys c.term registers) items) back.1 shows))
 
-  from_entry_refine : (fs gs : List Fact) → (block_hint hint b.name).entry.src ≡ fs → (block_hint hint b.name).entry.tgt ≡ gs
-      → from_entry rules m hint b c fs gs ≡ verdict.Valid
-      → (n : ℕ) (items : List Item) → ShowsFrom target n (at_lines g c.name c.body c.term registers) items
-      → MayShowFrom source (at_lines f b.name b.body b.term registers) items
-  from_entry_refine (x ∷ fs) gs is_src is_tgt valid n items shows = absurd (refused_not_valid b.name spot.Start (MissingFact x) valid)
-  from_entry_refine [] (x ∷ gs) is_src is_tgt valid n items shows = absurd (refused_not_valid b.name spot.Start (MissingFact x) valid)
-  from_entry_refine [] [] is_src is_tgt valid n items shows = on_lines_refine (block_lines hint b c) refl valid is_src is_tgt n items shows
+  abbrev entry_verdict : AlignedBlock → Verdict
+  entry_verdict a = from_entry rules m (block_hint hint a.name) a (block_hint hint a.name).entry.src (block_hint hint a.name).entry.tgt
+
+  -- of blocks that aren't refused the first aligns
+  first_reached : (o : Option AlignedBlock) (rest : Alignment) → aligned_verdict rules m hint (with_block b.name o rest) ≡ verdict.Valid
+      → (a : AlignedBlock) × (o ≡ Some a) × (entry_verdict a ≡ verdict.Valid)
+  first_reached None rest h = absurd (refused_not_valid b.name spot.Start AlignmentDiffers h)
+  first_reached (Some a) (Aligned blocks) h = (a, refl, h)
+  first_reached (Some a) (Differs x) h = absurd (refused_not_valid x spot.Start AlignmentDiffers h)
+
+  lines_of : (same : Bool) (o : Option (List Line)) (a : AlignedBlock) → option_map block_of (cond same o None) ≡ Some a
+      → (ls : List Line) × (o ≡ Some ls) × (a ≡ block_of ls)
+  lines_of true None a h = absurd (cc)
+  lines_of true (Some ls) a h = (ls, refl, cc)
+  lines_of false o a h = absurd (cc)
+
+  entry_refines : (rest : Alignment) → aligned_verdict rules m hint (with_block b.name (block_aligned hint b c) rest) ≡ verdict.Valid → Refined
+  entry_refines rest h =
+      let reached = first_reached (block_aligned hint b c) rest h in
+      let lines = aligned (letters_or_both (block_hint hint b.name).lines (length b.body)) b.body c.body in
+      let found = lines_of (same_name b.name c.name) lines reached.0 reached.1 in
+      on_lines_refine found.0 found.1 (block_hint hint b.name).entry.src (block_hint hint b.name).entry.tgt refl refl
+      (subst (λ a. entry_verdict a ≡ verdict.Valid) found.2 reached.2)
 
 module _ (rules : Rules) (m : Module) (hint : Hint) (sound : AreSound rules) (source target : Module) (f g : Name) where
-  blocks_refine : (bs cs : List Block) → nat_eq (length bs) (length cs) ≡ true → reached_verdict rules m hint bs cs ≡ verdict.Valid
+  blocks_refine : (bs cs : List Block) → nat_eq (length bs) (length cs) ≡ true → aligned_verdict rules m hint (blocks_aligned hint (zip bs cs)) ≡ verdict.Valid
       → (o : Option Registers) → EntersInKind o
       → (n : ℕ) (items : List Item) → MatchOption (at_entry g cs o) ⊥ (λ s. ShowsFrom target n s items) → MatchOption (at_entry f bs o) ⊥ (λ s. MayShowFrom source s items)
   blocks_refine bs [] long valid None kind n items shows = absurd shows
@@ -114,34 +139,29 @@ module _ (rules : Rules) (m : Module) (hint : Hint) (sound : AreSound rules) (so
   blocks_refine [] (c ∷ cs) long valid (Some registers) kind n items shows =
       let e : 0 ≡ suc (length cs) = same_nat_true 0 (suc (length cs)) long in absurd (omega arith)
   blocks_refine (b ∷ bs) (c ∷ cs) long valid (Some registers) kind n items shows =
-      from_entry_refine rules m hint sound source target f g b c registers kind (block_hint hint b.name).entry.src
-      (block_hint hint b.name).entry.tgt refl refl valid n items shows
+      entry_refines rules m hint sound source target f g b c registers kind (blocks_aligned hint (zip bs cs)) valid n items shows
 
--- an accepted pair has equal headers, as many blocks, and reached blocks that are accepted
+-- an accepted pair has equal headers, as many blocks, and blocks that align and are accepted
 record Parts (rules : Rules) (m : Module) (f g : Function) (hint : Hint) : Type 0 where
   header : same_header f g ≡ true
   blocks : nat_eq (length f.blocks) (length g.blocks) ≡ true
-  reached : reached_verdict rules m hint f.blocks g.blocks ≡ verdict.Valid
-
-unaligned_parts : (o : Option Name) (rest : Verdict) → unless_unaligned o rest ≡ verdict.Valid → (o ≡ None) × (rest ≡ verdict.Valid)
-unaligned_parts None rest h = (refl, h)
-unaligned_parts (Some block) rest h = absurd (refused_not_valid block spot.Start AlignmentDiffers h)
+  reached : aligned_verdict rules m hint (blocks_aligned hint (zip f.blocks g.blocks)) ≡ verdict.Valid
 
 parts_of : (rules : Rules) (m : Module) (f g : Function) (hint : Hint) → Accepts rules m f g hint → Parts rules m f g hint
 parts_of rules m f g hint h =
-    let r = unaligned_parts (alignment_fault hint f g) (reached_verdict rules m hint f.blocks g.blocks) h in
     let test = same_header f g && nat_eq (length f.blocks) (length g.blocks) in
+    let blocks = blocks_aligned hint (zip f.blocks g.blocks) in
+    let fault = Differs (first_block f.blocks) in
     let passes : test ≡ true = ⊎_elim
     (λ e. e)
     (λ e.
-    let some : Some (first_block f.blocks) ≡ None =
-    sym (cond-false test (first_unaligned hint f.blocks g.blocks) (Some (first_block f.blocks)) e) ∙ r.0 in
-    absurd (cc))
+    absurd (refused_not_valid (first_block f.blocks) spot.Start AlignmentDiffers
+    (ap (aligned_verdict rules m hint) (sym (cond-false test blocks fault e)) ∙ h)))
     (cases_Bool test) in
     record {
       header = left_true (same_header f g) (nat_eq (length f.blocks) (length g.blocks)) passes;
       blocks = right_true (same_header f g) (nat_eq (length f.blocks) (length g.blocks)) passes;
-      reached = r.1;
+      reached = ap (aligned_verdict rules m hint) (sym (cond-true test blocks fault passes)) ∙ h;
     }
 
 pub accepted_refines : (rules : Rules) (m : Module) (f g : Function) (hint : Hint) → AreSound rules → Accepts rules m f g hint

@@ -1,5 +1,6 @@
 use Rattle.std.proofs.Common.{◌≡◌, drop}
-use Rattle.erhl_assert.specs.Alignment.{aligned, is_aligned}
+use Rattle.erhl_assert.specs.Alignment.{aligned}
+use Rattle.erhl_checker.specs.Cursor.{is_aligned}
 use Rattle.erhl_checker.proofs.alignment.is_aligned.Given as goal
 
 abbrev pub invariant-loop-letter : goal.invariant-loop-letter
