@@ -6,12 +6,14 @@
 mod blocks;
 mod fault;
 mod hints;
+mod laws;
 mod parts;
 mod print;
 mod steps;
 
 pub use fault::HintFault;
 pub use hints::read_hints;
+pub use laws::printed_names_are_read;
 pub use print::print_fact;
 
 #[cfg(test)]
