@@ -8,7 +8,7 @@ use Rattle.ir_core.specs.declared.names.Sigil.{Sigil}
 use Rattle.ir_core.specs.declared.names.Sigil.TheVariants.{Local, Global}
 use Rattle.ir_core.specs.declared.names.Name.{Name}
 use Rattle.ir_lexer.specs.declared.names.NameAt.TheVariants.{Found}
-use Rattle.ir_lexer.specs.declared.pieces.Piece.TheVariants.{Token}
+use Rattle.ir_lexer.specs.declared.pieces.Piece.TheVariants.{Gap, Token}
 use Rattle.ir_lexer.specs.declared.token.TokenKind.{TokenKind}
 use Rattle.ir_lexer.specs.Cut.{Cut, token, behind, cut}
 use Rattle.ir_lexer.specs.Names.{name_at}
@@ -56,6 +56,21 @@ begun text rest k kinds is some lexes = record {
       ∙ ap (λ more. kinds_cut (behind (token k place (place + length text) ∷ []) (cut 0 (place + length text) more))) (drop-append_seam text rest)
       ∙ one_more k kinds place (place + length text) (cut 0 (place + length text) rest) (lexes.at (place + length text));
 }
+
+-- a space in front
+pub spaced : (rest : List ℕ) (kinds : List TokenKind) → Lexes rest kinds → Lexes (32 ∷ rest) kinds
+unfolding piece
+spaced rest kinds lexes = record {
+  at = λ place.
+      ap kinds_cut (front place (length (32 ∷ rest)) (32 ∷ rest) (Gap 1) refl (omega arith, omega arith))
+      ∙ ap (λ more. kinds_cut (cut 0 (place + 1) more)) (drop-append_seam (32 ∷ []) rest)
+      ∙ lexes.at (place + 1);
+}
+
+-- a comma in front
+pub comma : (rest : List ℕ) (kinds : List TokenKind) → Lexes rest kinds → Lexes (44 ∷ rest) (grammar.comma ∷ kinds)
+unfolding piece
+comma rest kinds lexes = begun (44 ∷ []) rest grammar.comma kinds refl (omega arith) lexes
 
 -- a name behind its sigil
 named : (sigil : Sigil) (name : Name) (text rest : List ℕ) → name_at (text ++ rest) ≡ Found name (length text) → piece (sigil_byte sigil ∷ (text ++ rest)) ≡ Token (grammar.name sigil name) (length (sigil_byte sigil ∷ text))

@@ -15,7 +15,7 @@ use Rattle.ir_lexer.specs.Runs.{run_at, digits_at, quoted_at, is_no_quote}
 use Rattle.ir_lexer.specs.Strings.{unescaped}
 use Rattle.ir_printer.specs.Printed.{escaped, quoted, name_text}
 use Rattle.hint_format.specs.Laws.{IsWritable}
-use Rattle.hint_format.proofs.Decimals.{decimal_means}
+use Rattle.hint_format.proofs.Decimals.{IsDecimal, decimal_means}
 use Rattle.hint_format.proofs.Lexed.{stops, taken}
 use Rattle.hint_format.proofs.Quoted.{means_the_bytes, has_no_quote, is_not_empty}
 
@@ -32,14 +32,14 @@ numbered_is n digits value small =
     ap (λ m. numbered (if_below (2 ^ 32) m) (length digits)) value
     ∙ ap (λ o. numbered o (length digits)) (cond-true _ _ _ (lt-ltb n (2 ^ 32) small))
 
-number : (n : ℕ) (digits rest : List ℕ) → list_all is_ascii_digit digits ≡ true → 0 < length digits → value_of digits ≡ n → n < 2 ^ 32 → stops is_ascii_digit rest ≡ true → name_at (digits ++ rest) ≡ Found (Number n) (length digits)
+number : (n : ℕ) (digits rest : List ℕ) → IsDecimal n digits → n < 2 ^ 32 → stops is_ascii_digit rest ≡ true → name_at (digits ++ rest) ≡ Found (Number n) (length digits)
 unfolding name_at digits_at
-number n [] rest all some value small stop = absurd (omega arith)
-number n (d ∷ ds) rest all some value small stop =
-    let first = (and_parts (is_ascii_digit d) (list_all is_ascii_digit ds) all).0 in
+number n [] rest is small stop = absurd (omega (arith, is.some))
+number n (d ∷ ds) rest is small stop =
+    let first = (and_parts (is_ascii_digit d) (list_all is_ascii_digit ds) is.all).0 in
     cond-true (is_ascii_digit d) _ _ first
-    ∙ ap (λ digits. numbered (if_below (2 ^ 32) (value_of digits)) (length digits)) (taken is_ascii_digit (d ∷ ds) rest all stop)
-    ∙ numbered_is n (d ∷ ds) value small
+    ∙ ap (λ digits. numbered (if_below (2 ^ 32) (value_of digits)) (length digits)) (taken is_ascii_digit (d ∷ ds) rest is.all stop)
+    ∙ numbered_is n (d ∷ ds) is.value small
 
 plain : (bytes rest : List ℕ) → is_plain bytes ≡ true → stops is_name_byte rest ≡ true → name_at (bytes ++ rest) ≡ Found (Text bytes) (length bytes)
 unfolding name_at run_at
@@ -83,5 +83,4 @@ name_found (Text bytes) rest writable stop =
     (λ is. plain bytes rest is stop)
     (λ _. in_quotes bytes rest writable.0 writable.1)
 name_found (Number n) rest small stop =
-    let digits = decimal_means n (omega arith) in
-    number n (decimal n) rest digits.all digits.some digits.value small (digits_stop rest stop)
+    number n (decimal n) rest (decimal_means n (omega arith)) small (digits_stop rest stop)

@@ -13,7 +13,7 @@ mod steps;
 
 pub use fault::HintFault;
 pub use hints::read_hints;
-pub use laws::printed_names_are_read;
+pub use laws::{printed_expressions_are_read, printed_facts_are_read, printed_names_are_read};
 pub use print::print_fact;
 
 #[cfg(test)]

@@ -117,7 +117,7 @@ binary_again o b op flags ty left right =
     ∙ ap (λ f. Some (Binary (of b.op f i32))) (sym flags)
     ∙ ap (λ t. Some (Binary (of b.op b.flags t))) (sym ty)
 
-expression_again : (kinds : List TokenKind) (e : Expr0) → IsExpression kinds e → expression kinds ≡ Some e
+pub expression_again : (kinds : List TokenKind) (e : Expr0) → IsExpression kinds e → expression kinds ≡ Some e
 expression_again kinds (Plain operand) is = ap expression is.1 ∙ plain_again is.0 operand is.2 is.3
 expression_again kinds (Binary b) is = ap expression is.1 ∙ binary_again is.0 b is.2 is.3 is.4 is.5 is.6
 
