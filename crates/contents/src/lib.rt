@@ -1,15 +1,15 @@
-//! A `Vec` and a `Box` that contracts see as what they hold, and exact comparison and copying.
+//! A `Vec`, a `Box` and a byte string that contracts see as what they hold, and exact comparison and copying.
 //!
 //! A plain `Vec` is compared with its pointer and its capacity; a `Seq` is the list of its items,
-//! and a `Boxed` is the value in it, so a tree of them is plain data.
+//! a `Boxed` is the value in it, and a `Text` is its bytes, so a tree of them is plain data.
 #![tactic(auto)]
 
 mod boxed;
 mod exact;
 mod seq;
-#[cfg(test)]
-mod tests;
+mod text;
 
 pub use boxed::Boxed;
 pub use exact::Exact;
 pub use seq::Seq;
+pub use text::Text;

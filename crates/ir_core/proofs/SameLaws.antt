@@ -1,10 +1,7 @@
 -- The tests of specs/Same are true exactly of equal things: two laws for each. Where a test takes the test of its elements
 -- or registers, its laws take theirs.
-use Rattle.std.proofs.Common.{◌≡◌, Bool, true, false, ◌&&◌, ℕ, List, [], ◌∷◌, refl, ap, subst}
-use Rattle.std.specs.Prelude.{nat_eq}
-use Rattle.std.proofs.lemmas.Bool.{eqb-true, eq-eqb}
+use Rattle.std.proofs.Common.{◌≡◌, Bool, true, false, ◌&&◌, refl, ap, subst}
 use Rattle.ir_core.specs.declared.names.Name.{Name}
-use Rattle.ir_core.specs.declared.names.Name.TheVariants as name
 use Rattle.ir_core.specs.declared.operands.Ty.{Ty}
 use Rattle.ir_core.specs.declared.operands.Ty.TheVariants as ty
 use Rattle.ir_core.specs.declared.operands.Const.{Const}
@@ -20,38 +17,11 @@ use Rattle.ir_core.specs.declared.expressions.Reg.TheVariants as reg
 use Rattle.ir_core.specs.declared.expressions.BinaryExpr.{BinaryExpr}
 use Rattle.ir_core.specs.declared.expressions.Expr0.{Expr0}
 use Rattle.ir_core.specs.declared.expressions.Expr0.TheVariants as expr
-use Rattle.ir_core.specs.Same.{same_list, same_bool, same_name, same_ty, same_const, same_atom, same_operand, same_op, same_flags, same_reg, same_binary, same_expr, IsEquality}
-
-pub left_true : (a b : Bool) → (a && b) ≡ true → a ≡ true
-left_true true b h = refl
-left_true false b h = h
-
-pub right_true : (a b : Bool) → (a && b) ≡ true → b ≡ true
-right_true true b h = h
-right_true false b h = cc
+pub use Rattle.ir_core.specs.NameLaws.{left_true, right_true, all_true, same_list_true, same_list_refl, same_nat_true, same_nat_refl, same_name_true, same_name_refl}
+use Rattle.ir_core.specs.Same.{same_bool, same_name, same_ty, same_const, same_atom, same_operand, same_op, same_flags, same_reg, same_binary, same_expr, IsEquality}
 
 pub equality : {A : Type 0} (same : A → A → Bool) → ((a b : A) → same a b ≡ true → a ≡ b) → ((a : A) → same a a ≡ true) → IsEquality same
 equality same true_of refl_of a b = (true_of a b, λ e. subst (λ c. same a c ≡ true) e (refl_of a))
-
-pub all_true : {a b : Bool} → a ≡ true → b ≡ true → (a && b) ≡ true
-all_true p q = rw (p, q) refl
-
-pub same_list_true : {A : Type 0} (same : A → A → Bool) → ((a b : A) → same a b ≡ true → a ≡ b) → (a b : List A) → same_list same a b ≡ true → a ≡ b
-same_list_true same law [] [] h = refl
-same_list_true same law (x ∷ xs) (y ∷ ys) h =
-    cc (law x y (left_true (same x y) (same_list same xs ys) h), same_list_true same law xs ys (right_true (same x y) (same_list same xs ys) h))
-same_list_true same law [] (y ∷ ys) h = cc
-same_list_true same law (x ∷ xs) [] h = cc
-
-pub same_list_refl : {A : Type 0} (same : A → A → Bool) → ((a : A) → same a a ≡ true) → (a : List A) → same_list same a a ≡ true
-same_list_refl same law [] = refl
-same_list_refl same law (x ∷ xs) = all_true (law x) (same_list_refl same law xs)
-
-pub same_nat_true : (a b : ℕ) → nat_eq a b ≡ true → a ≡ b
-same_nat_true a b h = eqb-true a b h
-
-pub same_nat_refl : (a : ℕ) → nat_eq a a ≡ true
-same_nat_refl a = eq-eqb a a refl
 
 pub same_bool_true : (a b : Bool) → same_bool a b ≡ true → a ≡ b
 same_bool_true true true h = refl
@@ -62,16 +32,6 @@ same_bool_true false false h = refl
 pub same_bool_refl : (a : Bool) → same_bool a a ≡ true
 same_bool_refl true = refl
 same_bool_refl false = refl
-
-pub same_name_true : (a b : Name) → same_name a b ≡ true → a ≡ b
-same_name_true (name.Text a) (name.Text b) h = ap name.Text (same_list_true nat_eq same_nat_true a b h)
-same_name_true (name.Number m) (name.Number n) h = ap name.Number (same_nat_true m n h)
-same_name_true (name.Text a) (name.Number n) h = cc
-same_name_true (name.Number m) (name.Text b) h = cc
-
-pub same_name_refl : (a : Name) → same_name a a ≡ true
-same_name_refl (name.Text a) = same_list_refl nat_eq same_nat_refl a
-same_name_refl (name.Number n) = same_nat_refl n
 
 pub same_ty_true : (a b : Ty) → same_ty a b ≡ true → a ≡ b
 same_ty_true (ty.Int v) (ty.Int w) h = ap ty.Int (same_nat_true v w h)

@@ -1,6 +1,19 @@
--- Which types there are (LangRef 3.7, Type System).
-use Rattle.std.specs.Prelude.{ℕ, ◌&&◌, Bool, nat_le}
+-- Which types there are, and which have values (LangRef 3.7, Type System).
+use Rattle.std.specs.Prelude.{ℕ, ◌&&◌, ◌^◌, Bool, cond, nat_le, nat_lt, Option, None, Some}
+use Rattle.ir_core.specs.declared.operands.Ty.{Ty}
+use Rattle.ir_core.specs.declared.operands.Ty.TheVariants as ty
+use Rattle.ir_core.specs.declared.values.Kind.{Kind}
+use Rattle.ir_core.specs.declared.values.Kind.TheVariants as kind
 
 -- an integer has 1 to 64 bits
 abbrev pub is_width : ℕ → Bool
 is_width width = nat_le 1 width && nat_le width 64
+
+-- the number is one of that many bits
+abbrev pub fits : ℕ → ℕ → Bool
+fits number width = nat_lt number (2 ^ width)
+
+-- integers of 1 to 64 bits have a kind; other types have no values
+abbrev pub kind_of : Ty → Option Kind
+kind_of (ty.Int width) = cond (is_width width) (Some (kind.Int width)) None
+kind_of ty.Void = None

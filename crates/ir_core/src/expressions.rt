@@ -4,7 +4,7 @@ use std::alloc::{AllocError, Global};
 
 /// A register of the logic (Crellvm): as the function has it now, as it was before the edge that is being
 /// crossed, or one that the proof alone has.
-#[derive(Debug, Drop)]
+#[derive(Drop)]
 pub enum Reg {
     Now(Name),
     Old(Name),
@@ -12,14 +12,14 @@ pub enum Reg {
 }
 
 /// An expression of the logic: one operand, or one operator over operands.
-#[derive(Debug, Drop)]
+#[derive(Drop)]
 pub enum Expr0 {
     Plain(Operand<Reg>),
     Binary(BinaryExpr),
 }
 
 /// `op flags ty left, right`: a binary operator over two operands of one type.
-#[derive(Debug, Drop)]
+#[derive(Drop)]
 pub struct BinaryExpr {
     pub op: BinOp,
     pub flags: Flags,

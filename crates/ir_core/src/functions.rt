@@ -2,7 +2,7 @@ use crate::{Atom, BinOp, Flags, Name, Operand, Ty};
 use contents::Seq;
 
 /// `name = op flags ty left, right`.
-#[derive(Debug, Drop)]
+#[derive(Drop)]
 pub struct Binary {
     pub name: Name,
     pub op: BinOp,
@@ -13,13 +13,13 @@ pub struct Binary {
 }
 
 /// A body line.
-#[derive(Debug, Drop)]
+#[derive(Drop)]
 pub enum Instr {
     Binary(Binary),
 }
 
 /// A phi node: for each edge into its block, what the register gets.
-#[derive(Debug, Drop)]
+#[derive(Drop)]
 pub struct Phi {
     pub name: Name,
     pub ty: Ty,
@@ -27,20 +27,20 @@ pub struct Phi {
 }
 
 /// `[ value, %from ]` of a phi node.
-#[derive(Debug, Drop)]
+#[derive(Drop)]
 pub struct Entry {
     pub value: Atom<Name>,
     pub from: Name,
 }
 
 /// The last line of a block.
-#[derive(Debug, Drop)]
+#[derive(Drop)]
 pub enum Term {
     Ret(Operand<Name>),
 }
 
 /// A basic block.
-#[derive(Debug, Drop)]
+#[derive(Drop)]
 pub struct Block {
     pub name: Name,
     pub phis: Seq<Phi>,
@@ -49,14 +49,14 @@ pub struct Block {
 }
 
 /// A parameter of a definition.
-#[derive(Debug, Drop)]
+#[derive(Drop)]
 pub struct Param {
     pub name: Name,
     pub ty: Ty,
 }
 
 /// A definition. Its first block is the entry.
-#[derive(Debug, Drop)]
+#[derive(Drop)]
 pub struct Function {
     pub name: Name,
     pub result: Ty,
@@ -65,7 +65,7 @@ pub struct Function {
 }
 
 /// A module: its definitions in the order of the file.
-#[derive(Debug, Drop)]
+#[derive(Drop)]
 pub struct Module {
     pub functions: Seq<Function>,
 }

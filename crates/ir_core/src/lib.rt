@@ -6,19 +6,21 @@
 
 mod expressions;
 mod functions;
+mod limits;
 mod names;
 mod operands;
 mod same;
-#[cfg(test)]
-mod tests;
+mod types;
 mod values;
 
 pub use expressions::{BinaryExpr, Expr0, Reg};
 pub use functions::{Binary, Block, Entry, Function, Instr, Module, Param, Phi, Term};
+pub use limits::Limit;
 pub use names::{Name, Sigil};
 pub use operands::{Atom, BinOp, Const, Flags, Operand, Ty};
 pub use same::{
     same_binary, same_const, same_expr, same_flags, same_name, same_name_atom, same_name_operand,
     same_op, same_reg, same_reg_atom, same_reg_operand, same_ty, tests_are_equality,
 };
+pub use types::{fits, is_width, kind_of};
 pub use values::{Kind, Value};

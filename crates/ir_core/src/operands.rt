@@ -3,7 +3,7 @@ use contents::Exact;
 use std::alloc::{AllocError, Global};
 
 /// A type (LangRef 3.7, Type System).
-#[derive(Debug, Drop)]
+#[derive(Drop)]
 pub enum Ty {
     /// `iN`, of that many bits.
     Int(u32),
@@ -11,7 +11,7 @@ pub enum Ty {
 }
 
 /// A constant (LangRef 3.7, Constants). What it is worth depends on the type that stands beside it.
-#[derive(Debug, Drop)]
+#[derive(Drop)]
 pub enum Const {
     /// A number of `iN`, kept as it is modulo 2 to the N.
     Number(u64),
@@ -20,28 +20,28 @@ pub enum Const {
 
 /// What an operand names: a constant or a register. The registers of functions are names; those of
 /// expressions are a `Reg`.
-#[derive(Debug, Drop)]
+#[derive(Drop)]
 pub enum Atom<R> {
     Constant(Const),
     Register(R),
 }
 
 /// An operand with the type that is stated for it.
-#[derive(Debug, Drop)]
+#[derive(Drop)]
 pub struct Operand<R> {
     pub ty: Ty,
     pub atom: Atom<R>,
 }
 
 /// The operator of a binary line (LangRef 3.7, Binary Operations).
-#[derive(Debug, Drop, Clone, Copy)]
+#[derive(Drop, Clone, Copy)]
 pub enum BinOp {
     Add,
     Sub,
 }
 
 /// `nuw` and `nsw` of a binary line: no unsigned and no signed wrap.
-#[derive(Debug, Drop, Clone, Copy)]
+#[derive(Drop, Clone, Copy)]
 pub struct Flags {
     pub nuw: bool,
     pub nsw: bool,

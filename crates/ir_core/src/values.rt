@@ -1,6 +1,6 @@
 /// What a register holds (LangRef 3.7, Undefined Values, Poison Values): a number below 2 to its width,
 /// or one of the two values that stand for none.
-#[derive(Debug, Drop, Clone, Copy)]
+#[derive(Drop, Clone, Copy)]
 pub enum Value {
     Num(u64),
     Undef,
@@ -8,7 +8,7 @@ pub enum Value {
 }
 
 /// What sort of value a register holds: a number of that many bits.
-#[derive(Debug, Drop, Clone, Copy)]
+#[derive(Drop, Clone, Copy)]
 pub enum Kind {
     Int(u32),
 }

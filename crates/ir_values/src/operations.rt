@@ -6,7 +6,7 @@ ghost use Rattle.ir_values.specs.Operations as meaning;
 use ir_core::{BinOp, Flags, Value};
 
 /// What an operation leads to: a value, or undefined behaviour at once.
-#[derive(Debug, Drop, Clone, Copy)]
+#[derive(Drop, Clone, Copy)]
 pub enum Outcome {
     Gives(Value),
     Trap,
@@ -142,107 +142,4 @@ fn breaks_flag(op: BinOp, flags: Flags, width: u32, a: u64, b: u64) -> bool
     ensures { result ≡ meaning.breaks_flag op flags width a b }
 {
     (flags.nuw && wraps_unsigned(op, width, a, b)) || (flags.nsw && wraps_signed(op, width, a, b))
-}
-
-#[cfg(test)]
-mod tests {
-    use super::*;
-
-    fn number(outcome: Outcome) -> Option<u64> {
-        match outcome {
-            Outcome::Gives(Value::Num(n)) => Some(n),
-            _ => None,
-        }
-    }
-
-    fn is_undef(outcome: Outcome) -> bool {
-        matches!(outcome, Outcome::Gives(Value::Undef))
-    }
-
-    fn is_poison(outcome: Outcome) -> bool {
-        matches!(outcome, Outcome::Gives(Value::Poison))
-    }
-
-    fn flags(nuw: bool, nsw: bool) -> Flags {
-        Flags { nuw, nsw }
-    }
-
-    #[test]
-    fn sums_and_differences_of_i8(rt: HostRuntime) {
-        let (a, b) = (Value::Num(100), Value::Num(200));
-        assert_eq!(rt;
-            number(eval_binary(BinOp::Add, flags(false, false), 8, &a, &b)),
-            Some(44)
-        );
-        assert_eq!(rt;
-            number(eval_binary(BinOp::Sub, flags(false, false), 8, &a, &b)),
-            Some(156)
-        );
-        assert_eq!(rt;
-            number(eval_binary(BinOp::Add, flags(true, false), 8, &a, &b)),
-            None
-        );
-        assert_eq!(rt;
-            number(eval_binary(BinOp::Add, flags(false, true), 8, &a, &b)),
-            Some(44)
-        );
-        assert_eq!(rt;
-            number(eval_binary(BinOp::Add, flags(false, true), 8, &a, &a)),
-            None
-        );
-        assert_eq!(rt;
-            number(eval_binary(BinOp::Sub, flags(false, true), 8, &a, &b)),
-            None
-        );
-    }
-
-    #[test]
-    fn the_widest_sum(rt: HostRuntime) {
-        let (a, b) = (Value::Num(u64::MAX), Value::Num(2));
-        assert_eq!(rt;
-            number(eval_binary(BinOp::Add, flags(false, true), 64, &a, &b)),
-            Some(1)
-        );
-        assert_eq!(rt;
-            number(eval_binary(BinOp::Add, flags(true, true), 64, &a, &b)),
-            None
-        );
-    }
-
-    #[test]
-    fn the_greatest_i32_and_one(rt: HostRuntime) {
-        let (a, b) = (Value::Num(2_147_483_647), Value::Num(1));
-        assert!(rt; is_poison(eval_binary(BinOp::Add, flags(false, true), 32, &a, &b)));
-        assert_eq!(rt;
-            number(eval_binary(BinOp::Add, flags(false, false), 32, &a, &b)),
-            Some(2_147_483_648)
-        );
-    }
-
-    #[test]
-    fn poison_comes_before_undef(rt: HostRuntime) {
-        let (undef, poison, zero) = (Value::Undef, Value::Poison, Value::Num(0));
-        assert!(rt; is_poison(eval_binary(BinOp::Add, flags(false, false), 32, &undef, &poison)));
-        assert!(rt; is_undef(eval_binary(BinOp::Add, flags(false, false), 32, &undef, &zero)));
-        assert!(rt; is_poison(eval_binary(BinOp::Add, flags(true, false), 32, &undef, &zero)));
-    }
-
-    #[test]
-    fn one_bit(rt: HostRuntime) {
-        let (zero, one) = (Value::Num(0), Value::Num(1));
-        assert!(rt; is_poison(eval_binary(BinOp::Add, flags(false, true), 1, &one, &one)));
-        assert!(rt; is_poison(eval_binary(BinOp::Sub, flags(false, true), 1, &zero, &one)));
-        assert_eq!(rt;
-            number(eval_binary(BinOp::Sub, flags(true, false), 1, &one, &one)),
-            Some(0)
-        );
-    }
-
-    #[test]
-    fn more_defined_values_refine(rt: HostRuntime) {
-        assert!(rt; refines(&Value::Undef, &Value::Num(3)));
-        assert!(rt; !refines(&Value::Num(3), &Value::Undef));
-        assert!(rt; !refines(&Value::Undef, &Value::Poison));
-        assert!(rt; refines(&Value::Poison, &Value::Undef));
-    }
 }

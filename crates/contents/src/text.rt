@@ -1,0 +1,118 @@
+ghost use Rattle.std.specs.Prelude.{◌≡◌, IfOk};
+ghost use Rattle.contents.specs.Text.{bytes_held};
+
+use crate::Exact;
+use arrayvec::ArrayVec;
+use std::alloc::{AllocError, Global};
+use std::hash::{Hash, Hasher};
+use std::marker::Model;
+use std::rc::RcSlice;
+
+/// How a text stands: at most 22 bytes in place, more of them shared by their owners.
+#[derive(Drop)]
+enum Held {
+    Short(ArrayVec<u8, 22>),
+    Long(RcSlice<u8>),
+}
+
+/// A byte string that contracts see as the list of its bytes. A copy takes no memory and no walk.
+#[derive(Drop)]
+pub struct Text {
+    held: Held,
+}
+
+impl Model for Text {
+    ghost use Rattle.std.specs.Prelude.{ℕ, List};
+    ghost use Rattle.contents.specs.Text.{bytes_held};
+
+    ghost Value = { List ℕ };
+
+    ghost view = { λ it. bytes_held it.held };
+}
+
+fn copy_of(held: &Held) -> Result<Held, AllocError>
+    ensures { IfOk result (λ copy. bytes_held copy ≡ bytes_held held.now) }
+{
+    match held {
+        Held::Short(bytes) => {
+            let mut copy = ArrayVec::new();
+            match copy.try_extend_from_slice(bytes.as_slice()) {
+                Ok(()) => Ok(Held::Short(copy)),
+                Err(_) => Err(AllocError),
+            }
+        }
+        Held::Long(bytes) => Ok(Held::Long(bytes.clone()?)),
+    }
+}
+
+impl Text {
+    /// Takes memory for more than 22 bytes alone.
+    pub fn from_slice(alloc: Global, bytes: &[u8]) -> Result<Text, AllocError>
+        ensures { IfOk result (λ text. text ≡ bytes.now) }
+    {
+        let mut short = ArrayVec::new();
+        match short.try_extend_from_slice(bytes) {
+            Ok(()) => Ok(Text {
+                held: Held::Short(short),
+            }),
+            Err(_) => Ok(Text {
+                held: Held::Long(RcSlice::from_slice(alloc, bytes)?),
+            }),
+        }
+    }
+
+    pub fn as_slice(&self) -> &[u8]
+        ensures { result.now ≡ self.now }
+    {
+        match &self.held {
+            Held::Short(bytes) => bytes.as_slice(),
+            Held::Long(bytes) => bytes.as_slice(),
+        }
+    }
+}
+
+impl Exact for Text {
+    fn is(&self, other: &Text) -> bool {
+        self.as_slice() == other.as_slice()
+    }
+
+    fn copy(&self, _alloc: Global) -> Result<Text, AllocError> {
+        Ok(Text {
+            held: copy_of(&self.held)?,
+        })
+    }
+}
+
+impl PartialEq for Text {
+    ghost use Rattle.std.specs.Prelude.{nat_eq};
+    ghost use Rattle.std.specs.Cmp.Lexicographic.{pointwise, nat_list_eq_equiv};
+    ghost use Rattle.std.specs.Cmp as cmp;
+
+    ghost eq = { pointwise nat_eq };
+
+    ghost laws = { cmp.partial_equiv_from_equiv nat_list_eq_equiv };
+
+    fn eq(&self, other: &Text) -> bool {
+        self.as_slice() == other.as_slice()
+    }
+}
+
+impl Eq for Text {
+    ghost use Rattle.std.specs.Cmp.Lexicographic.{nat_list_eq_equiv};
+
+    ghost laws = { nat_list_eq_equiv };
+}
+
+impl Hash for Text {
+    ghost use Rattle.std.specs.Hash as fed;
+    ghost use Rattle.std.specs.Hash.{items_Alike};
+    ghost use Rattle.contents.specs.Text.{bytes_are_fed_alike};
+
+    ghost hash_input = { fed.slice fed.u8 };
+
+    ghost respects_eq = { (items_Alike bytes_are_fed_alike).fed };
+
+    fn hash<H: Hasher>(&self, state: &mut H) {
+        self.as_slice().hash(state);
+    }
+}

@@ -1,0 +1,16 @@
+-- The limits on what is read: each has a name and a number, which is itself allowed.
+use Rattle.std.specs.Prelude.{ℕ, ◌^◌, List, codes}
+use Rattle.ir_core.specs.declared.limits.Limit.{Limit}
+use Rattle.ir_core.specs.declared.limits.Limit.TheVariants.{Text, Json, Lines}
+
+-- how a limit is called
+abbrev pub limit_name : Limit → List ℕ
+limit_name Text = codes "text"
+limit_name Json = codes "json"
+limit_name Lines = codes "lines"
+
+-- how many bytes of a module's text, bytes of a JSON file, lines of a function
+abbrev pub limit_number : Limit → ℕ
+limit_number Text = 2 ^ 24
+limit_number Json = 2 ^ 26
+limit_number Lines = 2 ^ 20
