@@ -1,4 +1,5 @@
 pub mod Cuts
 pub mod Escapes
 pub mod Fronts
+pub mod Order
 pub mod Values

@@ -1,5 +1,5 @@
 -- The tokens of a text, or its first fault.
-use Rattle.std.specs.Prelude.{ℕ, suc, zero, ◌+◌, ◌-◌, ◌^◌, ◌≡◌, List, [], ◌∷◌, ◌++◌, length, Result, Ok, Err, nat_lt, if◌then◌else◌}
+use Rattle.std.specs.Prelude.{ℕ, suc, zero, ◌+◌, ◌-◌, ◌^◌, ◌<◌, ◌≤◌, ◌≡◌, List, [], ◌∷◌, ◌++◌, length, Result, Ok, Err, nat_lt, if◌then◌else◌}
 use Rattle.ir_lexer.specs.declared.pieces.Piece.{Piece}
 use Rattle.ir_lexer.specs.declared.pieces.Piece.TheVariants as piece
 use Rattle.ir_lexer.specs.declared.token.LexFault.{LexFault}
@@ -39,6 +39,11 @@ cut zero place (b ∷ rest) =
 -- A text has tokens only up to 2 to the 24 bytes.
 abbrev pub lexed : List ℕ → Cut
 lexed text = if nat_lt (2 ^ 24) (length text) then Err Limit else cut 0 0 text
+
+-- each token has bytes of its own, begins where the one in front of it ends or behind that, and all stand from `from` up to `to`
+abbrev pub AreInOrder : ℕ → ℕ → List Token → Type 0
+AreInOrder from to [] = from ≤ to
+AreInOrder from to (t ∷ tokens) = (from ≤ t.start) × (t.start < t.end) × AreInOrder t.end to tokens
 
 -- the fault is that of the text; want of memory says nothing of it
 abbrev pub IsFaultOf : LexFault → Cut → Type 0

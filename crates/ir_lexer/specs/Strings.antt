@@ -1,11 +1,12 @@
 -- What stands between two quotes: `\\` is one backslash, `\` and two hexadecimal digits are a byte,
 -- and each other byte is itself. It is read from the left.
-use Rattle.std.specs.Prelude.{ℕ, suc, zero, ◌+◌, ◌-◌, ◌*◌, Bool, ◌&&◌, ◌||◌, ◌==◌, List, [], ◌∷◌, nat_le, if◌then◌else◌}
-use Rattle.std.specs.Char.{is_ascii_digit}
+use Rattle.std.specs.Prelude.{ℕ, suc, zero, ◌+◌, ◌-◌, ◌*◌, Bool, ◌&&◌, ◌==◌, List, [], ◌∷◌, nat_le, if◌then◌else◌}
+use Rattle.std.specs.Char.{is_ascii_digit, is_ascii_hexdigit}
 use Rattle.ir_lexer.specs.declared.strings.Symbol.{Symbol}
 
+-- one of `0-9 A-F a-f`
 abbrev pub is_hex : ℕ → Bool
-is_hex b = is_ascii_digit b || (nat_le 97 b && nat_le b 102) || (nat_le 65 b && nat_le b 70)
+is_hex b = is_ascii_hexdigit b
 
 abbrev pub hex_value : ℕ → ℕ
 hex_value b = if is_ascii_digit b then b - 48 else (if nat_le 97 b then b - 87 else b - 55)

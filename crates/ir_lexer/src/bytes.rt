@@ -3,6 +3,7 @@ ghost use Rattle.std.specs.Char.{is_ascii_digit};
 ghost use Rattle.std.specs.List.{list_all};
 ghost use Rattle.std.specs.Str.{bytes_eq};
 ghost use Rattle.ir_core.specs.Names.{is_name_byte};
+ghost use Rattle.ir_lexer.specs.Runs.{is_in_line};
 ghost use Rattle.ir_lexer.specs.Bytes.{is_blank, is_mark, begins_word, are_digits, begins_with_colon};
 
 use crate::runs;
@@ -24,6 +25,19 @@ pub fn is_run_byte(byte: u8) -> bool
         || byte == b'$'
         || byte == b'.'
         || byte == b'_'
+}
+
+pub fn is_digit(byte: u8) -> bool
+    ensures { result ≡ is_ascii_digit byte }
+{
+    byte.is_ascii_digit()
+}
+
+/// Neither a line feed nor a carriage return.
+pub fn is_in_line(byte: u8) -> bool
+    ensures { result ≡ is_in_line byte }
+{
+    !(byte == b'\n' || byte == b'\r')
 }
 
 /// A byte that is a token by itself.

@@ -1,5 +1,5 @@
 ghost use Rattle.std.specs.Prelude.{◌≡◌, ◌^◌, ◌<◌, ◌↔◌, length, IfOk, IfErr, IsErrAnd, Ok};
-ghost use Rattle.ir_lexer.specs.Cut.{lexed, cut, IsFaultOf};
+ghost use Rattle.ir_lexer.specs.Cut.{lexed, cut, AreInOrder, IsFaultOf};
 
 use crate::pieces::{self, Piece};
 use crate::{LexFault, Token};
@@ -11,6 +11,7 @@ const TEXT_LIMIT: usize = 16_777_216;
 /// The tokens of a text, in its order, or its first fault.
 pub fn lex(alloc: Global, text: &[u8]) -> Result<Vec<Token>, LexFault>
     ensures tokens { IfOk result (λ tokens. lexed text.now ≡ Ok tokens.items) }
+    ensures order { IfOk result (λ tokens. AreInOrder 0 (length text.now) tokens.items) }
     ensures fault { IfErr result (λ fault. IsFaultOf fault (lexed text.now)) }
     // The length is tested before all else.
     ensures limit { IsErrAnd result (λ fault. fault ≡ LexFault.Limit) ↔ (2 ^ 24 < length text.now) }
@@ -25,6 +26,7 @@ pub fn lex(alloc: Global, text: &[u8]) -> Result<Vec<Token>, LexFault>
 /// The tokens of a text of any length.
 fn cut(alloc: Global, text: &[u8]) -> Result<Vec<Token>, LexFault>
     ensures tokens { IfOk result (λ tokens. cut 0 0 text.now ≡ Ok tokens.items) }
+    ensures order { IfOk result (λ tokens. AreInOrder 0 (length text.now) tokens.items) }
     ensures fault { IfErr result (λ fault. IsFaultOf fault (cut 0 0 text.now)) }
     ensures no_limit { IfErr result (λ fault. fault ≡ LexFault.Limit → ⊥) }
 {

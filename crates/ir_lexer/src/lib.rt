@@ -11,8 +11,6 @@ mod numbers;
 mod pieces;
 mod runs;
 mod strings;
-#[cfg(test)]
-mod tests;
 mod token;
 
 pub use cut::lex;

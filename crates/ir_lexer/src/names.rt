@@ -1,13 +1,14 @@
-ghost use Rattle.std.specs.Prelude.{◌≡◌, ◌≤◌, ◌+◌, length, IfOk, IfSome, MatchOption, option_map};
-ghost use Rattle.ir_lexer.specs.Names.{name_at, name_len, quoted_name};
+ghost use Rattle.std.specs.Prelude.{◌≡◌, ◌≤◌, ◌+◌, ◌^◌, length, IfOk, IfSome, MatchOption, option_map};
+ghost use Rattle.ir_lexer.specs.Names.{name_at, name_len, numbered, quoted_name};
+ghost use Rattle.ir_lexer.specs.Numbers.{value_of, if_below};
 
 use crate::{bytes, numbers, runs, strings};
-use contents::Seq;
+use contents::Text;
 use ir_core::Name;
 use std::alloc::{AllocError, Global};
 
 /// What stands behind a sigil.
-#[derive(Debug, Drop)]
+#[derive(Drop)]
 pub enum NameAt {
     /// A name, and how many bytes spell it.
     Found(Name, usize),
@@ -25,6 +26,7 @@ fn quoted_name(alloc: Global, quoted: Option<&[u8]>) -> Result<NameAt, AllocErro
         Some([]) => Ok(NameAt::EmptyOrOpen),
         Some(raw) => {
             let text = strings::unescaped(alloc, raw)?;
+            let text = Text::from_slice(alloc, text.as_slice())?;
             Ok(NameAt::Found(Name::Text(text), raw.len() + 2))
         }
     }
@@ -33,8 +35,18 @@ fn quoted_name(alloc: Global, quoted: Option<&[u8]>) -> Result<NameAt, AllocErro
 fn run_name(alloc: Global, run: &[u8]) -> Result<NameAt, AllocError>
     ensures { IfOk result (λ name. name ≡ NameAt.Found (Name.Text run.now) (length run.now)) }
 {
-    let text = Seq::from_vec(Vec::from_slice(alloc, run)?);
+    let text = Text::from_slice(alloc, run)?;
     Ok(NameAt::Found(Name::Text(text), run.len()))
+}
+
+fn numbered(digits: &[u8]) -> NameAt
+    ensures value { result ≡ numbered (if_below (2 ^ 32) (value_of digits.now)) (length digits.now) }
+    ensures within { name_len result ≤ length digits.now }
+{
+    match numbers::small_value_of(digits) {
+        Some(number) => NameAt::Found(Name::Number(number), digits.len()),
+        None => NameAt::Missing,
+    }
 }
 
 /// The name at the front of the text.
@@ -47,11 +59,7 @@ pub fn name_at(alloc: Global, text: &[u8]) -> Result<NameAt, AllocError>
         return Ok(NameAt::Missing);
     };
     if first.is_ascii_digit() {
-        let digits = runs::digits_at(text);
-        match numbers::small_value_of(digits) {
-            Some(number) => Ok(NameAt::Found(Name::Number(number), digits.len())),
-            None => Ok(NameAt::Missing),
-        }
+        Ok(numbered(runs::digits_at(text)))
     } else if bytes::is_run_byte(first) {
         run_name(alloc, runs::run_at(text))
     } else if first == b'"' {

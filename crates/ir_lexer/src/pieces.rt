@@ -1,17 +1,19 @@
-ghost use Rattle.std.specs.Prelude.{◌≡◌, ◌+◌, ◌≤◌, ◌<◌, ◌^◌, [], drop, length, IfOk, IfSome, MatchOption, option_map};
-ghost use Rattle.ir_lexer.specs.Pieces.{attribute, closed, IsWithin, label, metadata, named, number, piece, plain, quoted, run};
+ghost use Rattle.std.specs.Prelude.{◌≡◌, ◌+◌, ◌≤◌, ◌<◌, ◌^◌, [], drop, length, IfOk, IfSome, MatchOption, option_map, IsTrue, codes};
+ghost use Rattle.std.specs.Str.{bytes_eq};
+ghost use Rattle.ir_lexer.specs.Pieces.{attribute, closed, IsWithin, label, metadata, named, number, numbered_block, piece, plain, quoted, run};
 ghost use Rattle.ir_lexer.specs.Names.{name_at};
 ghost use Rattle.ir_lexer.specs.Numbers.{value_of, if_below};
 ghost use Rattle.ir_lexer.specs.Runs.{run_at, digits_at, line_at, quoted_at};
+ghost use Rattle.ir_lexer.specs.Strings.{unescaped};
 
 use crate::names::NameAt;
 use crate::{Number, TokenKind, bytes, names, numbers, runs, strings};
-use contents::Seq;
+use contents::{Seq, Text};
 use ir_core::{Name, Sigil};
 use std::alloc::{AllocError, Global};
 
 /// What stands at the front of a text.
-#[derive(Debug, Drop)]
+#[derive(Drop)]
 pub enum Piece {
     /// Nothing: the text is at its end.
     End,
@@ -78,14 +80,29 @@ fn closed(alloc: Global, raw: &[u8], after: &[u8]) -> Result<Piece, AllocError>
     ensures within { IfOk result (λ p. IsWithin p (length raw.now + length after.now + 2)) }
 {
     if raw.is_empty() {
-        return Ok(Piece::Token(TokenKind::Text(Seq::new(alloc)), 2));
-    }
-    let text = strings::unescaped(alloc, raw)?;
-    if bytes::begins_with_colon(after) {
-        Ok(Piece::Token(TokenKind::Label(Name::Text(text)), raw.len() + 3))
+        Ok(Piece::Token(TokenKind::Text(Seq::new(alloc)), 2))
+    } else if bytes::begins_with_colon(after) {
+        quoted_label(alloc, raw)
     } else {
-        Ok(Piece::Token(TokenKind::Text(text), raw.len() + 2))
+        quoted_text(alloc, raw)
     }
+}
+
+fn quoted_label(alloc: Global, raw: &[u8]) -> Result<Piece, AllocError>
+    ensures { IfOk result
+        (λ p. p ≡ Piece.Token (TokenKind.Label (Name.Text (unescaped raw.now))) (length raw.now + 3)) }
+{
+    let text = strings::unescaped(alloc, raw)?;
+    let text = Text::from_slice(alloc, text.as_slice())?;
+    Ok(Piece::Token(TokenKind::Label(Name::Text(text)), raw.len() + 3))
+}
+
+fn quoted_text(alloc: Global, raw: &[u8]) -> Result<Piece, AllocError>
+    ensures { IfOk result
+        (λ p. p ≡ Piece.Token (TokenKind.Text (unescaped raw.now)) (length raw.now + 2)) }
+{
+    let text = strings::unescaped(alloc, raw)?;
+    Ok(Piece::Token(TokenKind::Text(text), raw.len() + 2))
 }
 
 /// A string, and the text behind its first quote.
@@ -106,14 +123,28 @@ fn label(alloc: Global, run: &[u8]) -> Result<Piece, AllocError>
     ensures within { IfOk result (λ p. IsWithin p (length run.now + 1)) }
 {
     if bytes::are_digits(run) {
-        match numbers::small_value_of(run) {
-            Some(number) => Ok(Piece::Token(TokenKind::Label(Name::Number(number)), run.len() + 1)),
-            None => Ok(Piece::BadNumber),
-        }
+        Ok(numbered_block(run))
     } else {
-        let text = Seq::from_vec(Vec::from_slice(alloc, run)?);
-        Ok(Piece::Token(TokenKind::Label(Name::Text(text)), run.len() + 1))
+        named_block(alloc, run)
     }
+}
+
+fn numbered_block(digits: &[u8]) -> Piece
+    ensures value { result ≡ numbered_block (if_below (2 ^ 32) (value_of digits.now)) (length digits.now) }
+    ensures within { IsWithin result (length digits.now + 1) }
+{
+    match numbers::small_value_of(digits) {
+        Some(number) => Piece::Token(TokenKind::Label(Name::Number(number)), digits.len() + 1),
+        None => Piece::BadNumber,
+    }
+}
+
+fn named_block(alloc: Global, run: &[u8]) -> Result<Piece, AllocError>
+    ensures { IfOk result
+        (λ p. p ≡ Piece.Token (TokenKind.Label (Name.Text run.now)) (length run.now + 1)) }
+{
+    let text = Text::from_slice(alloc, run)?;
+    Ok(Piece::Token(TokenKind::Label(Name::Text(text)), run.len() + 1))
 }
 
 /// A run that is a number.
@@ -134,6 +165,20 @@ fn number(negative: bool, digits: &[u8], len: usize) -> Piece
     }
 }
 
+fn is_dots(run: &[u8]) -> bool
+    ensures value { result ≡ bytes_eq run.now (codes "...") }
+    ensures len { IsTrue result → length run.now ≡ 3 }
+{
+    bytes::are(run, b"...")
+}
+
+fn word(alloc: Global, run: &[u8]) -> Result<Piece, AllocError>
+    ensures { IfOk result (λ p. p ≡ Piece.Token (TokenKind.Word run.now) (length run.now)) }
+{
+    let word = Seq::from_vec(Vec::from_slice(alloc, run)?);
+    Ok(Piece::Token(TokenKind::Word(word), run.len()))
+}
+
 /// A run before no colon.
 #[tactic(auto, unfolding(crate::specs::Pieces::plain))]
 fn plain(alloc: Global, run: &[u8]) -> Result<Piece, AllocError>
@@ -143,15 +188,14 @@ fn plain(alloc: Global, run: &[u8]) -> Result<Piece, AllocError>
     let Some((first, rest)) = runs::split(run) else {
         return Ok(Piece::BadByte);
     };
-    if bytes::are(run, b"...") {
+    if is_dots(run) {
         Ok(Piece::Token(TokenKind::Dots, 3))
     } else if bytes::are_digits(run) {
         Ok(number(false, run, run.len()))
     } else if first == b'-' && bytes::are_digits(rest) {
         Ok(number(true, rest, run.len()))
     } else if bytes::begins_word(first) {
-        let word = Seq::from_vec(Vec::from_slice(alloc, run)?);
-        Ok(Piece::Token(TokenKind::Word(word), run.len()))
+        word(alloc, run)
     } else {
         Ok(Piece::BadNumber)
     }

@@ -7,11 +7,8 @@ use crate::bytes;
 pub fn split(text: &[u8]) -> Option<(u8, &[u8])>
     ensures { MatchOption result (text.now ≡ []) (λ parts. text.now ≡ parts.0 ∷ parts.1.now) }
 {
-    if text.is_empty() {
-        None
-    } else {
-        Some((text[0], &text[1..]))
-    }
+    let (first, rest) = text.split_first()?;
+    Some((*first, rest))
 }
 
 /// The longest run at the front of the text.
@@ -35,7 +32,7 @@ pub fn digits_at(text: &[u8]) -> &[u8]
     ensures within { length result.now ≤ length text.now }
 {
     for (len, byte) in text.iter().enumerate() {
-        if !byte.is_ascii_digit() {
+        if !bytes::is_digit(*byte) {
             return &text[..len];
         }
     }
@@ -49,7 +46,7 @@ pub fn line_at(text: &[u8]) -> &[u8]
     ensures within { length result.now ≤ length text.now }
 {
     for (len, byte) in text.iter().enumerate() {
-        if *byte == b'\n' || *byte == b'\r' {
+        if !bytes::is_in_line(*byte) {
             return &text[..len];
         }
     }

@@ -6,7 +6,7 @@ use contents::Seq;
 use std::alloc::{AllocError, Global};
 
 /// A byte that a string means, and how many of its bytes spell it.
-#[derive(Debug, Drop, Clone, Copy)]
+#[derive(Drop, Clone, Copy)]
 pub struct Symbol {
     pub byte: u8,
     pub len: usize,
@@ -15,7 +15,7 @@ pub struct Symbol {
 fn is_hex(byte: u8) -> bool
     ensures { result ≡ is_hex byte }
 {
-    matches!(byte, b'0'..=b'9' | b'a'..=b'f' | b'A'..=b'F')
+    byte.is_ascii_hexdigit()
 }
 
 fn hex_value(digit: u8) -> u8

@@ -6,7 +6,7 @@ use ir_core::Name;
 use std::alloc::{AllocError, AllocFailed};
 
 /// A token, and the bytes that spell it: from `start` up to `end`, counted from 0.
-#[derive(Debug, Drop)]
+#[derive(Drop)]
 pub struct Token {
     pub kind: TokenKind,
     pub start: usize,
@@ -14,7 +14,7 @@ pub struct Token {
 }
 
 /// What a token is and says.
-#[derive(Debug, Drop)]
+#[derive(Drop)]
 pub enum TokenKind {
     /// `%x`, `%"x y"`, `%5`.
     Local(Name),
@@ -40,14 +40,14 @@ pub enum TokenKind {
 }
 
 /// A number as it is written: its sign and its absolute value.
-#[derive(Debug, Drop, Clone, Copy)]
+#[derive(Drop, Clone, Copy)]
 pub struct Number {
     pub negative: bool,
     pub magnitude: u128,
 }
 
 /// Why a text has no tokens. A place counts bytes from 0.
-#[derive(Debug, Drop, Clone, Copy)]
+#[derive(Drop, Clone, Copy)]
 pub enum LexFault {
     /// A byte that begins no token, or a sigil that no name follows.
     BadByte(usize),

@@ -1,6 +1,6 @@
 -- Each printed text is of ASCII bytes alone.
-use Rattle.std.proofs.Common.{◌≡◌, ℕ, zero, suc, ◌-◌, ◌/◌, ◌%◌, ◌^◌, ◌<◌, ◌&&◌, Bool, true, false, true≢false, not, cond, List, [], ◌∷◌, ◌++◌, codes, arith, rules, refl, sym}
-use Rattle.std.specs.Prelude.{◌==◌, nat_le}
+use Rattle.std.proofs.Common.{◌≡◌, ℕ, zero, suc, ◌-◌, ◌/◌, ◌%◌, ◌^◌, ◌<◌, ◌&&◌, Bool, true, false, true≢false, not, cond, List, [], ◌∷◌, ◌++◌, codes, arith, refl, sym, lit<}
+use Rattle.std.specs.Prelude.{◌==◌, nat_le, nat_lt}
 use Rattle.std.proofs.lemmas.Bool.Decides.{nat_tests}
 use Rattle.std.proofs.lemmas.Str.{IsAscii-append}
 use Rattle.std.proofs.lemmas.Str.Ascii.{IsAscii-nil, IsAscii-cons}
@@ -50,6 +50,14 @@ of_choice : (b : Bool) (x y : List ℕ) → (b ≡ true → Ascii x) → Ascii y
 of_choice true x y h k = h refl
 of_choice false x y h k = k
 
+small_by_test : (b : ℕ) → nat_lt b 128 ≡ true → b < 128
+small_by_test b h = grind (arith, nat_tests)
+
+-- a list of which a test finds each byte small
+of_small : (bs : List ℕ) → list_all (λ b. nat_lt b 128) bs ≡ true → Ascii bs
+of_small [] h = empty
+of_small (b ∷ bs) h = let p = both (nat_lt b 128) (list_all (λ c. nat_lt c 128) bs) h in begun b bs (small_by_test b p.0) (of_small bs p.1)
+
 glyph_is_ascii : (upper : Bool) (d : ℕ) → d < 16 → digit_glyph upper d < 128
 glyph_is_ascii true d h = grind (arith, nat_tests)
 glyph_is_ascii false d h = grind (arith, nat_tests)
@@ -81,34 +89,34 @@ shown_is_ascii b h = grind (arith, nat_tests)
 of_escaped : (b : ℕ) → Ascii (escaped b)
 of_escaped b =
     let rest = begun (hexadecimal_digit (b / 16)) (hexadecimal_digit b ∷ []) (hexadecimal_is_ascii (b / 16)) (begun (hexadecimal_digit b) [] (hexadecimal_is_ascii b) empty) in
-    of_choice (nat_le 32 b && nat_le b 126 && not (b == 34) && not (b == 92)) (b ∷ []) _ (λ h. begun b [] (shown_is_ascii b h) empty) (begun 92 _ (omega arith) rest)
+    of_choice (nat_le 32 b && nat_le b 126 && not (b == 34) && not (b == 92)) (b ∷ []) _ (λ h. begun b [] (shown_is_ascii b h) empty) (begun 92 _ (lit< tt) rest)
 
 of_all_escaped : (bs : List ℕ) → Ascii (flat_map escaped bs)
 of_all_escaped [] = empty
 of_all_escaped (b ∷ bs) = append (escaped b) (flat_map escaped bs) (of_escaped b) (of_all_escaped bs)
 
 of_quoted : (bs : List ℕ) → Ascii (quoted bs)
-of_quoted bs = begun 34 _ (omega arith) (append (flat_map escaped bs) (34 ∷ []) (of_all_escaped bs) (begun 34 [] (omega arith) empty))
+of_quoted bs = begun 34 _ (lit< tt) (append (flat_map escaped bs) (34 ∷ []) (of_all_escaped bs) (begun 34 [] (lit< tt) empty))
 
 of_name_text : (name : Name) → Ascii (name_text name)
 of_name_text (Text bs) = of_choice (is_plain bs) bs (quoted bs) (λ h. of_name_bytes bs (both _ (list_all is_name_byte bs) h).1) (of_quoted bs)
 of_name_text (Number n) = of_decimal n
 
 of_name : (name : Name) → Ascii (printed_name Local name)
-of_name name = begun 37 (name_text name) (omega arith) (of_name_text name)
+of_name name = begun 37 (name_text name) (lit< tt) (of_name_text name)
 
 of_type : (ty : Ty) → Ascii (printed_type ty)
-of_type (Int width) = begun 105 (decimal width) (omega arith) (of_decimal width)
-of_type Void = search (rules, begun, empty)
+of_type (Int width) = begun 105 (decimal width) (lit< tt) (of_decimal width)
+of_type Void = of_small (codes "void") refl
 
 of_false : Ascii (codes "false")
-of_false = search (rules, begun, empty)
+of_false = of_small (codes "false") refl
 
 of_true : Ascii (codes "true")
-of_true = search (rules, begun, empty)
+of_true = of_small (codes "true") refl
 
 of_signed : (width n : ℕ) → Ascii (signed_text width n)
-of_signed width n = of_choice (is_negative width n) _ _ (λ _. begun 45 _ (omega arith) (of_decimal (2 ^ width - n))) (of_decimal n)
+of_signed width n = of_choice (is_negative width n) _ _ (λ _. begun 45 _ (lit< tt) (of_decimal (2 ^ width - n))) (of_decimal n)
 
 of_number : (ty : Ty) (n : ℕ) → Ascii (number_text ty n)
 of_number (Int width) n = of_choice (width == 1) _ _ (λ _. of_choice (n == 0) _ _ (λ _. of_false) of_true) (of_signed width n)
@@ -116,13 +124,13 @@ of_number Void n = of_decimal n
 
 of_constant : (ty : Ty) (c : Const) → Ascii (printed_constant ty c)
 of_constant ty (const.Number n) = of_number ty n
-of_constant ty const.Undef = search (rules, begun, empty)
+of_constant ty const.Undef = of_small (codes "undef") refl
 
 of_old : Ascii (codes "old ")
-of_old = search (rules, begun, empty)
+of_old = of_small (codes "old ") refl
 
 of_ghost : Ascii (codes "ghost ")
-of_ghost = search (rules, begun, empty)
+of_ghost = of_small (codes "ghost ") refl
 
 of_register : (r : Reg) → Ascii (printed_register r)
 of_register (Now name) = of_name name
@@ -134,26 +142,26 @@ of_atom ty (Constant c) = of_constant ty c
 of_atom ty (Register r) = of_register r
 
 of_operand : (o : Operand Reg) → Ascii (printed_operand o)
-of_operand o = append (printed_type o.ty) (32 ∷ printed_atom o.ty o.atom) (of_type o.ty) (begun 32 _ (omega arith) (of_atom o.ty o.atom))
+of_operand o = append (printed_type o.ty) (32 ∷ printed_atom o.ty o.atom) (of_type o.ty) (begun 32 _ (lit< tt) (of_atom o.ty o.atom))
 
 of_op : (op : BinOp) → Ascii (printed_op op)
-of_op Add = search (rules, begun, empty)
-of_op Sub = search (rules, begun, empty)
+of_op Add = of_small (codes "add ") refl
+of_op Sub = of_small (codes "sub ") refl
 
 of_nuw : Ascii (codes "nuw ")
-of_nuw = search (rules, begun, empty)
+of_nuw = of_small (codes "nuw ") refl
 
 of_nsw : Ascii (codes "nsw ")
-of_nsw = search (rules, begun, empty)
+of_nsw = of_small (codes "nsw ") refl
 
 of_flags : (flags : Flags) → Ascii (printed_flags flags)
 of_flags flags = append _ _ (of_choice flags.nuw (codes "nuw ") [] (λ _. of_nuw) empty) (of_choice flags.nsw (codes "nsw ") [] (λ _. of_nsw) empty)
 
 of_comma : Ascii (codes ", ")
-of_comma = search (rules, begun, empty)
+of_comma = of_small (codes ", ") refl
 
 of_operands : (b : BinaryExpr) → Ascii (printed_operands b)
-of_operands b = append (printed_type b.ty) _ (of_type b.ty) (begun 32 _ (omega arith)
+of_operands b = append (printed_type b.ty) _ (of_type b.ty) (begun 32 _ (lit< tt)
     (append (printed_atom b.ty b.left) _ (of_atom b.ty b.left) (append (codes ", ") _ of_comma (of_atom b.ty b.right))))
 
 of_expr_text : (e : Expr0) → Ascii (printed_expr e)

@@ -10,6 +10,3 @@ mod values;
 pub use expressions::{print_expr, print_register, print_value};
 pub use names::print_name;
 pub use values::print_type;
-
-#[cfg(test)]
-mod tests;

@@ -1,15 +1,15 @@
 ghost use Rattle.std.specs.Prelude.{◌≡◌, length, IfOk};
-ghost use Rattle.ir_reader.specs.Definitions.{local_of, label_of, global_of, local_at, label_at, global_at, behind, repeated, param_at, first_param_at, next_param_at, params_at, named_by, line_at, next_line_at, lines_at, head_at, ending_at, definition_at};
-ghost use Rattle.ir_reader.specs.Reading.{Reads};
+ghost use Rattle.ir_spelling.specs.Definitions.{local_of, label_of, global_of, local_at, label_at, global_at, behind, repeated, param_at, first_param_at, next_param_at, params_at, named_by, line_at, next_line_at, lines_at, head_at, ending_at, definition_at};
+ghost use Rattle.ir_spelling.specs.Reading.{Reads};
 
 use crate::TextFault;
 use crate::operations::operation_at;
 use crate::terminals::{end_at, is_mark, is_word, mark_at, split, word_at};
-use crate::texts::{DefinitionText, LineText, ParamText, ValueText};
 use crate::values::value_at;
 use contents::{Exact, Seq};
 use ir_core::Name;
 use ir_lexer::TokenKind;
+use ir_spelling::{DefinitionText, LineText, ParamText, ValueText};
 use std::alloc::{AllocError, Global};
 
 fn local_of(alloc: Global, kind: &TokenKind) -> Result<Option<Name>, AllocError>
@@ -40,7 +40,7 @@ fn global_of(alloc: Global, kind: &TokenKind) -> Result<Option<Name>, AllocError
 }
 
 /// A LOCAL, if one stands here, and what stands behind it.
-#[tactic(auto, unfolding(crate::specs::Definitions::local_at))]
+#[tactic(auto, unfolding(ir_spelling::specs::Definitions::local_at))]
 fn local_at(alloc: Global, kinds: &[TokenKind]) -> Result<(Option<Name>, &[TokenKind]), AllocError>
     ensures { IfOk result (λ parts. (parts.0, parts.1.now) ≡ local_at kinds.now) }
 {
@@ -54,7 +54,7 @@ fn local_at(alloc: Global, kinds: &[TokenKind]) -> Result<(Option<Name>, &[Token
 }
 
 /// A LABEL, if one stands here, and what stands behind it.
-#[tactic(auto, unfolding(crate::specs::Definitions::label_at))]
+#[tactic(auto, unfolding(ir_spelling::specs::Definitions::label_at))]
 fn label_at(alloc: Global, kinds: &[TokenKind]) -> Result<(Option<Name>, &[TokenKind]), AllocError>
     ensures { IfOk result (λ parts. (parts.0, parts.1.now) ≡ label_at kinds.now) }
 {
@@ -67,7 +67,7 @@ fn label_at(alloc: Global, kinds: &[TokenKind]) -> Result<(Option<Name>, &[Token
     }
 }
 
-#[tactic(auto, unfolding(crate::specs::Definitions::global_at))]
+#[tactic(auto, unfolding(ir_spelling::specs::Definitions::global_at))]
 fn global_at(alloc: Global, kinds: &[TokenKind]) -> Result<(Name, &[TokenKind]), TextFault>
     ensures { Reads (λ parts. (parts.0, parts.1.now)) result (global_at kinds.now) }
 {
@@ -81,7 +81,7 @@ fn global_at(alloc: Global, kinds: &[TokenKind]) -> Result<(Name, &[TokenKind]),
 }
 
 /// `i32` and a LOCAL, if one stands there.
-#[tactic(auto, unfolding(crate::specs::Definitions::param_at))]
+#[tactic(auto, unfolding(ir_spelling::specs::Definitions::param_at))]
 fn param_at(alloc: Global, kinds: &[TokenKind]) -> Result<(ParamText, &[TokenKind]), TextFault>
     ensures { Reads (λ parts. (parts.0, parts.1.now)) result (param_at kinds.now) }
 {
@@ -91,7 +91,7 @@ fn param_at(alloc: Global, kinds: &[TokenKind]) -> Result<(ParamText, &[TokenKin
 }
 
 /// `)`, or a parameter.
-#[tactic(auto, unfolding(crate::specs::Definitions::first_param_at))]
+#[tactic(auto, unfolding(ir_spelling::specs::Definitions::first_param_at))]
 fn first_param_at(
     alloc: Global,
     kinds: &[TokenKind],
@@ -109,7 +109,7 @@ fn first_param_at(
 }
 
 /// `)`, or a comma and a parameter.
-#[tactic(auto, unfolding(crate::specs::Definitions::next_param_at))]
+#[tactic(auto, unfolding(ir_spelling::specs::Definitions::next_param_at))]
 fn next_param_at(
     alloc: Global,
     kinds: &[TokenKind],
@@ -149,7 +149,7 @@ fn further_params_at(
 }
 
 /// The parameters and their `)`.
-#[tactic(auto, unfolding(crate::specs::Definitions::params_at))]
+#[tactic(auto, unfolding(ir_spelling::specs::Definitions::params_at))]
 fn params_at(
     alloc: Global,
     kinds: &[TokenKind],
@@ -175,7 +175,7 @@ fn named_by<'a>(name: &Option<Name>, kinds: &'a [TokenKind]) -> Result<&'a [Toke
     }
 }
 
-#[tactic(auto, unfolding(crate::specs::Definitions::line_at))]
+#[tactic(auto, unfolding(ir_spelling::specs::Definitions::line_at))]
 fn line_at(alloc: Global, kinds: &[TokenKind]) -> Result<(LineText, &[TokenKind]), TextFault>
     ensures { Reads (λ parts. (parts.0, parts.1.now)) result (line_at kinds.now) }
 {
@@ -192,7 +192,7 @@ fn line_at(alloc: Global, kinds: &[TokenKind]) -> Result<(LineText, &[TokenKind]
 }
 
 /// `ret`, or a line.
-#[tactic(auto, unfolding(crate::specs::Definitions::next_line_at))]
+#[tactic(auto, unfolding(ir_spelling::specs::Definitions::next_line_at))]
 fn next_line_at(
     alloc: Global,
     kinds: &[TokenKind],
@@ -227,7 +227,7 @@ fn lines_at(alloc: Global, kinds: &[TokenKind]) -> Result<(Vec<LineText>, &[Toke
 }
 
 /// What stands up to the parameters.
-#[tactic(auto, unfolding(crate::specs::Definitions::head_at))]
+#[tactic(auto, unfolding(ir_spelling::specs::Definitions::head_at))]
 fn head_at(alloc: Global, kinds: &[TokenKind]) -> Result<(Name, &[TokenKind]), TextFault>
     ensures { Reads (λ parts. (parts.0, parts.1.now)) result (head_at kinds.now) }
 {
@@ -239,7 +239,7 @@ fn head_at(alloc: Global, kinds: &[TokenKind]) -> Result<(Name, &[TokenKind]), T
 }
 
 /// `i32 V }` and nothing more.
-#[tactic(auto, unfolding(crate::specs::Definitions::ending_at))]
+#[tactic(auto, unfolding(ir_spelling::specs::Definitions::ending_at))]
 fn ending_at(alloc: Global, kinds: &[TokenKind]) -> Result<ValueText, TextFault>
     ensures { Reads (λ value. value) result (ending_at kinds.now) }
 {
@@ -251,7 +251,7 @@ fn ending_at(alloc: Global, kinds: &[TokenKind]) -> Result<ValueText, TextFault>
 }
 
 /// The definition that the tokens are, all of them.
-#[tactic(auto, unfolding(crate::specs::Definitions::definition_at))]
+#[tactic(auto, unfolding(ir_spelling::specs::Definitions::definition_at))]
 pub fn definition_at(alloc: Global, kinds: &[TokenKind]) -> Result<DefinitionText, TextFault>
     ensures { Reads (λ definition. definition) result (definition_at kinds.now) }
 {

@@ -1,16 +1,16 @@
 ghost use Rattle.std.specs.Prelude.{◌≡◌, ◌<◌, ◌≤◌, ◌^◌, length, IfOk, IfErr, Some, None, Err};
 ghost use Rattle.ir_core.specs.declared.expressions.Expr0.{Expr0};
-ghost use Rattle.ir_reader.specs.Expressions.{now_atom, plain, binary, expression, expression_of, SpellsExpression};
-ghost use Rattle.ir_reader.specs.Reading.{Reads};
+ghost use Rattle.ir_spelling.specs.Expressions.{now_atom, plain, binary, expression, expression_of, SpellsExpression};
+ghost use Rattle.ir_spelling.specs.Reading.{Reads};
 
 use crate::TextFault;
 use crate::operations::{flags_of, operation_at};
 use crate::terminals::{end_at, is_word, split};
-use crate::texts::ValueText;
 use crate::tokens::kinds_of;
 use crate::values::{kept, value_at};
 use ir_core::{Atom, BinaryExpr, Const, Expr0, Operand, Reg, Ty};
 use ir_lexer::TokenKind;
+use ir_spelling::ValueText;
 use std::alloc::Global;
 
 /// What the written value is in an expression.
@@ -28,7 +28,7 @@ fn now_atom(value: ValueText) -> Result<Atom<Reg>, TextFault>
 }
 
 /// `i32 V`, behind the type.
-#[tactic(auto, unfolding(crate::specs::Expressions::plain))]
+#[tactic(auto, unfolding(ir_spelling::specs::Expressions::plain))]
 fn plain(alloc: Global, kinds: &[TokenKind]) -> Result<Expr0, TextFault>
     ensures { Reads (λ expression. expression) result (plain kinds.now) }
 {
@@ -40,7 +40,7 @@ fn plain(alloc: Global, kinds: &[TokenKind]) -> Result<Expr0, TextFault>
 }
 
 /// `op flags i32 V, V`.
-#[tactic(auto, unfolding(crate::specs::Expressions::binary))]
+#[tactic(auto, unfolding(ir_spelling::specs::Expressions::binary))]
 fn binary(alloc: Global, kinds: &[TokenKind]) -> Result<Expr0, TextFault>
     ensures { Reads (λ expression. expression) result (binary kinds.now) }
 {
@@ -58,7 +58,7 @@ fn binary(alloc: Global, kinds: &[TokenKind]) -> Result<Expr0, TextFault>
 }
 
 /// The expression that the tokens are, all of them.
-#[tactic(auto, unfolding(crate::specs::Expressions::expression))]
+#[tactic(auto, unfolding(ir_spelling::specs::Expressions::expression))]
 fn expression(alloc: Global, kinds: &[TokenKind]) -> Result<Expr0, TextFault>
     ensures { Reads (λ expression. expression) result (expression kinds.now) }
 {

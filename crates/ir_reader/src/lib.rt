@@ -6,22 +6,16 @@
 
 mod definitions;
 mod expressions;
-mod fault;
-mod index;
-mod indexed;
 mod modules;
 mod names;
 mod naming;
 mod operations;
 mod scopes;
 mod terminals;
-#[cfg(test)]
-mod tests;
-mod texts;
 mod tokens;
 mod values;
 
 pub use expressions::read_expr;
-pub use fault::TextFault;
+pub use ir_spelling::TextFault;
 pub use modules::read_module;
 pub use names::read_name;

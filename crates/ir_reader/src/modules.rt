@@ -1,10 +1,10 @@
 ghost use Rattle.std.specs.Prelude.{◌≡◌, ◌≤◌, ◌<◌, ◌^◌, length, IfOk, IfErr, Err};
 ghost use Rattle.ir_core.specs.declared.functions.Module.{Module};
-ghost use Rattle.ir_reader.specs.Reading.{Reads};
-ghost use Rattle.ir_reader.specs.Order.{IsInOrder};
-ghost use Rattle.ir_reader.specs.Ordered.{module_in};
-ghost use Rattle.ir_reader.specs.Spells.{Spells, HasFirstForm};
-ghost use Rattle.ir_reader.specs.WellFormed.{IsWellFormed};
+ghost use Rattle.ir_spelling.specs.Reading.{Reads};
+ghost use Rattle.ir_spelling.specs.Order.{IsInOrder};
+ghost use Rattle.ir_spelling.specs.Ordered.{module_in};
+ghost use Rattle.ir_spelling.specs.Spells.{Spells, HasFirstForm};
+ghost use Rattle.ir_spelling.specs.WellFormed.{IsWellFormed};
 
 use crate::TextFault;
 use crate::definitions::definition_at;

@@ -1,7 +1,7 @@
 ghost use Rattle.std.specs.Prelude.{◌≡◌, ◌<◌, ◌≤◌, ◌^◌, length, IfOk, IfErr, Some, None, Err};
 ghost use Rattle.ir_core.specs.declared.names.Name.{Name};
-ghost use Rattle.ir_reader.specs.Names.{name_in, only_name, name_of, SpellsName};
-ghost use Rattle.ir_reader.specs.Reading.{Reads};
+ghost use Rattle.ir_spelling.specs.Names.{name_in, only_name, name_of, SpellsName};
+ghost use Rattle.ir_spelling.specs.Reading.{Reads};
 
 use crate::TextFault;
 use crate::terminals::split;
@@ -21,7 +21,7 @@ fn name_in(alloc: Global, sigil: Sigil, kind: &TokenKind) -> Result<Option<Name>
     }
 }
 
-#[tactic(auto, unfolding(crate::specs::Names::only_name))]
+#[tactic(auto, unfolding(ir_spelling::specs::Names::only_name))]
 fn only_name(alloc: Global, sigil: Sigil, kinds: &[TokenKind]) -> Result<Name, TextFault>
     ensures { Reads (λ name. name) result (only_name sigil kinds.now) }
 {

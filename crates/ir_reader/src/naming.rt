@@ -1,28 +1,29 @@
-ghost use Rattle.std.specs.Prelude.{◌≡◌, [], ◌∷◌, IfOk};
-ghost use Rattle.ir_reader.specs.Modules.{value_in, param_in, module_from};
-ghost use Rattle.ir_reader.specs.Ordered.{ordered_line, ordered_name, ordered_module};
-ghost use Rattle.ir_reader.specs.Reading.{Reads};
-ghost use Rattle.ir_reader.specs.Scopes.{each_in};
+ghost use Rattle.std.specs.Prelude.{◌≡◌, [], ◌∷◌, IfOk, codes, nat_eq};
+ghost use Rattle.std.specs.List.{starts_with};
+ghost use Rattle.ir_spelling.specs.Modules.{value_in, param_in, function_name, module_from};
+ghost use Rattle.ir_spelling.specs.Ordered.{ordered_line, ordered_name, ordered_module};
+ghost use Rattle.ir_spelling.specs.Reading.{Reads};
+ghost use Rattle.ir_spelling.specs.Scopes.{each_in};
+ghost use Rattle.ir_spelling.specs.WellFormed.{is_debug};
 
 use crate::TextFault;
-use crate::indexed::IndexedScope;
 use crate::operations::flags_of;
-use crate::scopes::{with_block, with_register};
+use crate::scopes::{start, with_block, with_register};
 use crate::terminals::split;
-use crate::texts::{DefinitionText, LineText, ParamText, ValueText};
 use crate::values::kept;
 use contents::{Exact, Seq};
 use ir_core::{
     Atom, Binary, Block, Const, Function, Instr, Module, Name, Operand, Param, Term, Ty,
 };
+use ir_spelling::{DefinitionText, LineText, ParamText, Scope, ValueText};
 use std::alloc::{AllocError, Global};
 
 /// The most lines of a function, `ret` among them.
 const LINE_LIMIT: usize = 1_048_576;
 
 /// What the written value is, where these names are defined.
-#[tactic(auto, unfolding(crate::specs::Modules::value_in))]
-fn value_in(alloc: Global, scope: &IndexedScope, value: &ValueText) -> Result<Atom<Name>, TextFault>
+#[tactic(auto, unfolding(ir_spelling::specs::Modules::value_in))]
+fn value_in(alloc: Global, scope: &Scope, value: &ValueText) -> Result<Atom<Name>, TextFault>
     ensures { Reads (λ atom. atom) result (value_in scope.now value.now) }
 {
     match value {
@@ -32,7 +33,7 @@ fn value_in(alloc: Global, scope: &IndexedScope, value: &ValueText) -> Result<At
         },
         ValueText::Undef => Ok(Atom::Constant(Const::Undef)),
         ValueText::Local(name) => {
-            if scope.has_register(name) {
+            if scope.registers.has(name) {
                 Ok(Atom::Register(name.copy(alloc)?))
             } else {
                 Err(TextFault::NotOfTheFirstForm)
@@ -41,12 +42,8 @@ fn value_in(alloc: Global, scope: &IndexedScope, value: &ValueText) -> Result<At
     }
 }
 
-#[tactic(auto, unfolding(crate::specs::Modules::param_in))]
-fn param_in(
-    alloc: Global,
-    scope: IndexedScope,
-    param: &ParamText,
-) -> Result<(Param, IndexedScope), TextFault>
+#[tactic(auto, unfolding(ir_spelling::specs::Modules::param_in))]
+fn param_in(alloc: Global, scope: Scope, param: &ParamText) -> Result<(Param, Scope), TextFault>
     ensures { Reads (λ parts. parts) result (param_in scope param.now) }
 {
     let (name, scope) = with_register(alloc, scope, &param.name)?;
@@ -54,12 +51,8 @@ fn param_in(
     Ok((Param { name, ty }, scope))
 }
 
-#[tactic(auto, unfolding(crate::specs::Ordered::ordered_line))]
-fn ordered_line(
-    alloc: Global,
-    scope: IndexedScope,
-    line: &LineText,
-) -> Result<(Instr, IndexedScope), TextFault>
+#[tactic(auto, unfolding(ir_spelling::specs::Ordered::ordered_line))]
+fn ordered_line(alloc: Global, scope: Scope, line: &LineText) -> Result<(Instr, Scope), TextFault>
     ensures { Reads (λ parts. parts) result (ordered_line scope line.now) }
 {
     let left = value_in(alloc, &scope, &line.operation.left)?;
@@ -83,9 +76,9 @@ fn ordered_line(
 
 fn params_in(
     alloc: Global,
-    scope: IndexedScope,
+    scope: Scope,
     params: &[ParamText],
-) -> Result<(Vec<Param>, IndexedScope), TextFault>
+) -> Result<(Vec<Param>, Scope), TextFault>
     ensures { Reads (λ parts. (parts.0.items, parts.1)) result (each_in param_in scope params.now) }
 {
     let mut done = Vec::new(alloc);
@@ -102,9 +95,9 @@ fn params_in(
 
 fn ordered_lines(
     alloc: Global,
-    scope: IndexedScope,
+    scope: Scope,
     lines: &[LineText],
-) -> Result<(Vec<Instr>, IndexedScope), TextFault>
+) -> Result<(Vec<Instr>, Scope), TextFault>
     ensures { Reads (λ parts. (parts.0.items, parts.1)) result (each_in ordered_line scope lines.now) }
 {
     let mut done = Vec::new(alloc);
@@ -119,25 +112,40 @@ fn ordered_lines(
     Ok((done, scope))
 }
 
-#[tactic(auto, unfolding(crate::specs::Ordered::ordered_name, crate::specs::Modules::function_name))]
+fn begins_debug(bytes: &[u8]) -> bool
+    ensures { result ≡ starts_with nat_eq bytes.now (codes "llvm.dbg.") }
+{
+    bytes.starts_with(b"llvm.dbg.")
+}
+
+fn is_debug(name: &Name) -> bool
+    ensures { result ≡ is_debug name.now }
+{
+    match name {
+        Name::Text(bytes) => begins_debug(bytes.as_slice()),
+        Name::Number(_) => false,
+    }
+}
+
+#[tactic(auto, unfolding(ir_spelling::specs::Modules::function_name))]
+fn function_name(alloc: Global, name: &Name) -> Result<Name, TextFault>
+    ensures { Reads (λ name. name) result (function_name name.now) }
+{
+    match name {
+        Name::Text(bytes) => Ok(Name::Text(bytes.copy(alloc)?)),
+        Name::Number(0) => Ok(Name::Number(0)),
+        Name::Number(_) => Err(TextFault::NotOfTheFirstForm),
+    }
+}
+
+#[tactic(auto, unfolding(ir_spelling::specs::Ordered::ordered_name))]
 fn ordered_name(alloc: Global, name: &Name) -> Result<Name, TextFault>
     ensures { Reads (λ name. name) result (ordered_name name.now) }
 {
-    match name {
-        Name::Number(number) => {
-            if *number == 0 {
-                Ok(Name::Number(*number))
-            } else {
-                Err(TextFault::NotOfTheFirstForm)
-            }
-        }
-        Name::Text(bytes) => {
-            if bytes.as_slice().starts_with(b"llvm.dbg.") {
-                Err(TextFault::NotOfTheFirstForm)
-            } else {
-                Ok(Name::Text(bytes.copy(alloc)?))
-            }
-        }
+    if is_debug(name) {
+        Err(TextFault::NotOfTheFirstForm)
+    } else {
+        function_name(alloc, name)
     }
 }
 
@@ -187,7 +195,7 @@ fn module_from(
 }
 
 /// The module that the definition names, if it is well-formed.
-#[tactic(auto, unfolding(crate::specs::Ordered::ordered_module))]
+#[tactic(auto, unfolding(ir_spelling::specs::Ordered::ordered_module))]
 pub fn ordered_module(alloc: Global, definition: &DefinitionText) -> Result<Module, TextFault>
     ensures { Reads (λ m. m) result (ordered_module definition.now) }
 {
@@ -195,11 +203,7 @@ pub fn ordered_module(alloc: Global, definition: &DefinitionText) -> Result<Modu
         return Err(TextFault::NotOfTheFirstForm);
     }
     let name = ordered_name(alloc, &definition.name)?;
-    let (params, scope) = params_in(
-        alloc,
-        IndexedScope::new(alloc),
-        definition.params.as_slice(),
-    )?;
+    let (params, scope) = params_in(alloc, start(alloc), definition.params.as_slice())?;
     let (block, scope) = with_block(alloc, scope, &definition.label)?;
     let (body, scope) = ordered_lines(alloc, scope, definition.lines.as_slice())?;
     let value = value_in(alloc, &scope, &definition.result)?;

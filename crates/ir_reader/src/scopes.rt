@@ -1,21 +1,21 @@
 ghost use Rattle.std.specs.Prelude.{◌≡◌};
-ghost use Rattle.ir_reader.specs.Reading.{Reads};
-ghost use Rattle.ir_reader.specs.Scopes.{is_block, is_taken, due, with_register, with_block};
+ghost use Rattle.ir_spelling.specs.Reading.{Reads};
+ghost use Rattle.ir_spelling.specs.Scopes.{is_block, is_taken, start, with_name, with_block_name, counted, as_due, due, with_register, with_block};
 
-use crate::TextFault;
-use crate::indexed::IndexedScope;
-use contents::{Exact, Seq};
+use contents::Exact;
 use ir_core::{Name, same_name};
+use ir_spelling::{Registers, Scope, TextFault};
 use std::alloc::Global;
 
-/// The names of a function so far.
-#[derive(Debug, Drop)]
-pub struct Scope {
-    /// The number that is due next.
-    pub next: u64,
-    /// Parameters and registers, in the order of their definitions.
-    pub registers: Seq<Name>,
-    pub block: Option<Name>,
+/// No name is defined.
+pub fn start(alloc: Global) -> Scope
+    ensures { result ≡ start }
+{
+    Scope {
+        next: 0,
+        registers: Registers::new(alloc),
+        block: None,
+    }
 }
 
 fn is_block(name: &Name, block: &Option<Name>) -> bool
@@ -27,67 +27,106 @@ fn is_block(name: &Name, block: &Option<Name>) -> bool
     }
 }
 
-/// Whether something of the function has the name already.
-fn is_taken(scope: &IndexedScope, name: &Name) -> bool
-    ensures { result ≡ is_taken scope.now name.now }
+/// The number that is due, if there is one, and the one behind it.
+fn counted(next: u64) -> Result<(Name, u64), TextFault>
+    ensures { Reads (λ name. name) result (counted next) }
 {
-    scope.has_register(name) || is_block(name, scope.block())
+    if next < 4_294_967_296 {
+        Ok((Name::Number(next as u32), next + 1))
+    } else {
+        Err(TextFault::NotOfTheFirstForm)
+    }
+}
+
+/// The number that is written, if it is due, and the one behind it.
+fn as_due(next: u64, number: u32) -> Result<(Name, u64), TextFault>
+    ensures { Reads (λ name. name) result (as_due next number) }
+{
+    if u64::from(number) == next {
+        Ok((Name::Number(number), next + 1))
+    } else {
+        Err(TextFault::NotOfTheFirstForm)
+    }
 }
 
 /// The name of what is defined, and the number that is due behind it.
-#[tactic(auto, unfolding(crate::specs::Scopes::due))]
+#[tactic(auto, unfolding(ir_spelling::specs::Scopes::due))]
 fn due(alloc: Global, next: u64, written: &Option<Name>) -> Result<(Name, u64), TextFault>
     ensures { Reads (λ name. name) result (due next written.now) }
 {
     match written {
-        None => {
-            if next < 4_294_967_296 {
-                Ok((Name::Number(next as u32), next + 1))
-            } else {
-                Err(TextFault::NotOfTheFirstForm)
-            }
-        }
+        None => counted(next),
         Some(Name::Text(bytes)) => Ok((Name::Text(bytes.copy(alloc)?), next)),
-        Some(Name::Number(number)) => {
-            if u64::from(*number) == next {
-                Ok((Name::Number(*number), next + 1))
-            } else {
-                Err(TextFault::NotOfTheFirstForm)
-            }
-        }
+        Some(Name::Number(number)) => as_due(next, *number),
     }
+}
+
+/// Defines a parameter or a register of this name, if nothing of the function has it.
+fn with_name(alloc: Global, scope: Scope, name: &Name, next: u64) -> Result<Scope, TextFault>
+    ensures { Reads (λ it. it) result (with_name scope name.now next) }
+{
+    let Scope {
+        mut registers,
+        block,
+        ..
+    } = scope;
+    if is_block(name, &block) || !registers.add(alloc, name)? {
+        return Err(TextFault::NotOfTheFirstForm);
+    }
+    Ok(Scope {
+        next,
+        registers,
+        block,
+    })
 }
 
 /// Defines a parameter or a register.
-#[tactic(auto, unfolding(crate::specs::Scopes::with_register))]
+#[tactic(auto, unfolding(ir_spelling::specs::Scopes::with_register))]
 pub fn with_register(
     alloc: Global,
-    scope: IndexedScope,
+    scope: Scope,
     written: &Option<Name>,
-) -> Result<(Name, IndexedScope), TextFault>
+) -> Result<(Name, Scope), TextFault>
     ensures { Reads (λ parts. parts) result (with_register scope written.now) }
 {
-    let (name, next) = due(alloc, scope.next(), written)?;
-    if is_taken(&scope, &name) {
-        return Err(TextFault::NotOfTheFirstForm);
-    }
-    let scope = scope.define(alloc, &name, next)?;
+    let (name, next) = due(alloc, scope.next, written)?;
+    let scope = with_name(alloc, scope, &name, next)?;
     Ok((name, scope))
 }
 
-/// Defines the block.
-#[tactic(auto, unfolding(crate::specs::Scopes::with_block))]
-pub fn with_block(
-    alloc: Global,
-    scope: IndexedScope,
-    written: &Option<Name>,
-) -> Result<(Name, IndexedScope), TextFault>
-    ensures { Reads (λ parts. parts) result (with_block scope written.now) }
+/// Whether something of the function has the name already.
+fn is_taken(scope: &Scope, name: &Name) -> bool
+    ensures { result ≡ is_taken scope.now name.now }
 {
-    let (name, next) = due(alloc, scope.next(), written)?;
-    if is_taken(&scope, &name) {
+    scope.registers.has(name) || is_block(name, &scope.block)
+}
+
+/// Defines the block by this name, if nothing of the function has it.
+fn with_block_name(alloc: Global, scope: Scope, name: &Name, next: u64) -> Result<Scope, TextFault>
+    ensures { Reads (λ it. it) result (with_block_name scope name.now next) }
+{
+    if is_taken(&scope, name) {
         return Err(TextFault::NotOfTheFirstForm);
     }
-    let scope = scope.define_block(alloc, &name, next)?;
+    let block = Some(name.copy(alloc)?);
+    let Scope { registers, .. } = scope;
+    Ok(Scope {
+        next,
+        registers,
+        block,
+    })
+}
+
+/// Defines the block.
+#[tactic(auto, unfolding(ir_spelling::specs::Scopes::with_block))]
+pub fn with_block(
+    alloc: Global,
+    scope: Scope,
+    written: &Option<Name>,
+) -> Result<(Name, Scope), TextFault>
+    ensures { Reads (λ parts. parts) result (with_block scope written.now) }
+{
+    let (name, next) = due(alloc, scope.next, written)?;
+    let scope = with_block_name(alloc, scope, &name, next)?;
     Ok((name, scope))
 }

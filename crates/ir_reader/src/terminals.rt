@@ -1,6 +1,6 @@
 ghost use Rattle.std.specs.Prelude.{◌≡◌, [], ◌∷◌, MatchOption};
-ghost use Rattle.ir_reader.specs.Reading.{Reads};
-ghost use Rattle.ir_reader.specs.Terminals.{is_word, is_mark, word_at, mark_at, end_at};
+ghost use Rattle.ir_spelling.specs.Reading.{Reads};
+ghost use Rattle.ir_spelling.specs.Terminals.{is_word, is_mark, word_at, mark_at, end_at};
 
 use crate::TextFault;
 use ir_lexer::TokenKind;
@@ -9,11 +9,7 @@ use ir_lexer::TokenKind;
 pub fn split<T>(items: &[T]) -> Option<(&T, &[T])>
     ensures { MatchOption result (items.now ≡ []) (λ parts. items.now ≡ parts.0.now ∷ parts.1.now) }
 {
-    if items.is_empty() {
-        None
-    } else {
-        Some((&items[0], &items[1..]))
-    }
+    items.split_first()
 }
 
 /// Whether the token is this word.
@@ -37,7 +33,7 @@ pub fn is_mark(byte: u8, kind: &TokenKind) -> bool
 }
 
 /// What stands behind the word.
-#[tactic(auto, unfolding(crate::specs::Terminals::word_at))]
+#[tactic(auto, unfolding(ir_spelling::specs::Terminals::word_at))]
 pub fn word_at<'a>(bytes: &[u8], kinds: &'a [TokenKind]) -> Result<&'a [TokenKind], TextFault>
     ensures { Reads (λ rest. rest.now) result (word_at bytes.now kinds.now) }
 {
@@ -52,7 +48,7 @@ pub fn word_at<'a>(bytes: &[u8], kinds: &'a [TokenKind]) -> Result<&'a [TokenKin
 }
 
 /// What stands behind the mark.
-#[tactic(auto, unfolding(crate::specs::Terminals::mark_at))]
+#[tactic(auto, unfolding(ir_spelling::specs::Terminals::mark_at))]
 pub fn mark_at(byte: u8, kinds: &[TokenKind]) -> Result<&[TokenKind], TextFault>
     ensures { Reads (λ rest. rest.now) result (mark_at byte kinds.now) }
 {
@@ -67,7 +63,7 @@ pub fn mark_at(byte: u8, kinds: &[TokenKind]) -> Result<&[TokenKind], TextFault>
 }
 
 /// Nothing more stands here.
-#[tactic(auto, unfolding(crate::specs::Terminals::end_at))]
+#[tactic(auto, unfolding(ir_spelling::specs::Terminals::end_at))]
 pub fn end_at(kinds: &[TokenKind]) -> Result<(), TextFault>
     ensures { Reads (λ end. tt) result (end_at kinds.now) }
 {

@@ -1,6 +1,6 @@
 ghost use Rattle.std.specs.Prelude.{◌≡◌, ◌^◌, ◌<◌, length, IfOk, Err, map};
 ghost use Rattle.ir_lexer.specs.declared.token.Token.{Token};
-ghost use Rattle.ir_reader.specs.Reading.{Reads, kinds_of};
+ghost use Rattle.ir_spelling.specs.Reading.{Reads, kinds_of};
 
 use crate::TextFault;
 use ir_lexer::{LexFault, Token, TokenKind, lex};

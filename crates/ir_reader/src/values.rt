@@ -1,23 +1,30 @@
-ghost use Rattle.std.specs.Prelude.{◌≡◌, IfOk};
-ghost use Rattle.ir_reader.specs.Reading.{Reads};
-ghost use Rattle.ir_reader.specs.Values.{value_of, value_at, kept};
+ghost use Rattle.std.specs.Prelude.{◌≡◌, ◌≤◌, ◌-◌, ◌%◌, ◌^◌, IfOk, codes};
+ghost use Rattle.ir_spelling.specs.Reading.{Reads};
+ghost use Rattle.ir_spelling.specs.Terminals.{is_word};
+ghost use Rattle.ir_spelling.specs.Values.{value_of, value_at, kept, kept_negative, kept_positive};
 
 use crate::TextFault;
 use crate::terminals::{is_word, split};
-use crate::texts::ValueText;
 use contents::Exact;
 use ir_lexer::{Number, TokenKind};
+use ir_spelling::ValueText;
 use std::alloc::{AllocError, Global};
 
+fn is_undef(kind: &TokenKind) -> bool
+    ensures { result ≡ is_word (codes "undef") kind.now }
+{
+    is_word(b"undef", kind)
+}
+
 /// The value that the token is.
-#[tactic(auto, unfolding(crate::specs::Values::value_of))]
+#[tactic(auto, unfolding(ir_spelling::specs::Values::value_of))]
 fn value_of(alloc: Global, kind: &TokenKind) -> Result<Option<ValueText>, AllocError>
     ensures { IfOk result (λ value. value ≡ value_of kind.now) }
 {
     match kind {
         TokenKind::Number(number) => Ok(Some(ValueText::Number(*number))),
         TokenKind::Local(name) => Ok(Some(ValueText::Local(name.copy(alloc)?))),
-        _ => Ok(if is_word(b"undef", kind) {
+        _ => Ok(if is_undef(kind) {
             Some(ValueText::Undef)
         } else {
             None
@@ -26,7 +33,7 @@ fn value_of(alloc: Global, kind: &TokenKind) -> Result<Option<ValueText>, AllocE
 }
 
 /// The value at the front, and what stands behind it.
-#[tactic(auto, unfolding(crate::specs::Values::value_at))]
+#[tactic(auto, unfolding(ir_spelling::specs::Values::value_at))]
 pub fn value_at(alloc: Global, kinds: &[TokenKind]) -> Result<(ValueText, &[TokenKind]), TextFault>
     ensures { Reads (λ parts. (parts.0, parts.1.now)) result (value_at kinds.now) }
 {
@@ -39,19 +46,43 @@ pub fn value_at(alloc: Global, kinds: &[TokenKind]) -> Result<(ValueText, &[Toke
     }
 }
 
+/// What a negative number of this magnitude is modulo 2 to the 32.
+fn negated(magnitude: u128) -> u64
+    requires { magnitude ≤ 2 ^ 31 }
+    ensures { result ≡ (2 ^ 32 - magnitude) % 2 ^ 32 }
+{
+    (4_294_967_296 - magnitude as u64) % 4_294_967_296
+}
+
+/// A negative number of this magnitude, if it is one of `i32`.
+fn kept_negative(magnitude: u128) -> Option<u64>
+    ensures { result ≡ kept_negative magnitude }
+{
+    if magnitude <= 2_147_483_648 {
+        Some(negated(magnitude))
+    } else {
+        None
+    }
+}
+
+/// Another number of this magnitude, if it is one of `i32`.
+fn kept_positive(magnitude: u128) -> Option<u64>
+    ensures { result ≡ kept_positive magnitude }
+{
+    if magnitude < 4_294_967_296 {
+        Some(magnitude as u64)
+    } else {
+        None
+    }
+}
+
 /// The number modulo 2 to the 32, if it is one of `i32`.
 pub fn kept(number: Number) -> Option<u64>
     ensures { result ≡ kept number }
 {
     if number.negative {
-        if number.magnitude <= 2_147_483_648 {
-            Some((4_294_967_296 - number.magnitude as u64) % 4_294_967_296)
-        } else {
-            None
-        }
-    } else if number.magnitude < 4_294_967_296 {
-        Some(number.magnitude as u64)
+        kept_negative(number.magnitude)
     } else {
-        None
+        kept_positive(number.magnitude)
     }
 }

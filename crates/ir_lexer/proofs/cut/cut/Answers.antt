@@ -2,11 +2,15 @@
 use Rattle.std.proofs.Common.{length, subst, arith}
 use Rattle.ir_lexer.specs.Pieces.{IsWithin}
 use Rattle.ir_lexer.proofs.Cuts.{at_end, at_bad_byte, at_bad_string, at_bad_number, at_gap, at_token, further_on}
+use Rattle.ir_lexer.proofs.Order.{up_to, one_more}
 use Rattle.ir_lexer.proofs.cut.cut.Goals as goal
 
 pub returns-in-End-clause-tokens : goal.returns-in-End-clause-tokens
 returns-in-End-clause-tokens c =
     at_end _ _ _ _ c.loop-tokens.invariant.whole _ c.in_ok-piece_at.ensures.value c.in_ok-piece_at.ensures.within c.in-End.is
+
+pub returns-in-End-clause-order : goal.returns-in-End-clause-order
+returns-in-End-clause-order c = up_to 0 c.loop-tokens.place _ _ c.loop-tokens.invariant.order (omega arith)
 
 pub loop-tokens-preserved-in-Gap : goal.loop-tokens-preserved-in-Gap
 loop-tokens-preserved-in-Gap c =
@@ -14,6 +18,7 @@ loop-tokens-preserved-in-Gap c =
     record {
       whole = at_gap _ _ _ _ c.loop-tokens.invariant.whole _ c.in_ok-piece_at.ensures.value c.in_ok-piece_at.ensures.within c.in-Gap.len c.in-Gap.is;
       reached = further_on _ _ _ _ c.loop-tokens.invariant.reached within.1;
+      order = up_to 0 c.loop-tokens.place _ _ c.loop-tokens.invariant.order (omega arith);
     }
 
 pub loop-tokens-preserved : goal.loop-tokens-preserved
@@ -22,6 +27,7 @@ loop-tokens-preserved c =
     record {
       whole = at_token _ _ _ _ c.loop-tokens.invariant.whole _ c.in_ok-piece_at.ensures.value c.in_ok-piece_at.ensures.within c.in-Token.kind c.in-Token.len _ c.in-Token.is c.in_ok-push-in-Token.ensures.items;
       reached = further_on _ _ _ _ c.loop-tokens.invariant.reached within.1;
+      order = one_more _ _ _ c.in-Token.kind c.in-Token.len c.loop-tokens.invariant.order within.0 c.in_ok-push-in-Token.ensures.items;
     }
 
 pub returns-in-BadByte-clause-fault : goal.returns-in-BadByte-clause-fault

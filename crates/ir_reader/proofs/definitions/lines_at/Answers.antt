@@ -1,8 +1,8 @@
 -- Each turn reads one item, or the end of them.
 use Rattle.std.proofs.Common.{length}
 use Rattle.std.proofs.lemmas.Result.{err_from_is_err_and}
-use Rattle.ir_reader.specs.Definitions.{repeated, next_line_at}
-use Rattle.ir_reader.proofs.Repeats.{misses_on, runs_out, fails, ends, goes_on}
+use Rattle.ir_spelling.specs.Definitions.{repeated, next_line_at}
+use Rattle.ir_spelling.proofs.Repeats.{misses_on, runs_out, fails, ends, goes_on}
 use Rattle.ir_reader.proofs.definitions.lines_at.Goals as goal
 
 pub returns-in_err-next : goal.returns-in_err-next

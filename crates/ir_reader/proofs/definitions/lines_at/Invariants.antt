@@ -1,6 +1,6 @@
 -- The lines so far, and then those of the rest.
 use Rattle.std.proofs.Common.{◌≡◌, ◌-◌, length}
-use Rattle.ir_reader.specs.Definitions.{behind, repeated, next_line_at}
+use Rattle.ir_spelling.specs.Definitions.{behind, repeated, next_line_at}
 use Rattle.ir_reader.proofs.definitions.lines_at.Given as goal
 
 abbrev pub invariant-loop : goal.invariant-loop

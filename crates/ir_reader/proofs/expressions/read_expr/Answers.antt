@@ -1,7 +1,7 @@
 -- What is read is spelled, and what is spelled is read.
-use Rattle.ir_reader.specs.Expressions.{SpellsExpression, expression_of}
-use Rattle.ir_reader.proofs.Alone.{expressions}
-use Rattle.ir_reader.proofs.Readers.{spelled_by, only_by, short_by, none_by, read_by, not_read_by}
+use Rattle.ir_spelling.specs.Expressions.{SpellsExpression, expression_of}
+use Rattle.ir_spelling.proofs.Alone.{expressions}
+use Rattle.ir_spelling.proofs.Readers.{spelled_by, only_by, short_by, none_by, read_by, not_read_by}
 use Rattle.ir_reader.proofs.expressions.read_expr.Goals as goal
 
 pub returns-clause-spelled : goal.returns-clause-spelled

@@ -1,5 +1,5 @@
 -- What is read is spelled and well-formed, and what is so is read.
-use Rattle.ir_reader.proofs.Grammar.{spelled_by, well_formed_by, in_order_by, only_by, short_by, none_by}
+use Rattle.ir_spelling.proofs.Grammar.{spelled_by, well_formed_by, in_order_by, only_by, short_by, none_by}
 use Rattle.ir_reader.proofs.modules.read_module.Goals as goal
 
 pub returns-clause-spelled : goal.returns-clause-spelled

@@ -1,7 +1,7 @@
 -- What is read is spelled, and what is spelled is read.
-use Rattle.ir_reader.specs.Names.{SpellsName, name_of}
-use Rattle.ir_reader.proofs.Alone.{names}
-use Rattle.ir_reader.proofs.Readers.{spelled_by, only_by, short_by, none_by, read_by, not_read_by}
+use Rattle.ir_spelling.specs.Names.{SpellsName, name_of}
+use Rattle.ir_spelling.proofs.Alone.{names}
+use Rattle.ir_spelling.proofs.Readers.{spelled_by, only_by, short_by, none_by, read_by, not_read_by}
 use Rattle.ir_reader.proofs.names.read_name.Goals as goal
 
 pub returns-clause-spelled : goal.returns-clause-spelled

@@ -1,9 +1,9 @@
 -- Each turn names one item.
 use Rattle.std.proofs.lemmas.Result.{err_from_is_err_and}
-use Rattle.ir_reader.specs.Ordered.{ordered_line}
-use Rattle.ir_reader.specs.Scopes.{each_in}
-use Rattle.ir_reader.proofs.Eaches.{all_named, one_fails, one_named}
-use Rattle.ir_reader.proofs.Repeats.{misses_on}
+use Rattle.ir_spelling.specs.Ordered.{ordered_line}
+use Rattle.ir_spelling.specs.Scopes.{each_in}
+use Rattle.ir_spelling.proofs.Eaches.{all_named, one_fails, one_named}
+use Rattle.ir_spelling.proofs.Repeats.{misses_on}
 use Rattle.ir_reader.proofs.naming.ordered_lines.Goals as goal
 
 pub returns-in_err-instr : goal.returns-in_err-instr

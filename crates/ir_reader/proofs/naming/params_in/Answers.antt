@@ -1,9 +1,9 @@
 -- Each turn names one item.
 use Rattle.std.proofs.lemmas.Result.{err_from_is_err_and}
-use Rattle.ir_reader.specs.Modules.{param_in}
-use Rattle.ir_reader.specs.Scopes.{each_in}
-use Rattle.ir_reader.proofs.Eaches.{all_named, one_fails, one_named}
-use Rattle.ir_reader.proofs.Repeats.{misses_on}
+use Rattle.ir_spelling.specs.Modules.{param_in}
+use Rattle.ir_spelling.specs.Scopes.{each_in}
+use Rattle.ir_spelling.proofs.Eaches.{all_named, one_fails, one_named}
+use Rattle.ir_spelling.proofs.Repeats.{misses_on}
 use Rattle.ir_reader.proofs.naming.params_in.Goals as goal
 
 pub returns-in_err-param : goal.returns-in_err-param

@@ -1,8 +1,8 @@
 -- The parameters so far, and then those of the rest.
 use Rattle.std.proofs.Common.{◌≡◌, length}
-use Rattle.ir_reader.specs.Definitions.{behind}
-use Rattle.ir_reader.specs.Modules.{param_in}
-use Rattle.ir_reader.specs.Scopes.{each_in}
+use Rattle.ir_spelling.specs.Definitions.{behind}
+use Rattle.ir_spelling.specs.Modules.{param_in}
+use Rattle.ir_spelling.specs.Scopes.{each_in}
 use Rattle.ir_reader.proofs.naming.params_in.Given as goal
 
 abbrev pub invariant-loop-text : goal.invariant-loop-text

@@ -1,6 +1,6 @@
 -- The flags so far and those of the rest are all of them.
 use Rattle.std.proofs.Common.{◌≡◌, ◌+◌, ◌++◌, length}
-use Rattle.ir_reader.specs.Operations.{flags_at}
+use Rattle.ir_spelling.specs.Operations.{flags_at}
 use Rattle.ir_reader.proofs.operations.flags_at.Given as goal
 
 abbrev pub invariant-loop-kind : goal.invariant-loop-kind

@@ -1,0 +1,11 @@
+pub mod Again
+pub mod Alone
+pub mod Eaches
+pub mod FlagSteps
+pub mod Grammar
+pub mod Named
+pub mod Order
+pub mod Readers
+pub mod Repeats
+pub mod Takes
+pub mod Tools

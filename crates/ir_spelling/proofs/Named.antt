@@ -1,0 +1,319 @@
+-- What a definition names is one module, and is read line by line where it is well-formed.
+use Rattle.std.proofs.Common.{◌≡◌, ℕ, suc, ◌+◌, ◌^◌, ◌<◌, Bool, true, false, List, [], ◌∷◌, ◌++◌, length, map, Option, Some, None, ⊎_elim, refl, ap, sym, ◌∙◌, subst, append_assoc, arith, eq-eqb, lt-ltb}
+use Rattle.std.specs.List.{AllByRecursion, AllZip, Contains}
+use Rattle.std.specs.Prelude.{nat_lt}
+use Rattle.std.proofs.lemmas.Bool.{le-ltb}
+use Rattle.std.proofs.lemmas.List.{append-nil}
+use Rattle.std.proofs.lemmas.List.Elements.{Contains-append_left, Contains-append_right, Contains-append_cases}
+use Rattle.ir_core.specs.declared.functions.Binary.{Binary}
+use Rattle.ir_core.specs.declared.functions.Block.{Block}
+use Rattle.ir_core.specs.declared.functions.Function.{Function}
+use Rattle.ir_core.specs.declared.functions.Instr.{Instr}
+use Rattle.ir_core.specs.declared.functions.Instr.TheVariants as instr
+use Rattle.ir_core.specs.declared.functions.Module.{Module}
+use Rattle.ir_core.specs.declared.functions.Param.{Param}
+use Rattle.ir_core.specs.declared.functions.Phi.{Phi}
+use Rattle.ir_core.specs.declared.functions.Term.{Term}
+use Rattle.ir_core.specs.declared.functions.Term.TheVariants.{Ret}
+use Rattle.ir_core.specs.declared.names.Name.{Name}
+use Rattle.ir_core.specs.declared.names.Name.TheVariants.{Text, Number}
+use Rattle.ir_core.specs.declared.operands.Atom.{Atom}
+use Rattle.ir_core.specs.declared.operands.Atom.TheVariants.{Constant}
+use Rattle.ir_core.specs.declared.operands.BinOp.{BinOp}
+use Rattle.ir_core.specs.declared.operands.Const.TheVariants as const
+use Rattle.ir_core.specs.declared.operands.Flags.{Flags}
+use Rattle.ir_core.specs.declared.operands.Ty.{Ty}
+use Rattle.ir_core.specs.Same.{same_name}
+use Rattle.ir_core.proofs.SameLaws.{same_name_true}
+use Rattle.ir_spelling.specs.declared.scopes.Scope.{Scope}
+use Rattle.ir_spelling.specs.declared.texts.DefinitionText.{DefinitionText}
+use Rattle.ir_spelling.specs.declared.texts.LineText.{LineText}
+use Rattle.ir_spelling.specs.declared.texts.ParamText.{ParamText}
+use Rattle.ir_spelling.specs.declared.texts.ValueText.{ValueText}
+use Rattle.ir_spelling.specs.declared.texts.ValueText.TheVariants as text
+use Rattle.ir_spelling.specs.Expressions.{i32}
+use Rattle.ir_spelling.specs.Modules.{function_name, line_of, module_from, param_in, value_in}
+use Rattle.ir_spelling.specs.Operations.{flags_of}
+use Rattle.ir_spelling.specs.Order.{AreCounted, AreNew, Counts, params_of, register_of, registers_of}
+use Rattle.ir_spelling.specs.Ordered.{ordered_line, ordered_module, ordered_name}
+use Rattle.ir_spelling.specs.Scopes.{due, each_in, is_among, is_block, is_taken, start, with_block, with_register}
+use Rattle.ir_spelling.specs.Spells.{IsLine, IsNamed, IsParam, IsReturn, IsValue, Names}
+use Rattle.ir_spelling.specs.Values.{number_atom}
+use Rattle.ir_spelling.specs.WellFormed.{IsDefined, IsWellFormed, IsWellFormedFunction, LinesUseDefined, UsesDefined, is_debug}
+use Rattle.ir_spelling.proofs.Order.{among_at, among_is, value_defined}
+use Rattle.ir_spelling.proofs.Tools.{some_is}
+
+-- ---- a definition names one module
+
+counts_once : (due_now : ℕ) (name : Name) (next further : ℕ) → Counts due_now name next → Counts due_now name further → next ≡ further
+counts_once due_now (Number n) next further c e = c.1 ∙ sym e.1
+counts_once due_now (Text bytes) next further c e = c ∙ sym e
+
+name_once : (due_now : ℕ) (w : Option Name) (x y : Name) (next further : ℕ) → IsNamed w x → IsNamed w y → Counts due_now x next → Counts due_now y further → (x ≡ y) × (next ≡ further)
+name_once due_now None (Number m) (Number n) next further p q c e = (ap Number (c.0 ∙ sym e.0), c.1 ∙ sym e.1)
+name_once due_now None (Number m) (Text b) next further p q c e = absurd q
+name_once due_now None (Text a) y next further p q c e = absurd p
+name_once due_now (Some w) x y next further p q c e =
+    let same : x ≡ y = p ∙ sym q in
+    (same, counts_once due_now y next further (subst (λ n. Counts due_now n next) same c) e)
+
+value_once : (known others : List Name) (v : ValueText) (a b : Atom Name) → IsValue known v a → IsValue others v b → a ≡ b
+value_once known others (text.Number n) a b p q =
+    p.2 ∙ ap (λ v. Constant (const.Number v)) (some_is p.0 q.0 (sym p.1 ∙ q.1)) ∙ sym q.2
+value_once known others text.Undef a b p q = p ∙ sym q
+value_once known others (text.Local name) a b p q = p.1 ∙ sym q.1
+
+-- the names counted behind the parameters, in both
+pub record ParamsOnce (ps qs : List Param) (more others : List Name) (b c : ℕ) : Type 0 where
+  pub same : ps ≡ qs
+  pub next : ℕ
+  pub counted : AreCounted next more b
+  pub also : AreCounted next others c
+
+param_same : (p q : Param) → p.name ≡ q.name → p.ty ≡ q.ty → p ≡ q
+param_same p q name ty =
+    let of : Name → Ty → Param = λ n t. record { name = n; ty = t } in
+    ap (λ n. of n p.ty) name ∙ ap (λ t. of q.name t) ty
+
+params_once : (ws : List ParamText) (ps qs : List Param) (due_now : ℕ) (more others : List Name) (b c : ℕ) → AllZip IsParam ws ps → AllZip IsParam ws qs → AreCounted due_now (map (λ (p : Param). p.name) ps ++ more) b → AreCounted due_now (map (λ (p : Param). p.name) qs ++ others) c → ParamsOnce ps qs more others b c
+params_once [] [] [] due_now more others b c zip also counted further = record { same = refl; next = due_now; counted = counted; also = further }
+params_once [] (p ∷ ps) qs due_now more others b c zip also counted further = absurd zip
+params_once [] [] (q ∷ qs) due_now more others b c zip also counted further = absurd also
+params_once (w ∷ ws) [] qs due_now more others b c zip also counted further = absurd zip
+params_once (w ∷ ws) (p ∷ ps) [] due_now more others b c zip also counted further = absurd also
+params_once (w ∷ ws) (p ∷ ps) (q ∷ qs) due_now more others b c zip also counted further =
+    let one = name_once due_now w.name p.name q.name counted.0 further.0 zip.0.0 also.0.0 counted.1 further.1 in
+    let rest = params_once ws ps qs counted.0 more others b c zip.1 also.1 counted.2 (subst (λ n. AreCounted n (map (λ (p : Param). p.name) qs ++ others) c) (sym one.1) further.2) in
+    record {
+      same = ap (λ x. x ∷ ps) (param_same p q one.0 (zip.0.1 ∙ sym also.0.1)) ∙ ap (λ xs. q ∷ xs) rest.same;
+      next = rest.next;
+      counted = rest.counted;
+      also = rest.also;
+    }
+
+binary_same : (a b : Binary) → a.name ≡ b.name → a.op ≡ b.op → a.flags ≡ b.flags → a.ty ≡ b.ty → a.left ≡ b.left → a.right ≡ b.right → a ≡ b
+binary_same a b name op flags ty left right =
+    let of : Name → BinOp → Flags → Ty → Atom Name → Atom Name → Binary = λ n o f t l r. record { name = n; op = o; flags = f; ty = t; left = l; right = r } in
+    ap (λ n. of n a.op a.flags a.ty a.left a.right) name
+    ∙ ap (λ o. of b.name o a.flags a.ty a.left a.right) op
+    ∙ ap (λ f. of b.name b.op f a.ty a.left a.right) flags
+    ∙ ap (λ t. of b.name b.op b.flags t a.left a.right) ty
+    ∙ ap (λ l. of b.name b.op b.flags b.ty l a.right) left
+    ∙ ap (λ r. of b.name b.op b.flags b.ty b.left r) right
+
+lines_once : (known others : List Name) (ws : List LineText) (ls ms : List Instr) (due_now b c : ℕ) → AllZip (IsLine known) ws ls → AllZip (IsLine others) ws ms → AreCounted due_now (map register_of ls) b → AreCounted due_now (map register_of ms) c → ls ≡ ms
+lines_once known others [] [] [] due_now b c zip also counted further = refl
+lines_once known others [] (l ∷ ls) ms due_now b c zip also counted further = absurd zip
+lines_once known others [] [] (m ∷ ms) due_now b c zip also counted further = absurd also
+lines_once known others (w ∷ ws) [] ms due_now b c zip also counted further = absurd zip
+lines_once known others (w ∷ ws) (l ∷ ls) [] due_now b c zip also counted further = absurd also
+lines_once known others (w ∷ ws) (instr.Binary l ∷ ls) (instr.Binary m ∷ ms) due_now b c zip also counted further =
+    let p = zip.0 in
+    let q = also.0 in
+    let one = name_once due_now w.register l.name m.name counted.0 further.0 p.0 q.0 counted.1 further.1 in
+    let rest = lines_once known others ws ls ms counted.0 b c zip.1 also.1 counted.2 (subst (λ n. AreCounted n (map register_of ms) c) (sym one.1) further.2) in
+    let same = binary_same l m one.0 (p.1 ∙ sym q.1) (p.2 ∙ sym q.2) (p.3 ∙ sym q.3) (value_once known others w.operation.left l.left m.left p.4 q.4) (value_once known others w.operation.right l.right m.right p.5 q.5) in
+    ap (λ x. instr.Binary x ∷ ls) same ∙ ap (λ xs. instr.Binary m ∷ xs) rest
+
+return_is : (known : List Name) (w : ValueText) (t : Term) → IsReturn known w t → (a : Atom Name) × IsValue known w a × (Ret (record { ty = i32; atom = a }) ≡ t)
+return_is known w (Ret operand) is = (operand.atom, is.1, ap (λ ty. Ret (record { ty = ty; atom = operand.atom })) (sym is.0))
+
+-- a module of one function of one block is made of their parts
+module_whole : (m : Module) (f : Function) (b : Block) (a : Atom Name) → m.functions ≡ f ∷ [] → f.blocks ≡ b ∷ [] → b.phis ≡ [] → f.result ≡ i32 → Ret (record { ty = i32; atom = a }) ≡ b.term → module_from f.name f.params b.name b.body a ≡ m
+module_whole m f b a one_function one_block no_phis result term =
+    let block : List Phi → Term → Block = λ phis t. record { name = b.name; phis = phis; body = b.body; term = t } in
+    let same_block : block [] (Ret (record { ty = i32; atom = a })) ≡ b = ap (λ phis. block phis (Ret (record { ty = i32; atom = a }))) (sym no_phis) ∙ ap (λ t. block b.phis t) term in
+    let function : Ty → List Block → Function = λ ty blocks. record { name = f.name; result = ty; params = f.params; blocks = blocks } in
+    let same_function : function i32 (block [] (Ret (record { ty = i32; atom = a })) ∷ []) ≡ f =
+    ap (λ x. function i32 (x ∷ [])) same_block
+    ∙ ap (λ blocks. function i32 blocks) (sym one_block)
+    ∙ ap (λ ty. function ty f.blocks) (sym result) in
+    let of : List Function → Module = λ functions. record { functions = functions } in
+    ap (λ g. of (g ∷ [])) same_function ∙ ap of (sym one_function)
+
+pub named_once : (d : DefinitionText) (a b : Module) → Names d a → Names d b → a ≡ b
+named_once d a b p q =
+    let x = p.function in
+    let y = q.function in
+    let params = params_once d.params x.params y.params 0 (p.block.name ∷ registers_of p.block) (q.block.name ∷ registers_of q.block) p.count q.count p.params q.params p.numbers q.numbers in
+    let block = name_once params.next d.label p.block.name q.block.name params.counted.0 params.also.0 p.label q.label params.counted.1 params.also.1 in
+    let lines = lines_once (params_of x ++ registers_of p.block) (params_of y ++ registers_of q.block) d.lines p.block.body q.block.body params.counted.0 p.count q.count p.lines q.lines params.counted.2 (subst (λ n. AreCounted n (registers_of q.block) q.count) (sym block.1) params.also.2) in
+    let v = return_is (params_of x ++ registers_of p.block) d.result p.block.term p.returns in
+    let w = return_is (params_of y ++ registers_of q.block) d.result q.block.term q.returns in
+    let value = value_once (params_of x ++ registers_of p.block) (params_of y ++ registers_of q.block) d.result v.0 w.0 v.1 w.1 in
+    sym (module_whole a x p.block v.0 p.one_function p.one_block p.no_phis p.result v.2)
+    ∙ ap (λ n. module_from n x.params p.block.name p.block.body v.0) (p.name ∙ sym q.name)
+    ∙ ap (λ ps. module_from y.name ps p.block.name p.block.body v.0) params.same
+    ∙ ap (λ n. module_from y.name y.params n p.block.body v.0) block.0
+    ∙ ap (λ ls. module_from y.name y.params q.block.name ls v.0) lines
+    ∙ ap (λ z. module_from y.name y.params q.block.name q.block.body z) value
+    ∙ module_whole b y q.block w.0 q.one_function q.one_block q.no_phis q.result w.2
+
+-- ---- what is named and well-formed is read line by line
+
+not_true : (b : Bool) → (b ≡ true → ⊥) → b ≡ false
+not_true true never = absurd (never refl)
+not_true false never = refl
+
+not_there : (name : Name) (names : List Name) → (Contains names name → ⊥) → is_among name names ≡ false
+not_there name names never = not_true (is_among name names) (λ there. never (among_is name names there))
+
+-- a name that is new is free, before there is a block
+free_without : (scope : Scope) (name : Name) → scope.block ≡ None → (Contains scope.registers name → ⊥) → is_taken scope name ≡ false
+free_without scope name none new = rw (not_there name scope.registers new) (ap (is_block name) none)
+
+contains_behind : (x name : Name) (names : List Name) → Contains names name → Contains (x ∷ names) name
+contains_behind x name names there = (suc there.0, omega (arith, there.1), there.2)
+
+-- a name that is new is free, beside the block
+free_beside : (scope : Scope) (name block : Name) (front done : List Name) → scope.registers ≡ front ++ done → scope.block ≡ Some block → (Contains (front ++ (block ∷ done)) name → ⊥) → is_taken scope name ≡ false
+free_beside scope name block front done registers blocked new =
+    let register : is_among name scope.registers ≡ false = not_there name scope.registers (λ there.
+    ⊎_elim
+    (λ left. new (Contains-append_left front (block ∷ done) name left))
+    (λ right. new (Contains-append_right front (block ∷ done) name (contains_behind block name done right)))
+    (Contains-append_cases front done name (subst (λ r. Contains r name) registers there))) in
+    let other : same_name name block ≡ false = not_true (same_name name block) (λ same. new (Contains-append_right front (block ∷ done) name (0, omega arith, sym (same_name_true name block same)))) in
+    rw register (ap (is_block name) blocked ∙ other)
+
+named_due : (due_now behind : ℕ) (w : Option Name) (name : Name) → IsNamed w name → Counts due_now name behind → due due_now w ≡ Some (name, behind)
+unfolding due
+named_due due_now behind None (Number n) is counts =
+    let small : due_now < 2 ^ 32 = subst (λ k. k < 2 ^ 32) counts.0 is in
+    rw (lt-ltb due_now (2 ^ 32) small) (ap (λ k. Some (Number k, due_now + 1)) (sym counts.0) ∙ ap (λ k. Some (Number n, k)) (sym counts.1))
+named_due due_now behind None (Text bytes) is counts = absurd is
+named_due due_now behind (Some (Number n)) name is counts =
+    let at : Counts due_now (Number n) behind = subst (λ x. Counts due_now x behind) is counts in
+    rw (eq-eqb n due_now at.0) (ap (λ k. Some (Number n, k)) (sym at.1) ∙ ap (λ x. Some (x, behind)) (sym is))
+named_due due_now behind (Some (Text bytes)) name is counts =
+    let at : behind ≡ due_now = (let P : Name → Type 0 = λ x. Counts due_now x behind in subst P is counts) in
+    ap (λ k. Some (Text bytes, k)) (sym at) ∙ ap (λ x. Some (x, behind)) (sym is)
+
+registered : (scope : Scope) (w : Option Name) (name : Name) (behind : ℕ) → IsNamed w name → Counts scope.next name behind → is_taken scope name ≡ false → with_register scope w ≡ Some (name, record { next = behind; registers = scope.registers ++ name ∷ []; block = scope.block })
+unfolding with_register
+registered scope w name behind is counts free = rw (named_due scope.next behind w name is counts, free) refl
+
+blocked_by : (scope : Scope) (w : Option Name) (name : Name) (behind : ℕ) → IsNamed w name → Counts scope.next name behind → is_taken scope name ≡ false → with_block scope w ≡ Some (name, record { next = behind; registers = scope.registers; block = Some name })
+unfolding with_block
+blocked_by scope w name behind is counts free = rw (named_due scope.next behind w name is counts, free) refl
+
+param_read : (scope : Scope) (w : ParamText) (p : Param) (next : Scope) → p.ty ≡ i32 → with_register scope w.name ≡ Some (p.name, next) → param_in scope w ≡ Some (p, next)
+unfolding param_in
+param_read scope w p next typed named =
+    let of : Ty → Param = λ ty. record { name = p.name; ty = ty } in
+    rw named (ap (λ ty. Some (of ty, next)) (sym typed))
+
+each_in_more : {T X : Type 0} (step : Scope → T → Option (X × Scope)) (scope : Scope) (item : T) (rest : List T) (x : X) (next : Scope) (xs : List X) (last : Scope) → step scope item ≡ Some (x, next) → each_in step next rest ≡ Some (xs, last) → each_in step scope (item ∷ rest) ≡ Some (x ∷ xs, last)
+unfolding each_in
+each_in_more step scope item rest x next xs last one more = rw (one, more) refl
+
+-- the parameters are read, and the names behind them are new and counted behind them
+pub record ParamsRead (scope : Scope) (ws : List ParamText) (ps : List Param) (more : List Name) (count : ℕ) : Type 0 where
+  pub next : Scope
+  pub read : each_in param_in scope ws ≡ Some (ps, next)
+  pub registers : next.registers ≡ scope.registers ++ map (λ (p : Param). p.name) ps
+  pub block : next.block ≡ None
+  pub new : AreNew next.registers more
+  pub counted : AreCounted next.next more count
+
+params_read : (ws : List ParamText) (scope : Scope) (ps : List Param) (more : List Name) (count : ℕ) → scope.block ≡ None → AllZip IsParam ws ps → AreNew scope.registers (map (λ (p : Param). p.name) ps ++ more) → AreCounted scope.next (map (λ (p : Param). p.name) ps ++ more) count → ParamsRead scope ws ps more count
+unfolding each_in
+params_read [] scope [] more count none zip new counted = record { next = scope; read = refl; registers = sym (append-nil scope.registers); block = none; new = new; counted = counted }
+params_read [] scope (p ∷ ps) more count none zip new counted = absurd zip
+params_read (w ∷ ws) scope [] more count none zip new counted = absurd zip
+params_read (w ∷ ws) scope (p ∷ ps) more count none zip new counted =
+    let after : Scope = record { next = counted.0; registers = scope.registers ++ p.name ∷ []; block = scope.block } in
+    let free = free_without scope p.name none new.0 in
+    let one = param_read scope w p after zip.0.1 (registered scope w.name p.name counted.0 zip.0.0 counted.1 free) in
+    let rest = params_read ws after ps more count none zip.1 new.1 counted.2 in
+    record {
+      next = rest.next;
+      read = each_in_more param_in scope w ws p after ps rest.next one rest.read;
+      registers = rest.registers ∙ append_assoc scope.registers (p.name ∷ []) (map (λ (p : Param). p.name) ps);
+      block = rest.block;
+      new = rest.new;
+      counted = rest.counted;
+    }
+
+value_read : (scope : Scope) (known : List Name) (v : ValueText) (atom : Atom Name) → IsValue known v atom → IsDefined scope.registers atom → value_in scope v ≡ Some atom
+unfolding value_in
+value_read scope known (text.Number n) atom is defined = ap (λ r. number_atom r) is.1 ∙ ap Some (sym is.2)
+value_read scope known text.Undef atom is defined = ap Some (sym is)
+value_read scope known (text.Local name) atom is defined =
+    let there : Contains scope.registers name = (let P : Atom Name → Type 0 = λ a. IsDefined scope.registers a in subst P is.1 defined) in
+    rw (among_at name scope.registers there.0 there.1 there.2) (ap Some (sym is.1))
+
+line_ordered : (scope : Scope) (w : LineText) (name : Name) (next : Scope) (left right : Atom Name) → value_in scope w.operation.left ≡ Some left → value_in scope w.operation.right ≡ Some right → with_register scope w.register ≡ Some (name, next) → ordered_line scope w ≡ Some (line_of name w.operation left right, next)
+unfolding ordered_line
+line_ordered scope w name next left right l r named = rw (l, r, named) refl
+
+line_read : (scope : Scope) (known : List Name) (w : LineText) (line : Instr) (behind : ℕ) → IsLine known w line → UsesDefined scope.registers line → Counts scope.next (register_of line) behind → is_taken scope (register_of line) ≡ false → ordered_line scope w ≡ Some (line, record { next = behind; registers = scope.registers ++ register_of line ∷ []; block = scope.block })
+line_read scope known w (instr.Binary b) behind is uses counts free =
+    let after : Scope = record { next = behind; registers = scope.registers ++ b.name ∷ []; block = scope.block } in
+    line_ordered scope w b.name after b.left b.right
+    (value_read scope known w.operation.left b.left is.4 uses.1)
+    (value_read scope known w.operation.right b.right is.5 uses.2)
+    (registered scope w.register b.name behind is.0 counts free)
+    ∙ ap (λ x. Some (instr.Binary x, after)) (binary_same (record { name = b.name; op = w.operation.op; flags = flags_of w.operation.flags; ty = i32; left = b.left; right = b.right }) b refl (sym is.1) (sym is.2) (sym is.3) refl refl)
+
+pub record LinesRead (scope : Scope) (ws : List LineText) (lines : List Instr) (front done : List Name) : Type 0 where
+  pub next : Scope
+  pub read : each_in ordered_line scope ws ≡ Some (lines, next)
+  pub registers : next.registers ≡ front ++ (done ++ map register_of lines)
+
+lines_read : (ws : List LineText) (scope : Scope) (known : List Name) (lines : List Instr) (front : List Name) (block : Name) (done : List Name) (count : ℕ) → scope.registers ≡ front ++ done → scope.block ≡ Some block → AllZip (IsLine known) ws lines → AreNew (front ++ (block ∷ done)) (map register_of lines) → AreCounted scope.next (map register_of lines) count → LinesUseDefined (front ++ done) lines → LinesRead scope ws lines front done
+unfolding each_in
+lines_read [] scope known [] front block done count registers blocked zip new counted uses = record { next = scope; read = refl; registers = registers ∙ ap (λ d. front ++ d) (sym (append-nil done)) }
+lines_read [] scope known (l ∷ ls) front block done count registers blocked zip new counted uses = absurd zip
+lines_read (w ∷ ws) scope known [] front block done count registers blocked zip new counted uses = absurd zip
+lines_read (w ∷ ws) scope known (l ∷ ls) front block done count registers blocked zip new counted uses =
+    let name : Name = register_of l in
+    let after : Scope = record { next = counted.0; registers = scope.registers ++ name ∷ []; block = scope.block } in
+    let free = free_beside scope name block front done registers blocked new.0 in
+    let one = line_read scope known w l counted.0 zip.0 (subst (λ r. UsesDefined r l) (sym registers) uses.0) counted.1 free in
+    let further : after.registers ≡ front ++ (done ++ name ∷ []) = ap (λ r. r ++ name ∷ []) registers ∙ append_assoc front done (name ∷ []) in
+    let rest = lines_read ws after known ls front block (done ++ name ∷ []) count further blocked zip.1
+    (subst (λ taken. AreNew taken (map register_of ls)) (append_assoc front (block ∷ done) (name ∷ [])) new.1)
+    counted.2
+    (subst (λ r. LinesUseDefined r ls) (append_assoc front done (name ∷ [])) uses.1) in
+    record {
+      next = rest.next;
+      read = each_in_more ordered_line scope w ws l after ls rest.next one rest.read;
+      registers = rest.registers ∙ ap (λ d. front ++ d) (append_assoc done (name ∷ []) (map register_of ls));
+    }
+
+name_read : (name : Name) (next : ℕ) → is_debug name ≡ false → Counts 0 name next → ordered_name name ≡ Some name
+unfolding ordered_name function_name
+name_read (Number n) next free counts = rw (eq-eqb n 0 counts.0) refl
+name_read (Text bytes) next free counts = rw free refl
+
+module_ordered : (d : DefinitionText) (name : Name) (ps : List Param × Scope) (block : Name × Scope) (body : List Instr × Scope) (value : Atom Name) → nat_lt (2 ^ 20) (length d.lines + 1) ≡ false → ordered_name d.name ≡ Some name → each_in param_in start d.params ≡ Some ps → with_block ps.1 d.label ≡ Some block → each_in ordered_line block.1 d.lines ≡ Some body → value_in body.1 d.result ≡ Some value → ordered_module d ≡ Some (module_from name ps.0 block.0 body.0 value)
+unfolding ordered_module
+module_ordered d name ps block body value few n p b l r = rw (few, n, p, b, l, r) refl
+
+-- the lines of a well-formed function use what is defined before them
+formed_lines : (f : Function) (b : Block) → f.blocks ≡ b ∷ [] → IsWellFormedFunction f → LinesUseDefined (params_of f) b.body
+formed_lines f b one_block w =
+    let same : w.block ≡ b = cc (one_block, w.one_block) in
+    subst (λ (x : Block). LinesUseDefined (params_of f) x.body) same w.lines
+
+pub named_ordered : (d : DefinitionText) (m : Module) → Names d m → IsWellFormed m → ordered_module d ≡ Some m
+named_ordered d m n w =
+    let f = n.function in
+    let b = n.block in
+    let names : List Name = params_of f in
+    let known : List Name = names ++ registers_of b in
+    let formed = subst (AllByRecursion IsWellFormedFunction) n.one_function w.functions in
+    let ps = params_read d.params start f.params (b.name ∷ registers_of b) n.count refl n.params n.names n.numbers in
+    let after : Scope = record { next = ps.counted.0; registers = ps.next.registers; block = Some b.name } in
+    let block = blocked_by ps.next d.label b.name ps.counted.0 n.label ps.counted.1 (free_without ps.next b.name ps.block ps.new.0) in
+    let registers : ps.next.registers ≡ names ++ [] = ps.registers ∙ sym (append-nil names) in
+    let lines = lines_read d.lines after known b.body names b.name [] n.count registers refl n.lines
+    (subst (λ r. AreNew (r ++ b.name ∷ []) (registers_of b)) ps.registers ps.new.1)
+    ps.counted.2
+    (subst (λ r. LinesUseDefined r b.body) (sym (append-nil names)) (formed_lines f b n.one_block formed.0)) in
+    let value = return_is known d.result b.term n.returns in
+    let returned = value_read lines.next known d.result value.0 value.1 (subst (λ r. IsDefined r value.0) (sym lines.registers) (value_defined known d.result value.0 value.1)) in
+    module_ordered d f.name (f.params, ps.next) (b.name, after) (b.body, lines.next) value.0 (le-ltb (2 ^ 20) (length d.lines + 1) n.few)
+    (subst (λ (w : Name). ordered_name w ≡ Some f.name) n.name (name_read f.name n.function_number.0 formed.0.name n.function_number.1)) ps.read block lines.read returned
+    ∙ ap Some (module_whole m f b value.0 n.one_function n.one_block n.no_phis n.result value.2)

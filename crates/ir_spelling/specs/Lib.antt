@@ -1,0 +1,14 @@
+pub mod Definitions
+pub mod Expressions
+pub mod Grammar
+pub mod Modules
+pub mod Names
+pub mod Operations
+pub mod Order
+pub mod Ordered
+pub mod Reading
+pub mod Scopes
+pub mod Spells
+pub mod Terminals
+pub mod Values
+pub mod WellFormed
