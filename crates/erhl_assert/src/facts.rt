@@ -10,14 +10,14 @@ use std::alloc::{AllocError, Global};
 pub type Expr = Expr0;
 
 /// The source or the target.
-#[derive(Debug, Drop, Clone, Copy)]
+#[derive(Drop, Clone, Copy)]
 pub enum Side {
     Src,
     Tgt,
 }
 
 /// A fact of one side.
-#[derive(Debug, Drop)]
+#[derive(Drop)]
 pub enum Fact {
     /// The first expression is less defined than the second: its value refines to the second's (`ge`).
     LessDef(Expr0, Expr0),
@@ -25,7 +25,7 @@ pub enum Fact {
 
 /// What is known at a place: facts of the source, facts of the target, and the registers that may differ between the
 /// two sides (Crellvm's maydiff).
-#[derive(Debug, Drop)]
+#[derive(Drop)]
 pub struct Assertion {
     pub src: Seq<Fact>,
     pub tgt: Seq<Fact>,
@@ -33,7 +33,7 @@ pub struct Assertion {
 }
 
 /// What an inference rule is asked to conclude: where all of `from` holds, so does `to`.
-#[derive(Debug, Drop)]
+#[derive(Drop)]
 pub struct Schema {
     pub from: Seq<Fact>,
     pub to: Fact,
@@ -63,6 +63,8 @@ pub fn same_fact(a: &Fact, b: &Fact) -> bool
     a.is(b)
 }
 
+/// Empty on purpose: its contract is the law.
+///
 /// The test of two facts is true exactly of equal ones.
 pub fn same_fact_is_equality()
     ensures { IsEquality same_fact }

@@ -12,6 +12,3 @@ pub use hints::{
     PlacedStep, RuleStep,
 };
 pub use verdict::{Difference, ModuleVerdict, Reason, Spot, Verdict};
-
-#[cfg(test)]
-mod tests;

@@ -3,7 +3,7 @@ use contents::Seq;
 use ir_core::{Name, Operand};
 
 /// Where in a block a test failed.
-#[derive(Debug, Drop)]
+#[derive(Drop)]
 pub enum Spot {
     /// At the block's start.
     Start,
@@ -12,7 +12,7 @@ pub enum Spot {
 }
 
 /// Why a test failed.
-#[derive(Debug, Drop)]
+#[derive(Drop)]
 pub enum Reason {
     /// The headers, the numbers of blocks or the names of blocks differ, or a block's lines don't give back both bodies.
     AlignmentDiffers,
@@ -29,7 +29,7 @@ pub enum Reason {
 }
 
 /// What the checker says of two functions.
-#[derive(Debug, Drop)]
+#[derive(Drop)]
 pub enum Verdict {
     Valid,
     Refused {
@@ -40,13 +40,13 @@ pub enum Verdict {
 }
 
 /// In which list two modules differ.
-#[derive(Debug, Drop, Clone, Copy)]
+#[derive(Drop, Clone, Copy)]
 pub enum Difference {
     Functions,
 }
 
 /// What the checker says of two modules.
-#[derive(Debug, Drop)]
+#[derive(Drop)]
 pub enum ModuleVerdict {
     Valid,
     Differs(Difference),

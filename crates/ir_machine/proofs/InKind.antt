@@ -31,9 +31,9 @@ use Rattle.ir_machine.specs.declared.items.Item.{Item}
 use Rattle.ir_machine.specs.declared.items.Shown.{Shown}
 use Rattle.ir_machine.specs.declared.items.Shown.TheVariants as shown
 use Rattle.ir_machine.specs.declared.items.Input.{Input}
-use Rattle.ir_machine.specs.Registers.{Registers, no_registers, read, set, held_at, holding, AreInKind, kind_of, constant_value, atom_at, atom_value, operand_value, binary_at}
+use Rattle.ir_machine.specs.Registers.{Registers, no_registers, read, set, AreInKind, kind_of, constant_value, atom_at, atom_value, operand_value, binary_at}
 use Rattle.ir_machine.specs.State.{Frame, Pending, World, State, Running, Over}
-use Rattle.ir_machine.specs.Machine.{Made, Follows, asks, set_into, frame_step, term_step, return_step, binary_result, fits_kind, shown_value, entered, at_entry, started, start, function_named}
+use Rattle.ir_machine.specs.Machine.{Made, Follows, asks, at_kind, set_into, frame_step, term_step, return_step, binary_result, fits_kind, shown_value, entered, at_entry, started, start, function_named}
 use Rattle.ir_machine.proofs.Trees.{AllDo, all_do_made, all_do_show, all_do_set_to}
 use Rattle.ir_machine.proofs.Runs.{holding_in_kind, set_in_kind}
 
@@ -71,9 +71,13 @@ StateInKind Over = Unit {0}
 abbrev LeadsInKind : List Item → State → Type 0
 LeadsInKind items after = StateInKind after
 
-set_into_in_kind : (registers : Registers) (into : Option (Name × Kind)) (k : Option Kind) (v : Value) → AreInKind registers → IsInKindOf k v → AreInKind (set_into registers into k v)
+at_kind_in_kind : (j k : Option Kind) (v : Value) → IsInKindOf k v → IsInKindOf j (at_kind j k v)
+at_kind_in_kind None k v p = tt
+at_kind_in_kind (Some j) k v p = holding_in_kind k j v p
+
+set_into_in_kind : (registers : Registers) (into : Option (Name × Option Kind)) (k : Option Kind) (v : Value) → AreInKind registers → IsInKindOf k v → AreInKind (set_into registers into k v)
 set_into_in_kind registers None k v h p = h
-set_into_in_kind registers (Some x) k v h p = set_in_kind registers x.0 (Some x.1) (held_at x.1 (holding k v)) h (holding_in_kind k x.1 v p)
+set_into_in_kind registers (Some x) k v h p = set_in_kind registers x.0 x.1 (at_kind x.1 k v) h (at_kind_in_kind x.1 k v p)
 
 return_in_kind : (k : Option Kind) (v : Value) (rest : List Pending) (world : World) → IsInKindOf k v → AllInKind rest → AllDo LeadsInKind (return_step k v rest world)
 return_in_kind k v [] world p h = all_do_show LeadsInKind k v world _ _ tt (λ s after. tt)

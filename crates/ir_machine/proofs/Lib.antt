@@ -10,3 +10,6 @@ pub mod Telling
 pub mod Standing
 pub mod Steps
 pub mod Starts
+pub mod Returning
+pub mod Refining
+pub mod Ending

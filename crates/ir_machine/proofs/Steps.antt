@@ -1,6 +1,6 @@
 -- The steps that the code makes are steps of the machine.
 use Rattle.std.proofs.Common.{◌≡◌, ◌<◌, ◌≤◌, ◌+◌, List, [], ◌∷◌, length, get_or, Option, None, Some, Result, Ok, Err, IfOk, refl, sym, ap, ◌∙◌, subst}
-use Rattle.std.specs.Prelude.{slice_get}
+use Rattle.std.specs.Prelude.{slice_get, IsErr, IsErrOf, OnErr, is_err}
 use Rattle.ir_core.specs.declared.values.Value.{Value}
 use Rattle.ir_core.specs.declared.operands.Operand.{Operand}
 use Rattle.ir_core.specs.declared.names.Name.{Name}
@@ -20,12 +20,14 @@ use Rattle.ir_machine.specs.declared.items.Item.TheVariants.{Turn, Returned, Wro
 use Rattle.ir_machine.specs.declared.items.Choice.{Choice}
 use Rattle.ir_machine.specs.declared.machine.Place.{Place}
 use Rattle.ir_machine.specs.declared.machine.Stepped.{Stepped}
+use Rattle.ir_machine.specs.declared.machine.StepEnd.{StepEnd}
+use Rattle.ir_machine.specs.declared.machine.StepEnd.TheVariants as end
 use Rattle.ir_machine.specs.declared.machine.Progress.{Progress}
 use Rattle.ir_machine.specs.declared.machine.Progress.TheVariants as progress
 use Rattle.ir_machine.specs.Registers.{Registers, read, set, kind_of, operand_value}
 use Rattle.ir_machine.specs.State.{no_world, State, Over}
 use Rattle.ir_machine.specs.Machine.{Asks, Does, asks, return_step, binary_result}
-use Rattle.ir_machine.specs.Choices.{Did, answer}
+use Rattle.ir_machine.specs.Choices.{Did, Lacks, answer, Leaves, TakesAsked}
 use Rattle.ir_machine.specs.Places.{state_at, in_block, next_line, progress_of}
 use Rattle.ir_machine.proofs.Standing.{line_asks, trap_asks, term_asks, stands}
 
@@ -83,15 +85,23 @@ module _ (m : Module) (place : Option Place) (p : Place) (registers : Registers)
   line_done (line.Binary l) within is r next after script gives traps =
       line_done_at l within is (binary_result registers l) refl r next after script (gives l refl) (traps l refl)
 
-  pub return_done : (t : Term) (k : Option Kind) (v : Value) → b.term ≡ t → length b.body ≤ p.line
+  -- a line takes no choice
+  line_asked : (i : Binary) → p.line < length b.body → line.Binary i ≡ get_or b.body p.line (line.Binary i)
+      → (o : Outcome) → binary_result registers i ≡ o → (items : List Item) × (after : State) × (asks m (state_at m place registers) ≡ Does items after)
+  line_asked i within is (Gives v) e = ([], state_at m (Some (next_line p)) (set registers i.name (kind_of i.ty) v), ap (asks m) here ∙ line_asks m p registers f b i v some block within is e)
+  line_asked i within is Trap e = (Wrong ∷ [], Over, ap (asks m) here ∙ trap_asks m p registers f b i some block within is e)
+
+  pub line_tells : (i : Instr) → p.line < length b.body → i ≡ get_or b.body p.line i → (script : List Choice) → TakesAsked (asks m (state_at m place registers)) script script
+  line_tells (line.Binary l) within is script =
+      let asked : (items : List Item) × (after : State) × (asks m (state_at m place registers) ≡ Does items after) = line_asked l within is (binary_result registers l) refl in
+      ([], refl, subst (λ (tree : Asks). Leaves (answer tree []) []) (sym asked.2) refl)
+
+  pub return_asked : (t : Term) (k : Option Kind) (v : Value) → b.term ≡ t → length b.body ≤ p.line
       → ((o : Operand Name) → t ≡ Ret o → k ≡ kind_of o.ty) → ((o : Operand Name) → t ≡ Ret o → v ≡ operand_value (read registers) o)
-      → (before after : List Choice) (items : List Item) → answer (return_step k v [] no_world) before ≡ Did items Over after
-      → answer (asks m (state_at m place registers)) before ≡ Did items Over after
-  return_done (Ret o) k v is past kind value before after items h =
-      let asked : return_step k v [] no_world ≡ asks m (state_at m place registers) =
+      → return_step k v [] no_world ≡ asks m (state_at m place registers)
+  return_asked (Ret o) k v is past kind value =
       ap (λ (j : Option Kind). return_step j v [] no_world) (kind o refl) ∙ ap (λ (w : Value). return_step (kind_of o.ty) w [] no_world) (value o refl)
-      ∙ sym (ap (asks m) here ∙ term_asks m p registers f b o some block past is) in
-      subst (λ (tree : Asks). answer tree before ≡ Did items Over after) asked h
+      ∙ sym (ap (asks m) here ∙ term_asks m p registers f b o some block past is)
 
 -- one part of what holds of the value of an Ok
 pub if_ok_first : {T E : Type 0} (P Q : T → Type 0) (r : Result T E) → IfOk r (λ x. P x × Q x) → IfOk r P
@@ -113,3 +123,18 @@ pub goes_on_from : {E : Type 0} (r : Result Stepped E) (state : State) → IfOk 
     → IfOk r (λ stepped. stepped.progress ≡ progress.Goes → state ≡ Over → ⊥)
 goes_on_from (Ok stepped) state h = λ goes over. over_never_goes stepped.items stepped.progress (h ∙ ap (λ (s : State). progress_of stepped.items s) over) goes
 goes_on_from (Err e) state h = tt
+
+-- a step that is made lacks no choice
+pub lacks_fails : {E : Type 0} (r : Result Stepped E) (tree : Asks) (state : State) (before after left : List Choice)
+    → IfOk r (λ stepped. answer tree before ≡ Did stepped.items state after) → answer tree before ≡ Lacks left → IsErr r
+lacks_fails (Ok stepped) tree state before after left did lacks = absurd (cc)
+lacks_fails (Err e) tree state before after left did lacks = refl
+
+pub memory_only : {T : Type 0} (r : Result T StepEnd) → (IsErr r → IsErrOf r end.Memory) → IsErrOf r end.NoChoice → ⊥
+memory_only r memory e = let none : r ≡ Err end.Memory = memory (ap is_err e) in cc
+
+pub as_it_was : {T E : Type 0} (r : Result T E) (m : Module) (next place : Option Place) (after registers : Registers)
+    → OnErr r (next ≡ place) → OnErr r (after ≡ registers) → OnErr r (state_at m next after ≡ state_at m place registers)
+as_it_was (Ok x) m next place after registers same_place same_registers = tt
+as_it_was (Err e) m next place after registers same_place same_registers =
+    ap (λ (o : Option Place). state_at m o after) same_place ∙ ap (λ (file : Registers). state_at m place file) same_registers

@@ -6,3 +6,5 @@ pub mod Choices
 pub mod Showing
 pub mod Kept
 pub mod Places
+pub mod Examples
+pub mod Laws

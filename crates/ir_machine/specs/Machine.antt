@@ -68,10 +68,15 @@ binary_result registers b =
 abbrev pub line_step : Instr → Frame → List Pending → World → Asks
 line_step (line.Binary b) frame rest world = set_to (kind_of b.ty) b.name (binary_result frame.registers b) frame rest world
 
--- the register that is named is set, at its kind; a value of another kind is poison there, as where a register is read
-abbrev pub set_into : Registers → Option (Name × Kind) → Option Kind → Value → Registers
+-- a value of a kind as it is read at another: poison where the two differ, or there is none to read it at
+abbrev pub at_kind : Option Kind → Option Kind → Value → Value
+at_kind None k v = value.Poison
+at_kind (Some j) k v = held_at j (holding k v)
+
+-- the register that is named is set, at the call's kind; after a call of no kind it isn't set
+abbrev pub set_into : Registers → Option (Name × Option Kind) → Option Kind → Value → Registers
 set_into registers None k v = registers
-set_into registers (Some x) k v = set registers x.0 (Some x.1) (held_at x.1 (holding k v))
+set_into registers (Some x) k v = set registers x.0 x.1 (at_kind x.1 k v)
 
 -- a call that waits gets its result
 abbrev pub resumed : Pending → Option Kind → Value → Frame

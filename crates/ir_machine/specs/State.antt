@@ -14,10 +14,10 @@ pub record Frame : Type 0 where
   pub term : Term
   pub registers : Registers
 
--- A frame that waits for a call to return: the register that the call sets, if it sets one, with the call's kind, and the
--- frame with the lines after the call. The kind of a register is that of the line that defines it.
+-- A frame that waits for a call to return: the register that the call sets, if it sets one, with the call's kind, if it has
+-- one, and the frame with the lines after the call. The kind of a register is that of the line that defines it.
 pub record Pending : Type 0 where
-  pub into : Option (Name × Kind)
+  pub into : Option (Name × Option Kind)
   pub frame : Frame
 
 -- What all frames share: memory, and the names that the outside knows its blocks by, once lines reach them.

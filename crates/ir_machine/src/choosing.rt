@@ -23,7 +23,7 @@ pub trait Chooser {
 }
 
 /// What showing a value to the outside leads to.
-#[derive(Debug, Drop, Clone, Copy)]
+#[derive(Drop, Clone, Copy)]
 pub enum Showing {
     Shows(Shown),
     IsPoison,

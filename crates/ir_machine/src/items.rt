@@ -1,19 +1,19 @@
 use contents::Seq;
 
 /// A value as the outside sees it: a number.
-#[derive(Debug, Drop, Clone, Copy)]
+#[derive(Drop, Clone, Copy)]
 pub enum Shown {
     Num(u64),
 }
 
 /// What is chosen at a step that leaves a choice: what an undef that is shown is taken for.
-#[derive(Debug, Drop)]
+#[derive(Drop)]
 pub enum Choice {
     Pick(Shown),
 }
 
 /// What a run shows.
-#[derive(Debug, Drop)]
+#[derive(Drop)]
 pub enum Item {
     /// A terminator was executed.
     Turn,
@@ -24,7 +24,7 @@ pub enum Item {
 }
 
 /// What a run is started on: one argument for each parameter.
-#[derive(Debug, Drop)]
+#[derive(Drop)]
 pub struct Input {
     pub args: Seq<Shown>,
 }

@@ -6,6 +6,7 @@
 mod choosing;
 mod ends;
 mod items;
+mod laws;
 mod machine;
 mod operands;
 mod reading;
@@ -13,11 +14,13 @@ mod refinement;
 mod registers;
 mod starting;
 mod stepping;
-#[cfg(test)]
-mod tests;
 
 pub use choosing::{Chooser, Showing};
 pub use items::{Choice, Input, Item, Shown};
+pub use laws::{
+    constants_refine_by_value, one_block_runs_end, refined_runs_are_shown, returns_are_told_apart,
+    runs_are_steps,
+};
 pub use machine::{Place, Progress, RunState, StartEnd, StepEnd, Stepped};
 pub use refinement::{answers_are_steps, no_run_is_stuck, refinement_is_a_preorder};
 pub use registers::{Assigned, RegisterFile};

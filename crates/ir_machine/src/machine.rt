@@ -4,7 +4,7 @@ use contents::Seq;
 
 /// Where a run stands: function and block of the module, and the line of the block's body, or its terminator
 /// past the last line.
-#[derive(Debug, Drop, Clone, Copy)]
+#[derive(Drop, Clone, Copy)]
 pub struct Place {
     pub(crate) function: usize,
     pub(crate) block: usize,
@@ -12,14 +12,14 @@ pub struct Place {
 }
 
 /// The state of a run of a module: its place, none once it is over, and the registers.
-#[derive(Debug, Drop)]
+#[derive(Drop)]
 pub struct RunState {
     pub(crate) place: Option<Place>,
     pub(crate) registers: RegisterFile,
 }
 
 /// How a run stands after a step.
-#[derive(Debug, Drop, Clone, Copy)]
+#[derive(Drop, Clone, Copy)]
 pub enum Progress {
     Goes,
     Ended,
@@ -27,14 +27,14 @@ pub enum Progress {
 }
 
 /// A step that was made: the items that it shows, and how the run stands.
-#[derive(Debug, Drop)]
+#[derive(Drop)]
 pub struct Stepped {
     pub items: Seq<Item>,
     pub progress: Progress,
 }
 
 /// Why a step isn't made.
-#[derive(Debug, Drop, Clone, Copy)]
+#[derive(Drop, Clone, Copy)]
 pub enum StepEnd {
     /// A choice is due, and the chooser has none, or its next doesn't fit.
     NoChoice,
@@ -42,7 +42,7 @@ pub enum StepEnd {
 }
 
 /// Why a run isn't started.
-#[derive(Debug, Drop, Clone, Copy)]
+#[derive(Drop, Clone, Copy)]
 pub enum StartEnd {
     NoFunction,
     /// The input hasn't one argument of its kind for each parameter.

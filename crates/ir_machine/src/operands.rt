@@ -79,9 +79,10 @@ pub(crate) fn binary_result(registers: &RegisterFile, binary: &Binary) -> Outcom
     ensures value { result ≡ machine.binary_result (registers_in registers.now) binary.now }
     ensures in_kind { GivesInKind (meaning.kind_of binary.now.ty) result }
 {
-    let left = atom_value(registers, kind_of(&binary.ty), &binary.left);
-    let right = atom_value(registers, kind_of(&binary.ty), &binary.right);
-    match kind_of(&binary.ty) {
+    let kind = kind_of(&binary.ty);
+    let left = atom_value(registers, kind, &binary.left);
+    let right = atom_value(registers, kind, &binary.right);
+    match kind {
         Some(Kind::Int(width)) => eval_binary(binary.op, binary.flags, width, &left, &right),
         None => Outcome::Gives(Value::Poison),
     }

@@ -5,14 +5,14 @@ use ir_core::{Kind, Name, Value};
 
 /// What a register was set to last: the kind of the line or parameter that set it, and a value. None where
 /// that line has no kind.
-#[derive(Debug, Drop)]
+#[derive(Drop)]
 pub struct Assigned {
     pub(crate) name: Name,
     pub(crate) held: Option<(Kind, Value)>,
 }
 
 /// The registers of a function that are set.
-#[derive(Debug, Drop)]
+#[derive(Drop)]
 pub struct RegisterFile {
     pub(crate) entries: Vec<Assigned>,
     ghost in_kind: { AreInKind (registers_of entries.items) } by { AreInKind-prop (registers_of entries.items) },

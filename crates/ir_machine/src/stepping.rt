@@ -28,8 +28,7 @@ fn one_item(alloc: Global, first: Item) -> Result<Seq<Item>, AllocError>
 fn two_items(alloc: Global, first: Item, second: Item) -> Result<Seq<Item>, AllocError>
     ensures { IfOk result (λ items. items ≡ first ∷ second ∷ []) }
 {
-    let mut items = Seq::new(alloc);
-    items.push(first)?;
+    let mut items = one_item(alloc, first)?;
     items.push(second)?;
     Ok(items)
 }

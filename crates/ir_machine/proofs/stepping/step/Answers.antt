@@ -1,6 +1,9 @@
-use Rattle.std.proofs.Common.{sym, refl}
-use Rattle.ir_machine.specs.Places.{registers_in}
-use Rattle.ir_machine.proofs.Steps.{line_done, return_done, if_ok_first, if_ok_second, goes_on_from}
+use Rattle.std.proofs.Common.{◌≡◌, sym, refl, subst}
+use Rattle.ir_machine.specs.State.{Over}
+use Rattle.ir_machine.specs.Machine.{Asks, asks}
+use Rattle.ir_machine.specs.Choices.{Did, answer, TakesAsked}
+use Rattle.ir_machine.specs.Places.{registers_in, state_of}
+use Rattle.ir_machine.proofs.Steps.{line_done, line_tells, return_asked, if_ok_first, if_ok_second, goes_on_from, lacks_fails, memory_only, as_it_was, over_never_goes}
 use Rattle.ir_machine.proofs.stepping.step.Goals as goal
 
 pub returns-then-place-lines-clause-made : goal.returns-then-place-lines-clause-made
@@ -22,9 +25,50 @@ returns-then-place-lines-clause-progress g c = if_ok_second _ _ c.do_line.result
 pub returns-then-place-lines-clause-goes_on : goal.returns-then-place-lines-clause-goes_on
 returns-then-place-lines-clause-goes_on g c = goes_on_from c.do_line.result _ (returns-then-place-lines-clause-progress g c)
 
+pub returns-then-place-lines-clause-no_choice : goal.returns-then-place-lines-clause-no_choice
+returns-then-place-lines-clause-no_choice g c = λ e. absurd (memory_only c.do_line.result c.do_line.ensures.memory e)
+
+pub returns-then-place-lines-clause-lacking : goal.returns-then-place-lines-clause-lacking
+returns-then-place-lines-clause-lacking g c = λ left lacks.
+    lacks_fails c.do_line.result (asks c.args.«module».now (state_of c.args.«module».now c.args.state.now)) (state_of c.args.«module».now c.do_line.new.state)
+    (g.C.Chooser.script c.args.chooser.now) (g.C.Chooser.script c.args.chooser.now) left (returns-then-place-lines-clause-made g c) lacks
+
+pub returns-then-place-lines-clause-told : goal.returns-then-place-lines-clause-told
+returns-then-place-lines-clause-told g c =
+    line_tells c.args.«module».now c.args.state.now.place c.in-Some.place (registers_in c.args.state.now.registers)
+    c.in-Some-get.function.now c.in-Some-get-2.block.now c.in-Some.is (sym c.in-Some-get.ensures) (sym c.in-Some-get-2.ensures)
+    c.index-lines-place.result (rw c.as_slice-lines.ensures at c.if-place-lines.true) (rw c.as_slice-lines.ensures at c.index-lines-place.is)
+    (g.C.Chooser.script c.args.chooser.now)
+
+pub returns-then-place-lines-clause-as_before : goal.returns-then-place-lines-clause-as_before
+returns-then-place-lines-clause-as_before g c =
+    as_it_was c.do_line.result c.args.«module».now c.do_line.new.state.place c.args.state.now.place
+    (registers_in c.do_line.new.state.registers) (registers_in c.args.state.now.registers) c.do_line.ensures.same_place c.do_line.ensures.same_registers
+
 pub returns-clause-made : goal.returns-clause-made
-returns-clause-made g c = return_done c.args.«module».now c.args.state.now.place c.in-Some.place (registers_in c.args.state.now.registers)
+returns-clause-made g c =
+    let asked = return_asked c.args.«module».now c.args.state.now.place c.in-Some.place (registers_in c.args.state.now.registers)
     c.in-Some-get.function.now c.in-Some-get-2.block.now c.in-Some.is (sym c.in-Some-get.ensures) (sym c.in-Some-get-2.ensures)
     c.in-Some-get-2.block.now.term c.kind_of.result c.operand_value-value.result refl (rw c.as_slice-lines.ensures at c.if-place-lines.false)
-    (λ o e. rw e at c.kind_of.ensures) (λ o e. rw e at c.operand_value-value.ensures.value)
-    (g.C.Chooser.script c.args.chooser.now) (g.C.Chooser.script c.last_return.new.chooser) c.in_ok-stepped.stepped.items c.in_ok-stepped.ensures.made
+    (λ o e. rw e at c.kind_of.ensures) (λ o e. rw e at c.operand_value-value.ensures.value) in
+    subst (λ (tree : Asks). answer tree (g.C.Chooser.script c.args.chooser.now) ≡ Did c.in_ok-stepped.stepped.items Over (g.C.Chooser.script c.last_return.new.chooser)) asked
+    c.in_ok-stepped.ensures.made
+
+pub returns-clause-goes_on : goal.returns-clause-goes_on
+returns-clause-goes_on g c = λ goes over. over_never_goes c.in_ok-stepped.stepped.items c.in_ok-stepped.stepped.progress c.in_ok-stepped.ensures.progress goes
+
+pub returns-clause-told : goal.returns-clause-told
+returns-clause-told g c =
+    let asked = return_asked c.args.«module».now c.args.state.now.place c.in-Some.place (registers_in c.args.state.now.registers)
+    c.in-Some-get.function.now c.in-Some-get-2.block.now c.in-Some.is (sym c.in-Some-get.ensures) (sym c.in-Some-get-2.ensures)
+    c.in-Some-get-2.block.now.term c.kind_of.result c.operand_value-value.result refl (rw c.as_slice-lines.ensures at c.if-place-lines.false)
+    (λ o e. rw e at c.kind_of.ensures) (λ o e. rw e at c.operand_value-value.ensures.value) in
+    subst (λ (tree : Asks). TakesAsked tree (g.C.Chooser.script c.args.chooser.now) (g.C.Chooser.script c.last_return.new.chooser)) asked c.last_return.ensures.told
+
+pub returns-in_err-stepped-clause-told : goal.returns-in_err-stepped-clause-told
+returns-in_err-stepped-clause-told g c =
+    let asked = return_asked c.args.«module».now c.args.state.now.place c.in-Some.place (registers_in c.args.state.now.registers)
+    c.in-Some-get.function.now c.in-Some-get-2.block.now c.in-Some.is (sym c.in-Some-get.ensures) (sym c.in-Some-get-2.ensures)
+    c.in-Some-get-2.block.now.term c.kind_of.result c.operand_value-value.result refl (rw c.as_slice-lines.ensures at c.if-place-lines.false)
+    (λ o e. rw e at c.kind_of.ensures) (λ o e. rw e at c.operand_value-value.ensures.value) in
+    subst (λ (tree : Asks). TakesAsked tree (g.C.Chooser.script c.args.chooser.now) (g.C.Chooser.script c.last_return.new.chooser)) asked c.last_return.ensures.told

@@ -1,0 +1,126 @@
+-- Runs are made of steps, and those of one block end.
+use Rattle.std.proofs.Common.{◌≡◌, ◌⊎◌, inl, inr, ℕ, zero, suc, ◌≤◌, List, [], ◌∷◌, ◌++◌, Option, None, Some, MatchOption, refl, sym, ap, ◌∙◌, subst, arith}
+use Rattle.std.specs.Prelude.{option_and_then}
+use Rattle.std.proofs.lemmas.List.{append-nil}
+use Rattle.ir_core.specs.declared.values.Value.{Value}
+use Rattle.ir_core.specs.declared.values.Kind.{Kind}
+use Rattle.ir_core.specs.declared.functions.Instr.{Instr}
+use Rattle.ir_core.specs.declared.functions.Instr.TheVariants as line
+use Rattle.ir_core.specs.declared.functions.Term.{Term}
+use Rattle.ir_core.specs.declared.functions.Term.TheVariants.{Ret}
+use Rattle.ir_core.specs.declared.functions.Param.{Param}
+use Rattle.ir_core.specs.declared.functions.Block.{Block}
+use Rattle.ir_core.specs.declared.functions.Function.{Function}
+use Rattle.ir_core.specs.declared.functions.Module.{Module}
+use Rattle.ir_values.specs.declared.operations.Outcome.{Outcome}
+use Rattle.ir_values.specs.declared.operations.Outcome.TheVariants.{Gives, Trap}
+use Rattle.ir_machine.specs.declared.items.Item.{Item}
+use Rattle.ir_machine.specs.declared.items.Item.TheVariants.{Wrong}
+use Rattle.ir_machine.specs.declared.items.Shown.{Shown}
+use Rattle.ir_machine.specs.Registers.{Registers, no_registers, kind_of, set, read, operand_value}
+use Rattle.ir_machine.specs.State.{Frame, no_world, State, Running, Over}
+use Rattle.ir_machine.specs.Machine.{Made, Follows, asks, at_block, at_entry, binary_result, entered, return_step, shown_value, start, started, term_step, ShowsFrom}
+use Rattle.ir_machine.specs.Refinement.{MayShowFrom, EndTheRun}
+use Rattle.ir_machine.specs.Laws.{Leads, RunsAreSteps, Fit, OneBlockRunsEnd, FirstsAreShown, StartsAreKept, RefinedRunsAreShown}
+use Rattle.ir_machine.proofs.Trees.{AllDo, all_do_made, all_do_show}
+use Rattle.ir_machine.proofs.NeverStuck.{none_is_stuck, ends_are_shown}
+use Rattle.ir_machine.proofs.Runs.{step_on, shows_more}
+
+abbrev StepsShow : Module → ℕ → State → List Item → Type 0
+StepsShow m n s items = (t : State) × (k : ℕ) × (k ≤ n) × Leads m k s items t
+
+steps_of : (m : Module) (n : ℕ) (s : State) (items : List Item) → ShowsFrom m n s items → StepsShow m n s items
+steps_of m zero s items h = (s, zero, omega arith, (h, refl))
+steps_of m (suc n) s items (inl e) = (s, zero, omega arith, (e, refl))
+steps_of m (suc n) s items (inr h) =
+    let rest : StepsShow m n h.0.after h.1 = steps_of m n h.0.after h.1 h.4 in
+    (rest.0, suc rest.1, omega arith, (h.0, h.1, h.2, h.3, rest.3))
+
+shows_of : (m : Module) (k : ℕ) (s t : State) (items : List Item) → Leads m k s items t → ShowsFrom m k s items
+shows_of m zero s t items h = h.0
+shows_of m (suc k) s t items h = inr (h.0, h.1, h.2, h.3, shows_of m k h.0.after t h.1 h.4)
+
+pub runs_are_steps : RunsAreSteps
+runs_are_steps m f input n items = (
+  λ h. leads (start m f input) refl h,
+  λ h. subst (λ (o : Option State). MatchOption o ⊥ (λ s. ShowsFrom m n s items)) (sym h.3)
+      (shows_more m h.2 n h.0 items (shows_of m h.2 h.0 h.1 items h.5) h.4),
+)
+  where
+    leads : (o : Option State) → start m f input ≡ o → MatchOption o ⊥ (λ s. ShowsFrom m n s items)
+        → (s t : State) × (k : ℕ) × (start m f input ≡ Some s) × (k ≤ n) × Leads m k s items t
+    leads None e h = absurd h
+    leads (Some s) e h = let steps : StepsShow m n s items = steps_of m n s items h in (s, steps.0, steps.1, e, steps.2, steps.3)
+
+-- from the state some run shows its end
+abbrev pub EndsFrom : Module → State → Type 0
+EndsFrom m s = (n : ℕ) × (items : List Item) × ShowsFrom m n s items × EndTheRun items
+
+-- a step that ends a run
+last_step : (m : Module) (s : State) (made : Made) → Follows (asks m s) made → made.after ≡ Over → EndsFrom m s
+last_step m s made f over = (1, made.items ++ [], step_on m 0 s made [] f refl, subst (λ (items : List Item). EndTheRun items) (sym (append-nil made.items)) ((ends_are_shown m s made f).0 over))
+
+later : (m : Module) (s t : State) → Follows (asks m s) (record { told = []; items = []; after = t }) → EndsFrom m t → EndsFrom m s
+later m s t f h = (suc h.0, h.1, step_on m h.0 s (record { told = []; items = []; after = t }) h.1 f h.2, h.3)
+
+abbrev IsOver : List Item → State → Type 0
+IsOver items after = after ≡ Over
+
+return_is_over : (k : Option Kind) (v : Value) → AllDo IsOver (return_step k v [] no_world)
+return_is_over k v = all_do_show IsOver k v no_world _ _ refl (λ s after. refl)
+
+returns_over : (t : Term) (frame : Frame) → AllDo IsOver (term_step t frame [] no_world)
+returns_over (Ret o) frame = return_is_over (kind_of o.ty) (operand_value (read frame.registers) o)
+
+abbrev left_in : Frame → List Instr → State
+left_in frame lines = Running (record frame { lines = lines }) [] no_world
+
+ends_from : (m : Module) (lines : List Instr) (frame : Frame) → EndsFrom m (left_in frame lines)
+ends_from m [] frame =
+    let made : (made : Made) × Follows (asks m (left_in frame [])) made = none_is_stuck m (left_in frame []) (λ e. cc) in
+    last_step m (left_in frame []) made.0 made.1 (all_do_made IsOver (asks m (left_in frame [])) made.0 (returns_over frame.term (record frame { lines = [] })) made.1)
+ends_from m (line.Binary b ∷ lines) frame = by_outcome (binary_result frame.registers b) refl (λ next. ends_from m lines next)
+  where
+    by_outcome : (o : Outcome) → binary_result frame.registers b ≡ o → ((next : Frame) → EndsFrom m (left_in next lines)) → EndsFrom m (left_in frame (line.Binary b ∷ lines))
+    by_outcome (Gives v) e rest =
+        later m (left_in frame (line.Binary b ∷ lines)) (left_in (record frame { registers = set frame.registers b.name (kind_of b.ty) v }) lines)
+        (rw e refl) (rest (record frame { registers = set frame.registers b.name (kind_of b.ty) v }))
+    by_outcome Trap e rest = last_step m (left_in frame (line.Binary b ∷ lines)) (record { told = []; items = Wrong ∷ []; after = Over }) (rw e refl) refl
+
+fit_enters : (ps : List Param) (args : List Shown) (registers : Registers) → Fit ps args → (after : Registers) × (entered ps args registers ≡ Some after)
+fit_enters [] [] registers fit = (registers, refl)
+fit_enters (p ∷ ps) (a ∷ args) registers fit =
+    let rest = fit_enters ps args (set registers p.name (kind_of p.ty) (shown_value a)) fit.1 in
+    (rest.0, rw (fit.0) rest.1)
+fit_enters [] (a ∷ args) registers fit = absurd fit
+fit_enters (p ∷ ps) [] registers fit = absurd fit
+
+pub one_block_runs_end : OneBlockRunsEnd
+one_block_runs_end m x f b result input named blocks phis term fit =
+    let registers = fit_enters f.params input.args no_registers fit in
+    let starts : start m x input ≡ Some (Running (at_block f.name b registers.0) [] no_world) =
+    ap (λ (o : Option Function). option_and_then (λ g. started g input) o) named ∙ ap (λ (bs : List Block). at_entry f.name bs (entered f.params input.args no_registers)) blocks
+    ∙ ap (λ (o : Option Registers). at_entry f.name (b ∷ []) o) registers.1 in
+    let ends : EndsFrom m (Running (at_block f.name b registers.0) [] no_world) = ends_from m b.body (at_block f.name b registers.0) in
+    (ends.0, ends.1, subst (λ (o : Option State). MatchOption o ⊥ (λ s. ShowsFrom m ends.0 s ends.1)) (sym starts) ends.2, ends.3)
+
+pub firsts_are_shown : FirstsAreShown
+firsts_are_shown m s x items (inl h) = (h.0, x, items, h.1, inl refl)
+firsts_are_shown m s x items (inr (n, [], rest, e, h)) = (n, Wrong, [], h, inr refl)
+firsts_are_shown m s x items (inr (n, y ∷ seen, rest, e, h)) = (n, y, seen ++ Wrong ∷ [], h, inl (cc))
+
+pub starts_are_kept : StartsAreKept
+starts_are_kept source target h f input s starts none =
+    subst (λ (o : Option State). MatchOption o ⊥ (λ t. MayShowFrom source t [])) none
+    (h f input 0 [] (subst (λ (o : Option State). MatchOption o ⊥ (λ t. ShowsFrom target 0 t [])) (sym starts) refl))
+
+abbrev ShownBy : Module → Option State → List Item → Type 0
+ShownBy m o items = ((k : ℕ) × MatchOption o ⊥ (λ s. ShowsFrom m k s items))
+    ⊎ ((k : ℕ) × (seen : List Item) × (rest : List Item) × (items ≡ seen ++ rest) × MatchOption o ⊥ (λ s. ShowsFrom m k s (seen ++ Wrong ∷ [])))
+
+shown_from : (m : Module) (o : Option State) (items : List Item) → MatchOption o ⊥ (λ s. MayShowFrom m s items) → ShownBy m o items
+shown_from m None items may = absurd may
+shown_from m (Some s) items may = may
+
+pub refined_runs_are_shown : RefinedRunsAreShown
+refined_runs_are_shown source target h f input n items shows = shown_from source (start source f input) items (h f input n items shows)

@@ -1,0 +1,164 @@
+-- Which of the modules written out refine which.
+use Rattle.std.proofs.Common.{◌≡◌, ◌⊎◌, inl, inr, ℕ, Bool, true, false, cond, List, [], ◌∷◌, Option, None, Some, MatchOption, refl, sym, ◌∙◌, subst, arith}
+use Rattle.std.specs.Prelude.{option_and_then}
+use Rattle.ir_core.specs.declared.names.Name.{Name}
+use Rattle.ir_core.specs.declared.values.Value.TheVariants as value
+use Rattle.ir_core.specs.declared.values.Kind.TheVariants.{Int}
+use Rattle.ir_core.specs.declared.operands.Const.{Const}
+use Rattle.ir_core.specs.declared.operands.Const.TheVariants as constant
+use Rattle.ir_core.specs.declared.operands.Ty.TheVariants as ty
+use Rattle.ir_core.specs.declared.operands.Atom.{Atom}
+use Rattle.ir_core.specs.declared.operands.Atom.TheVariants.{Constant, Register}
+use Rattle.ir_core.specs.declared.functions.Instr.{Instr}
+use Rattle.ir_core.specs.declared.functions.Param.{Param}
+use Rattle.ir_core.specs.declared.functions.Function.{Function}
+use Rattle.ir_core.specs.declared.functions.Module.{Module}
+use Rattle.ir_core.proofs.SameLaws.{same_name_refl}
+use Rattle.ir_core.specs.Same.{same_name}
+use Rattle.ir_machine.specs.declared.items.Item.{Item}
+use Rattle.ir_machine.specs.declared.items.Item.TheVariants.{Turn, Wrong}
+use Rattle.ir_machine.specs.declared.items.Shown.TheVariants as shown
+use Rattle.ir_machine.specs.declared.items.Input.{Input}
+use Rattle.ir_machine.specs.Registers.{Registers, no_registers, set, read, constant_value, atom_at}
+use Rattle.ir_machine.specs.State.{no_world, State, Running}
+use Rattle.ir_machine.specs.Machine.{at_block, at_entry, entered, start, started, ShowsFrom}
+use Rattle.ir_machine.specs.Refinement.{MayShowFrom, Refines}
+use Rattle.ir_machine.specs.Examples.{block, defining, returning, taking, wrapping, wrapping_line, number}
+use Rattle.ir_machine.specs.Laws.{ConstantsRefineByValue, NumbersAreKept, NumbersStayDefined, UndefIsAnyNumber, PoisonIsNoNumber, WrongIsRefined, ArgumentsAreSeen}
+use Rattle.ir_machine.proofs.InKind.{constant_in_kind}
+use Rattle.ir_machine.proofs.Runs.{step_on, may_show_nothing, may_step_on}
+use Rattle.ir_machine.proofs.Returning.{Returns, IsReturn, returns_only, returns_shown, may_return, may_show_turn, return_turns, less_defined, simulates}
+
+-- the function's block is entered
+abbrev pub entering : Name → Name → List Instr → Atom Name → Registers → State
+entering f b lines result registers = Running (at_block f (block b lines result) registers) [] no_world
+
+abbrev alone : Name → List Param → Name → List Instr → Atom Name → Function
+alone f params b lines result = record { name = f; result = ty.Int 32; params = params; blocks = block b lines result ∷ [] }
+
+-- the target runs from its state only as the source may from its own
+abbrev pub RunsLike : Module → State → Module → State → Type 0
+RunsLike source s target t = (n : ℕ) (items : List Item) → ShowsFrom target n t items → MayShowFrom source s items
+
+-- what refinement says of two states that the modules start in
+pub refines_from : (source target : Module) (f : Name) (input : Input) (s t : State) → start source f input ≡ Some s → start target f input ≡ Some t
+    → Refines source target → RunsLike source s target t
+refines_from source target f input s t p q h n items shows =
+    subst (λ (o : Option State). MatchOption o ⊥ (λ x. MayShowFrom source x items)) p
+    (h f input n items (subst (λ (o : Option State). MatchOption o ⊥ (λ x. ShowsFrom target n x items)) (sym q) shows))
+
+-- and when it holds of two modules of one function each
+pub refines_by : (f : Name) (params : List Param) (b c : Name) (ls ks : List Instr) (u v : Atom Name)
+    → ((registers : Registers) → RunsLike (defining f params b ls u) (entering f b ls u registers) (defining f params c ks v) (entering f c ks v registers))
+    → Refines (defining f params b ls u) (defining f params c ks v)
+refines_by f params b c ls ks u v h x input n items = by_name (same_name f x)
+  where
+    by_registers : (o : Option Registers) → MatchOption (at_entry f (block c ks v ∷ []) o) ⊥ (λ s. ShowsFrom (defining f params c ks v) n s items)
+        → MatchOption (at_entry f (block b ls u ∷ []) o) ⊥ (λ s. MayShowFrom (defining f params b ls u) s items)
+    by_registers None shows = absurd shows
+    by_registers (Some registers) shows = h registers n items shows
+
+    by_name : (same : Bool) → MatchOption (option_and_then (λ g. started g input) (cond same (Some (alone f params c ks v)) None)) ⊥ (λ s. ShowsFrom (defining f params c ks v) n s items)
+        → MatchOption (option_and_then (λ g. started g input) (cond same (Some (alone f params b ls u)) None)) ⊥ (λ s. MayShowFrom (defining f params b ls u) s items)
+    by_name true shows = by_registers (entered params input.args no_registers) shows
+    by_name false shows = absurd shows
+
+starts : (f b : Name) (lines : List Instr) (result : Atom Name) → start (defining f [] b lines result) f (record { args = [] }) ≡ Some (entering f b lines result no_registers)
+starts f b lines result = rw (same_name_refl f) refl
+
+pub constants_refine : ConstantsRefineByValue
+constants_refine f b c d = (
+  λ h. less_defined (returning f b (Constant c)) (returning f b (Constant d)) (entering f b [] (Constant c) no_registers) (entering f b [] (Constant d) no_registers) (constant_value (Int 32) c) (constant_value (Int 32) d) refl refl
+      (refines_from (returning f b (Constant c)) (returning f b (Constant d)) f (record { args = [] }) (entering f b [] (Constant c) no_registers) (entering f b [] (Constant d) no_registers) (starts f b [] (Constant c)) (starts f b [] (Constant d)) h),
+  λ less. refines_by f [] b b [] [] (Constant c) (Constant d) (λ registers.
+      simulates (returning f b (Constant c)) (returning f b (Constant d)) (entering f b [] (Constant c) registers) (entering f b [] (Constant d) registers) (constant_value (Int 32) c) (constant_value (Int 32) d) refl refl
+      (constant_in_kind (Int 32) d) less),
+)
+
+one_number : (m n : ℕ) → value.Num m ≡ value.Num n → m ≡ n
+one_number m n e = cc
+
+pub numbers_are_kept : NumbersAreKept
+numbers_are_kept f b h =
+    let same : value.Num 8 ≡ value.Num 7 = (constants_refine f b (constant.Number 7) (constant.Number 8)).0 h in
+    let differ = one_number 8 7 same in
+    omega arith
+
+pub numbers_stay_defined : NumbersStayDefined
+numbers_stay_defined f b h =
+    let same : value.Undef ≡ value.Num 7 = (constants_refine f b (constant.Number 7) constant.Undef).0 h in
+    cc
+
+pub undef_is_any_number : UndefIsAnyNumber
+undef_is_any_number f b = (constants_refine f b constant.Undef (constant.Number 7)).1 tt
+
+-- the sum is poison
+abbrev wrapped : Name → Registers → Registers
+wrapped y registers = set registers y (Some (Int 32)) value.Poison
+
+wraps : (m : Module) (f b y : Name) (registers : Registers) → Returns m (entering f b [] (Register y) (wrapped y registers)) value.Poison
+wraps m f b y registers = rw (same_name_refl y) refl
+
+-- what the wrapping module may show: whatever begins with a turn
+wrapping_turns : (f b y : Name) (registers : Registers) (rest : List Item) → MayShowFrom (wrapping f b y) (entering f b (wrapping_line y ∷ []) (Register y) registers) (Turn ∷ rest)
+wrapping_turns f b y registers rest =
+    may_step_on (wrapping f b y) (entering f b (wrapping_line y ∷ []) (Register y) registers)
+    (record { told = []; items = []; after = entering f b [] (Register y) (wrapped y registers) }) (Turn ∷ rest) refl
+    (may_show_turn (wrapping f b y) (entering f b [] (Register y) (wrapped y registers)) rest (wraps (wrapping f b y) f b y registers))
+
+wrapping_wrong : (f b y : Name) (registers : Registers) → ShowsFrom (wrapping f b y) 2 (entering f b (wrapping_line y ∷ []) (Register y) registers) (Turn ∷ Wrong ∷ [])
+wrapping_wrong f b y registers =
+    step_on (wrapping f b y) 1 (entering f b (wrapping_line y ∷ []) (Register y) registers)
+    (record { told = []; items = []; after = entering f b [] (Register y) (wrapped y registers) }) (Turn ∷ Wrong ∷ []) refl
+    (returns_shown (wrapping f b y) (entering f b [] (Register y) (wrapped y registers)) value.Poison (wraps (wrapping f b y) f b y registers) (Turn ∷ Wrong ∷ []) refl)
+
+abbrev at_seven : Name → Name → State
+at_seven f b = entering f b [] (number 7) no_registers
+
+abbrev at_sum : Name → Name → Name → State
+at_sum f b y = entering f b (wrapping_line y ∷ []) (Register y) no_registers
+
+never_seven : (Turn ∷ Wrong ∷ [] ≡ []) ⊎ IsReturn (value.Num 7) (Turn ∷ Wrong ∷ []) → ⊥
+never_seven (inl e) = cc
+never_seven (inr e) = cc
+
+pub poison_is_no_number : PoisonIsNoNumber
+poison_is_no_number f b y h = never_seven (may_return (returning f b (number 7)) (at_seven f b) (value.Num 7) refl (λ e. cc) (Turn ∷ Wrong ∷ [])
+    (refines_from (returning f b (number 7)) (wrapping f b y) f (record { args = [] }) (at_seven f b) (at_sum f b y) (starts f b [] (number 7)) (starts f b (wrapping_line y ∷ []) (Register y))
+    h 2 (Turn ∷ Wrong ∷ []) (wrapping_wrong f b y no_registers)))
+
+pub wrong_is_refined : WrongIsRefined
+wrong_is_refined f b y result = refines_by f [] b b (wrapping_line y ∷ []) [] (Register y) result (λ registers n items shows.
+    turned registers items (returns_only (returning f b result) (entering f b [] result registers) (atom_at (read registers) (Int 32) result) refl n items shows))
+  where
+    turned : (registers : Registers) (items : List Item) → (items ≡ []) ⊎ IsReturn (atom_at (read registers) (Int 32) result) items
+        → MayShowFrom (wrapping f b y) (entering f b (wrapping_line y ∷ []) (Register y) registers) items
+    turned registers items (inl e) = subst (λ (l : List Item). MayShowFrom (wrapping f b y) (entering f b (wrapping_line y ∷ []) (Register y) registers) l) (sym e)
+        (may_show_nothing (wrapping f b y) (entering f b (wrapping_line y ∷ []) (Register y) registers))
+    turned registers items (inr r) =
+        let turns = return_turns (atom_at (read registers) (Int 32) result) items r in
+        subst (λ (l : List Item). MayShowFrom (wrapping f b y) (entering f b (wrapping_line y ∷ []) (Register y) registers) l) (sym turns.1)
+        (wrapping_turns f b y registers turns.0)
+
+-- the registers on entry with that argument
+abbrev taken : Name → ℕ → Registers
+taken x n = set no_registers x (Some (Int 32)) (value.Num n)
+
+returns_argument : (m : Module) (f x b : Name) (n : ℕ) → Returns m (entering f b [] (Register x) (taken x n)) (value.Num n)
+returns_argument m f x b n = rw (same_name_refl x) refl
+
+argument_kept : (f x b : Name) (c : Const) (n : ℕ) → Refines (taking f x b (Register x)) (taking f x b (Constant c))
+    → start (taking f x b (Register x)) f (record { args = shown.Num n ∷ [] }) ≡ Some (entering f b [] (Register x) (taken x n))
+    → start (taking f x b (Constant c)) f (record { args = shown.Num n ∷ [] }) ≡ Some (entering f b [] (Constant c) (taken x n))
+    → constant_value (Int 32) c ≡ value.Num n
+argument_kept f x b c n h p q =
+    less_defined (taking f x b (Register x)) (taking f x b (Constant c)) (entering f b [] (Register x) (taken x n)) (entering f b [] (Constant c) (taken x n))
+    (value.Num n) (constant_value (Int 32) c) (returns_argument (taking f x b (Register x)) f x b n) refl
+    (refines_from (taking f x b (Register x)) (taking f x b (Constant c)) f (record { args = shown.Num n ∷ [] }) (entering f b [] (Register x) (taken x n)) (entering f b [] (Constant c) (taken x n)) p q h)
+
+pub arguments_are_seen : ArgumentsAreSeen
+arguments_are_seen f x b c h =
+    let none : constant_value (Int 32) c ≡ value.Num 0 = argument_kept f x b c 0 h (rw (same_name_refl f) refl) (rw (same_name_refl f) refl) in
+    let one : constant_value (Int 32) c ≡ value.Num 1 = argument_kept f x b c 1 h (rw (same_name_refl f) refl) (rw (same_name_refl f) refl) in
+    let differ = one_number 0 1 (sym none ∙ one) in
+    omega arith

@@ -1,0 +1,97 @@
+-- Laws that hold the definitions of running and refining to what they mean.
+use Rattle.std.specs.Prelude.{◌≡◌, ◌↔◌, ◌⊎◌, ◌≤◌, ℕ, zero, suc, true, List, [], ◌∷◌, ◌++◌, None, Some}
+use Rattle.ir_core.specs.declared.names.Name.{Name}
+use Rattle.ir_core.specs.declared.values.Kind.TheVariants.{Int}
+use Rattle.ir_core.specs.declared.operands.Const.{Const}
+use Rattle.ir_core.specs.declared.operands.Atom.{Atom}
+use Rattle.ir_core.specs.declared.operands.Atom.TheVariants.{Constant, Register}
+use Rattle.ir_core.specs.declared.operands.Operand.{Operand}
+use Rattle.ir_core.specs.declared.functions.Term.TheVariants.{Ret}
+use Rattle.ir_core.specs.declared.functions.Param.{Param}
+use Rattle.ir_core.specs.declared.functions.Block.{Block}
+use Rattle.ir_core.specs.declared.functions.Function.{Function}
+use Rattle.ir_core.specs.declared.functions.Module.{Module}
+use Rattle.ir_values.specs.Values.{IsLessDefined}
+use Rattle.ir_machine.specs.declared.items.Item.{Item}
+use Rattle.ir_machine.specs.declared.items.Item.TheVariants.{Wrong}
+use Rattle.ir_machine.specs.declared.items.Shown.{Shown}
+use Rattle.ir_machine.specs.declared.items.Input.{Input}
+use Rattle.ir_machine.specs.Registers.{constant_value, kind_of}
+use Rattle.ir_machine.specs.State.{State}
+use Rattle.ir_machine.specs.Machine.{Made, Follows, asks, ShowsFrom, function_named, fits_kind, start}
+use Rattle.ir_machine.specs.Refinement.{Shows, MayShowFrom, Refines, EndTheRun}
+use Rattle.ir_machine.specs.Examples.{number, undef, returning, taking, wrapping}
+
+-- A module that returns a constant is refined by one that returns another exactly where the first's value is less defined.
+abbrev pub ConstantsRefineByValue : Type 0
+ConstantsRefineByValue = (f b : Name) (c d : Const)
+    → Refines (returning f b (Constant c)) (returning f b (Constant d)) ↔ IsLessDefined (constant_value (Int 32) c) (constant_value (Int 32) d)
+
+-- 7 isn't refined by 8
+abbrev pub NumbersAreKept : Type 0
+NumbersAreKept = (f b : Name) → Refines (returning f b (number 7)) (returning f b (number 8)) → ⊥
+
+-- nor by undef
+abbrev pub NumbersStayDefined : Type 0
+NumbersStayDefined = (f b : Name) → Refines (returning f b (number 7)) (returning f b undef) → ⊥
+
+-- undef is refined by 7
+abbrev pub UndefIsAnyNumber : Type 0
+UndefIsAnyNumber = (f b : Name) → Refines (returning f b undef) (returning f b (number 7))
+
+-- 7 isn't refined by a sum that wrapped though its flag denies it
+abbrev pub PoisonIsNoNumber : Type 0
+PoisonIsNoNumber = (f b y : Name) → Refines (returning f b (number 7)) (wrapping f b y) → ⊥
+
+-- that sum, whose return is undefined behaviour, is refined by whatever is returned
+abbrev pub WrongIsRefined : Type 0
+WrongIsRefined = (f b y : Name) (result : Atom Name) → Refines (wrapping f b y) (returning f b result)
+
+-- the argument isn't refined by a constant
+abbrev pub ArgumentsAreSeen : Type 0
+ArgumentsAreSeen = (f x b : Name) (c : Const) → Refines (taking f x b (Register x)) (taking f x b (Constant c)) → ⊥
+
+-- a step, and a run from where it leads, make a run
+abbrev pub StepsMakeRuns : Type 0
+StepsMakeRuns = (m : Module) (n : ℕ) (s : State) (made : Made) (rest : List Item)
+    → Follows (asks m s) made → ShowsFrom m n made.after rest → ShowsFrom m (suc n) s (made.items ++ rest)
+
+-- that many steps lead from the state to another, and show these items
+abbrev pub Leads : Module → ℕ → State → List Item → State → Type 0
+Leads m zero s items t = (items ≡ []) × (t ≡ s)
+Leads m (suc n) s items t = (made : Made) × (rest : List Item) × Follows (asks m s) made × (items ≡ made.items ++ rest) × Leads m n made.after rest t
+
+-- a module shows what at most n steps from its start show
+abbrev pub RunsAreSteps : Type 0
+RunsAreSteps = (m : Module) (f : Name) (input : Input) (n : ℕ) (items : List Item)
+    → Shows m f input n items ↔ ((s t : State) × (k : ℕ) × (start m f input ≡ Some s) × (k ≤ n) × Leads m k s items t)
+
+-- one number of its kind for each parameter
+abbrev pub Fit : List Param → List Shown → Type 0
+Fit [] [] = Unit {0}
+Fit (p ∷ ps) (a ∷ args) = (fits_kind (kind_of p.ty) a ≡ true) × Fit ps args
+Fit [] (a ∷ args) = ⊥
+Fit (p ∷ ps) [] = ⊥
+
+-- On fitting input a function of one block, without a phi and with `ret` at its end, ends some run.
+abbrev pub OneBlockRunsEnd : Type 0
+OneBlockRunsEnd = (m : Module) (x : Name) (f : Function) (b : Block) (result : Operand Name) (input : Input)
+    → function_named x m.functions ≡ Some f → f.blocks ≡ b ∷ [] → b.phis ≡ [] → b.term ≡ Ret result → Fit f.params input.args
+    → (n : ℕ) × (items : List Item) × Shows m x input n items × EndTheRun items
+
+-- what may be shown begins as some run does, or some run begins with undefined behaviour
+abbrev pub FirstsAreShown : Type 0
+FirstsAreShown = (m : Module) (s : State) (x : Item) (items : List Item) → MayShowFrom m s (x ∷ items)
+    → (n : ℕ) × (first : Item) × (rest : List Item) × ShowsFrom m n s (first ∷ rest) × ((first ≡ x) ⊎ (first ≡ Wrong))
+
+-- where the target starts, so does the source
+abbrev pub StartsAreKept : Type 0
+StartsAreKept = (source target : Module) → Refines source target
+    → (f : Name) (input : Input) (s : State) → start target f input ≡ Some s → start source f input ≡ None → ⊥
+
+-- the source runs as the target does, or to undefined behaviour after a first part of what the target shows
+abbrev pub RefinedRunsAreShown : Type 0
+RefinedRunsAreShown = (source target : Module) → Refines source target
+    → (f : Name) (input : Input) (n : ℕ) (items : List Item) → Shows target f input n items
+    → ((k : ℕ) × Shows source f input k items)
+    ⊎ ((k : ℕ) × (seen : List Item) × (rest : List Item) × (items ≡ seen ++ rest) × Shows source f input k (seen ++ Wrong ∷ []))

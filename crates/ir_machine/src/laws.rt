@@ -1,0 +1,44 @@
+ghost use Rattle.ir_machine.specs.Laws.{ConstantsRefineByValue, NumbersAreKept, NumbersStayDefined, UndefIsAnyNumber, PoisonIsNoNumber, WrongIsRefined, ArgumentsAreSeen, StepsMakeRuns, RunsAreSteps, OneBlockRunsEnd, FirstsAreShown, StartsAreKept, RefinedRunsAreShown};
+
+/// Empty on purpose: its contract is the law.
+///
+/// Of modules that return a constant, one refines another exactly where the other's value is less defined.
+pub fn constants_refine_by_value()
+    ensures all { ConstantsRefineByValue }
+    ensures other_number { NumbersAreKept }
+    ensures no_number { NumbersStayDefined }
+    ensures any_number { UndefIsAnyNumber }
+{}
+
+/// Empty on purpose: its contract is the law.
+///
+/// Poison isn't a number, and whatever is returned refines it; what is returned depends on the argument.
+pub fn returns_are_told_apart()
+    ensures poison { PoisonIsNoNumber }
+    ensures wrong { WrongIsRefined }
+    ensures argument { ArgumentsAreSeen }
+{}
+
+/// Empty on purpose: its contract is the law.
+///
+/// A module shows what the steps from its start show, one after the other.
+pub fn runs_are_steps()
+    ensures step { StepsMakeRuns }
+    ensures all { RunsAreSteps }
+{}
+
+/// Empty on purpose: its contract is the law.
+///
+/// Where a module refines another, its runs are the other's, up to undefined behaviour.
+pub fn refined_runs_are_shown()
+    ensures start { StartsAreKept }
+    ensures runs { RefinedRunsAreShown }
+    ensures first { FirstsAreShown }
+{}
+
+/// Empty on purpose: its contract is the law.
+///
+/// A function of one block ends some run on each input that fits it.
+pub fn one_block_runs_end()
+    ensures { OneBlockRunsEnd }
+{}
