@@ -1,5 +1,5 @@
 -- Two modules differ exactly where their signatures do, and are valid exactly where each pair is accepted.
-use Rattle.std.proofs.Common.{◌≡◌, ◌∙◌, true, false, cond, List, [], ◌∷◌, refl, ap}
+use Rattle.std.proofs.Common.{◌≡◌, ◌∙◌, true, false, cond, List, [], ◌∷◌, refl, sym, ap}
 use Rattle.std.proofs.lemmas.Bool.{false≢true, cond-true}
 use Rattle.std.specs.Prelude.{◌↔◌}
 use Rattle.ir_core.specs.declared.names.Name.{Name}
@@ -84,3 +84,13 @@ accepted_exactly rules source target hints =
           cond-true test others (modules.Differs difference.Functions) (accepted_are_same rules source hints source.functions target.functions h)
           ∙ accepted_are_valid rules source hints source.functions target.functions h,
     )
+
+-- the same of a verdict that is the one on the two modules
+module _ (rules : Rules) (source target : Module) (hints : Hints) (v : ModuleVerdict) (is : v ≡ module_verdict rules source target hints) where
+  pub accepted_where : v ≡ modules.Valid ↔ AreAccepted rules source hints source.functions target.functions
+  accepted_where =
+      let whole = accepted_exactly rules source target hints in (λ valid. whole.0 (sym is ∙ valid), λ accepted. is ∙ whole.1 accepted)
+
+  pub differs_where : v ≡ modules.Differs difference.Functions ↔ same_list same_signature source.functions target.functions ≡ false
+  differs_where =
+      let whole = differs_exactly rules source target hints in (λ differs. whole.0 (sym is ∙ differs), λ unlike. is ∙ whole.1 unlike)

@@ -1,4 +1,5 @@
 pub mod Alignments
 pub mod Differing
+pub mod Keeping
 pub mod Lending
 pub mod Progressing

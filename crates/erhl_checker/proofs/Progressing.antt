@@ -1,6 +1,7 @@
 -- Steps and lines, one at a time.
-use Rattle.std.proofs.Common.{◌≡◌, ◌∙◌, ℕ, ◌+◌, true, false, Bool, cond, nat_eq, List, ◌∷◌, refl, ap}
-use Rattle.std.specs.Prelude.{Option, None, Some}
+use Rattle.std.proofs.Common.{◌≡◌, ◌∙◌, ℕ, ◌+◌, ◌≤◌, true, false, cond, List, ◌∷◌, length, drop, refl, sym, ap, subst}
+use Rattle.std.proofs.lemmas.List.{drop_all}
+use Rattle.std.specs.Prelude.{Option, None, Some, Result, IfOk}
 use Rattle.ir_core.specs.declared.names.Name.{Name}
 use Rattle.ir_core.specs.declared.functions.Instr.{Instr}
 use Rattle.ir_core.specs.declared.functions.Term.{Term}
@@ -17,7 +18,7 @@ use Rattle.erhl_assert.specs.Alignment.{Line}
 use Rattle.erhl_assert.specs.Postcondition.{after_line}
 use Rattle.erhl_assert.specs.Facts.{scope_of}
 use Rattle.erhl_assert.specs.Steps.{Rules, Meaning, Stepped, Refuses, Knows, and_then, after_rule, after_step, after_steps, steps_at}
-use Rattle.erhl_assert.specs.Acceptance.{lines_verdict, after_steps_at}
+use Rattle.erhl_assert.specs.Acceptance.{lines_verdict, after_steps_at, term_verdict}
 use Rattle.rule_base.specs.Book.{answer_of}
 use Rattle.rule_base.specs.declared.rule_book.Answer.TheVariants.{Unfit, Fits}
 use Rattle.erhl_checker.specs.Cursor.{on_source, on_target, left, line_at}
@@ -30,26 +31,18 @@ rule_by_answer (Some r) m step known =
     elim (r.takes (scope_of m) step.schema) as (λ b. cond b (on_answer Fits step known) (on_answer Unfit step known) ≡ on_answer (cond b Fits Unfit) step known) [ true ↦ refl | false ↦ refl ]
 
 -- the first step of those that are left
-module _ (rules : Rules) (m : Module) (k : ℕ) (s : PlacedStep) (ss : List PlacedStep) (known : Assertion) where
-  abbrev first_at : Bool → Stepped
-  first_at b = cond b (after_step rules m s.step known) (Knows known)
+module _ (rules : Rules) (m : Module) (s : PlacedStep) (ss : List PlacedStep) (known : Assertion) where
+  pub steps_more : (after : Assertion) → after_step rules m s.step known ≡ Knows after → after_steps rules m (s ∷ ss) known ≡ after_steps rules m ss after
+  steps_more after h = ap (λ (r : Stepped). and_then r (after_steps rules m ss)) h
 
-  pub steps_more : (after : Assertion) → cond (nat_eq s.at k) (after_step rules m s.step known) (Knows known) ≡ Knows after
-      → after_steps rules m (steps_at k (s ∷ ss)) known ≡ after_steps rules m (steps_at k ss) after
-  steps_more after h = (elim (nat_eq s.at k) as (λ b. first_at b ≡ Knows after
-      → after_steps rules m (cond b (s ∷ steps_at k ss) (steps_at k ss)) known ≡ after_steps rules m (steps_at k ss) after)
-      [ true ↦ λ e. rw e refl | false ↦ λ e. let same : known ≡ after = cc in rw same refl ]) h
-
-  pub steps_refused : (r : Reason) → cond (nat_eq s.at k) (after_step rules m s.step known) (Knows known) ≡ Refuses r
-      → after_steps rules m (steps_at k (s ∷ ss)) known ≡ Refuses r
-  steps_refused r h = (elim (nat_eq s.at k) as (λ b. first_at b ≡ Refuses r → after_steps rules m (cond b (s ∷ steps_at k ss) (steps_at k ss)) known ≡ Refuses r)
-      [ true ↦ λ e. rw e refl | false ↦ λ e. cc ]) h
+  pub steps_refused : (r : Reason) → after_step rules m s.step known ≡ Refuses r → after_steps rules m (s ∷ ss) known ≡ Refuses r
+  steps_refused r h = ap (λ (p : Stepped). and_then p (after_steps rules m ss)) h
 
 -- the first line of those that are left
 module _ (rules : Rules) (m : Module) (block : Name) (steps : List PlacedStep) (s t : Term) where
   lines_first : (k : ℕ) (l : Line) (ls : List Line) (known : Assertion)
       → lines_verdict rules m block steps k (l ∷ ls) s t known
-      ≡ after_steps_at block k (past_line rules m steps k l known) (lines_verdict rules m block steps (k + 1) ls s t)
+      ≡ after_steps_at block k (past_line rules m (steps_at k steps) l known) (lines_verdict rules m block steps (k + 1) ls s t)
   lines_first k l ls known =
       elim (after_steps rules m (steps_at k steps) known) as (λ r.
       after_steps_at block k r (λ after. lines_verdict rules m block steps (k + 1) ls s t (after_line after l))
@@ -60,14 +53,30 @@ module _ (rules : Rules) (m : Module) (block : Name) (steps : List PlacedStep) (
     abbrev next : Stepped → Verdict
     next r = after_steps_at block k r (lines_verdict rules m block steps (k + 1) (lines_under ls (left (on_source l) xs) (left (on_target l) ys)) s t)
 
-    first : lines_verdict rules m block steps k (lines_under (l ∷ ls) xs ys) s t known ≡ next (past_line rules m steps k (line_at l xs ys) known)
+    first : lines_verdict rules m block steps k (lines_under (l ∷ ls) xs ys) s t known ≡ next (past_line rules m (steps_at k steps) (line_at l xs ys) known)
     first = lines_first k (line_at l xs ys) (lines_under ls (left (on_source l) xs) (left (on_target l) ys)) known
 
-    pub lines_more : (after : Assertion) → past_line rules m steps k (line_at l xs ys) known ≡ Knows after
+    pub lines_more : (here : List PlacedStep) → here ≡ steps_at k steps → (after : Assertion) → past_line rules m here (line_at l xs ys) known ≡ Knows after
         → lines_verdict rules m block steps k (lines_under (l ∷ ls) xs ys) s t known
         ≡ lines_verdict rules m block steps (k + 1) (lines_under ls (left (on_source l) xs) (left (on_target l) ys)) s t after
-    lines_more after h = first ∙ ap next h
+    lines_more here is after h = first ∙ ap (λ (ss : List PlacedStep). next (past_line rules m ss (line_at l xs ys) known)) (sym is) ∙ ap next h
 
-    pub lines_refused : (r : Reason) → past_line rules m steps k (line_at l xs ys) known ≡ Refuses r
+    pub lines_refused : (here : List PlacedStep) → here ≡ steps_at k steps → (r : Reason) → past_line rules m here (line_at l xs ys) known ≡ Refuses r
         → lines_verdict rules m block steps k (lines_under (l ∷ ls) xs ys) s t known ≡ verdict.Refused block (spot.Line k) r
-    lines_refused r h = first ∙ ap next h
+    lines_refused here is r h = first ∙ ap (λ (ss : List PlacedStep). next (past_line rules m ss (line_at l xs ys) known)) (sym is) ∙ ap next h
+
+  -- no line is left
+  module _ (k n : ℕ) (ls : List Letter) (xs ys : List Instr) (known : Assertion) (here : List PlacedStep) (at_last : k ≡ n) (past : length ls ≤ n) (is : here ≡ steps_at n steps) where
+    abbrev left_from : ℕ → Verdict
+    left_from i = lines_verdict rules m block steps i (lines_under (drop i ls) xs ys) s t known
+
+    at_terms_left : after_steps_at block n (after_steps rules m here known) (term_verdict block n s t) ≡ left_from k
+    at_terms_left =
+        ap (λ (ss : List PlacedStep). after_steps_at block n (after_steps rules m ss known) (term_verdict block n s t)) is
+        ∙ sym (ap (λ (rest : List Letter). lines_verdict rules m block steps n (lines_under rest xs ys) s t known) (drop_all n ls past))
+        ∙ sym (ap left_from at_last)
+
+    pub lines_end : (whole : Verdict) → lines_verdict rules m block steps k (lines_under (drop k ls) xs ys) s t known ≡ whole
+        → {E : Type 0} (ended : Result Verdict E)
+        → IfOk ended (λ v. v ≡ after_steps_at block n (after_steps rules m here known) (term_verdict block n s t)) → IfOk ended (λ v. v ≡ whole)
+    lines_end whole so_far ended at_terms = subst (λ (v : Verdict). IfOk ended (λ (w : Verdict). w ≡ v)) (at_terms_left ∙ so_far) at_terms

@@ -1,3 +1,4 @@
 pub mod Cursor
 pub mod Lent
+pub mod Placed
 pub mod Progress

@@ -15,7 +15,7 @@ use ir_core::{Block, Function, Instr, Name, Param, same_name, same_ty};
 use std::alloc::{AllocError, Global};
 
 /// Two blocks that align, lent, with the letters of their lines.
-#[derive(Debug, Drop)]
+#[derive(Drop)]
 pub(crate) struct AlignedBlock<'a> {
     pub(crate) letters: Seq<Letter>,
     pub(crate) source: &'a Block,
@@ -23,7 +23,7 @@ pub(crate) struct AlignedBlock<'a> {
 }
 
 /// What aligning two functions gives.
-#[derive(Debug, Drop)]
+#[derive(Drop)]
 pub(crate) enum Alignment<'a> {
     Aligned(Seq<AlignedBlock<'a>>),
     /// The block at fault.

@@ -1,22 +1,22 @@
 //! Along two blocks, line by line.
-ghost use Rattle.std.specs.Prelude.{◌≡◌, None, IfOk};
+ghost use Rattle.std.specs.Prelude.{◌≡◌, None, IfOk, map};
 ghost use Rattle.ir_core.specs.declared.functions.Term.TheVariants.{Ret};
 ghost use Rattle.erhl_assert.specs.Alignment.{block_hint, entry_or_empty};
-ghost use Rattle.erhl_assert.specs.Steps.{after_steps, steps_at};
+ghost use Rattle.erhl_assert.specs.Steps.{after_steps};
 ghost use Rattle.erhl_assert.specs.Acceptance.{term_verdict, after_steps_at, lines_verdict, from_entry};
-ghost use Rattle.rule_base.specs.Book.{meanings_of};
 ghost use Rattle.erhl_checker.specs.Cursor.{line_at};
 ghost use Rattle.erhl_checker.specs.Lent.{lines_under, lent_block};
 ghost use Rattle.erhl_checker.specs.Progress.{stepped, past_line};
 
 use crate::alignment::{AlignedBlock, hint_of};
 use crate::cursor::{left, on_source, on_target, taken};
+use crate::placed::StepsByLine;
+use crate::rules::Asks;
 use crate::steps::{Progress, after_steps};
 use contents::{Exact, Seq};
 use erhl_assert::{Assertion, Hint, HintBlock, Letter, PlacedStep, Reason, Spot, Verdict};
 use ir_core::{Block, Instr, Module, Name, Operand, Term};
 use postcondition::{after_line, matched};
-use rule_base::{InferRule, RuleBook};
 use std::alloc::{AllocError, Global};
 
 fn refused(alloc: Global, block: &Name, spot: Spot, reason: Reason) -> Result<Verdict, AllocError>
@@ -57,11 +57,11 @@ fn at_terms(
 }
 
 /// The steps before the terminators, and then the terminators.
-fn at_end(
+fn at_end<B: Asks>(
     alloc: Global,
     module: &Module,
-    book: &RuleBook,
-    steps: &Seq<PlacedStep>,
+    book: &B,
+    steps: &[&PlacedStep],
     k: u64,
     source: &Block,
     target: &Block,
@@ -71,14 +71,11 @@ fn at_end(
         (λ v. v
         ≡ after_steps_at source.now.name k
         (after_steps
-        (meanings_of
-        (λ b. (⟦<dyn InferRule as InferRule>⟧ b.vtable).called b.value)
-        (λ b. (⟦<dyn InferRule as InferRule>⟧ b.vtable).takes b.value)
-        book.now.rules.items)
-        «module».now (steps_at k steps.now) known)
+        (B.rules book.now)
+        «module».now (map (λ s. s.now) steps.now) known)
         (term_verdict source.now.name k source.now.term target.now.term)) }
 {
-    match after_steps(alloc, module, book, k, steps, known)? {
+    match after_steps(alloc, module, book, steps, known)? {
         Progress::Known(after) => at_terms(
             alloc,
             &source.name,
@@ -92,12 +89,11 @@ fn at_end(
 }
 
 /// The steps before an aligned line, and then the line.
-fn past_line(
+fn past_line<B: Asks>(
     alloc: Global,
     module: &Module,
-    book: &RuleBook,
-    steps: &Seq<PlacedStep>,
-    k: u64,
+    book: &B,
+    steps: &[&PlacedStep],
     letter: Letter,
     xs: &[Instr],
     ys: &[Instr],
@@ -106,13 +102,10 @@ fn past_line(
     ensures { IfOk result
         (λ progress. stepped progress
         ≡ past_line
-        (meanings_of
-        (λ b. (⟦<dyn InferRule as InferRule>⟧ b.vtable).called b.value)
-        (λ b. (⟦<dyn InferRule as InferRule>⟧ b.vtable).takes b.value)
-        book.now.rules.items)
-        «module».now steps.now k (line_at letter xs.now ys.now) known) }
+        (B.rules book.now)
+        «module».now (map (λ s. s.now) steps.now) (line_at letter xs.now ys.now) known) }
 {
-    match after_steps(alloc, module, book, k, steps, known)? {
+    match after_steps(alloc, module, book, steps, known)? {
         Progress::Known(after) => {
             let source = taken(on_source(letter), xs);
             let target = taken(on_target(letter), ys);
@@ -124,10 +117,10 @@ fn past_line(
 
 /// Along the lines that the letters take of two blocks.
 #[tactic(auto, using(crate::proofs::Progressing::lines_more, crate::proofs::Progressing::lines_refused))]
-fn along(
+fn along<B: Asks>(
     alloc: Global,
     module: &Module,
-    book: &RuleBook,
+    book: &B,
     steps: &Seq<PlacedStep>,
     letters: &[Letter],
     source: &Block,
@@ -137,19 +130,26 @@ fn along(
     ensures { IfOk result
         (λ v. v
         ≡ lines_verdict
-        (meanings_of
-        (λ b. (⟦<dyn InferRule as InferRule>⟧ b.vtable).called b.value)
-        (λ b. (⟦<dyn InferRule as InferRule>⟧ b.vtable).takes b.value)
-        book.now.rules.items)
+        (B.rules book.now)
         «module».now source.now.name steps.now 0 (lines_under letters.now source.now.body target.now.body)
         source.now.term target.now.term entry) }
 {
+    let by_line = StepsByLine::new(alloc, steps.as_slice(), letters.len())?;
     let mut known = entry;
     let mut xs = source.body.as_slice();
     let mut ys = target.body.as_slice();
     for i in 0..letters.len() {
         let letter = letters[i];
-        match past_line(alloc, module, book, steps, i as u64, letter, xs, ys, known)? {
+        match past_line(
+            alloc,
+            module,
+            book,
+            by_line.before(i).as_slice(),
+            letter,
+            xs,
+            ys,
+            known,
+        )? {
             Progress::Known(after) => known = after,
             Progress::Refused(reason) => {
                 return refused(alloc, &source.name, Spot::Line(i as u64), reason);
@@ -162,7 +162,7 @@ fn along(
         alloc,
         module,
         book,
-        steps,
+        by_line.before(letters.len()).as_slice(),
         letters.len() as u64,
         source,
         target,
@@ -171,20 +171,17 @@ fn along(
 }
 
 /// Two entry blocks with the hint that is given for them. Nothing is known of registers on entry, so the hint may want no fact.
-fn hinted(
+fn hinted<B: Asks>(
     alloc: Global,
     module: &Module,
-    book: &RuleBook,
+    book: &B,
     hint: &HintBlock,
     block: &AlignedBlock<'_>,
 ) -> Result<Verdict, AllocError>
     ensures { IfOk result
         (λ v. v
         ≡ from_entry
-        (meanings_of
-        (λ b. (⟦<dyn InferRule as InferRule>⟧ b.vtable).called b.value)
-        (λ b. (⟦<dyn InferRule as InferRule>⟧ b.vtable).takes b.value)
-        book.now.rules.items)
+        (B.rules book.now)
         «module».now hint.now (lent_block block.now) hint.now.entry.src hint.now.entry.tgt) }
 {
     if let Some(fact) = hint.entry.src.as_slice().first() {
@@ -228,20 +225,17 @@ fn empty_hint(alloc: Global, block: &Name) -> Result<HintBlock, AllocError>
 }
 
 /// The verdict on two entry blocks.
-pub(crate) fn entry_verdict(
+pub(crate) fn entry_verdict<B: Asks>(
     alloc: Global,
     module: &Module,
-    book: &RuleBook,
+    book: &B,
     hint: &Hint,
     block: &AlignedBlock<'_>,
 ) -> Result<Verdict, AllocError>
     ensures { IfOk result
         (λ v. v
         ≡ from_entry
-        (meanings_of
-        (λ b. (⟦<dyn InferRule as InferRule>⟧ b.vtable).called b.value)
-        (λ b. (⟦<dyn InferRule as InferRule>⟧ b.vtable).takes b.value)
-        book.now.rules.items)
+        (B.rules book.now)
         «module».now (block_hint hint.now block.now.source.now.name) (lent_block block.now)
         (block_hint hint.now block.now.source.now.name).entry.src (block_hint hint.now block.now.source.now.name).entry.tgt) }
 {

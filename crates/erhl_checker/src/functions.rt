@@ -9,27 +9,26 @@ ghost use Rattle.erhl_checker.specs.Lent.{lent_block};
 use crate::CheckEnd;
 use crate::alignment::{AlignedBlock, Alignment, align};
 use crate::blocks::entry_verdict;
+use crate::rules::{Asks, Lent};
 use erhl_assert::{Hint, Reason, Spot, Verdict};
 use erhl_soundness::accepted_functions_refine;
 use ir_core::{Function, Module};
 use rule_base::{InferRule, RuleBook, book_is_sound};
 use std::alloc::{AllocError, Global};
+use std::marker::PhantomData;
 
 /// The blocks that are reached: no terminator leads to another block, so the entry alone.
-fn reached_verdict(
+fn reached_verdict<B: Asks>(
     alloc: Global,
     module: &Module,
-    book: &RuleBook,
+    book: &B,
     hint: &Hint,
     blocks: &[AlignedBlock<'_>],
 ) -> Result<Verdict, AllocError>
     ensures { IfOk result
         (λ v. v
         ≡ reached_verdict
-        (meanings_of
-        (λ b. (⟦<dyn InferRule as InferRule>⟧ b.vtable).called b.value)
-        (λ b. (⟦<dyn InferRule as InferRule>⟧ b.vtable).takes b.value)
-        book.now.rules.items)
+        (B.rules book.now)
         «module».now hint.now (map lent_block blocks.now)) }
 {
     match blocks.first() {
@@ -38,10 +37,10 @@ fn reached_verdict(
     }
 }
 
-pub(crate) fn function_verdict(
+pub(crate) fn function_verdict<B: Asks>(
     alloc: Global,
     module: &Module,
-    book: &RuleBook,
+    book: &B,
     hint: &Hint,
     source: &Function,
     target: &Function,
@@ -49,10 +48,7 @@ pub(crate) fn function_verdict(
     ensures { IfOk result
         (λ v. v
         ≡ function_verdict
-        (meanings_of
-        (λ b. (⟦<dyn InferRule as InferRule>⟧ b.vtable).called b.value)
-        (λ b. (⟦<dyn InferRule as InferRule>⟧ b.vtable).takes b.value)
-        book.now.rules.items)
+        (B.rules book.now)
         «module».now source.now target.now hint.now) }
 {
     match align(alloc, hint, source, target)? {
@@ -97,7 +93,11 @@ pub fn check_function(
 {
     book_is_sound(book);
     accepted_functions_refine();
-    match function_verdict(alloc, module, book, hint, src, tgt) {
+    let rules = Lent {
+        book,
+        boxes: PhantomData,
+    };
+    match function_verdict(alloc, module, &rules, hint, src, tgt) {
         Ok(verdict) => Ok(verdict),
         Err(_) => Err(CheckEnd::Memory),
     }

@@ -7,6 +7,8 @@ mod blocks;
 mod cursor;
 mod functions;
 mod modules;
+mod placed;
+mod rules;
 mod steps;
 
 pub use functions::check_function;

@@ -8,12 +8,14 @@ ghost use Rattle.rule_base.specs.Book.{meanings_of};
 
 use crate::CheckEnd;
 use crate::functions::function_verdict;
+use crate::rules::{Asks, Lent};
 use contents::{Exact, Seq};
 use erhl_assert::{Difference, FunctionHint, Hint, Hints, ModuleVerdict, Verdict};
 use erhl_soundness::accepted_modules_refine;
 use ir_core::{Function, Module, Name, Param, same_name, same_ty};
 use rule_base::{InferRule, RuleBook, book_is_sound};
 use std::alloc::{AllocError, Global};
+use std::marker::PhantomData;
 
 fn same_param_types(source: &[Param], target: &[Param]) -> bool
     ensures { result ≡ same.same_list same.same_ty (map (λ p. p.ty) source.now) (map (λ p. p.ty) target.now) }
@@ -73,10 +75,10 @@ fn hint_of<'a>(hints: &'a Hints, function: &Name) -> Option<&'a FunctionHint>
 }
 
 /// The verdict on two functions under the hint that the hints have for the source's, or an empty one.
-fn hinted_verdict(
+fn hinted_verdict<B: Asks>(
     alloc: Global,
     module: &Module,
-    book: &RuleBook,
+    book: &B,
     hints: &Hints,
     source: &Function,
     target: &Function,
@@ -84,10 +86,7 @@ fn hinted_verdict(
     ensures { IfOk result
         (λ v. v
         ≡ acceptance.function_verdict
-        (meanings_of
-        (λ b. (⟦<dyn InferRule as InferRule>⟧ b.vtable).called b.value)
-        (λ b. (⟦<dyn InferRule as InferRule>⟧ b.vtable).takes b.value)
-        book.now.rules.items)
+        (B.rules book.now)
         «module».now source.now target.now (acceptance.hint_for hints.now source.now.name)) }
 {
     match hint_of(hints, &source.name) {
@@ -102,10 +101,10 @@ fn hinted_verdict(
 }
 
 /// The first function that isn't valid decides.
-fn functions_verdict(
+fn functions_verdict<B: Asks>(
     alloc: Global,
     module: &Module,
-    book: &RuleBook,
+    book: &B,
     hints: &Hints,
     source: &[Function],
     target: &[Function],
@@ -113,10 +112,7 @@ fn functions_verdict(
     ensures { IfOk result
         (λ v. v
         ≡ acceptance.functions_verdict
-        (meanings_of
-        (λ b. (⟦<dyn InferRule as InferRule>⟧ b.vtable).called b.value)
-        (λ b. (⟦<dyn InferRule as InferRule>⟧ b.vtable).takes b.value)
-        book.now.rules.items)
+        (B.rules book.now)
         «module».now hints.now source.now target.now) }
 {
     let mut rest = target;
@@ -148,9 +144,9 @@ fn functions_verdict(
     }
 }
 
-fn module_verdict(
+fn module_verdict<B: Asks>(
     alloc: Global,
-    book: &RuleBook,
+    book: &B,
     hints: &Hints,
     source: &Module,
     target: &Module,
@@ -158,10 +154,7 @@ fn module_verdict(
     ensures { IfOk result
         (λ v. v
         ≡ acceptance.module_verdict
-        (meanings_of
-        (λ b. (⟦<dyn InferRule as InferRule>⟧ b.vtable).called b.value)
-        (λ b. (⟦<dyn InferRule as InferRule>⟧ b.vtable).takes b.value)
-        book.now.rules.items)
+        (B.rules book.now)
         source.now target.now hints.now) }
 {
     let functions = source.functions.as_slice();
@@ -207,7 +200,11 @@ pub fn check_module(
 {
     book_is_sound(book);
     accepted_modules_refine();
-    match module_verdict(alloc, book, hints, source, target) {
+    let rules = Lent {
+        book,
+        boxes: PhantomData,
+    };
+    match module_verdict(alloc, &rules, hints, source, target) {
         Ok(verdict) => Ok(verdict),
         Err(_) => Err(CheckEnd::Memory),
     }

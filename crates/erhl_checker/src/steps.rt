@@ -1,19 +1,19 @@
 //! The steps of a hint.
-ghost use Rattle.std.specs.Prelude.{◌≡◌, IfOk, cond, nat_eq};
+ghost use Rattle.std.specs.Prelude.{◌≡◌, IfOk, map};
 ghost use Rattle.std.specs.Option.{option_copied};
 ghost use Rattle.erhl_assert.specs.Steps as logic;
-ghost use Rattle.rule_base.specs.Book.{meanings_of};
 ghost use Rattle.erhl_checker.specs.Progress.{stepped, on_answer};
 
+use crate::rules::Asks;
 use contents::{Exact, Seq};
 use erhl_assert::{Assertion, Fact, HintStep, PlacedStep, Reason, RuleStep, Side};
 use ir_core::Module;
 use postcondition::{has_fact, with_fact};
-use rule_base::{Answer, InferRule, RuleBook};
+use rule_base::Answer;
 use std::alloc::{AllocError, Global};
 
 /// What steps lead to: a refusal, or what is known after them.
-#[derive(Debug, Drop)]
+#[derive(Drop)]
 pub(crate) enum Progress {
     Refused(Reason),
     Known(Assertion),
@@ -88,10 +88,10 @@ fn on_answer(
 }
 
 #[tactic(auto, using(crate::proofs::Progressing::rule_by_answer))]
-fn after_rule(
+fn after_rule<B: Asks>(
     alloc: Global,
     module: &Module,
-    book: &RuleBook,
+    book: &B,
     step: &RuleStep,
     known: Assertion,
 ) -> Result<Progress, AllocError>
@@ -99,10 +99,7 @@ fn after_rule(
         (λ progress. stepped progress
         ≡ logic.after_rule
         (logic.rule_named
-        (meanings_of
-        (λ b. (⟦<dyn InferRule as InferRule>⟧ b.vtable).called b.value)
-        (λ b. (⟦<dyn InferRule as InferRule>⟧ b.vtable).takes b.value)
-        book.now.rules.items)
+        (B.rules book.now)
         step.now.rule)
         «module».now step.now known) }
 {
@@ -110,56 +107,36 @@ fn after_rule(
     on_answer(alloc, answer, step, known)
 }
 
-/// One step, where it stands before line k.
-fn after_placed(
+fn after_step<B: Asks>(
     alloc: Global,
     module: &Module,
-    book: &RuleBook,
-    k: u64,
-    placed: &PlacedStep,
+    book: &B,
+    step: &HintStep,
     known: Assertion,
 ) -> Result<Progress, AllocError>
     ensures { IfOk result
-        (λ progress. stepped progress
-        ≡ cond (nat_eq placed.now.at k)
-        (logic.after_step
-        (meanings_of
-        (λ b. (⟦<dyn InferRule as InferRule>⟧ b.vtable).called b.value)
-        (λ b. (⟦<dyn InferRule as InferRule>⟧ b.vtable).takes b.value)
-        book.now.rules.items)
-        «module».now placed.now.step known)
-        (logic.Knows known)) }
+        (λ progress. stepped progress ≡ logic.after_step (B.rules book.now) «module».now step.now known) }
 {
-    if placed.at == k {
-        let HintStep::Rule(step) = &placed.step;
-        after_rule(alloc, module, book, step, known)
-    } else {
-        Ok(Progress::Known(known))
-    }
+    let HintStep::Rule(step) = step;
+    after_rule(alloc, module, book, step, known)
 }
 
-/// The steps before line k, in their order.
+/// The steps in their order.
 #[tactic(auto, using(crate::proofs::Progressing::steps_more, crate::proofs::Progressing::steps_refused))]
-pub(crate) fn after_steps(
+pub(crate) fn after_steps<B: Asks>(
     alloc: Global,
     module: &Module,
-    book: &RuleBook,
-    k: u64,
-    steps: &Seq<PlacedStep>,
+    book: &B,
+    steps: &[&PlacedStep],
     before: Assertion,
 ) -> Result<Progress, AllocError>
     ensures { IfOk result
         (λ progress. stepped progress
-        ≡ logic.after_steps
-        (meanings_of
-        (λ b. (⟦<dyn InferRule as InferRule>⟧ b.vtable).called b.value)
-        (λ b. (⟦<dyn InferRule as InferRule>⟧ b.vtable).takes b.value)
-        book.now.rules.items)
-        «module».now (logic.steps_at k steps.now) before) }
+        ≡ logic.after_steps (B.rules book.now) «module».now (map (λ s. s.now) steps.now) before) }
 {
     let mut known = before;
-    for placed in steps.as_slice() {
-        match after_placed(alloc, module, book, k, placed, known)? {
+    for placed in steps {
+        match after_step(alloc, module, book, &placed.step, known)? {
             Progress::Known(after) => known = after,
             Progress::Refused(reason) => return Ok(Progress::Refused(reason)),
         }

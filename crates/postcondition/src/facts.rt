@@ -38,7 +38,7 @@ fn atom_names(register: &Reg, atom: &Atom<Reg>) -> bool
     }
 }
 
-pub(crate) fn expr_names(register: &Reg, expr: &Expr0) -> bool
+fn expr_names(register: &Reg, expr: &Expr0) -> bool
     ensures { result ≡ expr_names register.now expr.now }
 {
     match expr {

@@ -9,6 +9,3 @@ mod registers;
 pub use facts::{has_fact, with_fact};
 pub use lines::after_line;
 pub use matching::matched;
-
-#[cfg(test)]
-mod tests;

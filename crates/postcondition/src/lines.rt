@@ -1,14 +1,16 @@
 //! What is known after an aligned line.
-ghost use Rattle.std.specs.Prelude.{◌≡◌, ◌&&◌, IfOk, None, Some, cond};
+ghost use Rattle.std.specs.Prelude.{◌≡◌, ◌&&◌, ◌++◌, [], ◌∷◌, IfOk, None, Some, cond};
 ghost use Rattle.ir_core.specs.Same.{same_name};
 ghost use Rattle.std.specs.Option.{option_copied};
 ghost use Rattle.ir_core.specs.declared.expressions.Reg.TheVariants.{Now};
 ghost use Rattle.ir_core.specs.declared.functions.Instr.TheVariants as line;
 ghost use Rattle.ir_values.specs.Laws.{flags_among};
+ghost use Rattle.erhl_assert.specs.declared.facts.Fact.TheVariants.{LessDef};
+ghost use Rattle.erhl_assert.specs.Facts.{atom_names, expr_names, without_naming};
 ghost use Rattle.erhl_assert.specs.Matched.{now_atom};
 ghost use Rattle.erhl_assert.specs.Postcondition.{right_side, register_of, facts_after_line, lines_agree, without_reg, with_reg, after_line};
 
-use crate::facts::{expr_names, without_naming};
+use crate::facts::without_naming;
 use crate::matching::atoms_matched;
 use crate::registers::{with_reg, without_reg};
 use contents::{Exact, Seq};
@@ -50,21 +52,74 @@ fn register_of(alloc: Global, line: &Binary) -> Result<Expr0, AllocError>
     }))
 }
 
-/// What is known of a side after its line: the register and the right side are less defined than each other.
+fn less_def(alloc: Global, a: &Expr0, b: &Expr0) -> Result<Fact, AllocError>
+    ensures { IfOk result (λ fact. fact ≡ LessDef a.now b.now) }
+{
+    let a = a.copy(alloc)?;
+    Ok(Fact::LessDef(a, b.copy(alloc)?))
+}
+
+fn with_both(mut facts: Seq<Fact>, there: Fact, back: Fact) -> Result<Seq<Fact>, AllocError>
+    ensures { IfOk result (λ after. after ≡ (facts ++ there ∷ []) ++ back ∷ []) }
+{
+    facts.push(there)?;
+    facts.push(back)?;
+    Ok(facts)
+}
+
+/// The facts, and then that the two expressions are less defined than each other.
+fn with_equal(alloc: Global, facts: Seq<Fact>, a: Expr0, b: Expr0) -> Result<Seq<Fact>, AllocError>
+    ensures { IfOk result (λ after. after ≡ (facts ++ LessDef a b ∷ []) ++ LessDef b a ∷ []) }
+{
+    let back = less_def(alloc, &b, &a)?;
+    with_both(facts, Fact::LessDef(a, b), back)
+}
+
+/// The facts, and then that the register and the right side are less defined than each other.
+fn with_line(alloc: Global, facts: Seq<Fact>, line: &Binary) -> Result<Seq<Fact>, AllocError>
+    ensures { IfOk result
+        (λ after. after
+        ≡ (facts ++ LessDef (register_of line.now) (right_side line.now) ∷ [])
+        ++ LessDef (right_side line.now) (register_of line.now) ∷ []) }
+{
+    let register = register_of(alloc, line)?;
+    with_equal(alloc, facts, register, right_side(alloc, line)?)
+}
+
+fn is_named(name: &Name, atom: &Atom<Name>) -> bool
+    ensures { result ≡ atom_names (Now name.now) (now_atom atom.now) }
+{
+    match atom {
+        Atom::Constant(_) => false,
+        Atom::Register(other) => same_name(name, other),
+    }
+}
+
+/// Whether the register of a line stands in its right side.
+fn names_itself(line: &Binary) -> bool
+    ensures { result ≡ expr_names (Now line.now.name) (right_side line.now) }
+{
+    is_named(&line.name, &line.left) || is_named(&line.name, &line.right)
+}
+
+fn without_name(alloc: Global, name: &Name, facts: Seq<Fact>) -> Result<Seq<Fact>, AllocError>
+    ensures { IfOk result (λ kept. kept ≡ without_naming (Now name.now) facts) }
+{
+    Ok(without_naming(&Reg::Now(name.copy(alloc)?), facts))
+}
+
+/// What is known of a side after its line.
 #[tactic(auto, using(crate::proofs::Fresh::facts_added))]
 fn facts_after(alloc: Global, line: &Binary, facts: Seq<Fact>) -> Result<Seq<Fact>, AllocError>
     ensures { IfOk result (λ after. after ≡ facts_after_line line.now facts) }
 {
-    let register = Reg::Now(line.name.copy(alloc)?);
-    let mut kept = without_naming(&register, facts);
-    let right = right_side(alloc, line)?;
-    if expr_names(&register, &right) {
-        return Ok(kept);
+    let kept = without_name(alloc, &line.name, facts)?;
+    if names_itself(line) {
+        Ok(kept)
+    } else {
+        // No fact that is left names the register, so neither of these is there yet.
+        with_line(alloc, kept, line)
     }
-    // No fact that is left names the register, so neither of these is there yet.
-    kept.push(Fact::LessDef(register_of(alloc, line)?, right_side(alloc, line)?))?;
-    kept.push(Fact::LessDef(right, register_of(alloc, line)?))?;
-    Ok(kept)
 }
 
 /// Whether each flag of the first is one of the second's.
@@ -107,19 +162,18 @@ fn agreeing(alloc: Global, name: &Name, diff: Seq<Reg>) -> Result<Seq<Reg>, Allo
 fn diff_after_both(
     alloc: Global,
     agree: bool,
-    s: &Binary,
-    t: &Binary,
+    s: &Name,
+    t: &Name,
     diff: Seq<Reg>,
 ) -> Result<Seq<Reg>, AllocError>
     ensures { IfOk result
         (λ after. after
-        ≡ cond agree (without_reg (Now s.now.name) diff)
-        (with_reg (Now t.now.name) (with_reg (Now s.now.name) diff))) }
+        ≡ cond agree (without_reg (Now s.now) diff) (with_reg (Now t.now) (with_reg (Now s.now) diff))) }
 {
     if agree {
-        agreeing(alloc, &s.name, diff)
+        agreeing(alloc, s, diff)
     } else {
-        differing(alloc, &t.name, differing(alloc, &s.name, diff)?)
+        differing(alloc, t, differing(alloc, s, diff)?)
     }
 }
 
@@ -138,7 +192,7 @@ fn after_both(
     Ok(Assertion {
         src: facts_after(alloc, s, src)?,
         tgt: facts_after(alloc, t, tgt)?,
-        diff: diff_after_both(alloc, agree, s, t, diff)?,
+        diff: diff_after_both(alloc, agree, &s.name, &t.name, diff)?,
     })
 }
 

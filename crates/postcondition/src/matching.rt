@@ -7,7 +7,7 @@ ghost use Rattle.ir_core.specs.declared.expressions.Expr0.TheVariants.{Plain};
 ghost use Rattle.ir_core.specs.Same.{same_reg, same_atom, same_expr};
 ghost use Rattle.ir_machine.specs.Registers.{kind_of};
 ghost use Rattle.erhl_assert.specs.Sides.{has_reg};
-ghost use Rattle.erhl_assert.specs.Matched.{now_atom, now_operand, of_plain, from_fact, some_into, is_kind, meet, matched_at, matched, atoms_matched};
+ghost use Rattle.erhl_assert.specs.Matched.{now_atom, now_operand, of_plain, from_fact, into_fact, some_into, is_kind, meet, meet_at, matched_at, matched, atoms_matched};
 ghost use Rattle.postcondition.specs.InLogic.{atom_in_logic};
 
 use contents::Seq;
@@ -96,6 +96,32 @@ fn is_kind(ty: &Ty, kind: Kind) -> bool
     }
 }
 
+/// Whether c and the target's operand are one constant of one type, or one register that doesn't differ.
+fn is_one_now<R: InLogic>(diff: &Seq<Reg>, s: &Ty, c: &Atom<R>, t: &Ty, b: &Atom<Name>) -> bool
+    ensures { result
+        ≡ meet_at diff.now (record { ty = s.now; atom = atom_in_logic R.in_logic c.now })
+        (now_operand (record { ty = t.now; atom = b.now })) (atom_in_logic R.in_logic c.now) (now_atom b.now) }
+{
+    match (c, b) {
+        (Atom::Constant(m), Atom::Constant(n)) => same_ty(s, t) && same_const(m, n),
+        (Atom::Register(x), Atom::Register(y)) => x.is_now(y) && !may_differ(x, diff),
+        _ => false,
+    }
+}
+
+/// Whether c and an operand of a fact are one constant of one type, or one register that doesn't differ.
+fn is_one<R: InLogic>(diff: &Seq<Reg>, s: &Ty, c: &Atom<R>, d: &Operand<Reg>) -> bool
+    ensures { result
+        ≡ meet_at diff.now (record { ty = s.now; atom = atom_in_logic R.in_logic c.now }) d.now
+        (atom_in_logic R.in_logic c.now) d.now.atom }
+{
+    match (c, &d.atom) {
+        (Atom::Constant(m), Atom::Constant(n)) => same_ty(s, &d.ty) && same_const(m, n),
+        (Atom::Register(x), Atom::Register(y)) => x.is_reg(y) && !may_differ(x, diff),
+        _ => false,
+    }
+}
+
 /// Whether c and the target's operand are one, of that kind.
 fn meets_now<R: InLogic>(
     diff: &Seq<Reg>,
@@ -109,29 +135,10 @@ fn meets_now<R: InLogic>(
         ≡ meet diff.now kind (record { ty = s.now; atom = atom_in_logic R.in_logic c.now })
         (now_operand (record { ty = t.now; atom = b.now })) }
 {
-    is_kind(s, kind)
-        && is_kind(t, kind)
-        && match (c, b) {
-            (Atom::Constant(m), Atom::Constant(n)) => same_ty(s, t) && same_const(m, n),
-            (Atom::Register(x), Atom::Register(y)) => x.is_now(y) && !may_differ(x, diff),
-            _ => false,
-        }
+    is_kind(s, kind) && is_kind(t, kind) && is_one_now(diff, s, c, t, b)
 }
 
 /// Whether c and an operand of a fact are one, of that kind.
-fn meets_reg<R: InLogic>(diff: &Seq<Reg>, kind: Kind, s: &Ty, c: &Atom<R>, d: &Operand<Reg>) -> bool
-    ensures { result
-        ≡ meet diff.now kind (record { ty = s.now; atom = atom_in_logic R.in_logic c.now }) d.now }
-{
-    is_kind(s, kind)
-        && is_kind(&d.ty, kind)
-        && match (c, &d.atom) {
-            (Atom::Constant(m), Atom::Constant(n)) => same_ty(s, &d.ty) && same_const(m, n),
-            (Atom::Register(x), Atom::Register(y)) => x.is_reg(y) && !may_differ(x, diff),
-            _ => false,
-        }
-}
-
 fn meets_plain<R: InLogic>(diff: &Seq<Reg>, kind: Kind, s: &Ty, c: &Atom<R>, expr: &Expr0) -> bool
     ensures { result
         ≡ of_plain
@@ -139,7 +146,7 @@ fn meets_plain<R: InLogic>(diff: &Seq<Reg>, kind: Kind, s: &Ty, c: &Atom<R>, exp
         expr.now }
 {
     match expr {
-        Expr0::Plain(d) => meets_reg(diff, kind, s, c, d),
+        Expr0::Plain(d) => is_kind(s, kind) && is_kind(&d.ty, kind) && is_one(diff, s, c, d),
         Expr0::Binary(_) => false,
     }
 }
@@ -164,6 +171,49 @@ fn is_plain_now(expr: &Expr0, ty: &Ty, atom: &Atom<Name>) -> bool
     }
 }
 
+/// Whether the fact says that c is less defined than the target's operand.
+fn leads_into<R: InLogic>(
+    fact: &Fact,
+    diff: &Seq<Reg>,
+    kind: Kind,
+    s: &Ty,
+    c: &Atom<R>,
+    t: &Ty,
+    b: &Atom<Name>,
+) -> bool
+    ensures { result
+        ≡ into_fact
+        (λ d. meet diff.now kind (record { ty = s.now; atom = atom_in_logic R.in_logic c.now }) d)
+        (now_operand (record { ty = t.now; atom = b.now })) fact.now }
+{
+    let Fact::LessDef(x, y) = fact;
+    is_plain_now(y, t, b) && meets_plain(diff, kind, s, c, x)
+}
+
+fn some_leads_into<R: InLogic>(
+    facts: &[Fact],
+    diff: &Seq<Reg>,
+    kind: Kind,
+    s: &Ty,
+    c: &Atom<R>,
+    t: &Ty,
+    b: &Atom<Name>,
+) -> bool
+    ensures { result
+        ≡ list_any
+        (into_fact
+        (λ d. meet diff.now kind (record { ty = s.now; atom = atom_in_logic R.in_logic c.now }) d)
+        (now_operand (record { ty = t.now; atom = b.now })))
+        facts.now }
+{
+    for fact in facts {
+        if leads_into(fact, diff, kind, s, c, t, b) {
+            return true;
+        }
+    }
+    false
+}
+
 /// Whether c is the target's operand, or is known on the target to be less defined than it.
 fn reaches<R: InLogic>(
     known: &Assertion,
@@ -179,16 +229,8 @@ fn reaches<R: InLogic>(
         (record { ty = s.now; atom = atom_in_logic R.in_logic c.now }) d)
         (now_operand (record { ty = t.now; atom = b.now })) known.now.tgt }
 {
-    if meets_now(&known.diff, kind, s, c, t, b) {
-        return true;
-    }
-    for fact in known.tgt.as_slice() {
-        let Fact::LessDef(x, y) = fact;
-        if is_plain_now(y, t, b) && meets_plain(&known.diff, kind, s, c, x) {
-            return true;
-        }
-    }
-    false
+    meets_now(&known.diff, kind, s, c, t, b)
+        || some_leads_into(known.tgt.as_slice(), &known.diff, kind, s, c, t, b)
 }
 
 fn plain_reaches(known: &Assertion, kind: Kind, expr: &Expr0, t: &Ty, b: &Atom<Name>) -> bool
@@ -202,6 +244,26 @@ fn plain_reaches(known: &Assertion, kind: Kind, expr: &Expr0, t: &Ty, b: &Atom<N
         Expr0::Plain(c) => reaches(known, kind, &c.ty, &c.atom, t, b),
         Expr0::Binary(_) => false,
     }
+}
+
+/// Whether the fact says that the source's operand is less defined than some c that reaches the target's.
+fn leads_from(
+    fact: &Fact,
+    known: &Assertion,
+    kind: Kind,
+    s: &Ty,
+    a: &Atom<Name>,
+    t: &Ty,
+    b: &Atom<Name>,
+) -> bool
+    ensures { result
+        ≡ from_fact
+        (λ c. some_into (λ d. meet known.now.diff kind c d)
+        (now_operand (record { ty = t.now; atom = b.now })) known.now.tgt)
+        (now_operand (record { ty = s.now; atom = a.now })) fact.now }
+{
+    let Fact::LessDef(x, y) = fact;
+    is_plain_now(x, s, a) && plain_reaches(known, kind, y, t, b)
 }
 
 /// Whether the source's operand is known to be less defined than some c that reaches the target's.
@@ -222,8 +284,7 @@ fn reaches_by_fact(
         known.now.src }
 {
     for fact in known.src.as_slice() {
-        let Fact::LessDef(x, y) = fact;
-        if is_plain_now(x, s, a) && plain_reaches(known, kind, y, t, b) {
+        if leads_from(fact, known, kind, s, a, t, b) {
             return true;
         }
     }

@@ -11,6 +11,3 @@ pub use infer::InferRule;
 pub use passes::Pass;
 pub use rule_book::{Answer, RuleBook, book_is_sound};
 pub use shipped::{Rule, rules_stand_in_the_table};
-
-#[cfg(test)]
-mod tests;

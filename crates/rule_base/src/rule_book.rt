@@ -16,7 +16,7 @@ pub struct RuleBook {
 }
 
 /// What a book says of a schema under a rule's name.
-#[derive(Debug, Drop, Clone, Copy)]
+#[derive(Drop, Clone, Copy)]
 pub enum Answer {
     /// The book has no rule of that name.
     Unknown,

@@ -11,7 +11,7 @@ use ir_core::{
 };
 
 /// The rules that are shipped.
-#[derive(Debug, Drop, Clone, Copy)]
+#[derive(Drop, Clone, Copy)]
 pub enum Rule {
     /// `a >= b, b >= c` to `a >= c`.
     Trans,

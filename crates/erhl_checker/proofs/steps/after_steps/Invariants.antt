@@ -1,12 +1,9 @@
-use Rattle.std.proofs.Common.{◌≡◌, drop}
-use Rattle.erhl_assert.specs.Steps.{after_steps, steps_at}
-use Rattle.rule_base.specs.Book.{meanings_of}
+use Rattle.std.proofs.Common.{◌≡◌, drop, map}
+use Rattle.erhl_assert.specs.Steps.{after_steps}
 use Rattle.erhl_checker.proofs.steps.after_steps.Given as goal
 
 -- the steps that are left lead on from what is known to what all lead to
 abbrev pub invariant-loop-placed : goal.invariant-loop-placed
 invariant-loop-placed g l =
-    after_steps (meanings_of (λ b. (goal.InferRule-dyn g (b.vtable, b.value)).called b.value) (λ b. (goal.InferRule-dyn g (b.vtable, b.value)).takes b.value) l.book.rules.items)
-    l.«module» (steps_at l.k (drop l.placed-index l.placed-items)) l.known
-    ≡ after_steps (meanings_of (λ b. (goal.InferRule-dyn g (b.vtable, b.value)).called b.value) (λ b. (goal.InferRule-dyn g (b.vtable, b.value)).takes b.value) l.book.rules.items)
-    l.«module» (steps_at l.k l.steps) l.fn.before
+    after_steps (g.B.Asks.rules l.book) l.«module» (map (λ s. s.now) (drop l.placed-index l.steps)) l.known
+    ≡ after_steps (g.B.Asks.rules l.book) l.«module» (map (λ s. s.now) l.steps) l.fn.before

@@ -1,5 +1,9 @@
+use Rattle.std.proofs.Common.{refl}
 use Rattle.rule_base.proofs.Table.{all_stand_there}
 use Rattle.rule_base.proofs.shipped.rules_stand_in_the_table.Goals as goal
+
+pub returns-clause-table : goal.returns-clause-table
+returns-clause-table c = refl
 
 pub returns-clause-whole : goal.returns-clause-whole
 returns-clause-whole c = all_stand_there
