@@ -1,4 +1,3 @@
 pub mod Answers
 pub mod Form
-pub mod Laws
 pub mod Parts

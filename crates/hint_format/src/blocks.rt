@@ -1,7 +1,5 @@
-ghost use Rattle.std.specs.Prelude.{◌≡◌, codes};
-ghost use Rattle.std.specs.List.{list_any};
+ghost use Rattle.std.specs.Prelude.{◌≡◌, codes, IfOk};
 ghost use Rattle.serde_json.specs.View.{view};
-ghost use Rattle.ir_core.specs.Same.{same_name};
 ghost use Rattle.ir_reader.specs.Names.{name_of};
 ghost use Rattle.hint_format.specs.Answers.{Answers};
 ghost use Rattle.hint_format.specs.Parts.{member_of};
@@ -9,13 +7,14 @@ ghost use Rattle.hint_format.specs.Form.{exact_name, letter_of, letters_of, pres
 
 use crate::HintFault;
 use crate::parts::{FromJson, is_object_of, member, text};
-use contents::{Exact, Seq};
+use contents::Seq;
 use erhl_assert::{Assertion, HintBlock, Letter, PlacedStep};
+use indexmap::IndexSet;
 use ir_core::{Name, Sigil};
 use ir_printer::print_name;
 use ir_reader::{TextFault, read_name};
 use serde_json::Value;
-use std::alloc::Global;
+use std::alloc::{AllocError, Global};
 
 impl FromJson for HintBlock {
     ghost form = { block_of };
@@ -47,7 +46,10 @@ impl FromJson for HintBlock {
 fn count_of(value: &Value, key: &str) -> usize
     ensures { result ≡ presence key.now (view value.now) }
 {
-    if value.get(key).is_some() { 1 } else { 0 }
+    match value.get(key) {
+        Some(_) => 1,
+        None => 0,
+    }
 }
 
 fn block_name(alloc: Global, value: &Value) -> Result<Name, HintFault>
@@ -123,25 +125,14 @@ fn optional_steps(alloc: Global, value: &Value) -> Result<Seq<PlacedStep>, HintF
 }
 
 /// No two of the blocks have one name.
-pub(crate) fn stand_apart(blocks: &[HintBlock]) -> bool
-    ensures { result ≡ are_apart blocks.now }
+pub(crate) fn stand_apart(alloc: Global, blocks: &[HintBlock]) -> Result<bool, AllocError>
+    ensures { IfOk result (λ apart. apart ≡ are_apart blocks.now) }
 {
-    for (i, block) in blocks.iter().enumerate() {
-        if has_name(&blocks[i + 1..], &block.at) {
-            return false;
+    let mut names = IndexSet::new(alloc);
+    for block in blocks {
+        if !names.insert(&block.at)? {
+            return Ok(false);
         }
     }
-    true
-}
-
-fn has_name(blocks: &[HintBlock], name: &Name) -> bool
-    ensures { result ≡ list_any (λ b. same_name name.now b.at) blocks.now }
-{
-    blocks.iter().any(|block| is_same(name, &block.at))
-}
-
-fn is_same(a: &Name, b: &Name) -> bool
-    ensures { result ≡ same_name a.now b.now }
-{
-    a.is(b)
+    Ok(true)
 }

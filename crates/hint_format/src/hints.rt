@@ -109,7 +109,7 @@ fn blocks(alloc: Global, value: &Value) -> Result<Seq<HintBlock>, HintFault>
         return Err(HintFault::NotOfTheFirstForm);
     }
     let blocks: Seq<HintBlock> = member(alloc, value, "blocks")?;
-    if stand_apart(blocks.as_slice()) {
+    if stand_apart(alloc, blocks.as_slice())? {
         Ok(blocks)
     } else {
         Err(HintFault::NotOfTheFirstForm)

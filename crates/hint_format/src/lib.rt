@@ -6,15 +6,10 @@
 mod blocks;
 mod fault;
 mod hints;
-mod laws;
 mod parts;
 mod print;
 mod steps;
 
 pub use fault::HintFault;
 pub use hints::read_hints;
-pub use laws::{printed_expressions_are_read, printed_facts_are_read, printed_names_are_read};
 pub use print::print_fact;
-
-#[cfg(test)]
-mod tests;

@@ -2,10 +2,10 @@
 ghost use Rattle.std.specs.Prelude.{◌≡◌, ◌++◌, Some, None, Option, IfOk, OnErr};
 ghost use Rattle.serde_json.specs.Data.{Data};
 ghost use Rattle.serde_json.specs.Find.{as_str};
-ghost use Rattle.serde_json.specs.View.{view};
+ghost use Rattle.serde_json.specs.View.{view, items_view};
 ghost use Rattle.hint_format.specs.Answers.{Answers};
 ghost use Rattle.hint_format.specs.Form.{number_of};
-ghost use Rattle.hint_format.specs.Parts.{has_items, has_members, item_of, member_of, list_of};
+ghost use Rattle.hint_format.specs.Parts.{all_of, items_list, has_items, has_members, item_of, member_of, list_of};
 
 use crate::HintFault;
 use contents::Seq;
@@ -32,13 +32,21 @@ impl<T: FromJson> FromJson for Seq<T> {
     ghost form = { list_of T.form };
 
     fn from_json(alloc: Global, value: &Value) -> Result<Seq<T>, HintFault> {
-        let items = value.as_array().ok_or(HintFault::NotOfTheFirstForm)?;
-        let mut read = Seq::new(alloc);
-        for item in items {
-            read.push(T::from_json(alloc, item)?)?;
+        match value.as_array() {
+            Some(items) => each_item(alloc, items.as_slice()),
+            None => Err(HintFault::NotOfTheFirstForm),
         }
-        Ok(read)
     }
+}
+
+fn each_item<T: FromJson>(alloc: Global, items: &[Value]) -> Result<Seq<T>, HintFault>
+    ensures { Answers result (all_of T.form (items_list (items_view items.now))) }
+{
+    let mut read = Seq::new(alloc);
+    for item in items {
+        read.push(T::from_json(alloc, item)?)?;
+    }
+    Ok(read)
 }
 
 /// The value is an array of that many items.

@@ -1,6 +1,11 @@
-use Rattle.std.proofs.Common.{◌≡◌, drop}
+-- No two of the blocks so far have one name, and the set holds the names of these.
+use Rattle.std.proofs.Common.{◌≡◌, true, take}
 use Rattle.hint_format.specs.Form.{are_apart}
+use Rattle.hint_format.proofs.Apart.{AreNamesOf}
 use Rattle.hint_format.proofs.blocks.stand_apart.Given as goal
 
-abbrev pub invariant-loop-i : goal.invariant-loop-i
-invariant-loop-i l = are_apart (drop l.i l.blocks) ≡ are_apart l.blocks
+abbrev pub invariant-loop-block : goal.invariant-loop-block
+invariant-loop-block l = record {
+  apart : are_apart (take l.block-index l.blocks) ≡ true;
+  known : AreNamesOf l.names.keys (take l.block-index l.blocks);
+}

@@ -1,0 +1,82 @@
+-- What the front of a text is cut into.
+use Rattle.std.proofs.Common.{◌≡◌, ℕ, ◌+◌, ◌<◌, ◌≤◌, Bool, true, not, List, [], ◌∷◌, ◌++◌, length, length-append, Some, Ok, Err, arith, refl, ap, sym, ◌∙◌}
+use Rattle.std.specs.List.{list_all, take_while}
+use Rattle.std.proofs.lemmas.Bool.{and_parts, not-true, cond-true, cond-false}
+use Rattle.std.proofs.lemmas.List.Sums.{take_while-cons}
+use Rattle.std.proofs.Math.Seq.{drop-append_seam}
+use Rattle.ir_core.specs.declared.names.Sigil.{Sigil}
+use Rattle.ir_core.specs.declared.names.Sigil.TheVariants.{Local, Global}
+use Rattle.ir_core.specs.declared.names.Name.{Name}
+use Rattle.ir_lexer.specs.declared.names.NameAt.TheVariants.{Found}
+use Rattle.ir_lexer.specs.declared.pieces.Piece.TheVariants.{Gap, Token}
+use Rattle.ir_lexer.specs.declared.token.TokenKind.{TokenKind}
+use Rattle.ir_lexer.specs.Cut.{Cut, token, behind, cut}
+use Rattle.ir_lexer.specs.Names.{name_at}
+use Rattle.ir_lexer.specs.Pieces.{piece}
+use Rattle.ir_lexer.proofs.Cuts.{front}
+use Rattle.ir_spelling.specs.Grammar as grammar
+use Rattle.ir_spelling.specs.Reading.{kinds_cut}
+use Rattle.ir_printer.specs.Printed.{sigil_byte}
+
+-- the text is at its end, or its first byte fails the test
+abbrev pub stops : (ℕ → Bool) → List ℕ → Bool
+stops p [] = true
+stops p (b ∷ rest) = not (p b)
+
+none_taken : (p : ℕ → Bool) (rest : List ℕ) → stops p rest ≡ true → take_while p rest ≡ []
+none_taken p [] h = refl
+none_taken p (b ∷ rest) h = take_while-cons p b rest ∙ cond-false (p b) _ _ (not-true (p b) h)
+
+pub taken : (p : ℕ → Bool) (xs rest : List ℕ) → list_all p xs ≡ true → stops p rest ≡ true → take_while p (xs ++ rest) ≡ xs
+taken p [] rest all h = none_taken p rest h
+taken p (x ∷ xs) rest all h =
+    let parts = and_parts (p x) (list_all p xs) all in
+    take_while-cons p x (xs ++ rest) ∙ cond-true (p x) _ _ parts.0 ∙ ap (λ more. x ∷ more) (taken p xs rest parts.1 h)
+
+-- ---- one token after another
+
+-- A text is cut into these tokens, at whatever place it begins.
+pub record Lexes (text : List ℕ) (kinds : List TokenKind) : Type 0 where
+  pub at : (place : ℕ) → kinds_cut (cut 0 place text) ≡ Some kinds
+
+pub nothing : Lexes [] []
+unfolding cut
+nothing = record { at = λ place. refl }
+
+one_more : (k : TokenKind) (kinds : List TokenKind) (start end : ℕ) (more : Cut) → kinds_cut more ≡ Some kinds → kinds_cut (behind (token k start end ∷ []) more) ≡ Some (k ∷ kinds)
+one_more k kinds start end (Ok tokens) is = cc
+one_more k kinds start end (Err fault) is = cc
+
+-- a token that these bytes spell, whatever stands behind them
+pub begun : (text rest : List ℕ) (k : TokenKind) (kinds : List TokenKind) → piece (text ++ rest) ≡ Token k (length text) → 0 < length text → Lexes rest kinds → Lexes (text ++ rest) (k ∷ kinds)
+begun text rest k kinds is some lexes = record {
+  at = λ place.
+      let long : length text ≤ length (text ++ rest) = omega (arith, length-append text rest) in
+      ap kinds_cut (front place (length (text ++ rest)) (text ++ rest) (Token k (length text)) (sym is) (omega arith, long))
+      ∙ ap (λ more. kinds_cut (behind (token k place (place + length text) ∷ []) (cut 0 (place + length text) more))) (drop-append_seam text rest)
+      ∙ one_more k kinds place (place + length text) (cut 0 (place + length text) rest) (lexes.at (place + length text));
+}
+
+-- a space in front
+pub spaced : (rest : List ℕ) (kinds : List TokenKind) → Lexes rest kinds → Lexes (32 ∷ rest) kinds
+unfolding piece
+spaced rest kinds lexes = record {
+  at = λ place.
+      ap kinds_cut (front place (length (32 ∷ rest)) (32 ∷ rest) (Gap 1) refl (omega arith, omega arith))
+      ∙ ap (λ more. kinds_cut (cut 0 (place + 1) more)) (drop-append_seam (32 ∷ []) rest)
+      ∙ lexes.at (place + 1);
+}
+
+-- a comma in front
+pub comma : (rest : List ℕ) (kinds : List TokenKind) → Lexes rest kinds → Lexes (44 ∷ rest) (grammar.comma ∷ kinds)
+unfolding piece
+comma rest kinds lexes = begun (44 ∷ []) rest grammar.comma kinds refl (omega arith) lexes
+
+-- a name behind its sigil
+named : (sigil : Sigil) (name : Name) (text rest : List ℕ) → name_at (text ++ rest) ≡ Found name (length text) → piece (sigil_byte sigil ∷ (text ++ rest)) ≡ Token (grammar.name sigil name) (length (sigil_byte sigil ∷ text))
+unfolding piece
+named Local name text rest is = rw is (ap (λ len. Token (grammar.name Local name) len) (omega arith))
+named Global name text rest is = rw is (ap (λ len. Token (grammar.name Global name) len) (omega arith))
+
+pub name : (sigil : Sigil) (n : Name) (text rest : List ℕ) (kinds : List TokenKind) → name_at (text ++ rest) ≡ Found n (length text) → Lexes rest kinds → Lexes (sigil_byte sigil ∷ (text ++ rest)) (grammar.name sigil n ∷ kinds)
+name sigil n text rest kinds is lexes = begun (sigil_byte sigil ∷ text) rest (grammar.name sigil n) kinds (named sigil n text rest is) (omega arith) lexes

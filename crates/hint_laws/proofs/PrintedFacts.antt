@@ -1,0 +1,65 @@
+-- A printed fact is read as that fact.
+use Rattle.std.proofs.Common.{◌≡◌, ℕ, ◌≤◌, ◌^◌, List, [], length, codes, Option, Some, arith, ap, sym, ◌∙◌}
+use Rattle.std.specs.Prelude.{option_map, option_and_then}
+use Rattle.json.specs.Json as json
+use Rattle.json.specs.Print.{ArePrintable}
+use Rattle.json.specs.Tree.{json_tokens}
+use Rattle.json.specs.Lex.{tokens}
+use Rattle.json.specs.Token.{Token}
+use Rattle.json.proofs.Printed.Tokens.{tokens-print}
+use Rattle.json.proofs.Printed.Trees.{value-json_tokens}
+use Rattle.std.proofs.lemmas.List.{append-nil}
+use Rattle.serde_json.specs.Data.{Data, string, array, no_items, item}
+use Rattle.serde_json.specs.Read.{max_depth, of_json, read}
+use Rattle.serde_json.specs.Written.{compact_text, outline}
+use Rattle.serde_json.proofs.Texts.{print-outline}
+use Rattle.ir_core.specs.declared.expressions.Expr0.{Expr0}
+use Rattle.ir_spelling.specs.Expressions.{expression_of}
+use Rattle.ir_spelling.proofs.Alone.{expressions}
+use Rattle.ir_printer.specs.Printed.{printed_expr}
+use Rattle.erhl_assert.specs.declared.facts.Fact.TheVariants.{LessDef}
+use Rattle.hint_format.specs.Form.{expression_in, fact_of}
+use Rattle.hint_laws.specs.Laws.{IsWritableExpression, PrintedFactsAreRead}
+use Rattle.hint_laws.proofs.PrintedExpressions.{printed_expressions_are_read}
+
+-- an array of three texts
+abbrev three : List ℕ → List ℕ → List ℕ → Data
+three a b c = array (item (string a) (item (string b) (item (string c) no_items)))
+
+three_printable : (a b c : List ℕ) → ArePrintable (json_tokens (outline (three a b c)))
+unfolding ArePrintable
+three_printable a b c = (tt, (tt, (tt, (tt, (tt, tt)))))
+
+-- the value that tokens are, where they are one value and nothing more
+of_tokens : List Token → Option Data
+of_tokens ts = option_and_then of_json (option_and_then (λ p. json.if_last p.0 p.1) (json.value max_depth ts))
+
+three_tokens : (a b c : List ℕ) → of_tokens (json_tokens (outline (three a b c))) ≡ Some (three a b c)
+unfolding of_tokens
+three_tokens a b c =
+    let one : json.value max_depth (json_tokens (outline (three a b c))) ≡ Some (outline (three a b c), []) =
+    ap (json.value max_depth) (sym (append-nil (json_tokens (outline (three a b c)))))
+    ∙ value-json_tokens (outline (three a b c)) max_depth [] (omega arith) in
+    ap (λ found. option_and_then of_json (option_and_then (λ p. json.if_last p.0 p.1) found)) one
+
+three_read : (a b c : List ℕ) → read (compact_text (three a b c)) ≡ Some (three a b c)
+unfolding of_tokens
+three_read a b c =
+    let written = json_tokens (outline (three a b c)) in
+    let cut : tokens (compact_text (three a b c)) ≡ written =
+    ap tokens (sym (print-outline (three a b c))) ∙ tokens-print written (three_printable a b c) in
+    ap of_tokens cut ∙ three_tokens a b c
+
+expression_short : (e : Expr0) → IsWritableExpression e → length (printed_expr e) ≤ 2 ^ 24 → expression_of (printed_expr e) ≡ Some e
+expression_short e writable short = (expressions (printed_expr e)).again e short (printed_expressions_are_read e writable)
+
+fact_read : (a b : List ℕ) (x y : Expr0) → expression_of a ≡ Some x → expression_of b ≡ Some y → fact_of (three (codes "ge") a b) ≡ Some (LessDef x y)
+fact_read a b x y left right =
+    ap (λ read. option_and_then (λ l. option_map (λ r. LessDef l r) (expression_in (string b))) read) left
+    ∙ ap (λ read. option_map (λ r. LessDef x r) read) right
+
+pub printed_facts_are_read : PrintedFactsAreRead
+printed_facts_are_read (LessDef a b) writable =
+    ap (option_and_then fact_of) (three_read (codes "ge") (printed_expr a) (printed_expr b))
+    ∙ fact_read (printed_expr a) (printed_expr b) a b
+    (expression_short a writable.0.0 writable.0.1) (expression_short b writable.1.0 writable.1.1)

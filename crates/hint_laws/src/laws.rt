@@ -1,0 +1,19 @@
+ghost use Rattle.hint_laws.specs.Laws.{PrintedNamesAreRead, PrintedNamesAreApart, PrintedNamesAreKeys, PrintedExpressionsAreRead, PrintedExpressionsAreApart, PrintedFactsAreRead};
+
+/// A printed name is read as that name: so no two names are printed alike, and hints can speak of each name.
+pub fn printed_names_are_read()
+    ensures read { PrintedNamesAreRead }
+    ensures apart { PrintedNamesAreApart }
+    ensures keys { PrintedNamesAreKeys }
+{}
+
+/// A printed expression of i32, over registers as they are now, is read as that expression.
+pub fn printed_expressions_are_read()
+    ensures read { PrintedExpressionsAreRead }
+    ensures apart { PrintedExpressionsAreApart }
+{}
+
+/// A printed fact over such expressions is read as that fact.
+pub fn printed_facts_are_read()
+    ensures { PrintedFactsAreRead }
+{}
