@@ -1,5 +1,5 @@
 -- What reading a file takes from it, and how it ends.
-use Rattle.std.specs.Prelude.{◌≡◌, ℕ, List, ◌++◌, length, Option}
+use Rattle.std.specs.Prelude.{◌≡◌, ℕ, List, ◌++◌, length, Option, Result, Ok, Err}
 use Rattle.std.specs.Io.KnownBytes.{Consumes}
 use Rattle.crell_io.specs.Count.{raised_by}
 use Rattle.crell_io.specs.declared.shelf.ShelfEnd.{ShelfEnd}
@@ -19,3 +19,15 @@ IsReadFault Failed = Unit {0}
 IsReadFault Absent = ⊥
 IsReadFault TooLong = ⊥
 IsReadFault Memory = Unit {0}
+
+-- a count of faults after such an end: one more where a read failed
+abbrev pub raised_at : ShelfEnd → ℕ → ℕ
+raised_at Failed faults = raised_by 1 faults
+raised_at Absent faults = faults
+raised_at TooLong faults = faults
+raised_at Memory faults = faults
+
+-- a count of faults after such an answer
+abbrev pub raised_where_failed : {A : Type 0} → Result A ShelfEnd → ℕ → ℕ
+raised_where_failed (Ok bytes) faults = faults
+raised_where_failed (Err end) faults = raised_at end faults

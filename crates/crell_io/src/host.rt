@@ -1,11 +1,11 @@
-// The shelf and the sinks of the system. They tell nothing of the bytes; what a read and a write do to
-// the bytes of a reader and a writer that are known stands at the functions that they call.
-ghost use Rattle.std.specs.Prelude.{◌≡◌, ◌≢◌, ◌≤◌, ◌<◌, ◌+◌, ◌-◌, ◌^◌, [], None, vec_len, IfOk, IfErr, OnOk, OnErr, IsErrOf, IfSome, length};
+// The shelf and the sinks of the system. As a shelf and as sinks they tell nothing of the bytes; what a read and a write
+// do to the bytes of a reader and a writer that are known is said by `read_and_count` and `HostSink::put`.
+ghost use Rattle.std.specs.Prelude.{◌≡◌, ◌≢◌, ◌≤◌, ◌<◌, ◌+◌, ◌-◌, ◌^◌, [], None, vec_len, min, IfOk, IfErr, OnOk, OnErr, IsErrOf, IfSome, is_err, if◌then◌else◌, length};
 ghost use Rattle.std.specs.Io.{ReadsAtMost, WritesAtMost};
 ghost use Rattle.std.specs.Io.KnownBytes.{Keeps, IsAtEnd, ReadConsumes, WriteAppends};
 ghost use Rattle.crell_io.specs.Count.{raised_by};
 ghost use Rattle.crell_io.specs.Shelf.Told.{Untold};
-ghost use Rattle.crell_io.specs.Host.{AppendsTaken, TakesFirst, IsReadFault};
+ghost use Rattle.crell_io.specs.Host.{AppendsTaken, TakesFirst, IsReadFault, raised_where_failed};
 
 use crate::{Shelf, ShelfEnd, Sink, SinkFault};
 use std::alloc::{AllocError, Global};
@@ -74,10 +74,9 @@ fn append_some<F: Read>(
 ) -> Result<usize, ShelfEnd>
     ensures length { IfOk result (λ count. vec_len bytes.new ≡ vec_len bytes.old + count) }
     ensures within { IfOk result (λ count. count ≤ length piece.old) }
-    ensures bytes { IfOk result (λ count. AppendsTaken
-        (F.remaining file.old) (F.remaining file.new) bytes.old.items bytes.new.items) }
+    ensures taken { AppendsTaken
+        (F.remaining file.old) (F.remaining file.new) bytes.old.items bytes.new.items }
     ensures end { IfOk result (λ count. count ≡ 0 → 0 < length piece.old → IsAtEnd (F.remaining file.new)) }
-    ensures nothing { OnErr result (Keeps (F.remaining file.old) (F.remaining file.new)) }
     ensures kept { OnErr result (bytes.new.items ≡ bytes.old.items) }
     ensures fault { IfErr result IsReadFault }
 {
@@ -85,6 +84,34 @@ fn append_some<F: Read>(
     let count = read_some(file, piece)?;
     bytes.extend_from_slice(&piece[..count]).unwrap();
     Ok(count)
+}
+
+// How many bytes a turn may take.
+fn room_left(length: u64, most: u64) -> usize
+    requires { length ≤ most }
+    ensures { result ≡ min PIECE (most - length) }
+{
+    (most - length).min(PIECE as u64) as usize
+}
+
+// One turn: appends what one read gives, up to so many bytes in all.
+fn append_up_to<F: Read>(
+    file: &mut F,
+    piece: &mut [u8],
+    bytes: &mut Vec<u8>,
+    most: u64,
+) -> Result<usize, ShelfEnd>
+    requires within { vec_len bytes.old ≤ most }
+    requires piece { length piece.old ≡ PIECE }
+    ensures length { IfOk result (λ count. vec_len bytes.new ≡ vec_len bytes.old + count) }
+    ensures most { vec_len bytes.new ≤ most }
+    ensures taken { AppendsTaken
+        (F.remaining file.old) (F.remaining file.new) bytes.old.items bytes.new.items }
+    ensures end { IfOk result (λ count. count ≡ 0 → vec_len bytes.new < most → IsAtEnd (F.remaining file.new)) }
+    ensures fault { IfErr result IsReadFault }
+{
+    let room = room_left(bytes.len() as u64, most);
+    append_some(file, &mut piece[..room], bytes)
 }
 
 // Appends what a file has left, up to so many bytes in all. Each turn takes a byte or more.
@@ -103,8 +130,7 @@ fn read_up_to<F: Read>(
 {
     let mut piece = new_piece(alloc)?;
     for _ in 0..most {
-        let room = piece.len().min((most - bytes.len() as u64) as usize);
-        if append_some(file, &mut piece[..room], bytes)? == 0 {
+        if append_up_to(file, piece.as_mut_slice(), bytes, most)? == 0 {
             return Ok(());
         }
     }
@@ -145,6 +171,38 @@ fn read_whole<F: Read>(
     Ok(bytes)
 }
 
+// What `read_whole` gives, where a fault is counted too.
+fn read_and_count<F: Read>(
+    alloc: Global,
+    file: &mut F,
+    limit: u64,
+    faults: &mut u64,
+    taken: &mut u64,
+) -> Result<Vec<u8>, ShelfEnd>
+    requires { limit < 2 ^ 64 - 1 }
+
+    ensures within { IfOk result (λ bytes. vec_len bytes ≤ limit) }
+    ensures whole { IfOk result
+        (λ bytes. IfSome (F.remaining file.old) (λ held. bytes.items ≡ held)) }
+    ensures longer { IsErrOf result ShelfEnd.TooLong →
+        IfSome (F.remaining file.old) (λ held. limit < length held) }
+    ensures fault { IfErr result (λ end. end ≢ ShelfEnd.TooLong → IsReadFault end) }
+
+    ensures taken { TakesFirst (F.remaining file.old) (F.remaining file.new) taken.old taken.new }
+    ensures rises { taken.old ≤ taken.new }
+    ensures taken_all { IfOk result (λ bytes. taken.new ≡ raised_by (length bytes.items) taken.old) }
+    ensures taken_above { IsErrOf result ShelfEnd.TooLong →
+        taken.new ≡ raised_by (limit + 1) taken.old }
+    ensures faults { faults.new ≡ raised_where_failed result faults.old }
+    ensures faults_rise { faults.old ≤ faults.new }
+{
+    let read = read_whole(alloc, file, limit, taken);
+    if read == Err(ShelfEnd::Failed) {
+        *faults = faults.saturating_add(1);
+    }
+    read
+}
+
 impl<R: Files + Drop> Shelf for HostShelf<R> {
     ghost told = { λ _ _. Untold };
 
@@ -154,15 +212,15 @@ impl<R: Files + Drop> Shelf for HostShelf<R> {
 
     /// Reads a file. One that can't be opened or read is a fault.
     fn get(&mut self, alloc: Global, name: &str, limit: u64) -> Result<Vec<u8>, ShelfEnd> {
-        let Ok(mut file) = fs::open(&self.host, name) else {
-            self.faults = self.faults.saturating_add(1);
-            return Err(ShelfEnd::Failed);
-        };
-        let read = read_whole(alloc, &mut file, limit, &mut self.taken);
-        if read == Err(ShelfEnd::Failed) {
-            self.faults = self.faults.saturating_add(1);
+        match fs::open(&self.host, name) {
+            Ok(mut file) => {
+                read_and_count(alloc, &mut file, limit, &mut self.faults, &mut self.taken)
+            }
+            Err(_) => {
+                self.faults = self.faults.saturating_add(1);
+                Err(ShelfEnd::Failed)
+            }
         }
-        read
     }
 }
 
@@ -207,7 +265,19 @@ impl<W: Write + Drop> Sink for HostSink<W> {
 
     ghost faults = { λ sink. sink.faults };
 
-    fn put(&mut self, piece: &[u8]) -> Result<usize, SinkFault> {
+    /// It fails exactly where its writer takes nothing of a piece that isn't empty, and only there its count rises.
+    fn put(&mut self, piece: &[u8]) -> Result<usize, SinkFault>
+        ensures faults { self.old.faults ≤ self.new.faults }
+
+        ensures within { IfOk result (λ count. count ≤ length piece.now) }
+        ensures some_taken { IfOk result (λ count. count ≡ 0 → piece.now ≡ []) }
+        ensures faults_exactly { self.new.faults ≡
+            (if is_err result then raised_by 1 self.old.faults else self.old.faults) }
+
+        // What the writer holds, where it tells it, grows by what is taken.
+        ensures held { WriteAppends
+            (W.contents self.old.writer) (W.contents self.new.writer) result piece.now }
+    {
         let put = write_some(&mut self.writer, piece);
         if put.is_err() {
             self.faults = self.faults.saturating_add(1);
@@ -215,6 +285,3 @@ impl<W: Write + Drop> Sink for HostSink<W> {
         put
     }
 }
-
-#[cfg(test)]
-mod tests;

@@ -16,6 +16,3 @@ pub use mem_shelf::{Entry, MemShelf};
 pub use mem_sink::MemSink;
 pub use shelf::{Shelf, ShelfEnd};
 pub use sink::{Sink, SinkFault};
-
-#[cfg(test)]
-mod tests;

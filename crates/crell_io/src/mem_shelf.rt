@@ -11,7 +11,7 @@ use std::alloc::Global;
 use std::marker::Model;
 
 /// A name, and the bytes under it.
-#[derive(Debug, Drop)]
+#[derive(Drop)]
 pub struct Entry {
     pub name: String,
     pub bytes: Vec<u8>,
@@ -19,7 +19,7 @@ pub struct Entry {
 
 /// Entries, of which the first with a name counts, and the calls that are to fail, by their numbers
 /// from 0.
-#[derive(Debug, Drop)]
+#[derive(Drop)]
 pub struct MemShelf {
     entries: Vec<Entry>,
     failing: Vec<u64>,
@@ -91,6 +91,64 @@ fn find<'a>(entries: &'a [Entry], name: &str) -> Option<&'a [u8]>
     None
 }
 
+// A copy of the bytes, if they are at most `limit` many. All that is given is taken, and one more than the limit of
+// what is longer.
+fn copy_within(
+    alloc: Global,
+    bytes: &[u8],
+    limit: u64,
+    taken: &mut u64,
+) -> Result<Vec<u8>, ShelfEnd>
+    requires { limit < 2 ^ 64 - 1 }
+    ensures contents { IfOk result (λ copy. copy.items ≡ bytes.now) }
+    ensures too_long_exactly { IsErrOf result ShelfEnd.TooLong ↔ limit < length bytes.now }
+    ensures ends { IfErr result (λ end. (end ≢ ShelfEnd.Failed) × (end ≢ ShelfEnd.Absent)) }
+    ensures rises { taken.old ≤ taken.new }
+    ensures taken_all { IfOk result (λ copy. taken.new ≡ raised_by (length copy.items) taken.old) }
+    ensures taken_above { IsErrOf result ShelfEnd.TooLong →
+        taken.new ≡ raised_by (limit + 1) taken.old }
+    ensures taken_else { IfErr result
+        (λ end. end ≢ ShelfEnd.TooLong → taken.new ≡ taken.old) }
+{
+    let length = bytes.len() as u64;
+    if length > limit {
+        *taken = taken.saturating_add(limit + 1);
+        return Err(ShelfEnd::TooLong);
+    }
+    let copy = bytes.to_vec(alloc)?;
+    *taken = taken.saturating_add(length);
+    Ok(copy)
+}
+
+// A copy of the bytes of the first entry with the name.
+fn copy_named(
+    alloc: Global,
+    entries: &[Entry],
+    name: &str,
+    limit: u64,
+    taken: &mut u64,
+) -> Result<Vec<u8>, ShelfEnd>
+    requires { limit < 2 ^ 64 - 1 }
+    ensures not_failed { IfErr result (λ end. end ≢ ShelfEnd.Failed) }
+    ensures absent_exactly { IsErrOf result ShelfEnd.Absent
+        ↔ (held (map entry_pair entries.now) name.now ≡ NoSuch) }
+    ensures too_long_exactly { IsErrOf result ShelfEnd.TooLong
+        ↔ IsBytesAnd (held (map entry_pair entries.now) name.now) (λ bytes. limit < length bytes) }
+    ensures contents { IfOk result
+        (λ bytes. held (map entry_pair entries.now) name.now ≡ Bytes bytes.items) }
+    ensures rises { taken.old ≤ taken.new }
+    ensures taken_all { IfOk result (λ bytes. taken.new ≡ raised_by (length bytes.items) taken.old) }
+    ensures taken_above { IsErrOf result ShelfEnd.TooLong →
+        taken.new ≡ raised_by (limit + 1) taken.old }
+    ensures taken_else { IfErr result
+        (λ end. end ≢ ShelfEnd.TooLong → taken.new ≡ taken.old) }
+{
+    match find(entries, name) {
+        Some(bytes) => copy_within(alloc, bytes, limit, taken),
+        None => Err(ShelfEnd::Absent),
+    }
+}
+
 impl Shelf for MemShelf {
     ghost told = { λ shelf. held shelf.entries };
 
@@ -134,16 +192,6 @@ impl Shelf for MemShelf {
             self.faults = self.faults.saturating_add(1);
             return Err(ShelfEnd::Failed);
         }
-        let Some(bytes) = find(&self.entries, name) else {
-            return Err(ShelfEnd::Absent);
-        };
-        let length = bytes.len() as u64;
-        if length > limit {
-            self.taken = self.taken.saturating_add(limit + 1);
-            return Err(ShelfEnd::TooLong);
-        }
-        let copy = bytes.to_vec(alloc)?;
-        self.taken = self.taken.saturating_add(length);
-        Ok(copy)
+        copy_named(alloc, &self.entries, name, limit, &mut self.taken)
     }
 }

@@ -1,5 +1,5 @@
 // A sink in memory, which tells what was written.
-ghost use Rattle.std.specs.Prelude.{◌≡◌, ◌≢◌, ◌≤◌, ◌↔◌, ◌++◌, [], take, is_err, IsErr, IfOk, OnErr, if◌then◌else◌, Some};
+ghost use Rattle.std.specs.Prelude.{◌≡◌, ◌≢◌, ◌≤◌, ◌+◌, ◌↔◌, ◌++◌, [], length, take, vec_len, vec_capacity, is_err, IsTrue, IsErr, IfOk, OnErr, if◌then◌else◌, Some};
 ghost use Rattle.crell_io.specs.Count.{raised_by};
 ghost use Rattle.crell_io.specs.MemSink.{Refuses, share};
 
@@ -10,7 +10,7 @@ use std::marker::Model;
 
 /// Room for bytes, how many a call takes at most, and the calls that are to fail, by their numbers
 /// from 0.
-#[derive(Debug, Drop)]
+#[derive(Drop)]
 pub struct MemSink {
     bytes: Vec<u8>,
     room: usize,
@@ -83,6 +83,29 @@ impl MemSink {
     }
 }
 
+// Appends the first bytes of a piece. There is room for them.
+fn append_first(bytes: &mut Vec<u8>, piece: &[u8], count: usize)
+    requires room { vec_len bytes.old + count ≤ vec_capacity bytes.old }
+    requires within { count ≤ length piece.now }
+    ensures bytes { bytes.new.items ≡ bytes.old.items ++ take count piece.now }
+    ensures length { vec_len bytes.new ≡ vec_len bytes.old + count }
+    ensures capacity { vec_capacity bytes.old ≤ vec_capacity bytes.new }
+{
+    bytes.extend_from_slice(&piece[..count]).unwrap();
+}
+
+impl MemSink {
+    // Whether the next call fails at this piece.
+    fn refuses(&self, piece: &[u8]) -> bool
+        ensures { IsTrue result ↔ Refuses self.now piece.now }
+    {
+        if is_in(&self.failing, self.calls) {
+            return true;
+        }
+        self.bytes.len() == self.room && !piece.is_empty()
+    }
+}
+
 impl Sink for MemSink {
     ghost written = { λ sink. Some sink.written };
 
@@ -107,19 +130,15 @@ impl Sink for MemSink {
             (λ count. self.new.written ≡ self.old.written ++ take count piece.now) }
         ensures nothing_written { OnErr result (self.new.written ≡ self.old.written) }
     {
-        let call = self.calls;
-        self.calls = call.saturating_add(1);
-        if is_in(&self.failing, call) {
+        let refused = self.refuses(piece);
+        self.calls = self.calls.saturating_add(1);
+        if refused {
             self.faults = self.faults.saturating_add(1);
             return Err(SinkFault::Failed);
         }
         let left = self.room - self.bytes.len();
-        if left == 0 && !piece.is_empty() {
-            self.faults = self.faults.saturating_add(1);
-            return Err(SinkFault::Failed);
-        }
         let count = piece.len().min(self.most.min(left));
-        self.bytes.extend_from_slice(&piece[..count]).unwrap();
+        append_first(&mut self.bytes, piece, count);
         Ok(count)
     }
 }
