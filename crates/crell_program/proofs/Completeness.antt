@@ -17,7 +17,8 @@ use Rattle.crell_program.specs.Command.{Files}
 use Rattle.crell_program.specs.VerdictText.{verdict_status}
 use Rattle.crell_program.specs.Due.{ShelfSeen, Held, Missing, Long, Broken, DueOfFile, DueOfFiles, DueOfTexts, IsDue, text_limit, json_limit}
 use Rattle.crell_program.specs.Delivery.{SinkSeen, IsDelivered}
-use Rattle.crell_program.specs.Statuses.{IsAnswered, HoldsAll, HasVerdict, AreJudged, OneIsUnfit, IsAbsent, IsOverlong, FirstUnheld, NoFault}
+use Rattle.crell_program.specs.Rows.{Run, IsAnswered, NoFault}
+use Rattle.crell_program.specs.Statuses.{HoldsAll, HasVerdict, AreJudged, OneIsUnfit, IsAbsent, IsOverlong, FirstUnheld}
 use Rattle.crell_program.proofs.Bytes.{told_bytes}
 
 hints_are_one : (text : List ℕ) (a b : Hints) → HintsOf text a → HintsOf text b → a ≡ b
@@ -52,10 +53,14 @@ verdict_of_texts rules files answer source target hints s t h sp tp hp (inr (s2,
     ap (λ (a : Answer). a.status) e ∙ (ap (λ (x : Module). verdict_status (module_verdict rules x t2 h2)) es
     ∙ (ap (λ (x : Module). verdict_status (module_verdict rules s x h2)) et ∙ ap (λ (x : Hints). verdict_status (module_verdict rules s t x)) eh))
 
-delivered_well : (answer : Answer) (shelf : ShelfSeen) (out err : SinkSeen) (status : ℕ) → NoFault shelf out err → IsDelivered answer out err status → status ≡ answer.status
-delivered_well answer shelf out err status fine (inl (e, to_out, to_err)) = e
-delivered_well answer shelf out err status fine (inr (inl (e, part, nothing))) = absurd (fine.1 part.0)
-delivered_well answer shelf out err status fine (inr (inr (e, all, part))) = absurd (fine.2 part.0)
+-- no sink counts a fault
+abbrev SinksAreFine : SinkSeen → SinkSeen → Type 0
+SinksAreFine out err = (HasRisen out.faults out.faults_after → ⊥) × (HasRisen err.faults err.faults_after → ⊥)
+
+delivered_well : (answer : Answer) (out err : SinkSeen) (status : ℕ) → SinksAreFine out err → IsDelivered answer out err status → status ≡ answer.status
+delivered_well answer out err status fine (inl (e, to_out, to_err)) = e
+delivered_well answer out err status fine (inr (inl (e, part, nothing))) = absurd (fine.0 part.0)
+delivered_well answer out err status fine (inr (inr (e, all, part))) = absurd (fine.1 part.0)
 
 -- the three texts, and that the answer is due to them
 due_well : (rules : Rules) (shelf : ShelfSeen) (files : Files) (P : List ℕ → List ℕ → List ℕ → Type 0) (answer : Answer)
@@ -74,11 +79,11 @@ due_well rules shelf files P answer fine has due =
 all_well : (rules : Rules) (shelf : ShelfSeen) (out err : SinkSeen) (command : Option Files) (P : List ℕ → List ℕ → List ℕ → Type 0) (known status : ℕ)
     → ((files : Files) (answer : Answer) (source target hints : List ℕ) → P source target hints → DueOfTexts rules files answer source target hints
     → answer.status ≡ known)
-    → IsAnswered rules shelf out err command status → HoldsAll shelf.told command P → NoFault shelf out err → (status ≡ known) ⊎ (status ≡ 8)
+    → IsAnswered (record { rules = rules; command = command; shelf = shelf; out = out; err = err }) status → HoldsAll shelf.told command P → NoFault (record { rules = rules; command = command; shelf = shelf; out = out; err = err }) → (status ≡ known) ⊎ (status ≡ 8)
 all_well rules shelf out err None P known status leads answered has fine = absurd has
 all_well rules shelf out err (Some files) P known status leads (inl (answer, due, delivered)) has fine =
     let well = due_well rules shelf files P answer fine.0 has due in
-    inl (delivered_well answer shelf out err status fine delivered ∙ leads files answer well.0 well.1 well.2 well.3 well.4)
+    inl (delivered_well answer out err status (fine.1, fine.2) delivered ∙ leads files answer well.0 well.1 well.2 well.3 well.4)
 all_well rules shelf out err (Some files) P known status leads (inr (some, e, nothing, silent)) has fine = inr e
 
 status_of_valid : (v : ModuleVerdict) → v ≡ modules.Valid → verdict_status v ≡ 0
@@ -95,19 +100,15 @@ judged_as : (rules : Rules) (files : Files) (answer : Answer) (source target hin
 judged_as rules files answer source target hints P known leads (s, t, h, sp, tp, hp, p) due =
     verdict_of_texts rules files answer source target hints s t h sp tp hp due ∙ leads (module_verdict rules s t h) p
 
-pub valid : (rules : Rules) (shelf : ShelfSeen) (out err : SinkSeen) (command : Option Files) (status : ℕ)
-    → IsAnswered rules shelf out err command status → HasVerdict rules shelf.told command (λ v. v ≡ modules.Valid) → NoFault shelf out err
-    → (status ≡ 0) ⊎ (status ≡ 8)
-valid rules shelf out err command status =
-    all_well rules shelf out err command (AreJudged rules (λ v. v ≡ modules.Valid)) 0 status
-    (λ files answer source target hints. judged_as rules files answer source target hints (λ v. v ≡ modules.Valid) 0 status_of_valid)
+pub valid : (run : Run) (status : ℕ) → IsAnswered run status → HasVerdict run.rules run.shelf.told run.command (λ v. v ≡ modules.Valid) → NoFault run → (status ≡ 0) ⊎ (status ≡ 8)
+valid run status =
+    all_well run.rules run.shelf run.out run.err run.command (AreJudged run.rules (λ v. v ≡ modules.Valid)) 0 status
+    (λ files answer source target hints. judged_as run.rules files answer source target hints (λ v. v ≡ modules.Valid) 0 status_of_valid)
 
-pub invalid : (rules : Rules) (shelf : ShelfSeen) (out err : SinkSeen) (command : Option Files) (status : ℕ)
-    → IsAnswered rules shelf out err command status → HasVerdict rules shelf.told command (λ v. v ≢ modules.Valid) → NoFault shelf out err
-    → (status ≡ 1) ⊎ (status ≡ 8)
-invalid rules shelf out err command status =
-    all_well rules shelf out err command (AreJudged rules (λ v. v ≢ modules.Valid)) 1 status
-    (λ files answer source target hints. judged_as rules files answer source target hints (λ v. v ≢ modules.Valid) 1 status_of_other)
+pub invalid : (run : Run) (status : ℕ) → IsAnswered run status → HasVerdict run.rules run.shelf.told run.command (λ v. v ≢ modules.Valid) → NoFault run → (status ≡ 1) ⊎ (status ≡ 8)
+invalid run status =
+    all_well run.rules run.shelf run.out run.err run.command (AreJudged run.rules (λ v. v ≢ modules.Valid)) 1 status
+    (λ files answer source target hints. judged_as run.rules files answer source target hints (λ v. v ≢ modules.Valid) 1 status_of_other)
 
 status_of : (answer : Answer) (file : List ℕ) → answer ≡ not_of_the_first_form file → answer.status ≡ 3
 status_of answer file e = ap (λ (a : Answer). a.status) e
@@ -121,10 +122,9 @@ unread_texts rules files answer source target hints (inl unfit) (inr (s, sp, inr
 unread_texts rules files answer source target hints (inr (inl unfit)) (inr (s, sp, inr (t, tp, inr (h, hp, e)))) = absurd (unfit t tp.0)
 unread_texts rules files answer source target hints (inr (inr unfit)) (inr (s, sp, inr (t, tp, inr (h, hp, e)))) = absurd (unfit h hp)
 
-pub unread : (rules : Rules) (shelf : ShelfSeen) (out err : SinkSeen) (command : Option Files) (status : ℕ)
-    → IsAnswered rules shelf out err command status → HoldsAll shelf.told command OneIsUnfit → NoFault shelf out err
-    → (status ≡ 3) ⊎ (status ≡ 8)
-unread rules shelf out err command status = all_well rules shelf out err command OneIsUnfit 3 status (unread_texts rules)
+pub unread : (run : Run) (status : ℕ) → IsAnswered run status → HoldsAll run.shelf.told run.command OneIsUnfit → NoFault run → (status ≡ 3) ⊎ (status ≡ 8)
+unread run status =
+    all_well run.rules run.shelf run.out run.err run.command OneIsUnfit 3 status (unread_texts run.rules)
 
 -- a file that is told to be absent decides, where no fault is counted
 absent_decides : (shelf : ShelfSeen) (answer : Answer) (limit : ℕ) (limit_name name : List ℕ) (next : List ℕ → Type 0)
@@ -177,20 +177,18 @@ first_decides : (rules : Rules) (shelf : ShelfSeen) (out err : SinkSeen) (comman
     (P : (List ℕ → Told) → ℕ → List ℕ → Type 0) (known status : ℕ)
     → ((answer : Answer) (limit : ℕ) (limit_name name : List ℕ) (next : List ℕ → Type 0) → (HasRisen shelf.faults shelf.faults_after → ⊥)
     → P shelf.told limit name → DueOfFile shelf limit limit_name name answer next → answer.status ≡ known)
-    → IsAnswered rules shelf out err command status → FirstUnheld P shelf.told command → NoFault shelf out err
+    → IsAnswered (record { rules = rules; command = command; shelf = shelf; out = out; err = err }) status → FirstUnheld P shelf.told command → NoFault (record { rules = rules; command = command; shelf = shelf; out = out; err = err })
     → (status ≡ known) ⊎ (status ≡ 8)
 first_decides rules shelf out err None P known status decides answered has fine = absurd has
 first_decides rules shelf out err (Some files) P known status decides (inl (answer, due, delivered)) has fine =
-    inl (delivered_well answer shelf out err status fine delivered ∙ unheld shelf files P answer known (DueOfTexts rules files answer) fine.0
+    inl (delivered_well answer out err status (fine.1, fine.2) delivered ∙ unheld shelf files P answer known (DueOfTexts rules files answer) fine.0
     (λ limit limit_name name next. decides answer limit limit_name name next fine.0) has due)
 first_decides rules shelf out err (Some files) P known status decides (inr (some, e, nothing, silent)) has fine = inr e
 
-pub missing : (rules : Rules) (shelf : ShelfSeen) (out err : SinkSeen) (command : Option Files) (status : ℕ)
-    → IsAnswered rules shelf out err command status → FirstUnheld IsAbsent shelf.told command → NoFault shelf out err
-    → (status ≡ 10) ⊎ (status ≡ 8)
-missing rules shelf out err command status = first_decides rules shelf out err command IsAbsent 10 status (absent_decides shelf)
+pub missing : (run : Run) (status : ℕ) → IsAnswered run status → FirstUnheld IsAbsent run.shelf.told run.command → NoFault run → (status ≡ 10) ⊎ (status ≡ 8)
+missing run status =
+    first_decides run.rules run.shelf run.out run.err run.command IsAbsent 10 status (absent_decides run.shelf)
 
-pub overlong : (rules : Rules) (shelf : ShelfSeen) (out err : SinkSeen) (command : Option Files) (status : ℕ)
-    → IsAnswered rules shelf out err command status → FirstUnheld IsOverlong shelf.told command → NoFault shelf out err
-    → (status ≡ 9) ⊎ (status ≡ 8)
-overlong rules shelf out err command status = first_decides rules shelf out err command IsOverlong 9 status (overlong_decides shelf)
+pub overlong : (run : Run) (status : ℕ) → IsAnswered run status → FirstUnheld IsOverlong run.shelf.told run.command → NoFault run → (status ≡ 9) ⊎ (status ≡ 8)
+overlong run status =
+    first_decides run.rules run.shelf run.out run.err run.command IsOverlong 9 status (overlong_decides run.shelf)

@@ -1,20 +1,22 @@
 -- What the inner calls owe, from what those that they make ensure.
-use Rattle.std.proofs.Common.{◌≡◌, ℕ, List, IfOk, Result, Ok, Err, Some, refl, sym, ◌∙◌, ap, subst, inl, inr, arith}
+use Rattle.std.proofs.Common.{◌≡◌, ◌≢◌, ℕ, List, IfOk, Result, Ok, Err, Option, None, Some, refl, sym, ◌∙◌, ap, subst, inl, inr, arith}
 use Rattle.ir_core.specs.declared.functions.Module.{Module}
 use Rattle.hint_format.specs.Form.{HintsOf}
 use Rattle.erhl_assert.specs.declared.hints.Hints.{Hints}
 use Rattle.erhl_assert.specs.Steps.{Rules}
 use Rattle.erhl_assert.specs.Acceptance.{module_verdict}
-use Rattle.crell_program.specs.Answer.{not_of_the_first_form}
+use Rattle.crell_program.specs.Answer.{usage, not_of_the_first_form}
 use Rattle.ir_machine.specs.Refinement.{Refines}
 use Rattle.ir_reader.specs.Spells.{Spells}
 use Rattle.erhl_assert.specs.declared.verdict.ModuleVerdict.{ModuleVerdict}
 use Rattle.erhl_assert.specs.declared.verdict.ModuleVerdict.TheVariants as modules
+use Rattle.crell_io.specs.Shelf.{Told}
 use Rattle.crell_program.specs.declared.answer.Answer.{Answer}
 use Rattle.crell_program.specs.Command.{Files}
 use Rattle.crell_program.specs.VerdictText.{verdict_status, verdict_answer}
 use Rattle.crell_program.specs.Due.{ShelfSeen, Held, Missing, Long, Broken, MayCome, DueOfFile, DueOfFiles, DueOfTexts, NamesNoModule, HoldsNoHints, SpellsOnly, text_limit, json_limit}
-use Rattle.crell_program.specs.Delivery.{SinkSeen, IsDelivered}
+use Rattle.crell_program.specs.Delivery.{SinkSeen, IsDelivered, Untouched}
+use Rattle.crell_program.specs.Rows.{IsAnswered}
 use Rattle.crell_program.specs.Statuses.{AreRefined, IsRefinementOfBytes}
 use Rattle.crell_program.proofs.Bytes.{if_told_two}
 
@@ -101,3 +103,39 @@ pub texts_without_target : {E : Type 0} (rules : Rules) (files : Files) (source 
     → IfOk r (λ answer. DueOfTexts rules files answer source target hints)
 texts_without_target rules files source target hints s sp unread (Ok answer) e = inr (s, sp, inl (unread, e))
 texts_without_target rules files source target hints s sp unread (Err end) e = e
+
+-- what is delivered of the answer's texts is delivered of the answer
+pub delivered_as : (answer : Answer) (out_text err_text : List ℕ) (out err : SinkSeen) (status : ℕ) → out_text ≡ answer.out → err_text ≡ answer.err
+    → IsDelivered (record { status = answer.status; out = out_text; err = err_text }) out err status → IsDelivered answer out err status
+delivered_as answer out_text err_text out err status e f d =
+    let P : List ℕ → Type 0 = λ t. IsDelivered (record { status = answer.status; out = t; err = answer.err }) out err status in
+    let Q : List ℕ → Type 0 = λ t. IsDelivered (record { status = answer.status; out = out_text; err = t }) out err status in
+    subst P e (subst Q f d)
+
+pub answered_with_usage : (rules : Rules) (shelf : ShelfSeen) (out err : SinkSeen) (command : Option Files) (status : ℕ) → None ≡ command
+    → IsDelivered usage out err status → IsAnswered (record { rules = rules; command = command; shelf = shelf; out = out; err = err }) status
+answered_with_usage rules shelf out err command status e d =
+    let P : Option Files → Type 0 = λ c. IsAnswered (record { rules = rules; command = c; shelf = shelf; out = out; err = err }) status in
+    subst P e (inl (usage, refl, d))
+
+pub answered_for : (rules : Rules) (shelf : ShelfSeen) (out err : SinkSeen) (files : Files) (command : Option Files) (status : ℕ) → Some files ≡ command
+    → IsAnswered (record { rules = rules; command = Some files; shelf = shelf; out = out; err = err }) status
+    → IsAnswered (record { rules = rules; command = command; shelf = shelf; out = out; err = err }) status
+answered_for rules shelf out err files command status e answered =
+    let P : Option Files → Type 0 = λ c. IsAnswered (record { rules = rules; command = c; shelf = shelf; out = out; err = err }) status in
+    subst P e answered
+
+pub refinement_for : (told : List ℕ → Told) (files : Files) (command : Option Files) (status : ℕ) → Some files ≡ command
+    → (status ≡ 0 → IsRefinementOfBytes told (Some files)) → status ≡ 0 → IsRefinementOfBytes told command
+refinement_for told files command status e refined z =
+    let P : Option Files → Type 0 = λ c. IsRefinementOfBytes told c in subst P e (refined z)
+
+-- the usage isn't of status 0
+pub usage_isnt_zero : (out err : SinkSeen) (status : ℕ) → IsDelivered usage out err status → status ≡ 0 → ⊥
+usage_isnt_zero out err status delivered z =
+    let e : usage.status ≡ 0 = zero_of usage out err status delivered z in absurd (omega arith)
+
+-- memory was refused to a command, and no sink was asked
+pub unanswered : (rules : Rules) (shelf : ShelfSeen) (out err : SinkSeen) (files : Files) → Untouched out → Untouched err
+    → IsAnswered (record { rules = rules; command = Some files; shelf = shelf; out = out; err = err }) 8
+unanswered rules shelf out err files a b = let some : Some files ≢ None = λ e. cc in inr (some, refl, a, b)

@@ -1,7 +1,7 @@
 pub mod Bytes
-pub mod Fetches
 pub mod Causes
-pub mod Clauses
 pub mod Completeness
+pub mod Fetches
 pub mod Inner
+pub mod Rows
 pub mod Writing

@@ -1,4 +1,4 @@
--- What each status says, read off the answer that is due. One statement for each status of the program.
+-- What the statuses say of the words and the files.
 use Rattle.std.specs.Prelude.{◌≡◌, ◌≢◌, ◌⊎◌, ◌≤◌, ◌<◌, ◌==◌, ℕ, List, [], ◌∷◌, length, Option, None, Some, IsTrue}
 use Rattle.std.specs.List.{list_any}
 use Rattle.ir_core.specs.declared.functions.Module.{Module}
@@ -10,20 +10,10 @@ use Rattle.erhl_assert.specs.declared.verdict.ModuleVerdict.{ModuleVerdict}
 use Rattle.erhl_assert.specs.declared.verdict.ModuleVerdict.TheVariants as modules
 use Rattle.erhl_assert.specs.Steps.{Rules}
 use Rattle.erhl_assert.specs.Acceptance.{module_verdict}
-use Rattle.crell_io.specs.Count.{HasRisen}
 use Rattle.crell_io.specs.Shelf.{Told, IfTold, IsBytesAnd}
 use Rattle.crell_io.specs.Shelf.Told.{NoSuch}
-use Rattle.crell_program.specs.declared.answer.Answer.{Answer}
 use Rattle.crell_program.specs.Command.{Files}
-use Rattle.crell_program.specs.Due.{ShelfSeen, Missing, Long, MayCome, IsDue, NamesNoModule, HoldsNoHints, text_limit, json_limit}
-use Rattle.crell_program.specs.Delivery.{SinkSeen, IsDelivered, Untouched}
-
--- The status is that of the answer that is due, delivered; or the words are a command's, memory was refused to it, which is
--- status 8, and no sink was asked.
-abbrev pub IsAnswered : Rules → ShelfSeen → SinkSeen → SinkSeen → Option Files → ℕ → Type 0
-IsAnswered rules shelf out err command status =
-    ((answer : Answer) × IsDue rules shelf command answer × IsDelivered answer out err status)
-    ⊎ ((command ≢ None) × (status ≡ 8) × Untouched out × Untouched err)
+use Rattle.crell_program.specs.Due.{ShelfSeen, Missing, Long, MayCome, NamesNoModule, HoldsNoHints, text_limit, json_limit}
 
 -- the texts spell two modules, of which the target's refines the source's
 abbrev pub AreRefined : List ℕ → List ℕ → Type 0
@@ -129,10 +119,6 @@ FirstUnheld P told (Some files) =
     P told text_limit files.source
     ⊎ (IsHeldWithin told text_limit files.source × P told text_limit files.target)
     ⊎ (IsHeldWithin told text_limit files.source × IsHeldWithin told text_limit files.target × P told json_limit files.hints)
-
--- no count of faults rises
-abbrev pub NoFault : ShelfSeen → SinkSeen → SinkSeen → Type 0
-NoFault shelf out err = (HasRisen shelf.faults shelf.faults_after → ⊥) × (HasRisen out.faults out.faults_after → ⊥) × (HasRisen err.faults err.faults_after → ⊥)
 
 -- the statuses that there are
 abbrev pub IsStatus : ℕ → Type 0

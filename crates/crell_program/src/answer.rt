@@ -5,22 +5,32 @@ use contents::Seq;
 use std::alloc::{AllocError, Global};
 
 /// What the program answers: its status, and the texts for its two sinks.
-#[derive(Debug, Drop)]
+#[derive(Drop)]
 pub struct Answer {
     pub status: u8,
     pub out: Seq<u8>,
     pub err: Seq<u8>,
 }
 
-/// The words are no command's.
-pub fn usage(alloc: Global) -> Answer
-    ensures { result ≡ answer.usage }
+/// The text that other words than a command's get.
+pub fn usage_text() -> &'static [u8]
+    ensures { result.now ≡ answer.usage_text }
 {
-    Answer {
-        status: 2,
-        out: Seq::new(alloc),
-        err: Seq::new(alloc),
-    }
+    b"usage: crell check SRC TGT HINTS\n\
+\n\
+Says whether the module in the file TGT refines the one in the file SRC, both textual LLVM IR, by the\n\
+hints in the JSON file HINTS. A file's name doesn't begin with `-`.\n\
+\n\
+Exit status:\n  \
+0   valid\n  \
+1   refused: the place and the reason are printed\n  \
+2   the words are no command's\n  \
+3   a file isn't of the first form\n  \
+6   a file can't be opened or read\n  \
+7   standard output or standard error can't be written to\n  \
+8   memory was refused\n  \
+9   a file is too long: 16 MiB a module, 64 MiB the hints\n  \
+10  there is no such file\n"
 }
 
 /// A file's text isn't of the first form.

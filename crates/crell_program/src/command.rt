@@ -2,7 +2,7 @@ ghost use Rattle.std.specs.Prelude.{◌≡◌, map, string_bytes, option_map};
 ghost use Rattle.crell_program.specs.Command.{begins_with_dash, command_of, shown_files};
 
 /// The names of the three files of `check`, in their order.
-#[derive(Debug, Drop)]
+#[derive(Drop)]
 pub struct FileNames<'a> {
     pub source: &'a str,
     pub target: &'a str,

@@ -1,27 +1,32 @@
 ghost use Rattle.std.specs.Prelude.{◌≡◌, ◌≤◌, IsTrue, false};
 ghost use Rattle.crell_program.specs.Delivery.{sink_seen, GotAll, GotPart, IsDelivered};
 
-use crate::answer::Answer;
 use crell_io::Sink;
 
 /// The status where a sink failed.
 const WRITE_FAILED: u8 = 7;
 
-/// Writes the answer's text to out, then to err, and gives its status.
-pub fn deliver<O: Sink, E: Sink>(answer: &Answer, out: &mut O, err: &mut E) -> u8
-    ensures delivered { IsDelivered answer.now
+/// Writes an answer's texts to out, then to err, and gives its status.
+pub fn deliver<O: Sink, E: Sink>(
+    status: u8,
+    out_text: &[u8],
+    err_text: &[u8],
+    out: &mut O,
+    err: &mut E,
+) -> u8
+    ensures delivered { IsDelivered (record { status = status; out = out_text.now; err = err_text.now })
         (sink_seen O.written O.faults out.old out.new)
         (sink_seen E.written E.faults err.old err.new) result }
     ensures out_faults { O.faults out.old ≤ O.faults out.new }
     ensures err_faults { E.faults err.old ≤ E.faults err.new }
 {
-    if !write_whole(out, answer.out.as_slice()) {
+    if !write_whole(out, out_text) {
         return WRITE_FAILED;
     }
-    if !write_whole(err, answer.err.as_slice()) {
+    if !write_whole(err, err_text) {
         return WRITE_FAILED;
     }
-    answer.status
+    status
 }
 
 /// Writes the text piece by piece. It answers false where the sink failed, after some first part of the text.

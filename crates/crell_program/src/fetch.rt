@@ -15,7 +15,7 @@ const TEXT_LIMIT: u64 = 1 << 24;
 const JSON_LIMIT: u64 = 1 << 26;
 
 /// Why there are no bytes: a file isn't held, and this answer is due; or memory was refused.
-#[derive(Debug, Drop)]
+#[derive(Drop)]
 pub enum Stop {
     Due(Answer),
     Memory,
@@ -32,7 +32,7 @@ impl From<AllocError> for Stop {
 }
 
 /// The bytes of the three files.
-#[derive(Debug, Drop)]
+#[derive(Drop)]
 pub struct Texts {
     pub source: Vec<u8>,
     pub target: Vec<u8>,

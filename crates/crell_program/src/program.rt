@@ -1,13 +1,14 @@
-ghost use Rattle.std.specs.Prelude.{◌≡◌, ◌≢◌, ◌⊎◌, ◌↔◌, ◌≤◌, length, IfOk, OnErr, map, string_bytes};
+ghost use Rattle.std.specs.Prelude.{◌≡◌, ◌≤◌, length, None, Some, IfOk, map, string_bytes};
 ghost use Rattle.ir_machine.specs.Refinement.{Refines};
 ghost use Rattle.erhl_assert.specs.Acceptance.{module_verdict};
 ghost use Rattle.rule_base.specs.Book.{meanings_of};
-ghost use Rattle.crell_io.specs.Count.{HasRisen};
+ghost use Rattle.crell_program.specs.Answer.{usage};
 ghost use Rattle.crell_program.specs.Command.{command_of, shown_files};
-ghost use Rattle.crell_program.specs.Due.{shelf_seen, text_limit, IsDue, DueOfFiles, DueOfTexts};
-ghost use Rattle.crell_program.specs.Delivery.{sink_seen, GotNothing};
+ghost use Rattle.crell_program.specs.Due.{shelf_seen, text_limit, DueOfFiles, DueOfTexts};
+ghost use Rattle.crell_program.specs.Delivery.{sink_seen, IsDelivered};
+ghost use Rattle.crell_program.specs.Rows.{IsAnswered, KeepsRows};
+ghost use Rattle.crell_program.specs.Statuses.{AreRefined, IsRefinementOfBytes};
 ghost use Rattle.crell_program.specs.VerdictText.{verdict_answer};
-ghost use Rattle.crell_program.specs.Statuses.{IsAnswered, AreRefined, IsRefinementOfBytes, IsRefusal, SomeFileIsUnfit, SomeFileIsLonger, SomeFileIsMissing, HoldsAll, OneIsUnfit, HasVerdict, FirstUnheld, IsAbsent, IsOverlong, NoFault, IsStatus};
 
 use crate::answer::{self, Answer};
 use crate::command::{FileNames, command_of};
@@ -22,6 +23,9 @@ use ir_core::Module;
 use ir_reader::{TextFault, read_module};
 use rule_base::{InferRule, Pass, RuleBook};
 use std::alloc::{AllocError, Global};
+
+/// The status where the words are no command's.
+const USAGE: u8 = 2;
 
 /// The status of a run that memory was refused to.
 pub const WANT_OF_MEMORY: u8 = 8;
@@ -41,109 +45,25 @@ pub fn crell<S: Shelf, O: Sink, E: Sink>(
     ensures headline { result ≡ 0 → IsRefinementOfBytes (S.told shelf.old)
         (command_of (map string_bytes words.now)) }
 
-    // Which answer is due, and that it is delivered; or memory was refused, and no sink was asked.
-    ensures answered { IsAnswered
-        (meanings_of
-        (λ b. (⟦<dyn InferRule as InferRule>⟧ b.vtable).called b.value)
-        (λ b. (⟦<dyn InferRule as InferRule>⟧ b.vtable).takes b.value)
-        rules.now.rules.items)
-        (shelf_seen S.told S.faults S.taken shelf.old shelf.new)
-        (sink_seen O.written O.faults out.old out.new)
-        (sink_seen E.written E.faults err.old err.new)
-        (command_of (map string_bytes words.now))
-        result }
-
-    // The checker refuses the pair.
-    ensures refused { result ≡ 1 → IsRefusal
-        (meanings_of
-        (λ b. (⟦<dyn InferRule as InferRule>⟧ b.vtable).called b.value)
-        (λ b. (⟦<dyn InferRule as InferRule>⟧ b.vtable).takes b.value)
-        rules.now.rules.items)
-        (S.told shelf.old)
-        (command_of (map string_bytes words.now)) }
-
-    // The words are no command's; then nothing is written.
-    ensures usage { result ≡ 2 ↔ (command_of (map string_bytes words.now) ≡ None) }
-    ensures usage_silent { result ≡ 2
-        → GotNothing (sink_seen O.written O.faults out.old out.new)
-        × GotNothing (sink_seen E.written E.faults err.old err.new) }
-
-    // A file hasn't its first form; reading failed; writing failed; a file is too long; a file is absent.
-    ensures unfit { result ≡ 3 → SomeFileIsUnfit (S.told shelf.old)
-        (command_of (map string_bytes words.now)) }
-    ensures read_failed { result ≡ 6 → HasRisen (S.faults shelf.old) (S.faults shelf.new) }
-    ensures write_failed { result ≡ 7 → HasRisen (O.faults out.old) (O.faults out.new) ⊎ HasRisen (E.faults err.old) (E.faults err.new) }
-    ensures too_long { result ≡ 9 → SomeFileIsLonger
-        (shelf_seen S.told S.faults S.taken shelf.old shelf.new)
-        (command_of (map string_bytes words.now)) }
-    ensures absent { result ≡ 10 → SomeFileIsMissing
-        (shelf_seen S.told S.faults S.taken shelf.old shelf.new)
-        (command_of (map string_bytes words.now)) }
-
-    // Nothing is written to out but under 0 and 1, and a first part of it under 7.
-    ensures out_kept { result ≢ 0 → result ≢ 1 → result ≢ 7 → GotNothing
-        (sink_seen O.written O.faults out.old out.new) }
-
-    // Where all three files are told and within their limits, and no count of faults rises: the status is 3 where one of them
-    // hasn't its first form, and else the verdict's; or memory was refused.
-    ensures unread { HoldsAll (S.told shelf.old)
-        (command_of (map string_bytes words.now))
-        OneIsUnfit
-        → NoFault
-        (shelf_seen S.told S.faults S.taken shelf.old shelf.new)
-        (sink_seen O.written O.faults out.old out.new)
-        (sink_seen E.written E.faults err.old err.new)
-        → (result ≡ 3) ⊎ (result ≡ 8) }
-    ensures valid { HasVerdict
-        (meanings_of
-        (λ b. (⟦<dyn InferRule as InferRule>⟧ b.vtable).called b.value)
-        (λ b. (⟦<dyn InferRule as InferRule>⟧ b.vtable).takes b.value)
-        rules.now.rules.items)
-        (S.told shelf.old)
-        (command_of (map string_bytes words.now))
-        (λ v. v ≡ ModuleVerdict.Valid)
-        → NoFault
-        (shelf_seen S.told S.faults S.taken shelf.old shelf.new)
-        (sink_seen O.written O.faults out.old out.new)
-        (sink_seen E.written E.faults err.old err.new)
-        → (result ≡ 0) ⊎ (result ≡ 8) }
-    ensures invalid { HasVerdict
-        (meanings_of
-        (λ b. (⟦<dyn InferRule as InferRule>⟧ b.vtable).called b.value)
-        (λ b. (⟦<dyn InferRule as InferRule>⟧ b.vtable).takes b.value)
-        rules.now.rules.items)
-        (S.told shelf.old)
-        (command_of (map string_bytes words.now))
-        (λ v. v ≢ ModuleVerdict.Valid)
-        → NoFault
-        (shelf_seen S.told S.faults S.taken shelf.old shelf.new)
-        (sink_seen O.written O.faults out.old out.new)
-        (sink_seen E.written E.faults err.old err.new)
-        → (result ≡ 1) ⊎ (result ≡ 8) }
-
-    // Where the first of the files that isn't told to be held within its limit is told to be absent, or to be longer, and no
-    // count of faults rises: the status is 10, or 9; or memory was refused.
-    ensures missing { FirstUnheld IsAbsent (S.told shelf.old)
-        (command_of (map string_bytes words.now))
-        → NoFault
-        (shelf_seen S.told S.faults S.taken shelf.old shelf.new)
-        (sink_seen O.written O.faults out.old out.new)
-        (sink_seen E.written E.faults err.old err.new)
-        → (result ≡ 10) ⊎ (result ≡ 8) }
-    ensures overlong { FirstUnheld IsOverlong (S.told shelf.old)
-        (command_of (map string_bytes words.now))
-        → NoFault
-        (shelf_seen S.told S.faults S.taken shelf.old shelf.new)
-        (sink_seen O.written O.faults out.old out.new)
-        (sink_seen E.written E.faults err.old err.new)
-        → (result ≡ 9) ⊎ (result ≡ 8) }
-
-    ensures statuses { IsStatus result }
+    // The rows of the table of statuses.
+    ensures rows { KeepsRows (record {
+      rules = meanings_of
+          (λ b. (⟦<dyn InferRule as InferRule>⟧ b.vtable).called b.value)
+          (λ b. (⟦<dyn InferRule as InferRule>⟧ b.vtable).takes b.value)
+          rules.now.rules.items;
+      command = command_of (map string_bytes words.now);
+      shelf = shelf_seen S.told S.faults S.taken shelf.old shelf.new;
+      out = sink_seen O.written O.faults out.old out.new;
+      err = sink_seen E.written E.faults err.old err.new;
+    }) result }
 
     // The shelf tells what it told before, and no count falls.
     ensures told { S.told shelf.new ≡ S.told shelf.old }
     ensures counts { (S.faults shelf.old ≤ S.faults shelf.new) × (S.taken shelf.old ≤ S.taken shelf.new)
         × (O.faults out.old ≤ O.faults out.new) × (E.faults err.old ≤ E.faults err.new) }
+
+    // Where the words are no command's, the shelf isn't asked.
+    ensures unasked { command_of (map string_bytes words.now) ≡ None → shelf.new ≡ shelf.old }
 {
     run(alloc, words, rules, shelf, out, err)
 }
@@ -159,54 +79,72 @@ fn run<S: Shelf, O: Sink, E: Sink>(
 ) -> u8
     ensures headline { result ≡ 0 → IsRefinementOfBytes (S.told shelf.old)
         (command_of (map string_bytes words.now)) }
-    ensures answered { IsAnswered
-        (meanings_of
-        (λ b. (⟦<dyn InferRule as InferRule>⟧ b.vtable).called b.value)
-        (λ b. (⟦<dyn InferRule as InferRule>⟧ b.vtable).takes b.value)
-        rules.now.rules.items)
-        (shelf_seen S.told S.faults S.taken shelf.old shelf.new)
-        (sink_seen O.written O.faults out.old out.new)
-        (sink_seen E.written E.faults err.old err.new)
-        (command_of (map string_bytes words.now))
-        result }
+    ensures answered { IsAnswered (record {
+      rules = meanings_of
+          (λ b. (⟦<dyn InferRule as InferRule>⟧ b.vtable).called b.value)
+          (λ b. (⟦<dyn InferRule as InferRule>⟧ b.vtable).takes b.value)
+          rules.now.rules.items;
+      command = command_of (map string_bytes words.now);
+      shelf = shelf_seen S.told S.faults S.taken shelf.old shelf.new;
+      out = sink_seen O.written O.faults out.old out.new;
+      err = sink_seen E.written E.faults err.old err.new;
+    }) result }
     ensures told { S.told shelf.new ≡ S.told shelf.old }
-    ensures faults { S.faults shelf.old ≤ S.faults shelf.new }
-    ensures taken { S.taken shelf.old ≤ S.taken shelf.new }
-    ensures out_faults { O.faults out.old ≤ O.faults out.new }
-    ensures err_faults { E.faults err.old ≤ E.faults err.new }
+    ensures counts { (S.faults shelf.old ≤ S.faults shelf.new) × (S.taken shelf.old ≤ S.taken shelf.new)
+        × (O.faults out.old ≤ O.faults out.new) × (E.faults err.old ≤ E.faults err.new) }
+    ensures unasked { command_of (map string_bytes words.now) ≡ None → shelf.new ≡ shelf.old }
 {
-    match answer_to(alloc, words, rules, shelf) {
-        Ok(answer) => deliver(&answer, out, err),
-        Err(_) => WANT_OF_MEMORY,
+    match command_of(words) {
+        None => tell_usage(out, err),
+        Some(files) => check(alloc, &files, rules, shelf, out, err),
     }
 }
 
-/// The answer that is due to the words.
-fn answer_to<S: Shelf>(
+/// Writes the usage to err.
+pub(crate) fn tell_usage<O: Sink, E: Sink>(out: &mut O, err: &mut E) -> u8
+    ensures delivered { IsDelivered usage
+        (sink_seen O.written O.faults out.old out.new)
+        (sink_seen E.written E.faults err.old err.new) result }
+    ensures out_faults { O.faults out.old ≤ O.faults out.new }
+    ensures err_faults { E.faults err.old ≤ E.faults err.new }
+{
+    deliver(USAGE, b"", answer::usage_text(), out, err)
+}
+
+/// Finds the answer that is due to the three files, and delivers it.
+fn check<S: Shelf, O: Sink, E: Sink>(
     alloc: Global,
-    words: &[String],
+    files: &FileNames<'_>,
     rules: &RuleBook,
     shelf: &mut S,
-) -> Result<Answer, AllocError>
-    ensures due { IfOk result
-        (λ answer. IsDue
-        (meanings_of
-        (λ b. (⟦<dyn InferRule as InferRule>⟧ b.vtable).called b.value)
-        (λ b. (⟦<dyn InferRule as InferRule>⟧ b.vtable).takes b.value)
-        rules.now.rules.items)
-        (shelf_seen S.told S.faults S.taken shelf.old shelf.new)
-        (command_of (map string_bytes words.now)) answer) }
-    ensures refines { IfOk result
-        (λ answer. answer.status ≡ 0 → IsRefinementOfBytes (S.told shelf.old)
-        (command_of (map string_bytes words.now))) }
-    ensures command { OnErr result (command_of (map string_bytes words.now) ≢ None) }
+    out: &mut O,
+    err: &mut E,
+) -> u8
+    ensures headline { result ≡ 0 → IsRefinementOfBytes (S.told shelf.old) (Some
+        (shown_files files.now)) }
+    ensures answered { IsAnswered (record {
+      rules = meanings_of
+          (λ b. (⟦<dyn InferRule as InferRule>⟧ b.vtable).called b.value)
+          (λ b. (⟦<dyn InferRule as InferRule>⟧ b.vtable).takes b.value)
+          rules.now.rules.items;
+      command = Some (shown_files files.now);
+      shelf = shelf_seen S.told S.faults S.taken shelf.old shelf.new;
+      out = sink_seen O.written O.faults out.old out.new;
+      err = sink_seen E.written E.faults err.old err.new;
+    }) result }
     ensures told { S.told shelf.new ≡ S.told shelf.old }
-    ensures faults { S.faults shelf.old ≤ S.faults shelf.new }
-    ensures taken { S.taken shelf.old ≤ S.taken shelf.new }
+    ensures counts { (S.faults shelf.old ≤ S.faults shelf.new) × (S.taken shelf.old ≤ S.taken shelf.new)
+        × (O.faults out.old ≤ O.faults out.new) × (E.faults err.old ≤ E.faults err.new) }
 {
-    match command_of(words) {
-        None => Ok(answer::usage(alloc)),
-        Some(files) => check_files(alloc, &files, rules, shelf),
+    match check_files(alloc, files, rules, shelf) {
+        Ok(answer) => deliver(
+            answer.status,
+            answer.out.as_slice(),
+            answer.err.as_slice(),
+            out,
+            err,
+        ),
+        Err(_) => WANT_OF_MEMORY,
     }
 }
 

@@ -1,4 +1,5 @@
-use Rattle.std.proofs.Common.{refl, ◌∙◌, arith}
+use Rattle.std.proofs.Common.{refl, ◌∙◌}
+use Rattle.std.proofs.Math.Nat.{le_refl, le_trans}
 use Rattle.std.proofs.lemmas.Result.{err_from_is_err_and}
 use Rattle.crell_program.specs.Command.{shown_files}
 use Rattle.crell_program.specs.Due.{shelf_seen, Held, DueOfFiles, text_limit, json_limit}
@@ -14,9 +15,9 @@ returns-in_err-target-clause-due g c =
     let one = c.fetch.new.shelf in
     let two = c.fetch-2.new.shelf in
     let first = within told faults taken start start one two refl
-    (omega arith) (omega (arith, c.fetch-2.ensures.faults)) (omega arith) (omega (arith, c.fetch-2.ensures.taken)) in
+    (le_refl (faults start)) c.fetch-2.ensures.faults (le_refl (taken start)) c.fetch-2.ensures.taken in
     let second = within told faults taken start one two two c.fetch.ensures.told
-    (omega (arith, c.fetch.ensures.faults)) (omega arith) (omega (arith, c.fetch.ensures.taken)) (omega arith) in
+    c.fetch.ensures.faults (le_refl (faults two)) c.fetch.ensures.taken (le_refl (taken two)) in
     let exit = err_from_is_err_and c.from_residual-in_err-target.result c.from_residual-in_err-target.ensures.1 in
     let whole = shelf_seen told faults taken start two in
     let files = shown_files c.args.files.now in
@@ -36,11 +37,13 @@ returns-in_err-hints-clause-due g c =
     let two = c.fetch-2.new.shelf in
     let three = c.fetch-3.new.shelf in
     let first = within told faults taken start start one three refl
-    (omega arith) (omega (arith, c.fetch-2.ensures.faults, c.fetch-3.ensures.faults)) (omega arith) (omega (arith, c.fetch-2.ensures.taken, c.fetch-3.ensures.taken)) in
+    (le_refl (faults start)) (le_trans c.fetch-2.ensures.faults c.fetch-3.ensures.faults)
+    (le_refl (taken start)) (le_trans c.fetch-2.ensures.taken c.fetch-3.ensures.taken) in
     let second = within told faults taken start one two three c.fetch.ensures.told
-    (omega (arith, c.fetch.ensures.faults)) (omega (arith, c.fetch-3.ensures.faults)) (omega (arith, c.fetch.ensures.taken)) (omega (arith, c.fetch-3.ensures.taken)) in
+    c.fetch.ensures.faults c.fetch-3.ensures.faults c.fetch.ensures.taken c.fetch-3.ensures.taken in
     let third = within told faults taken start two three three (c.fetch-2.ensures.told ∙ c.fetch.ensures.told)
-    (omega (arith, c.fetch.ensures.faults, c.fetch-2.ensures.faults)) (omega arith) (omega (arith, c.fetch.ensures.taken, c.fetch-2.ensures.taken)) (omega arith) in
+    (le_trans c.fetch.ensures.faults c.fetch-2.ensures.faults) (le_refl (faults three))
+    (le_trans c.fetch.ensures.taken c.fetch-2.ensures.taken) (le_refl (taken three)) in
     let exit = err_from_is_err_and c.from_residual-in_err-hints.result c.from_residual-in_err-hints.ensures.1 in
     let whole = shelf_seen told faults taken start three in
     let files = shown_files c.args.files.now in

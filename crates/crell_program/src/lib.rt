@@ -1,0 +1,13 @@
+//! The commands of `crell`, over any shelf and any two sinks: which answer is due to the words and the files, and how it is delivered.
+#![tactic(auto)]
+
+mod answer;
+mod command;
+mod delivery;
+mod fetch;
+mod program;
+mod shipped;
+mod verdict_text;
+
+pub use program::{WANT_OF_MEMORY, crell};
+pub use shipped::crell_with_shipped_rules;
