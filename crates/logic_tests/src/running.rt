@@ -1,0 +1,266 @@
+ghost use Rattle.std.specs.Prelude.{◌≡◌, ◌≢◌, [], ◌∷◌, Option, None, Some, IfOk, IfSome};
+ghost use Rattle.ir_core.specs.declared.names.Name.{Name};
+ghost use Rattle.ir_machine.specs.Machine as machine;
+ghost use Rattle.ir_machine.specs.State.{Over};
+ghost use Rattle.ir_machine.specs.Places.{state_of};
+
+use contents::Seq;
+use ir_core::{
+    Atom, BinOp, Binary, Block, Const, Flags, Function, Instr, Module, Name, Operand, Param, Term,
+    Ty,
+};
+use ir_machine::{
+    Choice, Chooser, Input, Item, Progress, RunState, Shown, StartEnd, StepEnd, start, step,
+};
+use std::alloc::{AllocError, Global};
+
+/// Tells one choice, or none.
+#[derive(Drop)]
+struct Once {
+    choice: Option<Choice>,
+}
+
+impl Chooser for Once {
+    ghost script = { λ it. elim it.choice [ None ↦ [] | Some c ↦ c ∷ [] ] };
+
+    fn take(&mut self) -> Option<Choice> {
+        self.choice.take()
+    }
+}
+
+fn one<T: Drop>(alloc: Global, item: T) -> Result<Seq<T>, AllocError>
+    ensures { IfOk result (λ items. items ≡ item ∷ []) }
+{
+    let mut items = Seq::new(alloc);
+    items.push(item)?;
+    Ok(items)
+}
+
+/// What the sample returns.
+#[derive(Drop, Clone, Copy)]
+enum Returns {
+    Sum,
+    Undef,
+}
+
+fn returned(value: Returns) -> Atom<Name> {
+    match value {
+        Returns::Sum => Atom::Register(Name::Number(2)),
+        Returns::Undef => Atom::Constant(Const::Undef),
+    }
+}
+
+/// `%1: %2 = add FLAGS i8 %0, 200  ret i8 VALUE`, with numbers for names.
+fn sample_block(alloc: Global, flags: Flags, value: Returns) -> Result<Block, AllocError> {
+    let line = Binary {
+        name: Name::Number(2),
+        op: BinOp::Add,
+        flags,
+        ty: Ty::Int(8),
+        left: Atom::Register(Name::Number(0)),
+        right: Atom::Constant(Const::Number(200)),
+    };
+    Ok(Block {
+        name: Name::Number(1),
+        phis: Seq::new(alloc),
+        body: one(alloc, Instr::Binary(line))?,
+        term: Term::Ret(Operand {
+            ty: Ty::Int(8),
+            atom: returned(value),
+        }),
+    })
+}
+
+/// `define i8 @0(i8 %0) { BLOCK }`.
+fn sample(alloc: Global, flags: Flags, value: Returns) -> Result<Module, AllocError>
+    ensures blocks { IfOk result
+        (λ m. IfSome (machine.function_named (Name.Number 0) m.functions) (λ f. f.blocks ≢ [])) }
+    ensures absent { IfOk result (λ m. machine.function_named (Name.Number 1) m.functions ≡ None) }
+{
+    let blocks = one(alloc, sample_block(alloc, flags, value)?)?;
+    let params = one(
+        alloc,
+        Param {
+            name: Name::Number(0),
+            ty: Ty::Int(8),
+        },
+    )?;
+    let functions = one(
+        alloc,
+        Function {
+            name: Name::Number(0),
+            result: Ty::Int(8),
+            params,
+            blocks,
+        },
+    )?;
+    Ok(Module { functions })
+}
+
+fn input_of(alloc: Global, numbers: &[u64]) -> Result<Input, AllocError> {
+    let mut args = Seq::new(alloc);
+    for number in numbers {
+        args.push(Shown::Num(*number))?;
+    }
+    Ok(Input { args })
+}
+
+/// What a run shows, or why it doesn't start or go on.
+#[derive(Drop, Clone, Copy, PartialEq)]
+enum Seen {
+    Started,
+    Number(u64),
+    Wrong,
+    NoChoice,
+    NoFunction,
+    InputUnfit,
+    Memory,
+    Other,
+}
+
+fn start_end(end: StartEnd) -> Seen {
+    match end {
+        StartEnd::NoFunction => Seen::NoFunction,
+        StartEnd::InputUnfit => Seen::InputUnfit,
+        StartEnd::Memory => Seen::Memory,
+    }
+}
+
+fn step_end(end: StepEnd) -> Seen {
+    match end {
+        StepEnd::NoChoice => Seen::NoChoice,
+        StepEnd::Memory => Seen::Memory,
+    }
+}
+
+/// How a run of that function starts on these numbers.
+fn start_seen(alloc: Global, module: &Module, entry: &Name, numbers: &[u64]) -> Seen
+    requires { IfSome (machine.function_named entry.now «module».now.functions) (λ f. f.blocks ≢ []) }
+{
+    let Ok(input) = input_of(alloc, numbers) else {
+        return Seen::Memory;
+    };
+    match start(alloc, module, entry, &input) {
+        Ok(_) => Seen::Started,
+        Err(end) => start_end(end),
+    }
+}
+
+fn sample_starts(alloc: Global, numbers: &[u64]) -> Seen {
+    match sample(alloc, PLAIN, Returns::Undef) {
+        Ok(module) => start_seen(alloc, &module, &Name::Number(0), numbers),
+        Err(_) => Seen::Memory,
+    }
+}
+
+fn absent_function_starts(alloc: Global, numbers: &[u64]) -> Seen {
+    match sample(alloc, PLAIN, Returns::Undef) {
+        Ok(module) => start_seen(alloc, &module, &Name::Number(1), numbers),
+        Err(_) => Seen::Memory,
+    }
+}
+
+fn items_seen(items: &[Item]) -> Seen {
+    match items {
+        [Item::Turn, Item::Returned(Some(Shown::Num(n)))] => Seen::Number(*n),
+        [Item::Turn, Item::Wrong] => Seen::Wrong,
+        _ => Seen::Other,
+    }
+}
+
+/// What the next two steps show, or the next one where it ends the run.
+fn next_items(
+    alloc: Global,
+    module: &Module,
+    state: &mut RunState,
+    chooser: &mut Once,
+) -> Result<Seq<Item>, StepEnd>
+    requires { state_of «module».now state.old ≢ Over }
+{
+    let first = step(alloc, module, state, chooser)?;
+    match first.progress {
+        Progress::Goes => Ok(step(alloc, module, state, chooser)?.items),
+        Progress::Ended | Progress::IsWrong => Ok(first.items),
+    }
+}
+
+fn pick(number: Option<u64>) -> Option<Choice> {
+    match number {
+        Some(n) => Some(Choice::Pick(Shown::Num(n))),
+        None => None,
+    }
+}
+
+/// What `@0` shows in two steps, on one argument.
+fn shown_by(
+    alloc: Global,
+    module: &Module,
+    argument: u64,
+    number: Option<u64>,
+) -> Result<Seq<Item>, StepEnd>
+    requires { IfSome (machine.function_named (Name.Number 0) «module».now.functions) (λ f. f.blocks ≢ []) }
+{
+    let input = input_of(alloc, [argument].as_slice())?;
+    match start(alloc, module, &Name::Number(0), &input) {
+        Ok(mut state) => {
+            let mut chooser = Once {
+                choice: pick(number),
+            };
+            next_items(alloc, module, &mut state, &mut chooser)
+        }
+        Err(_) => Err(StepEnd::Memory),
+    }
+}
+
+fn sample_shows(
+    alloc: Global,
+    flags: Flags,
+    value: Returns,
+    argument: u64,
+    number: Option<u64>,
+) -> Seen {
+    let Ok(module) = sample(alloc, flags, value) else {
+        return Seen::Memory;
+    };
+    match shown_by(alloc, &module, argument, number) {
+        Ok(items) => items_seen(items.as_slice()),
+        Err(end) => step_end(end),
+    }
+}
+
+const PLAIN: Flags = Flags {
+    nuw: false,
+    nsw: false,
+};
+
+const NO_UNSIGNED_WRAP: Flags = Flags {
+    nuw: true,
+    nsw: false,
+};
+
+/// A sum is returned; poison that is returned is undefined behaviour; undef is shown as what is picked for it.
+#[test]
+fn returns_are_shown(rt: HostRuntime) {
+    let rows = [
+        (PLAIN, Returns::Sum, 100, None, Seen::Number(44)),
+        (PLAIN, Returns::Sum, 7, None, Seen::Number(207)),
+        (NO_UNSIGNED_WRAP, Returns::Sum, 7, None, Seen::Number(207)),
+        (NO_UNSIGNED_WRAP, Returns::Sum, 100, None, Seen::Wrong),
+        (PLAIN, Returns::Undef, 0, Some(9), Seen::Number(9)),
+        (PLAIN, Returns::Undef, 0, Some(300), Seen::NoChoice),
+        (PLAIN, Returns::Undef, 0, None, Seen::NoChoice),
+    ];
+    for (flags, value, argument, number, wanted) in rows {
+        assert!(rt; sample_shows(rt.alloc(), flags, value, argument, number) == wanted);
+    }
+}
+
+#[test]
+fn arguments_that_do_not_fit_are_told(rt: HostRuntime) {
+    let alloc = rt.alloc();
+    assert!(rt; sample_starts(alloc, [255].as_slice()) == Seen::Started);
+    assert!(rt; sample_starts(alloc, [256].as_slice()) == Seen::InputUnfit);
+    assert!(rt; sample_starts(alloc, [].as_slice()) == Seen::InputUnfit);
+    assert!(rt; sample_starts(alloc, [1, 2].as_slice()) == Seen::InputUnfit);
+    assert!(rt; absent_function_starts(alloc, [255].as_slice()) == Seen::NoFunction);
+}

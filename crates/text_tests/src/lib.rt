@@ -1,0 +1,15 @@
+//! Tests of the crates that hold, read and print texts, for what no contract and no row shows. Nothing else stands here.
+#![tactic(auto)]
+
+#[cfg(test)]
+mod copies;
+#[cfg(test)]
+mod equality;
+#[cfg(test)]
+mod hints;
+#[cfg(test)]
+mod printing;
+#[cfg(test)]
+mod reading;
+#[cfg(test)]
+mod tokens;
