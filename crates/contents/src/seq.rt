@@ -5,9 +5,14 @@ use std::alloc::{AllocError, Global};
 use std::marker::Model;
 
 /// A `Vec` that contracts see as the list of its items.
-#[derive(Drop)]
 pub struct Seq<T> {
     items: Vec<T>,
+}
+
+impl<T: Drop> Drop for Seq<T> {
+    fn drop(self) {
+        let Seq { items: _ } = self;
+    }
 }
 
 impl<T> Model for Seq<T> {

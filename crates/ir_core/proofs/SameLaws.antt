@@ -1,6 +1,6 @@
 -- The tests of specs/Same are true exactly of equal things: two laws for each. Where a test takes the test of its elements
 -- or registers, its laws take theirs.
-use Rattle.std.proofs.Common.{◌≡◌, Bool, true, false, ◌&&◌, refl, ap, subst}
+use Rattle.std.proofs.Common.{◌≡◌, ◌∙◌, ℕ, zero, suc, Bool, true, false, ◌&&◌, refl, sym, ap, subst}
 use Rattle.ir_core.specs.declared.names.Name.{Name}
 use Rattle.ir_core.specs.declared.operands.Ty.{Ty}
 use Rattle.ir_core.specs.declared.operands.Ty.TheVariants as ty
@@ -14,11 +14,11 @@ use Rattle.ir_core.specs.declared.operands.BinOp.TheVariants as op
 use Rattle.ir_core.specs.declared.operands.Flags.{Flags}
 use Rattle.ir_core.specs.declared.expressions.Reg.{Reg}
 use Rattle.ir_core.specs.declared.expressions.Reg.TheVariants as reg
-use Rattle.ir_core.specs.declared.expressions.BinaryExpr.{BinaryExpr}
-use Rattle.ir_core.specs.declared.expressions.Expr0.{Expr0}
-use Rattle.ir_core.specs.declared.expressions.Expr0.TheVariants as expr
+use Rattle.ir_core.specs.declared.expressions.Binary.{Binary}
+use Rattle.ir_core.specs.declared.expressions.Expr.{Expr}
+use Rattle.ir_core.specs.declared.expressions.Expr.TheVariants as expr
 pub use Rattle.ir_core.specs.NameLaws.{left_true, right_true, all_true, same_list_true, same_list_refl, same_nat_true, same_nat_refl, same_name_true, same_name_refl}
-use Rattle.ir_core.specs.Same.{same_bool, same_name, same_ty, same_const, same_atom, same_operand, same_op, same_flags, same_reg, same_binary, same_expr, IsEquality}
+use Rattle.ir_core.specs.Same.{same_bool, same_name, same_ty, same_const, same_atom, same_operand, op_code, same_op, same_flags, same_reg, same_binary, same_expr, IsEquality}
 
 pub equality : {A : Type 0} (same : A → A → Bool) → ((a b : A) → same a b ≡ true → a ≡ b) → ((a : A) → same a a ≡ true) → IsEquality same
 equality same true_of refl_of a b = (true_of a b, λ e. subst (λ c. same a c ≡ true) e (refl_of a))
@@ -74,15 +74,20 @@ same_operand_true {R = R} same law a b h =
 pub same_operand_refl : {R : Type 0} (same : R → R → Bool) → ((a : R) → same a a ≡ true) → (a : Operand R) → same_operand same a a ≡ true
 same_operand_refl same law a = all_true (same_ty_refl a.ty) (same_atom_refl same law a.atom)
 
+-- the operator of that number
+abbrev op_of : ℕ → BinOp
+op_of zero = op.Add
+op_of (suc n) = op.Sub
+
+op_back : (a : BinOp) → op_of (op_code a) ≡ a
+op_back op.Add = refl
+op_back op.Sub = refl
+
 pub same_op_true : (a b : BinOp) → same_op a b ≡ true → a ≡ b
-same_op_true op.Add op.Add h = refl
-same_op_true op.Sub op.Sub h = refl
-same_op_true op.Add op.Sub h = cc
-same_op_true op.Sub op.Add h = cc
+same_op_true a b h = sym (op_back a) ∙ ap op_of (same_nat_true (op_code a) (op_code b) h) ∙ op_back b
 
 pub same_op_refl : (a : BinOp) → same_op a a ≡ true
-same_op_refl op.Add = refl
-same_op_refl op.Sub = refl
+same_op_refl a = same_nat_refl (op_code a)
 
 pub same_flags_true : (a b : Flags) → same_flags a b ≡ true → a ≡ b
 same_flags_true a b h =
@@ -111,13 +116,13 @@ same_reg_refl (reg.Now x) = same_name_refl x
 same_reg_refl (reg.Old x) = same_name_refl x
 same_reg_refl (reg.Ghost x) = same_name_refl x
 
-pub same_binary_true : (a b : BinaryExpr) → same_binary a b ≡ true → a ≡ b
-same_binary_true a b h =
+pub same_binary_true : {R : Type 0} (same : R → R → Bool) → ((a b : R) → same a b ≡ true → a ≡ b) → (a b : Binary R) → same_binary same a b ≡ true → a ≡ b
+same_binary_true {R = R} same law a b h =
     let o = same_op a.op b.op in
     let f = same_flags a.flags b.flags in
     let t = same_ty a.ty b.ty in
-    let l = same_atom same_reg a.left b.left in
-    let r = same_atom same_reg a.right b.right in
+    let l = same_atom same a.left b.left in
+    let r = same_atom same a.right b.right in
     let h1 : (o && f && t && l) ≡ true = left_true (o && f && t && l) r h in
     let h2 : (o && f && t) ≡ true = left_true (o && f && t) l h1 in
     let h3 : (o && f) ≡ true = left_true (o && f) t h2 in
@@ -125,24 +130,24 @@ same_binary_true a b h =
       same_op_true a.op b.op (left_true o f h3),
       same_flags_true a.flags b.flags (right_true o f h3),
       same_ty_true a.ty b.ty (right_true (o && f) t h2),
-      same_atom_true same_reg same_reg_true a.left b.left (right_true (o && f && t) l h1),
-      same_atom_true same_reg same_reg_true a.right b.right (right_true (o && f && t && l) r h),
+      same_atom_true same law a.left b.left (right_true (o && f && t) l h1),
+      same_atom_true same law a.right b.right (right_true (o && f && t && l) r h),
     ) in
-    ap (λ (p : BinOp × Flags × Ty × Atom Reg × Atom Reg). record { op = p.0; flags = p.1; ty = p.2; left = p.3; right = p.4 }) parts
+    ap (λ (p : BinOp × Flags × Ty × Atom R × Atom R). record { op = p.0; flags = p.1; ty = p.2; left = p.3; right = p.4 }) parts
 
-pub same_binary_refl : (a : BinaryExpr) → same_binary a a ≡ true
-same_binary_refl a = all_true (all_true (all_true (all_true (same_op_refl a.op) (same_flags_refl a.flags)) (same_ty_refl a.ty))
-    (same_atom_refl same_reg same_reg_refl a.left)) (same_atom_refl same_reg same_reg_refl a.right)
+pub same_binary_refl : {R : Type 0} (same : R → R → Bool) → ((a : R) → same a a ≡ true) → (a : Binary R) → same_binary same a a ≡ true
+same_binary_refl same law a = all_true (all_true (all_true (all_true (same_op_refl a.op) (same_flags_refl a.flags)) (same_ty_refl a.ty))
+    (same_atom_refl same law a.left)) (same_atom_refl same law a.right)
 
-pub same_expr_true : (a b : Expr0) → same_expr a b ≡ true → a ≡ b
-same_expr_true (expr.Plain a) (expr.Plain b) h = ap expr.Plain (same_operand_true same_reg same_reg_true a b h)
-same_expr_true (expr.Binary a) (expr.Binary b) h = ap expr.Binary (same_binary_true a b h)
-same_expr_true (expr.Plain a) (expr.Binary b) h = cc
-same_expr_true (expr.Binary a) (expr.Plain b) h = cc
+pub same_expr_true : {R : Type 0} (same : R → R → Bool) → ((a b : R) → same a b ≡ true → a ≡ b) → (a b : Expr R) → same_expr same a b ≡ true → a ≡ b
+same_expr_true same law (expr.Plain a) (expr.Plain b) h = ap expr.Plain (same_operand_true same law a b h)
+same_expr_true same law (expr.Binary a) (expr.Binary b) h = ap expr.Binary (same_binary_true same law a b h)
+same_expr_true same law (expr.Plain a) (expr.Binary b) h = cc
+same_expr_true same law (expr.Binary a) (expr.Plain b) h = cc
 
-pub same_expr_refl : (a : Expr0) → same_expr a a ≡ true
-same_expr_refl (expr.Plain a) = same_operand_refl same_reg same_reg_refl a
-same_expr_refl (expr.Binary a) = same_binary_refl a
+pub same_expr_refl : {R : Type 0} (same : R → R → Bool) → ((a : R) → same a a ≡ true) → (a : Expr R) → same_expr same a a ≡ true
+same_expr_refl same law (expr.Plain a) = same_operand_refl same law a
+same_expr_refl same law (expr.Binary a) = same_binary_refl same law a
 
 -- at the registers of functions, and at those of the logic
 pub same_name_atom_true : (a b : Atom Name) → same_atom same_name a b ≡ true → a ≡ b
@@ -168,3 +173,15 @@ same_reg_operand_true a b h = same_operand_true same_reg same_reg_true a b h
 
 pub same_reg_operand_refl : (a : Operand Reg) → same_operand same_reg a a ≡ true
 same_reg_operand_refl a = same_operand_refl same_reg same_reg_refl a
+
+pub same_reg_expr_true : (a b : Expr Reg) → same_expr same_reg a b ≡ true → a ≡ b
+same_reg_expr_true a b h = same_expr_true same_reg same_reg_true a b h
+
+pub same_reg_expr_refl : (a : Expr Reg) → same_expr same_reg a a ≡ true
+same_reg_expr_refl a = same_expr_refl same_reg same_reg_refl a
+
+pub same_name_expr_true : (a b : Expr Name) → same_expr same_name a b ≡ true → a ≡ b
+same_name_expr_true a b h = same_expr_true same_name same_name_true a b h
+
+pub same_name_expr_refl : (a : Expr Name) → same_expr same_name a a ≡ true
+same_name_expr_refl a = same_expr_refl same_name same_name_refl a

@@ -2,5 +2,8 @@ pub mod Names
 pub mod Types
 pub mod Limits
 pub mod Same
+pub mod Expressions
+pub mod Words
+pub mod Modules
 pub mod NameLaws
 pub mod Hashed

@@ -1,6 +1,6 @@
 -- Whether two parts of a syntax tree are the same, as tests that compute. Each is true exactly of equal things, which is
 -- the contract of `tests_are_equality`.
-use Rattle.std.specs.Prelude.{◌≡◌, ◌↔◌, Bool, true, false, ◌&&◌, List, [], ◌∷◌, nat_eq}
+use Rattle.std.specs.Prelude.{◌≡◌, ◌↔◌, ℕ, Bool, true, false, ◌&&◌, List, [], ◌∷◌, nat_eq}
 use Rattle.ir_core.specs.declared.names.Name.{Name}
 use Rattle.ir_core.specs.declared.names.Name.TheVariants as name
 use Rattle.ir_core.specs.declared.operands.Ty.{Ty}
@@ -15,9 +15,9 @@ use Rattle.ir_core.specs.declared.operands.BinOp.TheVariants as op
 use Rattle.ir_core.specs.declared.operands.Flags.{Flags}
 use Rattle.ir_core.specs.declared.expressions.Reg.{Reg}
 use Rattle.ir_core.specs.declared.expressions.Reg.TheVariants as reg
-use Rattle.ir_core.specs.declared.expressions.BinaryExpr.{BinaryExpr}
-use Rattle.ir_core.specs.declared.expressions.Expr0.{Expr0}
-use Rattle.ir_core.specs.declared.expressions.Expr0.TheVariants as expr
+use Rattle.ir_core.specs.declared.expressions.Binary.{Binary}
+use Rattle.ir_core.specs.declared.expressions.Expr.{Expr}
+use Rattle.ir_core.specs.declared.expressions.Expr.TheVariants as expr
 
 abbrev pub same_list : {A : Type 0} → (A → A → Bool) → List A → List A → Bool
 same_list same [] [] = true
@@ -58,11 +58,13 @@ same_atom same (atom.Register x) (atom.Constant d) = false
 abbrev pub same_operand : {R : Type 0} → (R → R → Bool) → Operand R → Operand R → Bool
 same_operand same a b = same_ty a.ty b.ty && same_atom same a.atom b.atom
 
+-- a number for each operator, in the order of their declaration
+abbrev pub op_code : BinOp → ℕ
+op_code op.Add = 0
+op_code op.Sub = 1
+
 abbrev pub same_op : BinOp → BinOp → Bool
-same_op op.Add op.Add = true
-same_op op.Sub op.Sub = true
-same_op op.Add op.Sub = false
-same_op op.Sub op.Add = false
+same_op a b = nat_eq (op_code a) (op_code b)
 
 abbrev pub same_flags : Flags → Flags → Bool
 same_flags a b = same_bool a.nuw b.nuw && same_bool a.nsw b.nsw
@@ -78,16 +80,16 @@ same_reg (reg.Old x) (reg.Ghost y) = false
 same_reg (reg.Ghost x) (reg.Now y) = false
 same_reg (reg.Ghost x) (reg.Old y) = false
 
-abbrev pub same_binary : BinaryExpr → BinaryExpr → Bool
-same_binary a b =
+abbrev pub same_binary : {R : Type 0} → (R → R → Bool) → Binary R → Binary R → Bool
+same_binary same a b =
     same_op a.op b.op && same_flags a.flags b.flags && same_ty a.ty b.ty
-    && same_atom same_reg a.left b.left && same_atom same_reg a.right b.right
+    && same_atom same a.left b.left && same_atom same a.right b.right
 
-abbrev pub same_expr : Expr0 → Expr0 → Bool
-same_expr (expr.Plain a) (expr.Plain b) = same_operand same_reg a b
-same_expr (expr.Binary a) (expr.Binary b) = same_binary a b
-same_expr (expr.Plain a) (expr.Binary b) = false
-same_expr (expr.Binary a) (expr.Plain b) = false
+abbrev pub same_expr : {R : Type 0} → (R → R → Bool) → Expr R → Expr R → Bool
+same_expr same (expr.Plain a) (expr.Plain b) = same_operand same a b
+same_expr same (expr.Binary a) (expr.Binary b) = same_binary same a b
+same_expr same (expr.Plain a) (expr.Binary b) = false
+same_expr same (expr.Binary a) (expr.Plain b) = false
 
 -- the test is true exactly of equal things
 abbrev pub IsEquality : {A : Type 0} → (A → A → Bool) → Type 0

@@ -1,31 +1,78 @@
+ghost use Rattle.std.specs.Prelude.{◌≡◌};
+ghost use Rattle.ir_core.specs.Expressions.{type_of};
+
 use crate::{Atom, BinOp, Flags, Name, Operand, Ty};
 use contents::Exact;
 use std::alloc::{AllocError, Global};
 
 /// A register of the logic (Crellvm): as the function has it now, as it was before the edge that is being
 /// crossed, or one that the proof alone has.
-#[derive(Drop)]
 pub enum Reg {
     Now(Name),
     Old(Name),
     Ghost(Name),
 }
 
-/// An expression of the logic: one operand, or one operator over operands.
-#[derive(Drop)]
-pub enum Expr0 {
-    Plain(Operand<Reg>),
-    Binary(BinaryExpr),
+impl Drop for Reg {
+    fn drop(self) {
+        match self {
+            Reg::Now(_) => {}
+            Reg::Old(_) => {}
+            Reg::Ghost(_) => {}
+        }
+    }
 }
 
-/// `op flags ty left, right`: a binary operator over two operands of one type.
-#[derive(Drop)]
-pub struct BinaryExpr {
+/// The right side of a line, or an expression of the logic, over the registers that it names: one operand, or one
+/// operator over operands. No text has a line of one operand alone.
+pub enum Expr<R> {
+    Plain(Operand<R>),
+    Binary(Binary<R>),
+}
+
+impl<R: Drop> Drop for Expr<R> {
+    fn drop(self) {
+        match self {
+            Expr::Plain(_) => {}
+            Expr::Binary(_) => {}
+        }
+    }
+}
+
+impl<R> Expr<R> {
+    /// The type that is stated for it.
+    pub fn ty(&self) -> &Ty
+        ensures { result.now ≡ type_of self.now }
+    {
+        match self {
+            Expr::Plain(operand) => &operand.ty,
+            Expr::Binary(binary) => &binary.ty,
+        }
+    }
+}
+
+/// An expression of the logic.
+pub type Expr0 = Expr<Reg>;
+
+/// `op flags ty left, right`: a binary operator over two operands of one type (LangRef 3.7, Binary Operations).
+pub struct Binary<R> {
     pub op: BinOp,
     pub flags: Flags,
     pub ty: Ty,
-    pub left: Atom<Reg>,
-    pub right: Atom<Reg>,
+    pub left: Atom<R>,
+    pub right: Atom<R>,
+}
+
+impl<R: Drop> Drop for Binary<R> {
+    fn drop(self) {
+        let Binary {
+            op: _,
+            flags: _,
+            ty: _,
+            left: _,
+            right: _,
+        } = self;
+    }
 }
 
 impl Exact for Reg {
@@ -47,8 +94,8 @@ impl Exact for Reg {
     }
 }
 
-impl Exact for BinaryExpr {
-    fn is(&self, other: &BinaryExpr) -> bool {
+impl<R: Exact> Exact for Binary<R> {
+    fn is(&self, other: &Binary<R>) -> bool {
         self.op.is(&other.op)
             && self.flags.is(&other.flags)
             && self.ty.is(&other.ty)
@@ -56,8 +103,8 @@ impl Exact for BinaryExpr {
             && self.right.is(&other.right)
     }
 
-    fn copy(&self, alloc: Global) -> Result<BinaryExpr, AllocError> {
-        Ok(BinaryExpr {
+    fn copy(&self, alloc: Global) -> Result<Binary<R>, AllocError> {
+        Ok(Binary {
             op: self.op,
             flags: self.flags,
             ty: self.ty.copy(alloc)?,
@@ -67,19 +114,19 @@ impl Exact for BinaryExpr {
     }
 }
 
-impl Exact for Expr0 {
-    fn is(&self, other: &Expr0) -> bool {
+impl<R: Exact> Exact for Expr<R> {
+    fn is(&self, other: &Expr<R>) -> bool {
         match (self, other) {
-            (Expr0::Plain(mine), Expr0::Plain(theirs)) => mine.is(theirs),
-            (Expr0::Binary(mine), Expr0::Binary(theirs)) => mine.is(theirs),
+            (Expr::Plain(mine), Expr::Plain(theirs)) => mine.is(theirs),
+            (Expr::Binary(mine), Expr::Binary(theirs)) => mine.is(theirs),
             _ => false,
         }
     }
 
-    fn copy(&self, alloc: Global) -> Result<Expr0, AllocError> {
+    fn copy(&self, alloc: Global) -> Result<Expr<R>, AllocError> {
         match self {
-            Expr0::Plain(operand) => Ok(Expr0::Plain(operand.copy(alloc)?)),
-            Expr0::Binary(binary) => Ok(Expr0::Binary(binary.copy(alloc)?)),
+            Expr::Plain(operand) => Ok(Expr::Plain(operand.copy(alloc)?)),
+            Expr::Binary(binary) => Ok(Expr::Binary(binary.copy(alloc)?)),
         }
     }
 }

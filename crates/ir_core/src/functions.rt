@@ -1,46 +1,74 @@
-use crate::{Atom, BinOp, Flags, Name, Operand, Ty};
+use crate::{Atom, Expr, Name, Operand, Ty};
 use contents::Seq;
 
-/// `name = op flags ty left, right`.
-#[derive(Drop)]
-pub struct Binary {
+/// `name = right`: a line that sets a register and does nothing else.
+pub struct Calm {
     pub name: Name,
-    pub op: BinOp,
-    pub flags: Flags,
-    pub ty: Ty,
-    pub left: Atom<Name>,
-    pub right: Atom<Name>,
+    pub right: Expr<Name>,
+}
+
+impl Drop for Calm {
+    fn drop(self) {
+        let Calm { name: _, right: _ } = self;
+    }
 }
 
 /// A body line.
-#[derive(Drop)]
 pub enum Instr {
-    Binary(Binary),
+    Calm(Calm),
+}
+
+impl Drop for Instr {
+    fn drop(self) {
+        match self {
+            Instr::Calm(_) => {}
+        }
+    }
 }
 
 /// A phi node: for each edge into its block, what the register gets.
-#[derive(Drop)]
 pub struct Phi {
     pub name: Name,
     pub ty: Ty,
     pub entries: Seq<Entry>,
 }
 
+impl Drop for Phi {
+    fn drop(self) {
+        let Phi {
+            name: _,
+            ty: _,
+            entries: _,
+        } = self;
+    }
+}
+
 /// `[ value, %from ]` of a phi node.
-#[derive(Drop)]
 pub struct Entry {
     pub value: Atom<Name>,
     pub from: Name,
 }
 
+impl Drop for Entry {
+    fn drop(self) {
+        let Entry { value: _, from: _ } = self;
+    }
+}
+
 /// The last line of a block.
-#[derive(Drop)]
 pub enum Term {
     Ret(Operand<Name>),
 }
 
+impl Drop for Term {
+    fn drop(self) {
+        match self {
+            Term::Ret(_) => {}
+        }
+    }
+}
+
 /// A basic block.
-#[derive(Drop)]
 pub struct Block {
     pub name: Name,
     pub phis: Seq<Phi>,
@@ -48,15 +76,30 @@ pub struct Block {
     pub term: Term,
 }
 
+impl Drop for Block {
+    fn drop(self) {
+        let Block {
+            name: _,
+            phis: _,
+            body: _,
+            term: _,
+        } = self;
+    }
+}
+
 /// A parameter of a definition.
-#[derive(Drop)]
 pub struct Param {
     pub name: Name,
     pub ty: Ty,
 }
 
+impl Drop for Param {
+    fn drop(self) {
+        let Param { name: _, ty: _ } = self;
+    }
+}
+
 /// A definition. Its first block is the entry.
-#[derive(Drop)]
 pub struct Function {
     pub name: Name,
     pub result: Ty,
@@ -64,8 +107,24 @@ pub struct Function {
     pub blocks: Seq<Block>,
 }
 
+impl Drop for Function {
+    fn drop(self) {
+        let Function {
+            name: _,
+            result: _,
+            params: _,
+            blocks: _,
+        } = self;
+    }
+}
+
 /// A module: its definitions in the order of the file.
-#[derive(Drop)]
 pub struct Module {
     pub functions: Seq<Function>,
+}
+
+impl Drop for Module {
+    fn drop(self) {
+        let Module { functions: _ } = self;
+    }
 }

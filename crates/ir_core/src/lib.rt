@@ -12,15 +12,17 @@ mod operands;
 mod same;
 mod types;
 mod values;
+mod words;
 
-pub use expressions::{BinaryExpr, Expr0, Reg};
-pub use functions::{Binary, Block, Entry, Function, Instr, Module, Param, Phi, Term};
+pub use expressions::{Binary, Expr, Expr0, Reg};
+pub use functions::{Block, Calm, Entry, Function, Instr, Module, Param, Phi, Term};
 pub use limits::Limit;
 pub use names::{Name, Sigil};
 pub use operands::{Atom, BinOp, Const, Flags, Operand, Ty};
 pub use same::{
-    same_binary, same_const, same_expr, same_flags, same_name, same_name_atom, same_name_operand,
-    same_op, same_reg, same_reg_atom, same_reg_operand, same_ty, tests_are_equality,
+    same_const, same_expr, same_flags, same_name, same_name_atom, same_name_operand, same_op,
+    same_reg, same_reg_atom, same_reg_operand, same_ty, tests_are_equality,
 };
 pub use types::{fits, is_width, kind_of};
 pub use values::{Kind, Value};
+pub use words::op_word;

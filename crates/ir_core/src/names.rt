@@ -4,10 +4,18 @@ use std::hash::{Hash, Hasher};
 
 /// The name of a global, a function, a parameter, a block or a register, without its sigil
 /// (LangRef 3.7, Identifiers): the bytes of a named one, the number of an unnamed one.
-#[derive(Drop)]
 pub enum Name {
     Text(Text),
     Number(u32),
+}
+
+impl Drop for Name {
+    fn drop(self) {
+        match self {
+            Name::Text(_) => {}
+            Name::Number(_) => {}
+        }
+    }
 }
 
 /// `%` before a local name, `@` before a global one.

@@ -1,36 +1,68 @@
+ghost use Rattle.std.specs.Prelude.{◌≡◌};
+ghost use Rattle.ir_core.specs.Same as same;
+
 use crate::Name;
 use contents::Exact;
 use std::alloc::{AllocError, Global};
 
 /// A type (LangRef 3.7, Type System).
-#[derive(Drop)]
 pub enum Ty {
     /// `iN`, of that many bits.
     Int(u32),
     Void,
 }
 
+impl Drop for Ty {
+    fn drop(self) {
+        match self {
+            Ty::Int(_) => {}
+            Ty::Void => {}
+        }
+    }
+}
+
 /// A constant (LangRef 3.7, Constants). What it is worth depends on the type that stands beside it.
-#[derive(Drop)]
 pub enum Const {
     /// A number of `iN`, kept as it is modulo 2 to the N.
     Number(u64),
     Undef,
 }
 
+impl Drop for Const {
+    fn drop(self) {
+        match self {
+            Const::Number(_) => {}
+            Const::Undef => {}
+        }
+    }
+}
+
 /// What an operand names: a constant or a register. The registers of functions are names; those of
 /// expressions are a `Reg`.
-#[derive(Drop)]
 pub enum Atom<R> {
     Constant(Const),
     Register(R),
 }
 
+impl<R: Drop> Drop for Atom<R> {
+    fn drop(self) {
+        match self {
+            Atom::Constant(_) => {}
+            Atom::Register(_) => {}
+        }
+    }
+}
+
 /// An operand with the type that is stated for it.
-#[derive(Drop)]
 pub struct Operand<R> {
     pub ty: Ty,
     pub atom: Atom<R>,
+}
+
+impl<R: Drop> Drop for Operand<R> {
+    fn drop(self) {
+        let Operand { ty: _, atom: _ } = self;
+    }
 }
 
 /// The operator of a binary line (LangRef 3.7, Binary Operations).
@@ -111,12 +143,19 @@ impl<R: Exact> Exact for Operand<R> {
     }
 }
 
+/// A number for each operator.
+fn op_code(op: BinOp) -> u32
+    ensures { result ≡ same.op_code op }
+{
+    match op {
+        BinOp::Add => 0,
+        BinOp::Sub => 1,
+    }
+}
+
 impl Exact for BinOp {
     fn is(&self, other: &BinOp) -> bool {
-        match (self, other) {
-            (BinOp::Add, BinOp::Add) | (BinOp::Sub, BinOp::Sub) => true,
-            _ => false,
-        }
+        op_code(*self) == op_code(*other)
     }
 
     fn copy(&self, _alloc: Global) -> Result<BinOp, AllocError> {

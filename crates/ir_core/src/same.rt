@@ -2,7 +2,7 @@
 ghost use Rattle.std.specs.Prelude.{◌≡◌};
 ghost use Rattle.ir_core.specs.Same as same;
 
-use crate::{Atom, BinOp, BinaryExpr, Const, Expr0, Flags, Name, Operand, Reg, Ty};
+use crate::{Atom, BinOp, Const, Expr0, Flags, Name, Operand, Reg, Ty};
 use contents::Exact;
 
 #[tactic(auto, using(crate::proofs::SameLaws::same_name_true, crate::proofs::SameLaws::same_name_refl))]
@@ -47,19 +47,9 @@ pub fn same_reg(a: &Reg, b: &Reg) -> bool
     a.is(b)
 }
 
-pub fn same_binary(a: &BinaryExpr, b: &BinaryExpr) -> bool
-    ensures { result ≡ same.same_binary a.now b.now }
-{
-    same_op(&a.op, &b.op)
-        && same_flags(&a.flags, &b.flags)
-        && same_ty(&a.ty, &b.ty)
-        && same_reg_atom(&a.left, &b.left)
-        && same_reg_atom(&a.right, &b.right)
-}
-
-#[tactic(auto, using(crate::proofs::SameLaws::same_expr_true, crate::proofs::SameLaws::same_expr_refl))]
+#[tactic(auto, using(crate::proofs::SameLaws::same_reg_expr_true, crate::proofs::SameLaws::same_reg_expr_refl))]
 pub fn same_expr(a: &Expr0, b: &Expr0) -> bool
-    ensures { result ≡ same.same_expr a.now b.now }
+    ensures { result ≡ same.same_expr same.same_reg a.now b.now }
 {
     a.is(b)
 }
@@ -92,6 +82,8 @@ pub fn same_reg_operand(a: &Operand<Reg>, b: &Operand<Reg>) -> bool
     a.is(b)
 }
 
+/// Empty on purpose: its contract is the law.
+///
 /// Each of the tests above is true exactly of equal things.
 pub fn tests_are_equality()
     ensures names { same.IsEquality same.same_name }
@@ -102,8 +94,8 @@ pub fn tests_are_equality()
     ensures registers { same.IsEquality same.same_reg }
     ensures atoms { same.IsEquality (same.same_atom same.same_name) }
     ensures operands { same.IsEquality (same.same_operand same.same_name) }
+    ensures lines { same.IsEquality (same.same_expr same.same_name) }
     ensures atoms_in_logic { same.IsEquality (same.same_atom same.same_reg) }
     ensures operands_in_logic { same.IsEquality (same.same_operand same.same_reg) }
-    ensures operations { same.IsEquality same.same_binary }
-    ensures expressions { same.IsEquality same.same_expr }
+    ensures expressions { same.IsEquality (same.same_expr same.same_reg) }
 {}

@@ -17,9 +17,11 @@ use Rattle.ir_values.specs.declared.operations.Outcome.TheVariants.{Gives, Trap}
 use Rattle.ir_machine.specs.declared.items.Item.{Item}
 use Rattle.ir_machine.specs.declared.items.Item.TheVariants.{Wrong}
 use Rattle.ir_machine.specs.declared.items.Shown.{Shown}
-use Rattle.ir_machine.specs.Registers.{Registers, no_registers, kind_of, set, read, operand_value}
+use Rattle.ir_core.specs.Types.{kind_of}
+use Rattle.ir_core.specs.Expressions.{type_of}
+use Rattle.ir_machine.specs.Registers.{Registers, no_registers, set, read, operand_value, outcome}
 use Rattle.ir_machine.specs.State.{Frame, no_world, State, Running, Over}
-use Rattle.ir_machine.specs.Machine.{Made, Follows, asks, at_block, at_entry, binary_result, entered, return_step, shown_value, start, started, term_step, ShowsFrom}
+use Rattle.ir_machine.specs.Machine.{Made, Follows, asks, at_block, at_entry, entered, return_step, shown_value, start, started, term_step, ShowsFrom}
 use Rattle.ir_machine.specs.Refinement.{MayShowFrom, EndTheRun}
 use Rattle.ir_machine.specs.Laws.{Leads, RunsAreSteps, Fit, OneBlockRunsEnd, FirstsAreShown, StartsAreKept, RefinedRunsAreShown}
 use Rattle.ir_machine.proofs.Trees.{AllDo, all_do_made, all_do_show}
@@ -79,13 +81,13 @@ ends_from : (m : Module) (lines : List Instr) (frame : Frame) → EndsFrom m (le
 ends_from m [] frame =
     let made : (made : Made) × Follows (asks m (left_in frame [])) made = none_is_stuck m (left_in frame []) (λ e. cc) in
     last_step m (left_in frame []) made.0 made.1 (all_do_made IsOver (asks m (left_in frame [])) made.0 (returns_over frame.term (record frame { lines = [] })) made.1)
-ends_from m (line.Binary b ∷ lines) frame = by_outcome (binary_result frame.registers b) refl (λ next. ends_from m lines next)
+ends_from m (line.Calm b ∷ lines) frame = by_outcome (outcome (read frame.registers) b.right) refl (λ next. ends_from m lines next)
   where
-    by_outcome : (o : Outcome) → binary_result frame.registers b ≡ o → ((next : Frame) → EndsFrom m (left_in next lines)) → EndsFrom m (left_in frame (line.Binary b ∷ lines))
+    by_outcome : (o : Outcome) → outcome (read frame.registers) b.right ≡ o → ((next : Frame) → EndsFrom m (left_in next lines)) → EndsFrom m (left_in frame (line.Calm b ∷ lines))
     by_outcome (Gives v) e rest =
-        later m (left_in frame (line.Binary b ∷ lines)) (left_in (record frame { registers = set frame.registers b.name (kind_of b.ty) v }) lines)
-        (rw e refl) (rest (record frame { registers = set frame.registers b.name (kind_of b.ty) v }))
-    by_outcome Trap e rest = last_step m (left_in frame (line.Binary b ∷ lines)) (record { told = []; items = Wrong ∷ []; after = Over }) (rw e refl) refl
+        later m (left_in frame (line.Calm b ∷ lines)) (left_in (record frame { registers = set frame.registers b.name (kind_of (type_of b.right)) v }) lines)
+        (rw e refl) (rest (record frame { registers = set frame.registers b.name (kind_of (type_of b.right)) v }))
+    by_outcome Trap e rest = last_step m (left_in frame (line.Calm b ∷ lines)) (record { told = []; items = Wrong ∷ []; after = Over }) (rw e refl) refl
 
 fit_enters : (ps : List Param) (args : List Shown) (registers : Registers) → Fit ps args → (after : Registers) × (entered ps args registers ≡ Some after)
 fit_enters [] [] registers fit = (registers, refl)
@@ -98,10 +100,10 @@ fit_enters (p ∷ ps) [] registers fit = absurd fit
 pub one_block_runs_end : OneBlockRunsEnd
 one_block_runs_end m x f b result input named blocks phis term fit =
     let registers = fit_enters f.params input.args no_registers fit in
-    let starts : start m x input ≡ Some (Running (at_block f.name b registers.0) [] no_world) =
-    ap (λ (o : Option Function). option_and_then (λ g. started g input) o) named ∙ ap (λ (bs : List Block). at_entry f.name bs (entered f.params input.args no_registers)) blocks
-    ∙ ap (λ (o : Option Registers). at_entry f.name (b ∷ []) o) registers.1 in
-    let ends : EndsFrom m (Running (at_block f.name b registers.0) [] no_world) = ends_from m b.body (at_block f.name b registers.0) in
+    let starts : start m x input ≡ Some (Running (at_block f b registers.0) [] no_world) =
+    ap (λ (o : Option Function). option_and_then (λ g. started g input) o) named ∙ ap (λ (bs : List Block). at_entry f bs (entered f.params input.args no_registers)) blocks
+    ∙ ap (λ (o : Option Registers). at_entry f (b ∷ []) o) registers.1 in
+    let ends : EndsFrom m (Running (at_block f b registers.0) [] no_world) = ends_from m b.body (at_block f b registers.0) in
     (ends.0, ends.1, subst (λ (o : Option State). MatchOption o ⊥ (λ s. ShowsFrom m ends.0 s ends.1)) (sym starts) ends.2, ends.3)
 
 pub firsts_are_shown : FirstsAreShown

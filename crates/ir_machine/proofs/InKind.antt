@@ -14,6 +14,8 @@ use Rattle.ir_core.specs.declared.operands.Atom.TheVariants as atom
 use Rattle.ir_core.specs.declared.operands.Operand.{Operand}
 use Rattle.ir_core.specs.declared.operands.BinOp.{BinOp}
 use Rattle.ir_core.specs.declared.operands.Flags.{Flags}
+use Rattle.ir_core.specs.declared.expressions.Expr.{Expr}
+use Rattle.ir_core.specs.declared.expressions.Expr.TheVariants as expr
 use Rattle.ir_core.specs.declared.functions.Instr.{Instr}
 use Rattle.ir_core.specs.declared.functions.Instr.TheVariants as line
 use Rattle.ir_core.specs.declared.functions.Term.{Term}
@@ -31,9 +33,11 @@ use Rattle.ir_machine.specs.declared.items.Item.{Item}
 use Rattle.ir_machine.specs.declared.items.Shown.{Shown}
 use Rattle.ir_machine.specs.declared.items.Shown.TheVariants as shown
 use Rattle.ir_machine.specs.declared.items.Input.{Input}
-use Rattle.ir_machine.specs.Registers.{Registers, no_registers, read, set, AreInKind, kind_of, constant_value, atom_at, atom_value, operand_value, binary_at}
+use Rattle.ir_core.specs.Types.{kind_of}
+use Rattle.ir_core.specs.Expressions.{type_of}
+use Rattle.ir_machine.specs.Registers.{Registers, no_registers, read, set, AreInKind, constant_value, atom_at, atom_value, operand_value, binary_at, outcome}
 use Rattle.ir_machine.specs.State.{Frame, Pending, World, State, Running, Over}
-use Rattle.ir_machine.specs.Machine.{Made, Follows, asks, at_kind, set_into, frame_step, term_step, return_step, binary_result, fits_kind, shown_value, entered, at_entry, started, start, function_named}
+use Rattle.ir_machine.specs.Machine.{Made, Follows, asks, at_kind, set_into, frame_step, term_step, return_step, fits_kind, shown_value, entered, at_entry, started, start, function_named}
 use Rattle.ir_machine.proofs.Trees.{AllDo, all_do_made, all_do_show, all_do_set_to}
 use Rattle.ir_machine.proofs.Runs.{holding_in_kind, set_in_kind}
 
@@ -59,6 +63,10 @@ operand_in_kind reading h o = atom_value_in_kind reading h (kind_of o.ty) o.atom
 pub binary_in_kind : (op : BinOp) (flags : Flags) (k : Option Kind) (a b : Value) → GivesInKind k (binary_at op flags k a b)
 binary_in_kind op flags None a b = tt
 binary_in_kind op flags (Some (Int width)) a b = binary_outcome_in_kind op flags width a b
+
+pub outcome_in_kind : {R : Type 0} (reading : Kind → R → Value) → ((k : Kind) (r : R) → IsInKind k (reading k r)) → (e : Expr R) → GivesInKind (kind_of (type_of e)) (outcome reading e)
+outcome_in_kind reading h (expr.Plain o) = operand_in_kind reading h o
+outcome_in_kind reading h (expr.Binary b) = binary_in_kind b.op b.flags (kind_of b.ty) (atom_value reading (kind_of b.ty) b.left) (atom_value reading (kind_of b.ty) b.right)
 
 abbrev pub AllInKind : List Pending → Type 0
 AllInKind [] = Unit {0}
@@ -88,11 +96,11 @@ term_in_kind (Ret o) frame rest world h w =
     return_in_kind (kind_of o.ty) (operand_value (read frame.registers) o) rest world (operand_in_kind (read frame.registers) (λ k r. h r k) o) w
 
 frame_in_kind : (lines : List Instr) (frame : Frame) (rest : List Pending) (world : World) → AreInKind frame.registers → AllInKind rest → AllDo LeadsInKind (frame_step lines frame rest world)
-frame_in_kind (line.Binary b ∷ left) frame rest world h w =
-    all_do_set_to LeadsInKind (kind_of b.ty) b.name (binary_result frame.registers b) (record frame { lines = left }) rest world
+frame_in_kind (line.Calm b ∷ left) frame rest world h w =
+    all_do_set_to LeadsInKind (kind_of (type_of b.right)) b.name (outcome (read frame.registers) b.right) (record frame { lines = left }) rest world
     (λ v e. (
-      set_in_kind frame.registers b.name (kind_of b.ty) v h (subst (λ (o : Outcome). GivesInKind (kind_of b.ty) o) e
-          (binary_in_kind b.op b.flags (kind_of b.ty) (atom_value (read frame.registers) (kind_of b.ty) b.left) (atom_value (read frame.registers) (kind_of b.ty) b.right))),
+      set_in_kind frame.registers b.name (kind_of (type_of b.right)) v h
+          (subst (λ (o : Outcome). GivesInKind (kind_of (type_of b.right)) o) e (outcome_in_kind (read frame.registers) (λ k r. h r k) b.right)),
       w,
     ))
     tt
@@ -134,14 +142,14 @@ abbrev pub StartsInKind : Option State → Type 0
 StartsInKind None = Unit {0}
 StartsInKind (Some s) = StateInKind s
 
-entry_in_kind : (f : Name) (blocks : List Block) (entering : Option Registers) → EntersInKind entering → StartsInKind (at_entry f blocks entering)
+entry_in_kind : (f : Function) (blocks : List Block) (entering : Option Registers) → EntersInKind entering → StartsInKind (at_entry f blocks entering)
 entry_in_kind f (b ∷ bs) (Some registers) h = (h, tt)
 entry_in_kind f (b ∷ bs) None h = tt
 entry_in_kind f [] entering h = tt
 
 function_in_kind : (o : Option Function) (input : Input) → StartsInKind (option_and_then (λ f. started f input) o)
 function_in_kind None input = tt
-function_in_kind (Some f) input = entry_in_kind f.name f.blocks (entered f.params input.args no_registers) (entered_in_kind f.params input.args no_registers no_registers_in_kind)
+function_in_kind (Some f) input = entry_in_kind f f.blocks (entered f.params input.args no_registers) (entered_in_kind f.params input.args no_registers no_registers_in_kind)
 
 -- every run starts in such a state
 pub start_in_kind : (m : Module) (x : Name) (input : Input) → StartsInKind (start m x input)

@@ -5,7 +5,6 @@ pub mod NeverStuck
 pub mod Order
 pub mod InKind
 pub mod Entries
-pub mod Widths
 pub mod Telling
 pub mod Standing
 pub mod Steps

@@ -21,9 +21,11 @@ use Rattle.ir_machine.specs.declared.items.Shown.{Shown}
 use Rattle.ir_machine.specs.declared.items.Shown.TheVariants as shown
 use Rattle.ir_machine.specs.declared.items.Choice.{Choice}
 use Rattle.ir_machine.specs.declared.items.Choice.TheVariants.{Pick}
-use Rattle.ir_machine.specs.Registers.{kind_of, read, operand_value}
+use Rattle.ir_core.specs.Types.{kind_of}
+use Rattle.ir_core.specs.Expressions.{type_of}
+use Rattle.ir_machine.specs.Registers.{read, operand_value, outcome}
 use Rattle.ir_machine.specs.State.{Frame, Pending, World, State, Running, Over}
-use Rattle.ir_machine.specs.Machine.{Asks, Does, Ask, Never, Made, Follows, asks, picked, show, set_to, frame_step, term_step, return_step, binary_result}
+use Rattle.ir_machine.specs.Machine.{Asks, Does, Ask, Never, Made, Follows, asks, picked, show, set_to, frame_step, term_step, return_step}
 use Rattle.ir_machine.specs.Choices.{Lacks, NoStep, answer, RunsAnswer}
 use Rattle.ir_machine.specs.Refinement.{IsEnd, EndTheRun, NoneIsStuck, EndsAreShown}
 use Rattle.ir_machine.proofs.Trees.{AllDo, all_do_made, all_do_show, all_do_set_to}
@@ -58,8 +60,8 @@ set_can_step k x (Gives v) frame rest world = does_step [] _
 set_can_step k x Trap frame rest world = does_step (Wrong ∷ []) Over
 
 frame_can_step : (lines : List Instr) (frame : Frame) (rest : List Pending) (world : World) → CanStep (frame_step lines frame rest world)
-frame_can_step (line.Binary b ∷ left) frame rest world =
-    set_can_step (kind_of b.ty) b.name (binary_result frame.registers b) (record frame { lines = left }) rest world
+frame_can_step (line.Calm b ∷ left) frame rest world =
+    set_can_step (kind_of (type_of b.right)) b.name (outcome (read frame.registers) b.right) (record frame { lines = left }) rest world
 frame_can_step [] frame rest world = term_can_step frame.term frame rest world
 
 pub none_is_stuck : NoneIsStuck
@@ -94,8 +96,8 @@ term_shows_end : (t : Term) (frame : Frame) (rest : List Pending) (world : World
 term_shows_end (Ret o) frame rest world = return_shows_end (kind_of o.ty) (operand_value (read frame.registers) o) rest world
 
 frame_shows_end : (lines : List Instr) (frame : Frame) (rest : List Pending) (world : World) → AllDo ShowsItsEnd (frame_step lines frame rest world)
-frame_shows_end (line.Binary b ∷ left) frame rest world =
-    all_do_set_to ShowsItsEnd (kind_of b.ty) b.name (binary_result frame.registers b) (record frame { lines = left }) rest world
+frame_shows_end (line.Calm b ∷ left) frame rest world =
+    all_do_set_to ShowsItsEnd (kind_of (type_of b.right)) b.name (outcome (read frame.registers) b.right) (record frame { lines = left }) rest world
     (λ v e. goes_on [] _ rest world (no_end [] refl)) (ends (Wrong ∷ []) [] Wrong refl tt)
 frame_shows_end [] frame rest world = term_shows_end frame.term frame rest world
 
@@ -130,8 +132,8 @@ set_always k x (Gives v) frame rest world = tt
 set_always k x Trap frame rest world = tt
 
 frame_always : (lines : List Instr) (frame : Frame) (rest : List Pending) (world : World) → AlwaysSteps (frame_step lines frame rest world)
-frame_always (line.Binary b ∷ left) frame rest world =
-    set_always (kind_of b.ty) b.name (binary_result frame.registers b) (record frame { lines = left }) rest world
+frame_always (line.Calm b ∷ left) frame rest world =
+    set_always (kind_of (type_of b.right)) b.name (outcome (read frame.registers) b.right) (record frame { lines = left }) rest world
 frame_always [] frame rest world = term_always frame.term frame rest world
 
 always_answers : (tree : Asks) (told : List Choice) → AlwaysSteps tree → answer tree told ≡ NoStep → ⊥

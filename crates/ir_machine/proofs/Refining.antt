@@ -29,12 +29,22 @@ use Rattle.ir_machine.proofs.InKind.{constant_in_kind}
 use Rattle.ir_machine.proofs.Runs.{step_on, may_show_nothing, may_step_on}
 use Rattle.ir_machine.proofs.Returning.{Returns, IsReturn, returns_only, returns_shown, may_return, may_show_turn, return_turns, less_defined, simulates}
 
--- the function's block is entered
-abbrev pub entering : Name → Name → List Instr → Atom Name → Registers → State
+abbrev pub alone : Name → List Param → Name → List Instr → Atom Name → Function
+alone f params b lines result = record { name = f; result = ty.Int 32; params = params; blocks = block b lines result ∷ [] }
+
+-- in the function, at a block's start
+abbrev pub entering : Function → Name → List Instr → Atom Name → Registers → State
 entering f b lines result registers = Running (at_block f (block b lines result) registers) [] no_world
 
-abbrev alone : Name → List Param → Name → List Instr → Atom Name → Function
-alone f params b lines result = record { name = f; result = ty.Int 32; params = params; blocks = block b lines result ∷ [] }
+-- the functions of the examples
+abbrev returner : Name → Name → Atom Name → Function
+returner f b result = alone f [] b [] result
+
+abbrev wrapper : Name → Name → Name → Function
+wrapper f b y = alone f [] b (wrapping_line y ∷ []) (Register y)
+
+abbrev taker : Name → Name → Name → Atom Name → Function
+taker f x b result = alone f (record { name = x; ty = ty.Int 32 } ∷ []) b [] result
 
 -- the target runs from its state only as the source may from its own
 abbrev pub RunsLike : Module → State → Module → State → Type 0
@@ -49,12 +59,12 @@ refines_from source target f input s t p q h n items shows =
 
 -- and when it holds of two modules of one function each
 pub refines_by : (f : Name) (params : List Param) (b c : Name) (ls ks : List Instr) (u v : Atom Name)
-    → ((registers : Registers) → RunsLike (defining f params b ls u) (entering f b ls u registers) (defining f params c ks v) (entering f c ks v registers))
+    → ((registers : Registers) → RunsLike (defining f params b ls u) (entering (alone f params b ls u) b ls u registers) (defining f params c ks v) (entering (alone f params c ks v) c ks v registers))
     → Refines (defining f params b ls u) (defining f params c ks v)
 refines_by f params b c ls ks u v h x input n items = by_name (same_name f x)
   where
-    by_registers : (o : Option Registers) → MatchOption (at_entry f (block c ks v ∷ []) o) ⊥ (λ s. ShowsFrom (defining f params c ks v) n s items)
-        → MatchOption (at_entry f (block b ls u ∷ []) o) ⊥ (λ s. MayShowFrom (defining f params b ls u) s items)
+    by_registers : (o : Option Registers) → MatchOption (at_entry (alone f params c ks v) (block c ks v ∷ []) o) ⊥ (λ s. ShowsFrom (defining f params c ks v) n s items)
+        → MatchOption (at_entry (alone f params b ls u) (block b ls u ∷ []) o) ⊥ (λ s. MayShowFrom (defining f params b ls u) s items)
     by_registers None shows = absurd shows
     by_registers (Some registers) shows = h registers n items shows
 
@@ -63,15 +73,15 @@ refines_by f params b c ls ks u v h x input n items = by_name (same_name f x)
     by_name true shows = by_registers (entered params input.args no_registers) shows
     by_name false shows = absurd shows
 
-starts : (f b : Name) (lines : List Instr) (result : Atom Name) → start (defining f [] b lines result) f (record { args = [] }) ≡ Some (entering f b lines result no_registers)
+starts : (f b : Name) (lines : List Instr) (result : Atom Name) → start (defining f [] b lines result) f (record { args = [] }) ≡ Some (entering (alone f [] b lines result) b lines result no_registers)
 starts f b lines result = rw (same_name_refl f) refl
 
 pub constants_refine : ConstantsRefineByValue
 constants_refine f b c d = (
-  λ h. less_defined (returning f b (Constant c)) (returning f b (Constant d)) (entering f b [] (Constant c) no_registers) (entering f b [] (Constant d) no_registers) (constant_value (Int 32) c) (constant_value (Int 32) d) refl refl
-      (refines_from (returning f b (Constant c)) (returning f b (Constant d)) f (record { args = [] }) (entering f b [] (Constant c) no_registers) (entering f b [] (Constant d) no_registers) (starts f b [] (Constant c)) (starts f b [] (Constant d)) h),
+  λ h. less_defined (returning f b (Constant c)) (returning f b (Constant d)) (entering (returner f b (Constant c)) b [] (Constant c) no_registers) (entering (returner f b (Constant d)) b [] (Constant d) no_registers) (constant_value (Int 32) c) (constant_value (Int 32) d) refl refl
+      (refines_from (returning f b (Constant c)) (returning f b (Constant d)) f (record { args = [] }) (entering (returner f b (Constant c)) b [] (Constant c) no_registers) (entering (returner f b (Constant d)) b [] (Constant d) no_registers) (starts f b [] (Constant c)) (starts f b [] (Constant d)) h),
   λ less. refines_by f [] b b [] [] (Constant c) (Constant d) (λ registers.
-      simulates (returning f b (Constant c)) (returning f b (Constant d)) (entering f b [] (Constant c) registers) (entering f b [] (Constant d) registers) (constant_value (Int 32) c) (constant_value (Int 32) d) refl refl
+      simulates (returning f b (Constant c)) (returning f b (Constant d)) (entering (returner f b (Constant c)) b [] (Constant c) registers) (entering (returner f b (Constant d)) b [] (Constant d) registers) (constant_value (Int 32) c) (constant_value (Int 32) d) refl refl
       (constant_in_kind (Int 32) d) less),
 )
 
@@ -96,27 +106,27 @@ undef_is_any_number f b = (constants_refine f b constant.Undef (constant.Number 
 abbrev wrapped : Name → Registers → Registers
 wrapped y registers = set registers y (Some (Int 32)) value.Poison
 
-wraps : (m : Module) (f b y : Name) (registers : Registers) → Returns m (entering f b [] (Register y) (wrapped y registers)) value.Poison
+wraps : (m : Module) (f b y : Name) (registers : Registers) → Returns m (entering (wrapper f b y) b [] (Register y) (wrapped y registers)) value.Poison
 wraps m f b y registers = rw (same_name_refl y) refl
 
 -- what the wrapping module may show: whatever begins with a turn
-wrapping_turns : (f b y : Name) (registers : Registers) (rest : List Item) → MayShowFrom (wrapping f b y) (entering f b (wrapping_line y ∷ []) (Register y) registers) (Turn ∷ rest)
+wrapping_turns : (f b y : Name) (registers : Registers) (rest : List Item) → MayShowFrom (wrapping f b y) (entering (wrapper f b y) b (wrapping_line y ∷ []) (Register y) registers) (Turn ∷ rest)
 wrapping_turns f b y registers rest =
-    may_step_on (wrapping f b y) (entering f b (wrapping_line y ∷ []) (Register y) registers)
-    (record { told = []; items = []; after = entering f b [] (Register y) (wrapped y registers) }) (Turn ∷ rest) refl
-    (may_show_turn (wrapping f b y) (entering f b [] (Register y) (wrapped y registers)) rest (wraps (wrapping f b y) f b y registers))
+    may_step_on (wrapping f b y) (entering (wrapper f b y) b (wrapping_line y ∷ []) (Register y) registers)
+    (record { told = []; items = []; after = entering (wrapper f b y) b [] (Register y) (wrapped y registers) }) (Turn ∷ rest) refl
+    (may_show_turn (wrapping f b y) (entering (wrapper f b y) b [] (Register y) (wrapped y registers)) rest (wraps (wrapping f b y) f b y registers))
 
-wrapping_wrong : (f b y : Name) (registers : Registers) → ShowsFrom (wrapping f b y) 2 (entering f b (wrapping_line y ∷ []) (Register y) registers) (Turn ∷ Wrong ∷ [])
+wrapping_wrong : (f b y : Name) (registers : Registers) → ShowsFrom (wrapping f b y) 2 (entering (wrapper f b y) b (wrapping_line y ∷ []) (Register y) registers) (Turn ∷ Wrong ∷ [])
 wrapping_wrong f b y registers =
-    step_on (wrapping f b y) 1 (entering f b (wrapping_line y ∷ []) (Register y) registers)
-    (record { told = []; items = []; after = entering f b [] (Register y) (wrapped y registers) }) (Turn ∷ Wrong ∷ []) refl
-    (returns_shown (wrapping f b y) (entering f b [] (Register y) (wrapped y registers)) value.Poison (wraps (wrapping f b y) f b y registers) (Turn ∷ Wrong ∷ []) refl)
+    step_on (wrapping f b y) 1 (entering (wrapper f b y) b (wrapping_line y ∷ []) (Register y) registers)
+    (record { told = []; items = []; after = entering (wrapper f b y) b [] (Register y) (wrapped y registers) }) (Turn ∷ Wrong ∷ []) refl
+    (returns_shown (wrapping f b y) (entering (wrapper f b y) b [] (Register y) (wrapped y registers)) value.Poison (wraps (wrapping f b y) f b y registers) (Turn ∷ Wrong ∷ []) refl)
 
 abbrev at_seven : Name → Name → State
-at_seven f b = entering f b [] (number 7) no_registers
+at_seven f b = entering (returner f b (number 7)) b [] (number 7) no_registers
 
 abbrev at_sum : Name → Name → Name → State
-at_sum f b y = entering f b (wrapping_line y ∷ []) (Register y) no_registers
+at_sum f b y = entering (wrapper f b y) b (wrapping_line y ∷ []) (Register y) no_registers
 
 never_seven : (Turn ∷ Wrong ∷ [] ≡ []) ⊎ IsReturn (value.Num 7) (Turn ∷ Wrong ∷ []) → ⊥
 never_seven (inl e) = cc
@@ -129,32 +139,32 @@ poison_is_no_number f b y h = never_seven (may_return (returning f b (number 7))
 
 pub wrong_is_refined : WrongIsRefined
 wrong_is_refined f b y result = refines_by f [] b b (wrapping_line y ∷ []) [] (Register y) result (λ registers n items shows.
-    turned registers items (returns_only (returning f b result) (entering f b [] result registers) (atom_at (read registers) (Int 32) result) refl n items shows))
+    turned registers items (returns_only (returning f b result) (entering (returner f b result) b [] result registers) (atom_at (read registers) (Int 32) result) refl n items shows))
   where
     turned : (registers : Registers) (items : List Item) → (items ≡ []) ⊎ IsReturn (atom_at (read registers) (Int 32) result) items
-        → MayShowFrom (wrapping f b y) (entering f b (wrapping_line y ∷ []) (Register y) registers) items
-    turned registers items (inl e) = subst (λ (l : List Item). MayShowFrom (wrapping f b y) (entering f b (wrapping_line y ∷ []) (Register y) registers) l) (sym e)
-        (may_show_nothing (wrapping f b y) (entering f b (wrapping_line y ∷ []) (Register y) registers))
+        → MayShowFrom (wrapping f b y) (entering (wrapper f b y) b (wrapping_line y ∷ []) (Register y) registers) items
+    turned registers items (inl e) = subst (λ (l : List Item). MayShowFrom (wrapping f b y) (entering (wrapper f b y) b (wrapping_line y ∷ []) (Register y) registers) l) (sym e)
+        (may_show_nothing (wrapping f b y) (entering (wrapper f b y) b (wrapping_line y ∷ []) (Register y) registers))
     turned registers items (inr r) =
         let turns = return_turns (atom_at (read registers) (Int 32) result) items r in
-        subst (λ (l : List Item). MayShowFrom (wrapping f b y) (entering f b (wrapping_line y ∷ []) (Register y) registers) l) (sym turns.1)
+        subst (λ (l : List Item). MayShowFrom (wrapping f b y) (entering (wrapper f b y) b (wrapping_line y ∷ []) (Register y) registers) l) (sym turns.1)
         (wrapping_turns f b y registers turns.0)
 
 -- the registers on entry with that argument
 abbrev taken : Name → ℕ → Registers
 taken x n = set no_registers x (Some (Int 32)) (value.Num n)
 
-returns_argument : (m : Module) (f x b : Name) (n : ℕ) → Returns m (entering f b [] (Register x) (taken x n)) (value.Num n)
+returns_argument : (m : Module) (f x b : Name) (n : ℕ) → Returns m (entering (taker f x b (Register x)) b [] (Register x) (taken x n)) (value.Num n)
 returns_argument m f x b n = rw (same_name_refl x) refl
 
 argument_kept : (f x b : Name) (c : Const) (n : ℕ) → Refines (taking f x b (Register x)) (taking f x b (Constant c))
-    → start (taking f x b (Register x)) f (record { args = shown.Num n ∷ [] }) ≡ Some (entering f b [] (Register x) (taken x n))
-    → start (taking f x b (Constant c)) f (record { args = shown.Num n ∷ [] }) ≡ Some (entering f b [] (Constant c) (taken x n))
+    → start (taking f x b (Register x)) f (record { args = shown.Num n ∷ [] }) ≡ Some (entering (taker f x b (Register x)) b [] (Register x) (taken x n))
+    → start (taking f x b (Constant c)) f (record { args = shown.Num n ∷ [] }) ≡ Some (entering (taker f x b (Constant c)) b [] (Constant c) (taken x n))
     → constant_value (Int 32) c ≡ value.Num n
 argument_kept f x b c n h p q =
-    less_defined (taking f x b (Register x)) (taking f x b (Constant c)) (entering f b [] (Register x) (taken x n)) (entering f b [] (Constant c) (taken x n))
+    less_defined (taking f x b (Register x)) (taking f x b (Constant c)) (entering (taker f x b (Register x)) b [] (Register x) (taken x n)) (entering (taker f x b (Constant c)) b [] (Constant c) (taken x n))
     (value.Num n) (constant_value (Int 32) c) (returns_argument (taking f x b (Register x)) f x b n) refl
-    (refines_from (taking f x b (Register x)) (taking f x b (Constant c)) f (record { args = shown.Num n ∷ [] }) (entering f b [] (Register x) (taken x n)) (entering f b [] (Constant c) (taken x n)) p q h)
+    (refines_from (taking f x b (Register x)) (taking f x b (Constant c)) f (record { args = shown.Num n ∷ [] }) (entering (taker f x b (Register x)) b [] (Register x) (taken x n)) (entering (taker f x b (Constant c)) b [] (Constant c) (taken x n)) p q h)
 
 pub arguments_are_seen : ArgumentsAreSeen
 arguments_are_seen f x b c h =

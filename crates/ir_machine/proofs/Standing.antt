@@ -6,7 +6,7 @@ use Rattle.std.proofs.Math.ListN.{drop_of_length-le}
 use Rattle.ir_core.specs.declared.values.Value.{Value}
 use Rattle.ir_core.specs.declared.operands.Operand.{Operand}
 use Rattle.ir_core.specs.declared.names.Name.{Name}
-use Rattle.ir_core.specs.declared.functions.Binary.{Binary}
+use Rattle.ir_core.specs.declared.functions.Calm.{Calm}
 use Rattle.ir_core.specs.declared.functions.Instr.{Instr}
 use Rattle.ir_core.specs.declared.functions.Instr.TheVariants as line
 use Rattle.ir_core.specs.declared.functions.Term.{Term}
@@ -18,9 +18,11 @@ use Rattle.ir_values.specs.declared.operations.Outcome.{Outcome}
 use Rattle.ir_values.specs.declared.operations.Outcome.TheVariants.{Gives, Trap}
 use Rattle.ir_machine.specs.declared.items.Item.TheVariants.{Wrong}
 use Rattle.ir_machine.specs.declared.machine.Place.{Place}
-use Rattle.ir_machine.specs.Registers.{Registers, read, set, kind_of, operand_value}
+use Rattle.ir_core.specs.Types.{kind_of}
+use Rattle.ir_core.specs.Expressions.{type_of}
+use Rattle.ir_machine.specs.Registers.{Registers, read, set, operand_value, outcome}
 use Rattle.ir_machine.specs.State.{no_world, State, Running, Over}
-use Rattle.ir_machine.specs.Machine.{Asks, Does, asks, term_step, return_step, set_to, binary_result}
+use Rattle.ir_machine.specs.Machine.{Asks, Does, asks, term_step, return_step, set_to}
 use Rattle.ir_machine.specs.Places.{state_at, in_function, in_block, next_line}
 
 pub drop_at : {X : Type 0} (xs : List X) (k : ℕ) (x : X) → k < length xs → x ≡ get_or xs k x → drop k xs ≡ x ∷ drop (k + 1) xs
@@ -38,31 +40,31 @@ pub stands : (m : Module) (p : Place) (registers : Registers) (f : Function) (b 
 stands m p registers f b some block = ap (λ (o : Option Function). in_function o p.block p.line registers) some ∙ ap (λ (o : Option Block). in_block f o p.line registers) block
 
 abbrev asks_over : Module → Function → Block → List Instr → Registers → Asks
-asks_over m f b lines registers = asks m (Running (record { function = f.name; block = b.name; lines = lines; term = b.term; registers = registers }) [] no_world)
+asks_over m f b lines registers = asks m (Running (record { function = f; block = b.name; lines = lines; term = b.term; registers = registers }) [] no_world)
 
-pub line_asks : (m : Module) (p : Place) (registers : Registers) (f : Function) (b : Block) (i : Binary) (v : Value)
-    → slice_get m.functions p.function ≡ Some f → slice_get f.blocks p.block ≡ Some b → p.line < length b.body → line.Binary i ≡ get_or b.body p.line (line.Binary i)
-    → binary_result registers i ≡ Gives v
-    → asks m (state_at m (Some p) registers) ≡ Does [] (state_at m (Some (next_line p)) (set registers i.name (kind_of i.ty) v))
+pub line_asks : (m : Module) (p : Place) (registers : Registers) (f : Function) (b : Block) (i : Calm) (v : Value)
+    → slice_get m.functions p.function ≡ Some f → slice_get f.blocks p.block ≡ Some b → p.line < length b.body → line.Calm i ≡ get_or b.body p.line (line.Calm i)
+    → outcome (read registers) i.right ≡ Gives v
+    → asks m (state_at m (Some p) registers) ≡ Does [] (state_at m (Some (next_line p)) (set registers i.name (kind_of (type_of i.right)) v))
 line_asks m p registers f b i v some block within is gives =
-    let after : Registers = set registers i.name (kind_of i.ty) v in
+    let after : Registers = set registers i.name (kind_of (type_of i.right)) v in
     let here : asks m (state_at m (Some p) registers) ≡ asks m (in_block f (Some b) p.line registers) = ap (asks m) (stands m p registers f b some block) in
-    let lines : asks m (in_block f (Some b) p.line registers) ≡ asks_over m f b (line.Binary i ∷ drop (p.line + 1) b.body) registers =
-    ap (λ (l : List Instr). asks_over m f b l registers) (drop_at b.body p.line (line.Binary i) within is) in
-    let sets : asks_over m f b (line.Binary i ∷ drop (p.line + 1) b.body) registers ≡ Does [] (in_block f (Some b) (p.line + 1) after) =
-    ap (λ (o : Outcome). set_to (kind_of i.ty) i.name o (record { function = f.name; block = b.name; lines = drop (p.line + 1) b.body; term = b.term; registers = registers }) [] no_world) gives in
+    let lines : asks m (in_block f (Some b) p.line registers) ≡ asks_over m f b (line.Calm i ∷ drop (p.line + 1) b.body) registers =
+    ap (λ (l : List Instr). asks_over m f b l registers) (drop_at b.body p.line (line.Calm i) within is) in
+    let sets : asks_over m f b (line.Calm i ∷ drop (p.line + 1) b.body) registers ≡ Does [] (in_block f (Some b) (p.line + 1) after) =
+    ap (λ (o : Outcome). set_to (kind_of (type_of i.right)) i.name o (record { function = f; block = b.name; lines = drop (p.line + 1) b.body; term = b.term; registers = registers }) [] no_world) gives in
     here ∙ lines ∙ sets ∙ ap (λ (s : State). Does [] s) (sym (stands m (next_line p) after f b some block))
 
-pub trap_asks : (m : Module) (p : Place) (registers : Registers) (f : Function) (b : Block) (i : Binary)
-    → slice_get m.functions p.function ≡ Some f → slice_get f.blocks p.block ≡ Some b → p.line < length b.body → line.Binary i ≡ get_or b.body p.line (line.Binary i)
-    → binary_result registers i ≡ Trap
+pub trap_asks : (m : Module) (p : Place) (registers : Registers) (f : Function) (b : Block) (i : Calm)
+    → slice_get m.functions p.function ≡ Some f → slice_get f.blocks p.block ≡ Some b → p.line < length b.body → line.Calm i ≡ get_or b.body p.line (line.Calm i)
+    → outcome (read registers) i.right ≡ Trap
     → asks m (state_at m (Some p) registers) ≡ Does (Wrong ∷ []) Over
 trap_asks m p registers f b i some block within is traps =
     let here : asks m (state_at m (Some p) registers) ≡ asks m (in_block f (Some b) p.line registers) = ap (asks m) (stands m p registers f b some block) in
-    let lines : asks m (in_block f (Some b) p.line registers) ≡ asks_over m f b (line.Binary i ∷ drop (p.line + 1) b.body) registers =
-    ap (λ (l : List Instr). asks_over m f b l registers) (drop_at b.body p.line (line.Binary i) within is) in
-    let sets : asks_over m f b (line.Binary i ∷ drop (p.line + 1) b.body) registers ≡ Does (Wrong ∷ []) Over =
-    ap (λ (o : Outcome). set_to (kind_of i.ty) i.name o (record { function = f.name; block = b.name; lines = drop (p.line + 1) b.body; term = b.term; registers = registers }) [] no_world) traps in
+    let lines : asks m (in_block f (Some b) p.line registers) ≡ asks_over m f b (line.Calm i ∷ drop (p.line + 1) b.body) registers =
+    ap (λ (l : List Instr). asks_over m f b l registers) (drop_at b.body p.line (line.Calm i) within is) in
+    let sets : asks_over m f b (line.Calm i ∷ drop (p.line + 1) b.body) registers ≡ Does (Wrong ∷ []) Over =
+    ap (λ (o : Outcome). set_to (kind_of (type_of i.right)) i.name o (record { function = f; block = b.name; lines = drop (p.line + 1) b.body; term = b.term; registers = registers }) [] no_world) traps in
     here ∙ lines ∙ sets
 
 pub term_asks : (m : Module) (p : Place) (registers : Registers) (f : Function) (b : Block) (o : Operand Name)
@@ -73,5 +75,5 @@ term_asks m p registers f b o some block past returns =
     let lines : asks m (in_block f (Some b) p.line registers) ≡ asks_over m f b [] registers =
     ap (λ (l : List Instr). asks_over m f b l registers) (drop_of_length-le b.body past) in
     let ends : asks_over m f b [] registers ≡ return_step (kind_of o.ty) (operand_value (read registers) o) [] no_world =
-    ap (λ (t : Term). term_step t (record { function = f.name; block = b.name; lines = []; term = b.term; registers = registers }) [] no_world) returns in
+    ap (λ (t : Term). term_step t (record { function = f; block = b.name; lines = []; term = b.term; registers = registers }) [] no_world) returns in
     here ∙ lines ∙ ends

@@ -10,7 +10,8 @@ use Rattle.ir_core.specs.declared.functions.Module.{Module}
 use Rattle.ir_core.specs.Same.{same_name}
 use Rattle.ir_machine.specs.declared.items.Shown.{Shown}
 use Rattle.ir_machine.specs.declared.items.Input.{Input}
-use Rattle.ir_machine.specs.Registers.{Registers, no_registers, set, kind_of}
+use Rattle.ir_core.specs.Types.{kind_of}
+use Rattle.ir_machine.specs.Registers.{Registers, no_registers, set}
 use Rattle.ir_machine.specs.State.{Over}
 use Rattle.ir_machine.specs.Machine.{function_named, fits_kind, shown_value, entered, at_entry, started, start}
 use Rattle.ir_machine.specs.Places.{state_at, in_function, in_block}
@@ -57,19 +58,19 @@ pub starts_at : (m : Module) (x : Name) (input : Input) (f : Function) (i : ℕ)
     → f.blocks ≢ [] → entered f.params input.args no_registers ≡ Some registers
     → start m x input ≡ Some (state_at m (Some (record { function = i; block = 0; line = 0 })) registers)
 starts_at m x input f i registers named at blocks fits =
-    ap (λ (o : Option Function). option_and_then (λ g. started g input) o) named ∙ ap (λ (o : Option Registers). at_entry f.name f.blocks o) fits
+    ap (λ (o : Option Function). option_and_then (λ g. started g input) o) named ∙ ap (λ (o : Option Registers). at_entry f f.blocks o) fits
     ∙ first_block f.blocks blocks refl ∙ ap (λ (o : Option Function). Some (in_function o 0 0 registers)) (sym at)
   where
-    first_block : (bs : List Block) → bs ≢ [] → f.blocks ≡ bs → at_entry f.name f.blocks (Some registers) ≡ Some (in_block f (slice_get f.blocks 0) 0 registers)
+    first_block : (bs : List Block) → bs ≢ [] → f.blocks ≡ bs → at_entry f f.blocks (Some registers) ≡ Some (in_block f (slice_get f.blocks 0) 0 registers)
     first_block [] some e = absurd (some refl)
     first_block (b ∷ bs) some e = rw e refl
 
 pub starts_not : (m : Module) (x : Name) (input : Input) (f : Function) → function_named x m.functions ≡ Some f → f.blocks ≢ [] → entered f.params input.args no_registers ≡ None
     → start m x input ≡ None
 starts_not m x input f named blocks misfit =
-    ap (λ (o : Option Function). option_and_then (λ g. started g input) o) named ∙ ap (λ (o : Option Registers). at_entry f.name f.blocks o) misfit ∙ no_entry f.blocks
+    ap (λ (o : Option Function). option_and_then (λ g. started g input) o) named ∙ ap (λ (o : Option Registers). at_entry f f.blocks o) misfit ∙ no_entry f.blocks
   where
-    no_entry : (bs : List Block) → at_entry f.name bs None ≡ None
+    no_entry : (bs : List Block) → at_entry f bs None ≡ None
     no_entry [] = refl
     no_entry (b ∷ bs) = refl
 

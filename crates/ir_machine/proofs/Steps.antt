@@ -4,7 +4,7 @@ use Rattle.std.specs.Prelude.{slice_get, IsErr, IsErrOf, OnErr, is_err}
 use Rattle.ir_core.specs.declared.values.Value.{Value}
 use Rattle.ir_core.specs.declared.operands.Operand.{Operand}
 use Rattle.ir_core.specs.declared.names.Name.{Name}
-use Rattle.ir_core.specs.declared.functions.Binary.{Binary}
+use Rattle.ir_core.specs.declared.functions.Calm.{Calm}
 use Rattle.ir_core.specs.declared.functions.Instr.{Instr}
 use Rattle.ir_core.specs.declared.functions.Instr.TheVariants as line
 use Rattle.ir_core.specs.declared.functions.Term.{Term}
@@ -24,9 +24,11 @@ use Rattle.ir_machine.specs.declared.machine.StepEnd.{StepEnd}
 use Rattle.ir_machine.specs.declared.machine.StepEnd.TheVariants as end
 use Rattle.ir_machine.specs.declared.machine.Progress.{Progress}
 use Rattle.ir_machine.specs.declared.machine.Progress.TheVariants as progress
-use Rattle.ir_machine.specs.Registers.{Registers, read, set, kind_of, operand_value}
+use Rattle.ir_core.specs.Types.{kind_of}
+use Rattle.ir_core.specs.Expressions.{type_of}
+use Rattle.ir_machine.specs.Registers.{Registers, read, set, operand_value, outcome}
 use Rattle.ir_machine.specs.State.{no_world, State, Over}
-use Rattle.ir_machine.specs.Machine.{Asks, Does, asks, return_step, binary_result}
+use Rattle.ir_machine.specs.Machine.{Asks, Does, asks, return_step}
 use Rattle.ir_machine.specs.Choices.{Did, Lacks, answer, Leaves, TakesAsked}
 use Rattle.ir_machine.specs.Places.{state_at, in_block, next_line, progress_of}
 use Rattle.ir_machine.proofs.Standing.{line_asks, trap_asks, term_asks, stands}
@@ -46,11 +48,11 @@ module _ (m : Module) (place : Option Place) (p : Place) (registers : Registers)
   here : state_at m place registers ≡ state_at m (Some p) registers
   here = ap (λ (o : Option Place). state_at m o registers) at
 
-  line_did : (i : Binary) → p.line < length b.body → line.Binary i ≡ get_or b.body p.line (line.Binary i)
-      → (v : Value) → binary_result registers i ≡ Gives v → (stepped : Stepped) (next : Option Place) (after : Registers) (script : List Choice)
-      → LineDid stepped p next after (set registers i.name (kind_of i.ty) v) → StepsTo script script stepped (state_at m next after)
+  line_did : (i : Calm) → p.line < length b.body → line.Calm i ≡ get_or b.body p.line (line.Calm i)
+      → (v : Value) → outcome (read registers) i.right ≡ Gives v → (stepped : Stepped) (next : Option Place) (after : Registers) (script : List Choice)
+      → LineDid stepped p next after (set registers i.name (kind_of (type_of i.right)) v) → StepsTo script script stepped (state_at m next after)
   line_did i within is v e stepped next after script did =
-      let reached : state_at m (Some (next_line p)) (set registers i.name (kind_of i.ty) v) ≡ state_at m next after = cc (did.2, did.3) in
+      let reached : state_at m (Some (next_line p)) (set registers i.name (kind_of (type_of i.right)) v) ≡ state_at m next after = cc (did.2, did.3) in
       let stands_after : state_at m next after ≡ in_block f (Some b) (p.line + 1) after = ap (λ (o : Option Place). state_at m o after) did.2 ∙ stands m (next_line p) after f b some block in
       let asked : asks m (state_at m place registers) ≡ Does stepped.items (state_at m next after) =
       ap (asks m) here ∙ line_asks m p registers f b i v some block within is e ∙ cc (did.0, reached) in (
@@ -58,8 +60,8 @@ module _ (m : Module) (place : Option Place) (p : Place) (registers : Registers)
         did.1 ∙ ap (λ (s : State). progress_of stepped.items s) (sym stands_after),
       )
 
-  line_failed : (i : Binary) → p.line < length b.body → line.Binary i ≡ get_or b.body p.line (line.Binary i)
-      → binary_result registers i ≡ Trap → (stepped : Stepped) (next : Option Place) (after : Registers) (script : List Choice)
+  line_failed : (i : Calm) → p.line < length b.body → line.Calm i ≡ get_or b.body p.line (line.Calm i)
+      → outcome (read registers) i.right ≡ Trap → (stepped : Stepped) (next : Option Place) (after : Registers) (script : List Choice)
       → WentWrong stepped next → StepsTo script script stepped (state_at m next after)
   line_failed i within is e stepped next after script wrong =
       let reached : state_at m next after ≡ Over = ap (λ (o : Option Place). state_at m o after) wrong.2 in
@@ -69,31 +71,31 @@ module _ (m : Module) (place : Option Place) (p : Place) (registers : Registers)
         cc (wrong.1, ap (λ (items : List Item). progress_of items Over) wrong.0, ap (λ (s : State). progress_of stepped.items s) reached),
       )
 
-  line_done_at : (i : Binary) → p.line < length b.body → line.Binary i ≡ get_or b.body p.line (line.Binary i)
-      → (o : Outcome) → binary_result registers i ≡ o → {E : Type 0} (r : Result Stepped E) (next : Option Place) (after : Registers) (script : List Choice)
-      → ((v : Value) → binary_result registers i ≡ Gives v → IfOk r (λ stepped. LineDid stepped p next after (set registers i.name (kind_of i.ty) v)))
-      → (binary_result registers i ≡ Trap → IfOk r (λ stepped. WentWrong stepped next))
+  line_done_at : (i : Calm) → p.line < length b.body → line.Calm i ≡ get_or b.body p.line (line.Calm i)
+      → (o : Outcome) → outcome (read registers) i.right ≡ o → {E : Type 0} (r : Result Stepped E) (next : Option Place) (after : Registers) (script : List Choice)
+      → ((v : Value) → outcome (read registers) i.right ≡ Gives v → IfOk r (λ stepped. LineDid stepped p next after (set registers i.name (kind_of (type_of i.right)) v)))
+      → (outcome (read registers) i.right ≡ Trap → IfOk r (λ stepped. WentWrong stepped next))
       → IfOk r (λ stepped. StepsTo script script stepped (state_at m next after))
   line_done_at i within is (Gives v) e (Ok stepped) next after script gives traps = line_did i within is v e stepped next after script (gives v e)
   line_done_at i within is Trap e (Ok stepped) next after script gives traps = line_failed i within is e stepped next after script (traps e)
   line_done_at i within is o e (Err x) next after script gives traps = tt
 
   pub line_done : (i : Instr) → p.line < length b.body → i ≡ get_or b.body p.line i → {E : Type 0} (r : Result Stepped E) (next : Option Place) (after : Registers) (script : List Choice)
-      → ((l : Binary) → i ≡ line.Binary l → (v : Value) → binary_result registers l ≡ Gives v → IfOk r (λ stepped. LineDid stepped p next after (set registers l.name (kind_of l.ty) v)))
-      → ((l : Binary) → i ≡ line.Binary l → binary_result registers l ≡ Trap → IfOk r (λ stepped. WentWrong stepped next))
+      → ((l : Calm) → i ≡ line.Calm l → (v : Value) → outcome (read registers) l.right ≡ Gives v → IfOk r (λ stepped. LineDid stepped p next after (set registers l.name (kind_of (type_of l.right)) v)))
+      → ((l : Calm) → i ≡ line.Calm l → outcome (read registers) l.right ≡ Trap → IfOk r (λ stepped. WentWrong stepped next))
       → IfOk r (λ stepped. StepsTo script script stepped (state_at m next after))
-  line_done (line.Binary l) within is r next after script gives traps =
-      line_done_at l within is (binary_result registers l) refl r next after script (gives l refl) (traps l refl)
+  line_done (line.Calm l) within is r next after script gives traps =
+      line_done_at l within is (outcome (read registers) l.right) refl r next after script (gives l refl) (traps l refl)
 
   -- a line takes no choice
-  line_asked : (i : Binary) → p.line < length b.body → line.Binary i ≡ get_or b.body p.line (line.Binary i)
-      → (o : Outcome) → binary_result registers i ≡ o → (items : List Item) × (after : State) × (asks m (state_at m place registers) ≡ Does items after)
-  line_asked i within is (Gives v) e = ([], state_at m (Some (next_line p)) (set registers i.name (kind_of i.ty) v), ap (asks m) here ∙ line_asks m p registers f b i v some block within is e)
+  line_asked : (i : Calm) → p.line < length b.body → line.Calm i ≡ get_or b.body p.line (line.Calm i)
+      → (o : Outcome) → outcome (read registers) i.right ≡ o → (items : List Item) × (after : State) × (asks m (state_at m place registers) ≡ Does items after)
+  line_asked i within is (Gives v) e = ([], state_at m (Some (next_line p)) (set registers i.name (kind_of (type_of i.right)) v), ap (asks m) here ∙ line_asks m p registers f b i v some block within is e)
   line_asked i within is Trap e = (Wrong ∷ [], Over, ap (asks m) here ∙ trap_asks m p registers f b i some block within is e)
 
   pub line_tells : (i : Instr) → p.line < length b.body → i ≡ get_or b.body p.line i → (script : List Choice) → TakesAsked (asks m (state_at m place registers)) script script
-  line_tells (line.Binary l) within is script =
-      let asked : (items : List Item) × (after : State) × (asks m (state_at m place registers) ≡ Does items after) = line_asked l within is (binary_result registers l) refl in
+  line_tells (line.Calm l) within is script =
+      let asked : (items : List Item) × (after : State) × (asks m (state_at m place registers) ≡ Does items after) = line_asked l within is (outcome (read registers) l.right) refl in
       ([], refl, subst (λ (tree : Asks). Leaves (answer tree []) []) (sym asked.2) refl)
 
   pub return_asked : (t : Term) (k : Option Kind) (v : Value) → b.term ≡ t → length b.body ≤ p.line

@@ -11,9 +11,11 @@ use Rattle.ir_core.specs.declared.functions.Term.TheVariants.{Ret}
 use Rattle.ir_core.specs.declared.functions.Module.{Module}
 use Rattle.ir_machine.specs.declared.items.Item.{Item}
 use Rattle.ir_machine.specs.declared.items.Item.TheVariants.{Turn, Returned, Wrong}
-use Rattle.ir_machine.specs.Registers.{kind_of, read, operand_value}
+use Rattle.ir_core.specs.Types.{kind_of}
+use Rattle.ir_core.specs.Expressions.{type_of}
+use Rattle.ir_machine.specs.Registers.{read, operand_value, outcome}
 use Rattle.ir_machine.specs.State.{Frame, Pending, World, State, Running, Over}
-use Rattle.ir_machine.specs.Machine.{Made, asks, start, ShowsFrom, frame_step, term_step, return_step, binary_result}
+use Rattle.ir_machine.specs.Machine.{Made, asks, start, ShowsFrom, frame_step, term_step, return_step}
 use Rattle.ir_machine.specs.Refinement.{WrongIsLast}
 use Rattle.ir_machine.proofs.Trees.{AllDo, all_do_made, all_do_show, all_do_set_to}
 use Rattle.ir_machine.proofs.Runs.{over_shows}
@@ -71,7 +73,7 @@ term_ends : (t : Term) (frame : Frame) (rest : List Pending) (world : World) →
 term_ends (Ret o) frame rest world = return_ends (kind_of o.ty) (operand_value (read frame.registers) o) rest world
 
 frame_ends : (lines : List Instr) (frame : Frame) (rest : List Pending) (world : World) → AllDo WrongOnlyLast (frame_step lines frame rest world)
-frame_ends (line.Binary b ∷ left) frame rest world = all_do_set_to WrongOnlyLast (kind_of b.ty) b.name (binary_result frame.registers b) (record frame { lines = left }) rest world
+frame_ends (line.Calm b ∷ left) frame rest world = all_do_set_to WrongOnlyLast (kind_of (type_of b.right)) b.name (outcome (read frame.registers) b.right) (record frame { lines = left }) rest world
     (λ v e. inl calm_none) (inr (refl, ends_here))
 frame_ends [] frame rest world = term_ends frame.term frame rest world
 

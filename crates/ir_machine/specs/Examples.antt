@@ -6,6 +6,7 @@ use Rattle.ir_core.specs.declared.operands.Const.TheVariants as constant
 use Rattle.ir_core.specs.declared.operands.Atom.{Atom}
 use Rattle.ir_core.specs.declared.operands.Atom.TheVariants.{Constant, Register}
 use Rattle.ir_core.specs.declared.operands.BinOp.TheVariants.{Add}
+use Rattle.ir_core.specs.declared.expressions.Expr.TheVariants as expr
 use Rattle.ir_core.specs.declared.functions.Instr.{Instr}
 use Rattle.ir_core.specs.declared.functions.Instr.TheVariants as line
 use Rattle.ir_core.specs.declared.functions.Term.TheVariants.{Ret}
@@ -39,13 +40,15 @@ taking f x b result = defining f (record { name = x; ty = Int 32 } ∷ []) b [] 
 
 -- %y = add nsw i32 2147483647, 1
 abbrev pub wrapping_line : Name → Instr
-wrapping_line y = line.Binary (record {
+wrapping_line y = line.Calm (record {
   name = y;
-  op = Add;
-  flags = record { nuw = false; nsw = true };
-  ty = Int 32;
-  left = number 2147483647;
-  right = number 1;
+  right = expr.Binary (record {
+    op = Add;
+    flags = record { nuw = false; nsw = true };
+    ty = Int 32;
+    left = number 2147483647;
+    right = number 1;
+  });
 })
 
 -- define i32 @f() { b: %y = add nsw i32 2147483647, 1  ret i32 %y }

@@ -16,7 +16,8 @@ use Rattle.ir_machine.specs.declared.items.Item.{Item}
 use Rattle.ir_machine.specs.declared.items.Item.TheVariants.{Wrong}
 use Rattle.ir_machine.specs.declared.items.Shown.{Shown}
 use Rattle.ir_machine.specs.declared.items.Input.{Input}
-use Rattle.ir_machine.specs.Registers.{constant_value, kind_of}
+use Rattle.ir_core.specs.Types.{kind_of}
+use Rattle.ir_machine.specs.Registers.{constant_value}
 use Rattle.ir_machine.specs.State.{State}
 use Rattle.ir_machine.specs.Machine.{Made, Follows, asks, ShowsFrom, function_named, fits_kind, start}
 use Rattle.ir_machine.specs.Refinement.{Shows, MayShowFrom, Refines, EndTheRun}

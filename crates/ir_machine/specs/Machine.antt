@@ -1,12 +1,11 @@
 -- The machine. A step is one body line, or one terminator. It is told as a tree of choices: from it are read which steps a
 -- run may make, and what a step needs to be chosen.
-use Rattle.std.specs.Prelude.{◌≡◌, ◌⊎◌, ℕ, zero, suc, ◌^◌, Bool, true, false, cond, nat_lt, List, [], ◌∷◌, ◌++◌, Option, None, Some, find, option_and_then}
+use Rattle.std.specs.Prelude.{◌≡◌, ◌⊎◌, ℕ, zero, suc, Bool, true, false, cond, List, [], ◌∷◌, ◌++◌, Option, None, Some, find, option_and_then}
 use Rattle.ir_core.specs.declared.names.Name.{Name}
 use Rattle.ir_core.specs.declared.values.Value.{Value}
 use Rattle.ir_core.specs.declared.values.Value.TheVariants as value
 use Rattle.ir_core.specs.declared.values.Kind.{Kind}
 use Rattle.ir_core.specs.declared.values.Kind.TheVariants.{Int}
-use Rattle.ir_core.specs.declared.functions.Binary.{Binary}
 use Rattle.ir_core.specs.declared.functions.Instr.{Instr}
 use Rattle.ir_core.specs.declared.functions.Instr.TheVariants as line
 use Rattle.ir_core.specs.declared.functions.Term.{Term}
@@ -16,6 +15,7 @@ use Rattle.ir_core.specs.declared.functions.Block.{Block}
 use Rattle.ir_core.specs.declared.functions.Function.{Function}
 use Rattle.ir_core.specs.declared.functions.Module.{Module}
 use Rattle.ir_core.specs.Same.{same_name}
+use Rattle.ir_core.specs.Expressions.{type_of}
 use Rattle.ir_values.specs.declared.operations.Outcome.{Outcome}
 use Rattle.ir_values.specs.declared.operations.Outcome.TheVariants.{Gives, Trap}
 use Rattle.ir_machine.specs.declared.items.Item.{Item}
@@ -25,25 +25,30 @@ use Rattle.ir_machine.specs.declared.items.Shown.TheVariants as shown
 use Rattle.ir_machine.specs.declared.items.Choice.{Choice}
 use Rattle.ir_machine.specs.declared.items.Choice.TheVariants.{Pick}
 use Rattle.ir_machine.specs.declared.items.Input.{Input}
-use Rattle.ir_machine.specs.Registers.{Registers, no_registers, held_at, holding, read, set, kind_of, atom_value, operand_value, binary_at}
+use Rattle.ir_core.specs.Types.{fits, kind_of}
+use Rattle.ir_machine.specs.Registers.{Registers, no_registers, held_at, holding, read, set, operand_value, outcome}
 use Rattle.ir_machine.specs.State.{Frame, Pending, World, no_world, State, Running, Over}
+
+-- what a tree is told where it asks: a choice
+abbrev pub Chosen : Type 0
+Chosen = Choice
 
 -- What a step does: it shows items and leads to a state; or it asks for a choice that fits, and goes on with it; or there is
 -- no step.
 pub data Asks : Type 0 where
   Does : List Item → State → Asks
-  Ask : (Choice → Bool) → (Choice → Asks) → Asks
+  Ask : (Chosen → Bool) → (Chosen → Asks) → Asks
   Never : Asks
 
 -- a value of that kind, as the outside sees it
 abbrev pub is_shown_of : Kind → Shown → Bool
-is_shown_of (Int width) (shown.Num n) = nat_lt n (2 ^ width)
+is_shown_of (Int width) (shown.Num n) = fits n width
 
 -- undef may be taken for any number of its kind
-abbrev pub is_pick : Kind → Choice → Bool
+abbrev pub is_pick : Kind → Chosen → Bool
 is_pick k (Pick s) = is_shown_of k s
 
-abbrev pub picked : Choice → Shown
+abbrev pub picked : Chosen → Shown
 picked (Pick s) = s
 
 -- A value is shown to the outside: a number as itself, undef as what is picked. Showing poison is undefined behaviour. What
@@ -59,14 +64,9 @@ abbrev pub set_to : Option Kind → Name → Outcome → Frame → List Pending 
 set_to k x (Gives v) frame rest world = Does [] (Running (record frame { registers = set frame.registers x k v }) rest world)
 set_to k x Trap frame rest world = Does (Wrong ∷ []) Over
 
-abbrev pub binary_result : Registers → Binary → Outcome
-binary_result registers b =
-    let k = kind_of b.ty in
-    binary_at b.op b.flags k (atom_value (read registers) k b.left) (atom_value (read registers) k b.right)
-
 -- the frame stands after the line
 abbrev pub line_step : Instr → Frame → List Pending → World → Asks
-line_step (line.Binary b) frame rest world = set_to (kind_of b.ty) b.name (binary_result frame.registers b) frame rest world
+line_step (line.Calm l) frame rest world = set_to (kind_of (type_of l.right)) l.name (outcome (read frame.registers) l.right) frame rest world
 
 -- a value of a kind as it is read at another: poison where the two differ, or there is none to read it at
 abbrev pub at_kind : Option Kind → Option Kind → Value → Value
@@ -101,14 +101,14 @@ asks m Over = Never
 
 -- a step that was made: the choices told, the items shown, and the state after it
 pub record Made : Type 0 where
-  pub told : List Choice
+  pub told : List Chosen
   pub items : List Item
   pub after : State
 
 -- the step is one that the tree allows
 abbrev pub Follows : Asks → Made → Type 0
 Follows (Does items after) made = made ≡ record { told = []; items = items; after = after }
-Follows (Ask fits next) made = (c : Choice) × (more : Made) × (fits c ≡ true) × Follows (next c) more
+Follows (Ask fits next) made = (c : Chosen) × (more : Made) × (fits c ≡ true) × Follows (next c) more
     × (made ≡ record { told = c ∷ more.told; items = more.items; after = more.after })
 Follows Never made = ⊥
 
@@ -138,16 +138,16 @@ entered [] (a ∷ args) registers = None
 entered (p ∷ ps) [] registers = None
 
 -- the start of a block
-abbrev pub at_block : Name → Block → Registers → Frame
+abbrev pub at_block : Function → Block → Registers → Frame
 at_block f b registers = record { function = f; block = b.name; lines = b.body; term = b.term; registers = registers }
 
-abbrev pub at_entry : Name → List Block → Option Registers → Option State
+abbrev pub at_entry : Function → List Block → Option Registers → Option State
 at_entry f (b ∷ bs) (Some registers) = Some (Running (at_block f b registers) [] no_world)
 at_entry f [] registers = None
 at_entry f (b ∷ bs) None = None
 
 abbrev pub started : Function → Input → Option State
-started f input = at_entry f.name f.blocks (entered f.params input.args no_registers)
+started f input = at_entry f f.blocks (entered f.params input.args no_registers)
 
 -- where a run of that function on that input starts: nowhere without the function, or where the input doesn't fit it
 abbrev pub start : Module → Name → Input → Option State

@@ -16,7 +16,7 @@ use Rattle.ir_machine.specs.Kept.{registers_of}
 
 abbrev pub in_block : Function → Option Block → ℕ → Registers → State
 in_block f (Some b) line registers =
-    Running (record { function = f.name; block = b.name; lines = drop line b.body; term = b.term; registers = registers }) [] no_world
+    Running (record { function = f; block = b.name; lines = drop line b.body; term = b.term; registers = registers }) [] no_world
 in_block f None line registers = Over
 
 abbrev pub in_function : Option Function → ℕ → ℕ → Registers → State

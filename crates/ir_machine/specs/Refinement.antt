@@ -1,13 +1,12 @@
 -- What a module can show, and when one module refines another.
 use Rattle.std.specs.Prelude.{◌≡◌, ◌≢◌, ◌↔◌, ◌⊎◌, ℕ, List, [], ◌∷◌, ◌++◌, MatchOption}
 use Rattle.ir_core.specs.declared.names.Name.{Name}
-use Rattle.ir_core.specs.declared.functions.Function.{Function}
 use Rattle.ir_core.specs.declared.functions.Module.{Module}
 use Rattle.ir_machine.specs.declared.items.Item.{Item}
 use Rattle.ir_machine.specs.declared.items.Item.TheVariants.{Turn, Returned, Wrong}
 use Rattle.ir_machine.specs.declared.items.Input.{Input}
 use Rattle.ir_machine.specs.State.{State, Over}
-use Rattle.ir_machine.specs.Machine.{Made, Follows, asks, start, started, ShowsFrom}
+use Rattle.ir_machine.specs.Machine.{Made, Follows, asks, start, ShowsFrom}
 
 -- Some run of at most n steps, from the start of that function on that input, shows exactly these items.
 abbrev pub Shows : Module → Name → Input → ℕ → List Item → Type 0
@@ -55,14 +54,3 @@ EndTheRun items = (before : List Item) × (last : Item) × (items ≡ before ++ 
 -- a run is over after a step exactly where the last item that the step shows is the run's result or undefined behaviour
 abbrev pub EndsAreShown : Type 0
 EndsAreShown = (m : Module) (s : State) (made : Made) → Follows (asks m s) made → (made.after ≡ Over) ↔ EndTheRun made.items
-
--- Some run of at most n steps, of that function entered in the module on that input, shows exactly these items.
-abbrev pub ShowsOn : Module → Function → Input → ℕ → List Item → Type 0
-ShowsOn m f input n items = MatchOption (started f input) ⊥ (λ s. ShowsFrom m n s items)
-
-abbrev pub MayShowOn : Module → Function → Input → List Item → Type 0
-MayShowOn m f input items = MatchOption (started f input) ⊥ (λ s. MayShowFrom m s items)
-
--- the target's function g refines the source's function f
-abbrev pub FunctionRefines : Module → Function → Module → Function → Type 0
-FunctionRefines source f target g = (input : Input) (n : ℕ) (items : List Item) → ShowsOn target g input n items → MayShowOn source f input items

@@ -1,12 +1,10 @@
 -- Registers, and what operands are worth over them.
-use Rattle.std.specs.Prelude.{◌^◌, cond, nat_lt, Option, None, Some}
+use Rattle.std.specs.Prelude.{cond, Option, None, Some}
 use Rattle.ir_core.specs.declared.names.Name.{Name}
 use Rattle.ir_core.specs.declared.values.Value.{Value}
 use Rattle.ir_core.specs.declared.values.Value.TheVariants.{Num, Undef, Poison}
 use Rattle.ir_core.specs.declared.values.Kind.{Kind}
 use Rattle.ir_core.specs.declared.values.Kind.TheVariants as kind
-use Rattle.ir_core.specs.declared.operands.Ty.{Ty}
-use Rattle.ir_core.specs.declared.operands.Ty.TheVariants as ty
 use Rattle.ir_core.specs.declared.operands.Const.{Const}
 use Rattle.ir_core.specs.declared.operands.Const.TheVariants as constant
 use Rattle.ir_core.specs.declared.operands.Atom.{Atom}
@@ -15,7 +13,9 @@ use Rattle.ir_core.specs.declared.operands.Operand.{Operand}
 use Rattle.ir_core.specs.declared.operands.BinOp.{BinOp}
 use Rattle.ir_core.specs.declared.operands.Flags.{Flags}
 use Rattle.ir_core.specs.Same.{same_name}
-use Rattle.ir_core.specs.Types.{is_width}
+use Rattle.ir_core.specs.declared.expressions.Expr.{Expr}
+use Rattle.ir_core.specs.declared.expressions.Expr.TheVariants.{Plain, Binary}
+use Rattle.ir_core.specs.Types.{fits, kind_of}
 use Rattle.ir_values.specs.declared.operations.Outcome.{Outcome}
 use Rattle.ir_values.specs.declared.operations.Outcome.TheVariants.{Gives}
 use Rattle.ir_values.specs.Values.{IsInKind, same_kind}
@@ -53,14 +53,9 @@ set registers x k v = λ y. cond (same_name x y) (holding k v) (registers y)
 abbrev pub AreInKind : Registers → Type 0
 AreInKind registers = (x : Name) (k : Kind) → IsInKind k (read registers k x)
 
--- integers of 1 to 64 bits have a kind; other types have no values
-abbrev pub kind_of : Ty → Option Kind
-kind_of (ty.Int width) = cond (is_width width) (Some (kind.Int width)) None
-kind_of ty.Void = None
-
 -- a number that isn't of its type is worth poison
 abbrev pub constant_value : Kind → Const → Value
-constant_value (kind.Int width) (constant.Number n) = cond (nat_lt n (2 ^ width)) (Num n) Poison
+constant_value (kind.Int width) (constant.Number n) = cond (fits n width) (Num n) Poison
 constant_value (kind.Int width) constant.Undef = Undef
 
 -- what an atom is worth at a kind, where registers are read by the function given
@@ -80,3 +75,10 @@ operand_value reading o = atom_value reading (kind_of o.ty) o.atom
 abbrev pub binary_at : BinOp → Flags → Option Kind → Value → Value → Outcome
 binary_at op flags None a b = Gives Poison
 binary_at op flags (Some (kind.Int width)) a b = binary_outcome op flags width a b
+
+-- The outcome of an expression: an operand is worth its value, and an operator works on the values of its operands.
+abbrev pub outcome : {R : Type 0} → (Kind → R → Value) → Expr R → Outcome
+outcome reading (Plain o) = Gives (operand_value reading o)
+outcome reading (Binary b) =
+    let k = kind_of b.ty in
+    binary_at b.op b.flags k (atom_value reading k b.left) (atom_value reading k b.right)

@@ -1,4 +1,4 @@
--- What showing a value leads to in the code.
+-- Words of private functions. What showing a value leads to in the code.
 use Rattle.std.specs.Prelude.{◌≡◌, List}
 use Rattle.ir_machine.specs.declared.items.Shown.{Shown}
 use Rattle.ir_machine.specs.declared.items.Choice.{Choice}

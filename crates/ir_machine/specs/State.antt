@@ -4,11 +4,12 @@ use Rattle.ir_core.specs.declared.names.Name.{Name}
 use Rattle.ir_core.specs.declared.values.Kind.{Kind}
 use Rattle.ir_core.specs.declared.functions.Instr.{Instr}
 use Rattle.ir_core.specs.declared.functions.Term.{Term}
+use Rattle.ir_core.specs.declared.functions.Function.{Function}
 use Rattle.ir_machine.specs.Registers.{Registers}
 
 -- An activation of a function, at a place of one of its blocks: the lines that are left there, and the terminator.
 pub record Frame : Type 0 where
-  pub function : Name
+  pub function : Function
   pub block : Name
   pub lines : List Instr
   pub term : Term

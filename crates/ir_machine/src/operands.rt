@@ -1,4 +1,7 @@
-ghost use Rattle.std.specs.Prelude.{◌≡◌, ◌^◌, nat_lt};
+ghost use Rattle.std.specs.Prelude.{◌≡◌};
+ghost use Rattle.ir_core.specs.declared.expressions.Expr.TheVariants as expr;
+ghost use Rattle.ir_core.specs.Types as types;
+ghost use Rattle.ir_core.specs.Expressions.{type_of};
 ghost use Rattle.ir_machine.specs.Registers as meaning;
 ghost use Rattle.ir_machine.specs.Machine as machine;
 ghost use Rattle.ir_values.specs.Values.{IsInKindOf};
@@ -7,37 +10,14 @@ ghost use Rattle.ir_machine.specs.Places.{registers_in};
 
 use crate::Shown;
 use crate::registers::RegisterFile;
-use ir_core::{Atom, Binary, Const, Kind, Name, Operand, Ty, Value};
+use ir_core::{Atom, Binary, Const, Expr, Kind, Name, Operand, Value, fits, kind_of};
 use ir_values::{Outcome, eval_binary};
-
-pub(crate) fn kind_of(ty: &Ty) -> Option<Kind>
-    ensures { result ≡ meaning.kind_of ty.now }
-{
-    match ty {
-        Ty::Int(width) => {
-            if 1 <= *width && *width <= 64 {
-                Some(Kind::Int(*width))
-            } else {
-                None
-            }
-        }
-        Ty::Void => None,
-    }
-}
-
-/// Whether the number is one of that many bits.
-#[tactic(auto, using(crate::proofs::Widths::fits_wide, crate::proofs::Widths::one_shifted))]
-fn fits_width(n: u64, width: u32) -> bool
-    ensures { result ≡ nat_lt n (2 ^ width) }
-{
-    width >= 64 || n < 1 << width
-}
 
 pub(crate) fn is_shown_of(kind: &Kind, shown: &Shown) -> bool
     ensures { result ≡ machine.is_shown_of kind.now shown.now }
 {
     let (Kind::Int(width), Shown::Num(n)) = (kind, shown);
-    fits_width(*n, *width)
+    fits(*n, *width)
 }
 
 fn constant_value(kind: &Kind, constant: &Const) -> Value
@@ -46,7 +26,7 @@ fn constant_value(kind: &Kind, constant: &Const) -> Value
     let Kind::Int(width) = kind;
     match constant {
         Const::Number(n) => {
-            if fits_width(*n, *width) {
+            if fits(*n, *width) {
                 Value::Num(*n)
             } else {
                 Value::Poison
@@ -70,14 +50,14 @@ fn atom_value(registers: &RegisterFile, kind: Option<Kind>, atom: &Atom<Name>) -
 
 pub(crate) fn operand_value(registers: &RegisterFile, operand: &Operand<Name>) -> Value
     ensures value { result ≡ meaning.operand_value (meaning.read (registers_in registers.now)) operand.now }
-    ensures in_kind { IsInKindOf (meaning.kind_of operand.now.ty) result }
+    ensures in_kind { IsInKindOf (types.kind_of operand.now.ty) result }
 {
     atom_value(registers, kind_of(&operand.ty), &operand.atom)
 }
 
-pub(crate) fn binary_result(registers: &RegisterFile, binary: &Binary) -> Outcome
-    ensures value { result ≡ machine.binary_result (registers_in registers.now) binary.now }
-    ensures in_kind { GivesInKind (meaning.kind_of binary.now.ty) result }
+fn binary_outcome(registers: &RegisterFile, binary: &Binary<Name>) -> Outcome
+    ensures value { result ≡ meaning.outcome (meaning.read (registers_in registers.now)) (expr.Binary binary.now) }
+    ensures in_kind { GivesInKind (types.kind_of binary.now.ty) result }
 {
     let kind = kind_of(&binary.ty);
     let left = atom_value(registers, kind, &binary.left);
@@ -85,5 +65,16 @@ pub(crate) fn binary_result(registers: &RegisterFile, binary: &Binary) -> Outcom
     match kind {
         Some(Kind::Int(width)) => eval_binary(binary.op, binary.flags, width, &left, &right),
         None => Outcome::Gives(Value::Poison),
+    }
+}
+
+/// What an expression of a line leads to.
+pub(crate) fn outcome(registers: &RegisterFile, right: &Expr<Name>) -> Outcome
+    ensures value { result ≡ meaning.outcome (meaning.read (registers_in registers.now)) right.now }
+    ensures in_kind { GivesInKind (types.kind_of (type_of right.now)) result }
+{
+    match right {
+        Expr::Plain(operand) => Outcome::Gives(operand_value(registers, operand)),
+        Expr::Binary(binary) => binary_outcome(registers, binary),
     }
 }

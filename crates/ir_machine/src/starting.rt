@@ -4,10 +4,10 @@ ghost use Rattle.ir_machine.specs.State.{Over};
 ghost use Rattle.ir_machine.specs.Machine as machine;
 ghost use Rattle.ir_machine.specs.Places.{registers_in, state_of};
 
-use crate::operands::{is_shown_of, kind_of};
+use crate::operands::is_shown_of;
 use crate::registers::RegisterFile;
 use crate::{Input, Place, RunState, Shown, StartEnd};
-use ir_core::{Function, Kind, Module, Name, Param, Value, same_name};
+use ir_core::{Function, Kind, Module, Name, Param, Value, kind_of, same_name};
 use std::alloc::Global;
 
 /// Where the first definition of that name stands.

@@ -3,6 +3,8 @@ ghost use Rattle.ir_values.specs.declared.operations.Outcome.TheVariants as outc
 ghost use Rattle.ir_machine.specs.declared.items.Item.TheVariants as item;
 ghost use Rattle.ir_machine.specs.declared.items.Choice.{Choice};
 ghost use Rattle.ir_machine.specs.declared.machine.Progress.TheVariants as progress;
+ghost use Rattle.ir_core.specs.Types.{kind_of};
+ghost use Rattle.ir_core.specs.Expressions.{type_of};
 ghost use Rattle.ir_machine.specs.Registers as registers;
 ghost use Rattle.ir_machine.specs.State.{no_world, Over};
 ghost use Rattle.ir_machine.specs.Machine as machine;
@@ -10,10 +12,10 @@ ghost use Rattle.ir_machine.specs.Choices.{Did, Lacks, answer, TakesAsked};
 ghost use Rattle.ir_machine.specs.Places.{registers_in, state_of, progress_of, next_line};
 
 use crate::choosing::{Showing, show};
-use crate::operands::{binary_result, kind_of, operand_value};
+use crate::operands::{operand_value, outcome};
 use crate::{Chooser, Item, Place, Progress, RunState, StepEnd, Stepped};
 use contents::Seq;
-use ir_core::{Binary, Instr, Kind, Module, Term, Value};
+use ir_core::{Calm, Instr, Kind, Module, Term, Value, kind_of};
 use ir_values::Outcome;
 use std::alloc::{AllocError, Global};
 
@@ -63,17 +65,17 @@ fn last_return<C: Chooser>(
 /// A line is done: its register is set, and the run stands after it; or the run is wrong.
 fn do_line(
     alloc: Global,
-    binary: &Binary,
+    line: &Calm,
     place: Place,
     state: &mut RunState,
 ) -> Result<Stepped, StepEnd>
     requires room { place.line < usize.MAX }
-    ensures gives { (v : _) → machine.binary_result (registers_in state.old.registers) binary.now ≡ outcome.Gives v
+    ensures gives { (v : _) → registers.outcome (registers.read (registers_in state.old.registers)) line.now.right ≡ outcome.Gives v
         → IfOk result (λ stepped. (stepped.items ≡ []) × (stepped.progress ≡ progress.Goes)
         × (state.new.place ≡ Some (next_line place))
         × (registers_in state.new.registers
-        ≡ registers.set (registers_in state.old.registers) binary.now.name (registers.kind_of binary.now.ty) v)) }
-    ensures traps { machine.binary_result (registers_in state.old.registers) binary.now ≡ outcome.Trap
+        ≡ registers.set (registers_in state.old.registers) line.now.name (kind_of (type_of line.now.right)) v)) }
+    ensures traps { registers.outcome (registers.read (registers_in state.old.registers)) line.now.right ≡ outcome.Trap
         → IfOk result (λ stepped. (stepped.items ≡ item.Wrong ∷ []) × (stepped.progress ≡ progress.IsWrong)
         × (state.new.place ≡ None)) }
     ensures same_place { OnErr result (state.new.place ≡ state.old.place) }
@@ -81,11 +83,11 @@ fn do_line(
         (registers_in state.new.registers ≡ registers_in state.old.registers) }
     ensures memory { IsErr result → IsErrOf result StepEnd.Memory }
 {
-    match binary_result(&state.registers, binary) {
+    match outcome(&state.registers, &line.right) {
         Outcome::Gives(value) => {
             state
                 .registers
-                .set(alloc, &binary.name, kind_of(&binary.ty), value)?;
+                .set(alloc, &line.name, kind_of(line.right.ty()), value)?;
             state.place = Some(Place {
                 function: place.function,
                 block: place.block,
@@ -145,7 +147,7 @@ pub fn step<C: Chooser>(
     let lines = block.body.as_slice();
     if place.line < lines.len() {
         return match &lines[place.line] {
-            Instr::Binary(binary) => do_line(alloc, binary, place, state),
+            Instr::Calm(line) => do_line(alloc, line, place, state),
         };
     }
     let stepped = match &block.term {

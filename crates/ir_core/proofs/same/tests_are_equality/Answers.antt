@@ -31,8 +31,8 @@ returns-clause-atoms_in_logic c = law.equality _ law.same_reg_atom_true law.same
 pub returns-clause-operands_in_logic : goal.returns-clause-operands_in_logic
 returns-clause-operands_in_logic c = law.equality _ law.same_reg_operand_true law.same_reg_operand_refl
 
-pub returns-clause-operations : goal.returns-clause-operations
-returns-clause-operations c = law.equality _ law.same_binary_true law.same_binary_refl
+pub returns-clause-lines : goal.returns-clause-lines
+returns-clause-lines c = law.equality _ law.same_name_expr_true law.same_name_expr_refl
 
 pub returns-clause-expressions : goal.returns-clause-expressions
-returns-clause-expressions c = law.equality _ law.same_expr_true law.same_expr_refl
+returns-clause-expressions c = law.equality _ law.same_reg_expr_true law.same_reg_expr_refl

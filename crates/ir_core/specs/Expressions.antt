@@ -1,0 +1,44 @@
+-- Expressions, over whatever registers they name: a line's right side names registers of the function, and an expression of
+-- the logic a register as it is now, as it was, or of the proof alone.
+use Rattle.std.specs.Prelude.{Bool, false, ◌||◌}
+use Rattle.ir_core.specs.declared.operands.Ty.{Ty}
+use Rattle.ir_core.specs.declared.operands.Atom.{Atom}
+use Rattle.ir_core.specs.declared.operands.Atom.TheVariants.{Constant, Register}
+use Rattle.ir_core.specs.declared.operands.Operand.{Operand}
+use Rattle.ir_core.specs.declared.expressions.Reg.{Reg}
+use Rattle.ir_core.specs.declared.expressions.Binary.{Binary}
+use Rattle.ir_core.specs.declared.expressions.Expr.{Expr}
+use Rattle.ir_core.specs.declared.expressions.Expr.TheVariants as expr
+
+-- an expression of the logic
+abbrev pub Expr0 : Type 0
+Expr0 = Expr Reg
+
+-- the type that is stated for it
+abbrev pub type_of : {R : Type 0} → Expr R → Ty
+type_of (expr.Plain o) = o.ty
+type_of (expr.Binary b) = b.ty
+
+-- the same over other registers
+abbrev pub map_atom : {R S : Type 0} → (R → S) → Atom R → Atom S
+map_atom f (Constant c) = Constant c
+map_atom f (Register r) = Register (f r)
+
+abbrev pub map_operand : {R S : Type 0} → (R → S) → Operand R → Operand S
+map_operand f o = record { ty = o.ty; atom = map_atom f o.atom }
+
+abbrev pub map_binary : {R S : Type 0} → (R → S) → Binary R → Binary S
+map_binary f b = record { op = b.op; flags = b.flags; ty = b.ty; left = map_atom f b.left; right = map_atom f b.right }
+
+abbrev pub map_expr : {R S : Type 0} → (R → S) → Expr R → Expr S
+map_expr f (expr.Plain o) = expr.Plain (map_operand f o)
+map_expr f (expr.Binary b) = expr.Binary (map_binary f b)
+
+-- whether it names a register that passes the test
+abbrev pub atom_has : {R : Type 0} → (R → Bool) → Atom R → Bool
+atom_has test (Constant c) = false
+atom_has test (Register r) = test r
+
+abbrev pub expr_has : {R : Type 0} → (R → Bool) → Expr R → Bool
+expr_has test (expr.Plain o) = atom_has test o.atom
+expr_has test (expr.Binary b) = atom_has test b.left || atom_has test b.right
