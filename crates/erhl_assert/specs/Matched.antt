@@ -9,23 +9,19 @@ use Rattle.ir_core.specs.declared.operands.Atom.TheVariants as atom
 use Rattle.ir_core.specs.declared.operands.Operand.{Operand}
 use Rattle.ir_core.specs.declared.expressions.Reg.{Reg}
 use Rattle.ir_core.specs.declared.expressions.Reg.TheVariants.{Now}
-use Rattle.ir_core.specs.declared.expressions.Expr0.{Expr0}
-use Rattle.ir_core.specs.declared.expressions.Expr0.TheVariants.{Plain, Binary}
+use Rattle.ir_core.specs.declared.expressions.Expr.TheVariants.{Plain, Binary}
 use Rattle.ir_core.specs.Same.{same_ty, same_const, same_reg, same_expr}
+use Rattle.ir_core.specs.Expressions.{Expr0, map_operand}
 use Rattle.ir_values.specs.Values.{same_kind}
-use Rattle.ir_machine.specs.Registers.{kind_of}
+use Rattle.ir_core.specs.Types.{kind_of}
 use Rattle.erhl_assert.specs.declared.facts.Fact.{Fact}
 use Rattle.erhl_assert.specs.declared.facts.Fact.TheVariants.{LessDef}
 use Rattle.erhl_assert.specs.declared.facts.Assertion.{Assertion}
 use Rattle.erhl_assert.specs.Sides.{has_reg}
 
--- an atom of a function, as the logic names it
-abbrev pub now_atom : Atom Name → Atom Reg
-now_atom (atom.Constant c) = atom.Constant c
-now_atom (atom.Register x) = atom.Register (Now x)
-
+-- an operand of a function, as the logic names it
 abbrev pub now_operand : Operand Name → Operand Reg
-now_operand o = record { ty = o.ty; atom = now_atom o.atom }
+now_operand o = map_operand Now o
 
 abbrev pub of_plain : (Operand Reg → Bool) → Expr0 → Bool
 of_plain p (Plain o) = p o
@@ -33,11 +29,11 @@ of_plain p (Binary e) = false
 
 -- p of the operand c of a fact that says a is less defined than c
 abbrev pub from_fact : (Operand Reg → Bool) → Operand Reg → Fact → Bool
-from_fact p a (LessDef x y) = same_expr x (Plain a) && of_plain p y
+from_fact p a (LessDef x y) = same_expr same_reg x (Plain a) && of_plain p y
 
 -- p of the operand c of a fact that says c is less defined than b
 abbrev pub into_fact : (Operand Reg → Bool) → Operand Reg → Fact → Bool
-into_fact p b (LessDef x y) = same_expr y (Plain b) && of_plain p x
+into_fact p b (LessDef x y) = same_expr same_reg y (Plain b) && of_plain p x
 
 -- p of a itself, or of some c that a is known to be less defined than
 abbrev pub some_from : (Operand Reg → Bool) → Operand Reg → List Fact → Bool

@@ -5,24 +5,24 @@ use Rattle.ir_core.specs.declared.values.Value.{Value}
 use Rattle.ir_core.specs.declared.values.Kind.{Kind}
 use Rattle.ir_core.specs.declared.expressions.Reg.{Reg}
 use Rattle.ir_core.specs.declared.expressions.Reg.TheVariants.{Now, Old, Ghost}
-use Rattle.ir_core.specs.declared.expressions.Expr0.{Expr0}
-use Rattle.ir_core.specs.declared.expressions.Expr0.TheVariants.{Plain, Binary}
 use Rattle.ir_core.specs.Same.{same_reg}
+use Rattle.ir_core.specs.Expressions.{Expr0}
+use Rattle.ir_core.specs.Modules.{Scope}
 use Rattle.ir_values.specs.declared.operations.Outcome.{Outcome}
-use Rattle.ir_values.specs.declared.operations.Outcome.TheVariants.{Gives}
 use Rattle.ir_values.specs.Values.{IsLessDefined}
-use Rattle.ir_machine.specs.Registers.{Registers, AreInKind, no_registers, read, kind_of, atom_value, operand_value, binary_at}
+use Rattle.ir_machine.specs.Registers.{Registers, AreInKind, no_registers, read, outcome}
 
--- One side: the registers of the frame that runs, their values before the edge that is being crossed, and those that the
--- proof alone has.
+-- One side: the types and globals of its module, the registers of the frame that runs, their values before the edge that is
+-- being crossed, and those that the proof alone has.
 pub record SideState : Type 0 where
+  pub scope : Scope
   pub now : Registers
   pub old : Registers
   pub ghost : Registers
 
 -- the side of a frame with these registers, between edges, where no ghost was chosen
-abbrev pub side_of : Registers → SideState
-side_of registers = record { now = registers; old = no_registers; ghost = no_registers }
+abbrev pub side_of : Scope → Registers → SideState
+side_of scope registers = record { scope = scope; now = registers; old = no_registers; ghost = no_registers }
 
 -- each value lies in its kind
 pub record IsSideInKind (side : SideState) : Type 0 where
@@ -37,15 +37,15 @@ read_reg side k (Ghost x) = read side.ghost k x
 
 -- what an expression is worth on a side
 abbrev pub worth : SideState → Expr0 → Outcome
-worth side (Plain o) = Gives (operand_value (read_reg side) o)
-worth side (Binary e) =
-    let k = kind_of e.ty in
-    binary_at e.op e.flags k (atom_value (read_reg side) k e.left) (atom_value (read_reg side) k e.right)
+worth side e = outcome (read_reg side) e
 
 abbrev pub has_reg : Reg → List Reg → Bool
 has_reg r rs = list_any (same_reg r) rs
 
--- each register outside of those that may differ has, read at any kind, a value on the source that is less defined than
--- its value on the target
+-- the source's value and the target's are related: the source's is less defined
+abbrev pub IsRelated : Value → Value → Type 0
+IsRelated v w = IsLessDefined v w
+
+-- each register outside of those that may differ has, read at any kind, related values on the source and the target
 abbrev pub AreRelated : List Reg → SideState → SideState → Type 0
-AreRelated diff source target = (r : Reg) (k : Kind) → has_reg r diff ≡ false → IsLessDefined (read_reg source k r) (read_reg target k r)
+AreRelated diff source target = (r : Reg) (k : Kind) → has_reg r diff ≡ false → IsRelated (read_reg source k r) (read_reg target k r)

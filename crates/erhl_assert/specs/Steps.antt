@@ -2,6 +2,7 @@
 use Rattle.std.specs.Prelude.{◌≡◌, ℕ, Bool, true, false, not, cond, List, [], ◌∷◌, nat_eq, filter, find, Option, None, Some}
 use Rattle.ir_core.specs.declared.functions.Module.{Module}
 use Rattle.ir_core.specs.Same.{same_list}
+use Rattle.ir_core.specs.Modules.{Scope, scope_of}
 use Rattle.erhl_assert.specs.declared.facts.Fact.{Fact}
 use Rattle.erhl_assert.specs.declared.facts.Assertion.{Assertion}
 use Rattle.erhl_assert.specs.declared.facts.Schema.{Schema}
@@ -13,7 +14,7 @@ use Rattle.erhl_assert.specs.declared.hints.HintStep.TheVariants.{Rule}
 use Rattle.erhl_assert.specs.declared.hints.PlacedStep.{PlacedStep}
 use Rattle.erhl_assert.specs.declared.verdict.Reason.{Reason}
 use Rattle.erhl_assert.specs.declared.verdict.Reason.TheVariants.{UnknownRule, RuleUnfit, MissingPremise}
-use Rattle.erhl_assert.specs.Facts.{Scope, scope_of, IsSound, has_fact, with_fact}
+use Rattle.erhl_assert.specs.Facts.{IsSound, has_fact, with_fact}
 
 -- a rule: its name, and which schemas it takes beside a module's types and globals
 pub record Meaning : Type 0 where
@@ -30,6 +31,14 @@ rule_named rules name = find (λ r. same_list nat_eq r.name name) rules
 abbrev pub rule_takes : Option Meaning → Scope → Schema → Bool
 rule_takes None scope schema = false
 rule_takes (Some r) scope schema = r.takes scope schema
+
+-- what a check is asked beside: rules, and types and globals
+pub record Beside : Type 0 where
+  pub rules : Rules
+  pub scope : Scope
+
+abbrev pub beside : Rules → Module → Beside
+beside rules m = record { rules = rules; scope = scope_of m }
 
 -- whatever the rules take is sound
 abbrev pub AreSound : Rules → Type 0
@@ -58,22 +67,22 @@ concluded (Some f) step known = Refuses (MissingPremise f)
 concluded None step known = Knows (with_conclusion step.side step.schema.to known)
 
 -- The rule is in the book, it takes the step, and each premise is there, tested in this order; then the conclusion is added.
-abbrev pub after_rule : Option Meaning → Module → RuleStep → Assertion → Stepped
-after_rule None m step known = Refuses (UnknownRule step.rule)
-after_rule (Some r) m step known =
-    cond (r.takes (scope_of m) step.schema) (concluded (first_missing (facts_of step.side known) step.schema.from) step known) (Refuses (RuleUnfit step.rule))
+abbrev pub after_rule : Option Meaning → Scope → RuleStep → Assertion → Stepped
+after_rule None scope step known = Refuses (UnknownRule step.rule)
+after_rule (Some r) scope step known =
+    cond (r.takes scope step.schema) (concluded (first_missing (facts_of step.side known) step.schema.from) step known) (Refuses (RuleUnfit step.rule))
 
-abbrev pub after_step : Rules → Module → HintStep → Assertion → Stepped
-after_step rules m (Rule step) known = after_rule (rule_named rules step.rule) m step known
+abbrev pub after_step : Beside → HintStep → Assertion → Stepped
+after_step w (Rule step) known = after_rule (rule_named w.rules step.rule) w.scope step known
 
 abbrev pub and_then : Stepped → (Assertion → Stepped) → Stepped
 and_then (Refuses r) next = Refuses r
 and_then (Knows known) next = next known
 
 -- the steps in their order
-abbrev pub after_steps : Rules → Module → List PlacedStep → Assertion → Stepped
-after_steps rules m [] known = Knows known
-after_steps rules m (s ∷ ss) known = and_then (after_step rules m s.step known) (after_steps rules m ss)
+abbrev pub after_steps : Beside → List PlacedStep → Assertion → Stepped
+after_steps w [] known = Knows known
+after_steps w (s ∷ ss) known = and_then (after_step w s.step known) (after_steps w ss)
 
 -- the steps that stand before the aligned line of that number
 abbrev pub steps_at : ℕ → List PlacedStep → List PlacedStep

@@ -17,10 +17,17 @@ pub enum Side {
 }
 
 /// A fact of one side.
-#[derive(Drop)]
 pub enum Fact {
     /// The first expression is less defined than the second: its value refines to the second's (`ge`).
     LessDef(Expr0, Expr0),
+}
+
+impl Drop for Fact {
+    fn drop(self) {
+        match self {
+            Fact::LessDef(_, _) => {}
+        }
+    }
 }
 
 /// What is known at a place: facts of the source, facts of the target, and the registers that may differ between the
@@ -33,10 +40,15 @@ pub struct Assertion {
 }
 
 /// What an inference rule is asked to conclude: where all of `from` holds, so does `to`.
-#[derive(Drop)]
 pub struct Schema {
     pub from: Seq<Fact>,
     pub to: Fact,
+}
+
+impl Drop for Schema {
+    fn drop(self) {
+        let Schema { from: _, to: _ } = self;
+    }
 }
 
 impl Exact for Fact {

@@ -3,7 +3,6 @@ use contents::Seq;
 use ir_core::Name;
 
 /// A step that names a rule: what it concludes is added to the side's facts.
-#[derive(Drop)]
 pub struct RuleStep {
     /// The rule's name.
     pub rule: Seq<u8>,
@@ -11,17 +10,39 @@ pub struct RuleStep {
     pub schema: Schema,
 }
 
+impl Drop for RuleStep {
+    fn drop(self) {
+        let RuleStep {
+            rule: _,
+            side: _,
+            schema: _,
+        } = self;
+    }
+}
+
 /// One step of a hint.
-#[derive(Drop)]
 pub enum HintStep {
     Rule(RuleStep),
 }
 
+impl Drop for HintStep {
+    fn drop(self) {
+        match self {
+            HintStep::Rule(_) => {}
+        }
+    }
+}
+
 /// A step that is done before the aligned line of that number; at the number of aligned lines, before the terminator.
-#[derive(Drop)]
 pub struct PlacedStep {
     pub at: u64,
     pub step: HintStep,
+}
+
+impl Drop for PlacedStep {
+    fn drop(self) {
+        let PlacedStep { at: _, step: _ } = self;
+    }
 }
 
 /// Which sides an aligned line stands on.
@@ -33,7 +54,6 @@ pub enum Letter {
 }
 
 /// The hint of one block.
-#[derive(Drop)]
 pub struct HintBlock {
     pub at: Name,
     /// One letter for each aligned line. Without it all lines stand on both sides.
@@ -43,23 +63,52 @@ pub struct HintBlock {
     pub steps: Seq<PlacedStep>,
 }
 
+impl Drop for HintBlock {
+    fn drop(self) {
+        let HintBlock {
+            at: _,
+            lines: _,
+            entry: _,
+            steps: _,
+        } = self;
+    }
+}
+
 /// The hint of one function. Of two entries for one block the first counts; a block without one has an empty hint.
-#[derive(Drop)]
 pub struct Hint {
     pub blocks: Seq<HintBlock>,
 }
 
+impl Drop for Hint {
+    fn drop(self) {
+        let Hint { blocks: _ } = self;
+    }
+}
+
 /// A function's name with its hint.
-#[derive(Drop)]
 pub struct FunctionHint {
     pub function: Name,
     pub hint: Hint,
 }
 
+impl Drop for FunctionHint {
+    fn drop(self) {
+        let FunctionHint {
+            function: _,
+            hint: _,
+        } = self;
+    }
+}
+
 /// The hints of a module. Of two for one function the first counts; a function without one has an empty hint.
-#[derive(Drop)]
 pub struct Hints {
     pub functions: Seq<FunctionHint>,
+}
+
+impl Drop for Hints {
+    fn drop(self) {
+        let Hints { functions: _ } = self;
+    }
 }
 
 /// A loop of a function: its header, the block before it, and the blocks of its body.

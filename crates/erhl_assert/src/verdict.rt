@@ -3,7 +3,6 @@ use contents::Seq;
 use ir_core::{Name, Operand};
 
 /// Where in a block a test failed.
-#[derive(Drop)]
 pub enum Spot {
     /// At the block's start.
     Start,
@@ -11,8 +10,16 @@ pub enum Spot {
     Line(u64),
 }
 
+impl Drop for Spot {
+    fn drop(self) {
+        match self {
+            Spot::Start => {}
+            Spot::Line(_) => {}
+        }
+    }
+}
+
 /// Why a test failed.
-#[derive(Drop)]
 pub enum Reason {
     /// The headers, the numbers of blocks or the names of blocks differ, or a block's lines don't give back both bodies.
     AlignmentDiffers,
@@ -26,6 +33,19 @@ pub enum Reason {
     MissingPremise(Fact),
     /// The place wants a fact that isn't there.
     MissingFact(Fact),
+}
+
+impl Drop for Reason {
+    fn drop(self) {
+        match self {
+            Reason::AlignmentDiffers => {}
+            Reason::Unmatched(_, _) => {}
+            Reason::UnknownRule(_) => {}
+            Reason::RuleUnfit(_) => {}
+            Reason::MissingPremise(_) => {}
+            Reason::MissingFact(_) => {}
+        }
+    }
 }
 
 /// What the checker says of two functions.

@@ -1,4 +1,5 @@
--- A place in two bodies that are gone through letter by letter: the lines that stand there, and those that are left.
+-- Words of private functions. A place in two bodies that are gone through letter by letter: the lines that stand there, and
+-- those that are left.
 use Rattle.std.specs.Prelude.{zero, Bool, true, false, ◌&&◌, not, cond, List, [], ◌∷◌, slice_get, Option, None, Some}
 use Rattle.ir_core.specs.declared.functions.Instr.{Instr}
 use Rattle.erhl_assert.specs.declared.hints.Letter.{Letter}

@@ -1,4 +1,4 @@
--- The code's aligned blocks: bodies that are lent, with the letters of their lines.
+-- Words of private functions. The code's aligned blocks: bodies that are lent, with the letters of their lines.
 use Rattle.std.specs.Prelude.{List, [], ◌∷◌, map}
 use Rattle.ir_core.specs.declared.functions.Instr.{Instr}
 use Rattle.erhl_assert.specs.declared.hints.Letter.{Letter}

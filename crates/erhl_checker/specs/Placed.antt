@@ -1,4 +1,4 @@
--- The steps of a block, kept by the line that they stand before.
+-- Words of private functions. The steps of a block, kept by the line that they stand before.
 use Rattle.std.specs.Prelude.{◌≡◌, ℕ, ◌≤◌, List, [], map, get_or}
 use Rattle.std.specs.Borrow.{Bor}
 use Rattle.erhl_assert.specs.declared.hints.PlacedStep.{PlacedStep}

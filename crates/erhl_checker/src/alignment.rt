@@ -1,25 +1,36 @@
 //! The alignment of two functions: their headers, and each block's lines under its hint's letters.
-ghost use Rattle.std.specs.Prelude.{◌≡◌, IfOk, length, map, find, replicate};
+ghost use Rattle.std.specs.Prelude.{◌≡◌, IfOk, length, find, replicate};
 ghost use Rattle.std.specs.List.{zip};
 ghost use Rattle.std.specs.Option.{option_copied, option_map};
-ghost use Rattle.ir_core.specs.Same as same;
+ghost use Rattle.ir_core.specs.Same.{same_name};
 ghost use Rattle.erhl_assert.specs.declared.hints.Letter.TheVariants.{Both};
 ghost use Rattle.erhl_assert.specs.Alignment as alignment;
 ghost use Rattle.erhl_checker.specs.Cursor.{is_aligned};
 ghost use Rattle.erhl_checker.specs.Lent.{lent_block, lent};
 
+use crate::alike::{Likeness, all_alike};
 use crate::cursor::{is_end, left, on_source, on_target, stands};
+use crate::named::first_named;
 use contents::{Exact, Seq};
 use erhl_assert::{Hint, HintBlock, Letter};
 use ir_core::{Block, Function, Instr, Name, Param, same_name, same_ty};
 use std::alloc::{AllocError, Global};
 
 /// Two blocks that align, lent, with the letters of their lines.
-#[derive(Drop)]
 pub(crate) struct AlignedBlock<'a> {
     pub(crate) letters: Seq<Letter>,
     pub(crate) source: &'a Block,
     pub(crate) target: &'a Block,
+}
+
+impl<'a> Drop for AlignedBlock<'a> {
+    fn drop(self) {
+        let AlignedBlock {
+            letters: _,
+            source: _,
+            target: _,
+        } = self;
+    }
 }
 
 /// What aligning two functions gives.
@@ -32,34 +43,23 @@ pub(crate) enum Alignment<'a> {
 
 /// The block's hint: the first entry of its name.
 pub(crate) fn hint_of<'a>(hint: &'a Hint, block: &Name) -> Option<&'a HintBlock>
-    ensures { option_copied result ≡ find (λ h. same.same_name h.at block.now) hint.now.blocks }
+    ensures { option_copied result ≡ find (λ h. same_name h.at block.now) hint.now.blocks }
 {
-    for entry in hint.blocks.as_slice() {
-        if same_name(&entry.at, block) {
-            return Some(entry);
-        }
-    }
-    None
+    first_named(hint.blocks.as_slice(), block)
 }
 
 fn copy_of(alloc: Global, letters: &Seq<Letter>) -> Result<Seq<Letter>, AllocError>
     ensures { IfOk result (λ copy. copy ≡ letters.now) }
 {
-    let mut copy = Seq::new(alloc);
-    for letter in letters.as_slice() {
-        copy.push(*letter)?;
-    }
-    Ok(copy)
+    let mut copy = Vec::new(alloc);
+    copy.extend_from_slice(letters.as_slice())?;
+    Ok(Seq::from_vec(copy))
 }
 
 fn all_both(alloc: Global, count: usize) -> Result<Seq<Letter>, AllocError>
     ensures { IfOk result (λ letters. letters ≡ replicate count Both) }
 {
-    let mut letters = Seq::new(alloc);
-    for _ in 0..count {
-        letters.push(Letter::Both)?;
-    }
-    Ok(letters)
+    Ok(Seq::from_vec(vec![in alloc; Letter::Both; count]?))
 }
 
 fn letters_or_both(
@@ -104,35 +104,28 @@ fn is_aligned(letters: &[Letter], source: &[Instr], target: &[Instr]) -> bool
     is_end(xs, ys)
 }
 
-fn same_param(p: &Param, q: &Param) -> bool
-    ensures { result ≡ alignment.same_param p.now q.now }
-{
-    same_name(&p.name, &q.name) && same_ty(&p.ty, &q.ty)
-}
+/// One name and one type.
+struct NameAndType;
 
-fn same_params(source: &[Param], target: &[Param]) -> bool
-    ensures { result ≡ same.same_list alignment.same_param source.now target.now }
-{
-    let mut rest = target;
-    for p in source {
-        match rest.split_first() {
-            Some((q, after)) => {
-                if !same_param(p, q) {
-                    return false;
-                }
-                rest = after;
-            }
-            None => return false,
-        }
+impl Likeness<Param> for NameAndType {
+    ghost use Rattle.erhl_assert.specs.Alignment.{same_param};
+
+    ghost like = { same_param };
+
+    fn are_alike(&self, p: &Param, q: &Param) -> bool {
+        same_name(&p.name, &q.name) && same_ty(&p.ty, &q.ty)
     }
-    rest.is_empty()
 }
 
 fn same_header(source: &Function, target: &Function) -> bool
     ensures { result ≡ alignment.same_header source.now target.now }
 {
     same_ty(&source.result, &target.result)
-        && same_params(source.params.as_slice(), target.params.as_slice())
+        && all_alike(
+            &NameAndType,
+            source.params.as_slice(),
+            target.params.as_slice(),
+        )
 }
 
 /// Two blocks, where they have one name and their lines align.

@@ -1,22 +1,23 @@
 //! Along two blocks, line by line.
-ghost use Rattle.std.specs.Prelude.{◌≡◌, None, IfOk, map};
+ghost use Rattle.std.specs.Prelude.{◌≡◌, IfOk, map};
+ghost use Rattle.std.specs.Option.{option_copied};
 ghost use Rattle.ir_core.specs.declared.functions.Term.TheVariants.{Ret};
-ghost use Rattle.erhl_assert.specs.Alignment.{block_hint, entry_or_empty};
-ghost use Rattle.erhl_assert.specs.Steps.{after_steps};
+ghost use Rattle.erhl_assert.specs.Alignment.{no_facts, block_hint};
+ghost use Rattle.erhl_assert.specs.Steps.{beside, after_steps};
 ghost use Rattle.erhl_assert.specs.Acceptance.{term_verdict, after_steps_at, lines_verdict, from_entry};
 ghost use Rattle.erhl_checker.specs.Cursor.{line_at};
-ghost use Rattle.erhl_checker.specs.Lent.{lines_under, lent_block};
-ghost use Rattle.erhl_checker.specs.Progress.{stepped, past_line};
+ghost use Rattle.erhl_checker.specs.Lent.{lent_block};
+ghost use Rattle.erhl_checker.specs.Progress.{stepped, past_line, first_claim};
 
 use crate::alignment::{AlignedBlock, hint_of};
 use crate::cursor::{left, on_source, on_target, taken};
 use crate::placed::StepsByLine;
-use crate::rules::Asks;
 use crate::steps::{Progress, after_steps};
 use contents::{Exact, Seq};
-use erhl_assert::{Assertion, Hint, HintBlock, Letter, PlacedStep, Reason, Spot, Verdict};
+use erhl_assert::{Assertion, Fact, Hint, HintBlock, Letter, PlacedStep, Reason, Spot, Verdict};
 use ir_core::{Block, Instr, Module, Name, Operand, Term};
 use postcondition::{after_line, matched};
+use rule_base::RuleSet;
 use std::alloc::{AllocError, Global};
 
 fn refused(alloc: Global, block: &Name, spot: Spot, reason: Reason) -> Result<Verdict, AllocError>
@@ -57,7 +58,7 @@ fn at_terms(
 }
 
 /// The steps before the terminators, and then the terminators.
-fn at_end<B: Asks>(
+fn at_end<B: RuleSet>(
     alloc: Global,
     module: &Module,
     book: &B,
@@ -71,8 +72,7 @@ fn at_end<B: Asks>(
         (λ v. v
         ≡ after_steps_at source.now.name k
         (after_steps
-        (B.rules book.now)
-        «module».now (map (λ s. s.now) steps.now) known)
+        (beside (B.rules book.now) «module».now) (map (λ s. s.now) steps.now) known)
         (term_verdict source.now.name k source.now.term target.now.term)) }
 {
     match after_steps(alloc, module, book, steps, known)? {
@@ -89,7 +89,7 @@ fn at_end<B: Asks>(
 }
 
 /// The steps before an aligned line, and then the line.
-fn past_line<B: Asks>(
+fn past_line<B: RuleSet>(
     alloc: Global,
     module: &Module,
     book: &B,
@@ -102,8 +102,7 @@ fn past_line<B: Asks>(
     ensures { IfOk result
         (λ progress. stepped progress
         ≡ past_line
-        (B.rules book.now)
-        «module».now (map (λ s. s.now) steps.now) (line_at letter xs.now ys.now) known) }
+        (beside (B.rules book.now) «module».now) (map (λ s. s.now) steps.now) (line_at letter xs.now ys.now) known) }
 {
     match after_steps(alloc, module, book, steps, known)? {
         Progress::Known(after) => {
@@ -115,29 +114,26 @@ fn past_line<B: Asks>(
     }
 }
 
-/// Along the lines that the letters take of two blocks.
+/// Along the aligned lines of two blocks.
 #[tactic(auto, using(crate::proofs::Progressing::lines_more, crate::proofs::Progressing::lines_refused))]
-fn along<B: Asks>(
+fn along<B: RuleSet>(
     alloc: Global,
     module: &Module,
     book: &B,
-    steps: &Seq<PlacedStep>,
-    letters: &[Letter],
-    source: &Block,
-    target: &Block,
+    steps: &[PlacedStep],
+    block: &AlignedBlock<'_>,
     entry: Assertion,
 ) -> Result<Verdict, AllocError>
     ensures { IfOk result
         (λ v. v
-        ≡ lines_verdict
-        (B.rules book.now)
-        «module».now source.now.name steps.now 0 (lines_under letters.now source.now.body target.now.body)
-        source.now.term target.now.term entry) }
+        ≡ lines_verdict (beside (B.rules book.now) «module».now) block.now.source.now.name steps.now 0
+        (lent_block block.now).lines block.now.source.now.term block.now.target.now.term entry) }
 {
-    let by_line = StepsByLine::new(alloc, steps.as_slice(), letters.len())?;
+    let letters = block.letters.as_slice();
+    let by_line = StepsByLine::new(alloc, steps, letters.len())?;
     let mut known = entry;
-    let mut xs = source.body.as_slice();
-    let mut ys = target.body.as_slice();
+    let mut xs = block.source.body.as_slice();
+    let mut ys = block.target.body.as_slice();
     for i in 0..letters.len() {
         let letter = letters[i];
         match past_line(
@@ -152,7 +148,7 @@ fn along<B: Asks>(
         )? {
             Progress::Known(after) => known = after,
             Progress::Refused(reason) => {
-                return refused(alloc, &source.name, Spot::Line(i as u64), reason);
+                return refused(alloc, &block.source.name, Spot::Line(i as u64), reason);
             }
         }
         xs = left(on_source(letter), xs);
@@ -164,14 +160,47 @@ fn along<B: Asks>(
         book,
         by_line.before(letters.len()).as_slice(),
         letters.len() as u64,
-        source,
-        target,
+        block.source,
+        block.target,
         known,
     )
 }
 
+/// The first fact that the assertion has.
+fn first_claim(entry: &Assertion) -> Option<&Fact>
+    ensures { option_copied result ≡ first_claim entry.now.src entry.now.tgt }
+{
+    match entry.src.as_slice().first() {
+        Some(fact) => Some(fact),
+        None => entry.tgt.as_slice().first(),
+    }
+}
+
+fn copy_of(alloc: Global, known: &Assertion) -> Result<Assertion, AllocError>
+    ensures { IfOk result (λ copy. copy ≡ known.now) }
+{
+    Ok(Assertion {
+        src: known.src.copy(alloc)?,
+        tgt: known.tgt.copy(alloc)?,
+        diff: known.diff.copy(alloc)?,
+    })
+}
+
+/// At a block's start a fact is wanted that isn't there.
+fn missing(alloc: Global, block: &Name, fact: &Fact) -> Result<Verdict, AllocError>
+    ensures { IfOk result (λ v. v ≡ Verdict.Refused block.now Spot.Start (Reason.MissingFact fact.now)) }
+{
+    refused(
+        alloc,
+        block,
+        Spot::Start,
+        Reason::MissingFact(fact.copy(alloc)?),
+    )
+}
+
 /// Two entry blocks with the hint that is given for them. Nothing is known of registers on entry, so the hint may want no fact.
-fn hinted<B: Asks>(
+#[tactic(auto, using(crate::proofs::Progressing::claim_refused, crate::proofs::Progressing::nothing_claimed))]
+fn hinted<B: RuleSet>(
     alloc: Global,
     module: &Module,
     book: &B,
@@ -180,52 +209,30 @@ fn hinted<B: Asks>(
 ) -> Result<Verdict, AllocError>
     ensures { IfOk result
         (λ v. v
-        ≡ from_entry
-        (B.rules book.now)
-        «module».now hint.now (lent_block block.now) hint.now.entry.src hint.now.entry.tgt) }
+        ≡ from_entry (beside (B.rules book.now) «module».now) hint.now (lent_block block.now) hint.now.entry.src
+        hint.now.entry.tgt) }
 {
-    if let Some(fact) = hint.entry.src.as_slice().first() {
-        let reason = Reason::MissingFact(fact.copy(alloc)?);
-        return refused(alloc, &block.source.name, Spot::Start, reason);
+    match first_claim(&hint.entry) {
+        Some(fact) => missing(alloc, &block.source.name, fact),
+        None => {
+            let entry = copy_of(alloc, &hint.entry)?;
+            along(alloc, module, book, hint.steps.as_slice(), block, entry)
+        }
     }
-    if let Some(fact) = hint.entry.tgt.as_slice().first() {
-        let reason = Reason::MissingFact(fact.copy(alloc)?);
-        return refused(alloc, &block.source.name, Spot::Start, reason);
-    }
-    let entry = Assertion {
-        src: Seq::new(alloc),
-        tgt: Seq::new(alloc),
-        diff: hint.entry.diff.copy(alloc)?,
-    };
-    along(
-        alloc,
-        module,
-        book,
-        &hint.steps,
-        block.letters.as_slice(),
-        block.source,
-        block.target,
-        entry,
-    )
 }
 
-fn empty_hint(alloc: Global, block: &Name) -> Result<HintBlock, AllocError>
-    ensures { IfOk result (λ hint. hint ≡ entry_or_empty block.now None) }
+fn no_facts(alloc: Global) -> Assertion
+    ensures { result ≡ no_facts }
 {
-    Ok(HintBlock {
-        at: block.copy(alloc)?,
-        lines: None,
-        entry: Assertion {
-            src: Seq::new(alloc),
-            tgt: Seq::new(alloc),
-            diff: Seq::new(alloc),
-        },
-        steps: Seq::new(alloc),
-    })
+    Assertion {
+        src: Seq::new(alloc),
+        tgt: Seq::new(alloc),
+        diff: Seq::new(alloc),
+    }
 }
 
 /// The verdict on two entry blocks.
-pub(crate) fn entry_verdict<B: Asks>(
+pub(crate) fn entry_verdict<B: RuleSet>(
     alloc: Global,
     module: &Module,
     book: &B,
@@ -234,16 +241,12 @@ pub(crate) fn entry_verdict<B: Asks>(
 ) -> Result<Verdict, AllocError>
     ensures { IfOk result
         (λ v. v
-        ≡ from_entry
-        (B.rules book.now)
-        «module».now (block_hint hint.now block.now.source.now.name) (lent_block block.now)
+        ≡ from_entry (beside (B.rules book.now) «module».now)
+        (block_hint hint.now block.now.source.now.name) (lent_block block.now)
         (block_hint hint.now block.now.source.now.name).entry.src (block_hint hint.now block.now.source.now.name).entry.tgt) }
 {
     match hint_of(hint, &block.source.name) {
         Some(entry) => hinted(alloc, module, book, entry, block),
-        None => {
-            let empty = empty_hint(alloc, &block.source.name)?;
-            hinted(alloc, module, book, &empty, block)
-        }
+        None => along(alloc, module, book, &[], block, no_facts(alloc)),
     }
 }

@@ -1,24 +1,21 @@
 //! The verdict on two functions.
-ghost use Rattle.std.specs.Prelude.{◌≡◌, ◌↔◌, IfOk, map};
-ghost use Rattle.ir_core.specs.declared.functions.Module.{Module};
-ghost use Rattle.ir_machine.specs.Refinement.{FunctionRefines};
-ghost use Rattle.erhl_assert.specs.Acceptance.{Accepts, function_verdict, reached_verdict};
+ghost use Rattle.std.specs.Prelude.{◌≡◌, IfOk, map};
+ghost use Rattle.erhl_assert.specs.Acceptance.{function_verdict, reached_verdict};
+ghost use Rattle.erhl_assert.specs.Steps.{beside};
 ghost use Rattle.rule_base.specs.Book.{meanings_of};
 ghost use Rattle.erhl_checker.specs.Lent.{lent_block};
 
 use crate::CheckEnd;
 use crate::alignment::{AlignedBlock, Alignment, align};
 use crate::blocks::entry_verdict;
-use crate::rules::{Asks, Lent};
 use erhl_assert::{Hint, Reason, Spot, Verdict};
-use erhl_soundness::accepted_functions_refine;
 use ir_core::{Function, Module};
-use rule_base::{InferRule, RuleBook, book_is_sound};
+use rule_base::{InferRule, LentBook, RuleBook, RuleSet};
 use std::alloc::{AllocError, Global};
 use std::marker::PhantomData;
 
 /// The blocks that are reached: no terminator leads to another block, so the entry alone.
-fn reached_verdict<B: Asks>(
+fn reached_verdict<B: RuleSet>(
     alloc: Global,
     module: &Module,
     book: &B,
@@ -28,8 +25,7 @@ fn reached_verdict<B: Asks>(
     ensures { IfOk result
         (λ v. v
         ≡ reached_verdict
-        (B.rules book.now)
-        «module».now hint.now (map lent_block blocks.now)) }
+        (beside (B.rules book.now) «module».now) hint.now (map lent_block blocks.now)) }
 {
     match blocks.first() {
         Some(block) => entry_verdict(alloc, module, book, hint, block),
@@ -37,7 +33,7 @@ fn reached_verdict<B: Asks>(
     }
 }
 
-pub(crate) fn function_verdict<B: Asks>(
+pub(crate) fn function_verdict<B: RuleSet>(
     alloc: Global,
     module: &Module,
     book: &B,
@@ -48,8 +44,7 @@ pub(crate) fn function_verdict<B: Asks>(
     ensures { IfOk result
         (λ v. v
         ≡ function_verdict
-        (B.rules book.now)
-        «module».now source.now target.now hint.now) }
+        (beside (B.rules book.now) «module».now) source.now target.now hint.now) }
 {
     match align(alloc, hint, source, target)? {
         Alignment::Aligned(blocks) => reached_verdict(alloc, module, book, hint, blocks.as_slice()),
@@ -62,7 +57,7 @@ pub(crate) fn function_verdict<B: Asks>(
 }
 
 /// Checks one function against another, beside a module: `Valid` exactly where the pair is accepted under the hint, and else
-/// refused with the first place and the first reason. Whatever rules the book holds, a pair that is `Valid` refines.
+/// refused with the first place and the first reason.
 pub fn check_function(
     alloc: Global,
     module: &Module,
@@ -74,26 +69,15 @@ pub fn check_function(
     ensures verdict { IfOk result
         (λ v. v
         ≡ function_verdict
+        (beside
         (meanings_of
         (λ b. (⟦<dyn InferRule as InferRule>⟧ b.vtable).called b.value)
         (λ b. (⟦<dyn InferRule as InferRule>⟧ b.vtable).takes b.value)
         book.now.rules.items)
-        «module».now src.now tgt.now hint.now) }
-    ensures accepted { IfOk result
-        (λ v. v ≡ Verdict.Valid
-        ↔ Accepts
-        (meanings_of
-        (λ b. (⟦<dyn InferRule as InferRule>⟧ b.vtable).called b.value)
-        (λ b. (⟦<dyn InferRule as InferRule>⟧ b.vtable).takes b.value)
-        book.now.rules.items)
-        «module».now src.now tgt.now hint.now) }
-    // As long as no line calls, the two functions may stand in whatever modules.
-    ensures refines { IfOk result
-        (λ v. v ≡ Verdict.Valid → (s t : Module) → FunctionRefines s src.now t tgt.now) }
+        «module».now)
+        src.now tgt.now hint.now) }
 {
-    book_is_sound(book);
-    accepted_functions_refine();
-    let rules = Lent {
+    let rules = LentBook {
         book,
         boxes: PhantomData,
     };

@@ -3,16 +3,17 @@
 #![tactic(auto)]
 
 mod alignment;
+mod alike;
 mod blocks;
 mod cursor;
 mod functions;
 mod modules;
+mod named;
 mod placed;
-mod rules;
 mod steps;
 
 pub use functions::check_function;
-pub use modules::check_module;
+pub use modules::{check_module, check_module_under};
 
 /// Why a check ended without a verdict.
 #[derive(Debug, Drop, Clone, Copy)]

@@ -2,80 +2,68 @@
 ghost use Rattle.std.specs.Prelude.{◌≡◌, ◌↔◌, false, map, find, IfOk};
 ghost use Rattle.std.specs.Option.{option_copied};
 ghost use Rattle.ir_core.specs.Same as same;
+ghost use Rattle.ir_core.specs.Modules.{definitions_of};
 ghost use Rattle.ir_machine.specs.Refinement.{Refines};
 ghost use Rattle.erhl_assert.specs.Acceptance as acceptance;
+ghost use Rattle.erhl_assert.specs.Steps.{beside};
 ghost use Rattle.rule_base.specs.Book.{meanings_of};
 
 use crate::CheckEnd;
+use crate::alike::{Likeness, all_alike};
 use crate::functions::function_verdict;
-use crate::rules::{Asks, Lent};
+use crate::named::first_named;
 use contents::{Exact, Seq};
 use erhl_assert::{Difference, FunctionHint, Hint, Hints, ModuleVerdict, Verdict};
 use erhl_soundness::accepted_modules_refine;
 use ir_core::{Function, Module, Name, Param, same_name, same_ty};
-use rule_base::{InferRule, RuleBook, book_is_sound};
+use rule_base::{InferRule, LentBook, RuleBook, RuleSet};
 use std::alloc::{AllocError, Global};
 use std::marker::PhantomData;
 
+/// One type.
+struct OneType;
+
+impl Likeness<Param> for OneType {
+    ghost use Rattle.ir_core.specs.Same.{same_ty};
+
+    ghost like = { λ p q. same_ty p.ty q.ty };
+
+    fn are_alike(&self, p: &Param, q: &Param) -> bool {
+        same_ty(&p.ty, &q.ty)
+    }
+}
+
+#[tactic(auto, using(crate::proofs::Differing::same_types))]
 fn same_param_types(source: &[Param], target: &[Param]) -> bool
     ensures { result ≡ same.same_list same.same_ty (map (λ p. p.ty) source.now) (map (λ p. p.ty) target.now) }
 {
-    let mut rest = target;
-    for p in source {
-        match rest.split_first() {
-            Some((q, after)) => {
-                if !same_ty(&p.ty, &q.ty) {
-                    return false;
-                }
-                rest = after;
-            }
-            None => return false,
-        }
-    }
-    rest.is_empty()
+    all_alike(&OneType, source, target)
 }
 
-/// Whether name, return type and parameter types are equal.
-fn same_signature(source: &Function, target: &Function) -> bool
-    ensures { result ≡ acceptance.same_signature source.now target.now }
-{
-    same_name(&source.name, &target.name)
-        && same_ty(&source.result, &target.result)
-        && same_param_types(source.params.as_slice(), target.params.as_slice())
-}
+/// One signature: name, return type and parameter types are equal.
+struct Signature;
 
-fn same_signatures(source: &[Function], target: &[Function]) -> bool
-    ensures { result ≡ same.same_list acceptance.same_signature source.now target.now }
-{
-    let mut rest = target;
-    for f in source {
-        match rest.split_first() {
-            Some((g, after)) => {
-                if !same_signature(f, g) {
-                    return false;
-                }
-                rest = after;
-            }
-            None => return false,
-        }
+impl Likeness<Function> for Signature {
+    ghost use Rattle.erhl_assert.specs.Acceptance.{same_signature};
+
+    ghost like = { same_signature };
+
+    fn are_alike(&self, source: &Function, target: &Function) -> bool {
+        same_name(&source.name, &target.name)
+            && same_ty(&source.result, &target.result)
+            && same_param_types(source.params.as_slice(), target.params.as_slice())
     }
-    rest.is_empty()
 }
 
 /// The function's hint: the first of its name.
 fn hint_of<'a>(hints: &'a Hints, function: &Name) -> Option<&'a FunctionHint>
     ensures { option_copied result ≡ find (λ h. same.same_name h.function function.now) hints.now.functions }
 {
-    for hint in hints.functions.as_slice() {
-        if same_name(&hint.function, function) {
-            return Some(hint);
-        }
-    }
-    None
+    first_named(hints.functions.as_slice(), function)
 }
 
 /// The verdict on two functions under the hint that the hints have for the source's, or an empty one.
-fn hinted_verdict<B: Asks>(
+fn hinted_verdict<B: RuleSet>(
     alloc: Global,
     module: &Module,
     book: &B,
@@ -86,8 +74,7 @@ fn hinted_verdict<B: Asks>(
     ensures { IfOk result
         (λ v. v
         ≡ acceptance.function_verdict
-        (B.rules book.now)
-        «module».now source.now target.now (acceptance.hint_for hints.now source.now.name)) }
+        (beside (B.rules book.now) «module».now) source.now target.now (acceptance.hint_for hints.now source.now.name)) }
 {
     match hint_of(hints, &source.name) {
         Some(found) => function_verdict(alloc, module, book, &found.hint, source, target),
@@ -101,7 +88,7 @@ fn hinted_verdict<B: Asks>(
 }
 
 /// The first function that isn't valid decides.
-fn functions_verdict<B: Asks>(
+fn functions_verdict<B: RuleSet>(
     alloc: Global,
     module: &Module,
     book: &B,
@@ -112,8 +99,7 @@ fn functions_verdict<B: Asks>(
     ensures { IfOk result
         (λ v. v
         ≡ acceptance.functions_verdict
-        (B.rules book.now)
-        «module».now hints.now source.now target.now) }
+        (beside (B.rules book.now) «module».now) hints.now source.now target.now) }
 {
     let mut rest = target;
     for f in source {
@@ -144,7 +130,7 @@ fn functions_verdict<B: Asks>(
     }
 }
 
-fn module_verdict<B: Asks>(
+fn module_verdict<B: RuleSet>(
     alloc: Global,
     book: &B,
     hints: &Hints,
@@ -159,17 +145,17 @@ fn module_verdict<B: Asks>(
 {
     let functions = source.functions.as_slice();
     let others = target.functions.as_slice();
-    if same_signatures(functions, others) {
+    if all_alike(&Signature, functions, others) {
         functions_verdict(alloc, source, book, hints, functions, others)
     } else {
         Ok(ModuleVerdict::Differs(Difference::Functions))
     }
 }
 
-/// Checks one module against another: `Valid` exactly where each pair of functions has one signature and is accepted,
-/// `Differs` exactly where their functions' names, return types or parameter types differ, else the first function that isn't
-/// valid, with its place and reason. Whatever rules the book holds, a target that is `Valid` refines its source.
-#[tactic(auto, using(crate::proofs::Differing::differs_exactly, crate::proofs::Differing::accepted_exactly))]
+/// Checks one module against another, by a book of rules: `Valid` exactly where each pair of functions has one signature and is
+/// accepted under its hint, `Differs` exactly where their functions' names, return types or parameter types differ, else the
+/// first function that isn't valid, with its place and reason. Whatever rules the book holds, a target that is `Valid` refines
+/// its source.
 pub fn check_module(
     alloc: Global,
     source: &Module,
@@ -187,24 +173,48 @@ pub fn check_module(
         source.now target.now hints.now) }
     ensures accepted { IfOk result
         (λ v. v ≡ ModuleVerdict.Valid
-        ↔ acceptance.AreAccepted
+        ↔ acceptance.AreAcceptedUnder hints.now
+        (beside
         (meanings_of
         (λ b. (⟦<dyn InferRule as InferRule>⟧ b.vtable).called b.value)
         (λ b. (⟦<dyn InferRule as InferRule>⟧ b.vtable).takes b.value)
         book.now.rules.items)
-        source.now hints.now source.now.functions target.now.functions) }
+        source.now)
+        (definitions_of source.now) (definitions_of target.now)) }
     ensures differs { IfOk result
         (λ v. v ≡ ModuleVerdict.Differs Difference.Functions
-        ↔ same.same_list acceptance.same_signature source.now.functions target.now.functions ≡ false) }
+        ↔ same.same_list acceptance.same_signature (definitions_of source.now) (definitions_of target.now) ≡ false) }
     ensures refines { IfOk result (λ v. v ≡ ModuleVerdict.Valid → Refines source.now target.now) }
 {
-    book_is_sound(book);
-    accepted_modules_refine();
-    let rules = Lent {
+    let rules = LentBook {
         book,
         boxes: PhantomData,
     };
-    match module_verdict(alloc, &rules, hints, source, target) {
+    check_module_under(alloc, source, target, hints, &rules)
+}
+
+/// The same, by whatever answers for the rules.
+pub fn check_module_under<B: RuleSet>(
+    alloc: Global,
+    source: &Module,
+    target: &Module,
+    hints: &Hints,
+    rules: &B,
+) -> Result<ModuleVerdict, CheckEnd>
+    ensures verdict { IfOk result
+        (λ v. v ≡ acceptance.module_verdict (B.rules rules.now) source.now target.now hints.now) }
+    ensures accepted { IfOk result
+        (λ v. v ≡ ModuleVerdict.Valid
+        ↔ acceptance.AreAcceptedUnder hints.now (beside (B.rules rules.now) source.now)
+        (definitions_of source.now) (definitions_of target.now)) }
+    ensures differs { IfOk result
+        (λ v. v ≡ ModuleVerdict.Differs Difference.Functions
+        ↔ same.same_list acceptance.same_signature (definitions_of source.now) (definitions_of target.now) ≡ false) }
+    ensures refines { IfOk result (λ v. v ≡ ModuleVerdict.Valid → Refines source.now target.now) }
+{
+    rules.are_sound();
+    accepted_modules_refine();
+    match module_verdict(alloc, rules, hints, source, target) {
         Ok(verdict) => Ok(verdict),
         Err(_) => Err(CheckEnd::Memory),
     }

@@ -63,7 +63,6 @@ fn by_line<'a>(
 }
 
 /// The steps of a block by the line that each stands before, up to the last line.
-#[derive(Drop)]
 pub(crate) struct StepsByLine<'a> {
     steps: &'a [PlacedStep],
     last: usize,
@@ -71,6 +70,17 @@ pub(crate) struct StepsByLine<'a> {
     none: Seq<&'a PlacedStep>,
     ghost are_kept: { AreKept kept.items last steps.now },
     ghost is_none: { none ≡ [] },
+}
+
+impl<'a> Drop for StepsByLine<'a> {
+    fn drop(self) {
+        let StepsByLine {
+            steps: _,
+            last: _,
+            kept: _,
+            none: _,
+        } = self;
+    }
 }
 
 impl<'a> StepsByLine<'a> {

@@ -1,15 +1,15 @@
 //! The steps of a hint.
 ghost use Rattle.std.specs.Prelude.{◌≡◌, IfOk, map};
 ghost use Rattle.std.specs.Option.{option_copied};
+ghost use Rattle.ir_core.specs.Modules.{scope_of};
 ghost use Rattle.erhl_assert.specs.Steps as logic;
 ghost use Rattle.erhl_checker.specs.Progress.{stepped, on_answer};
 
-use crate::rules::Asks;
 use contents::{Exact, Seq};
 use erhl_assert::{Assertion, Fact, HintStep, PlacedStep, Reason, RuleStep, Side};
 use ir_core::Module;
 use postcondition::{has_fact, with_fact};
-use rule_base::Answer;
+use rule_base::{Answer, RuleSet};
 use std::alloc::{AllocError, Global};
 
 /// What steps lead to: a refusal, or what is known after them.
@@ -88,7 +88,7 @@ fn on_answer(
 }
 
 #[tactic(auto, using(crate::proofs::Progressing::rule_by_answer))]
-fn after_rule<B: Asks>(
+fn after_rule<B: RuleSet>(
     alloc: Global,
     module: &Module,
     book: &B,
@@ -97,17 +97,13 @@ fn after_rule<B: Asks>(
 ) -> Result<Progress, AllocError>
     ensures { IfOk result
         (λ progress. stepped progress
-        ≡ logic.after_rule
-        (logic.rule_named
-        (B.rules book.now)
-        step.now.rule)
-        «module».now step.now known) }
+        ≡ logic.after_rule (logic.rule_named (B.rules book.now) step.now.rule) (scope_of «module».now) step.now known) }
 {
     let answer = book.ask(&step.rule, module, &step.schema);
     on_answer(alloc, answer, step, known)
 }
 
-fn after_step<B: Asks>(
+fn after_step<B: RuleSet>(
     alloc: Global,
     module: &Module,
     book: &B,
@@ -115,7 +111,7 @@ fn after_step<B: Asks>(
     known: Assertion,
 ) -> Result<Progress, AllocError>
     ensures { IfOk result
-        (λ progress. stepped progress ≡ logic.after_step (B.rules book.now) «module».now step.now known) }
+        (λ progress. stepped progress ≡ logic.after_step (logic.beside (B.rules book.now) «module».now) step.now known) }
 {
     let HintStep::Rule(step) = step;
     after_rule(alloc, module, book, step, known)
@@ -123,7 +119,7 @@ fn after_step<B: Asks>(
 
 /// The steps in their order.
 #[tactic(auto, using(crate::proofs::Progressing::steps_more, crate::proofs::Progressing::steps_refused))]
-pub(crate) fn after_steps<B: Asks>(
+pub(crate) fn after_steps<B: RuleSet>(
     alloc: Global,
     module: &Module,
     book: &B,
@@ -132,7 +128,7 @@ pub(crate) fn after_steps<B: Asks>(
 ) -> Result<Progress, AllocError>
     ensures { IfOk result
         (λ progress. stepped progress
-        ≡ logic.after_steps (B.rules book.now) «module».now (map (λ s. s.now) steps.now) before) }
+        ≡ logic.after_steps (logic.beside (B.rules book.now) «module».now) (map (λ s. s.now) steps.now) before) }
 {
     let mut known = before;
     for placed in steps {

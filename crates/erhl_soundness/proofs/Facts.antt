@@ -1,31 +1,26 @@
 -- Facts of one side: those that a line keeps, and those that it adds.
-use Rattle.std.proofs.Common.{◌≡◌, true, false, not, List, [], ◌∷◌, ◌++◌, Option, None, Some, refl, sym, ap, ap₂, ◌∙◌, subst, subst₂, ⊎_elim}
+use Rattle.std.proofs.Common.{◌≡◌, true, false, not, List, [], ◌∷◌, ◌++◌, Option, sym, ap, subst, subst₂, ⊎_elim}
 use Rattle.std.specs.List.{AllByRecursion}
 use Rattle.std.proofs.lemmas.Bool.{cond_both, not-true, or_parts, or_cases}
 use Rattle.ir_core.specs.declared.names.Name.{Name}
 use Rattle.ir_core.specs.declared.values.Value.{Value}
 use Rattle.ir_core.specs.declared.values.Kind.{Kind}
-use Rattle.ir_core.specs.declared.operands.Atom.{Atom}
-use Rattle.ir_core.specs.declared.operands.Atom.TheVariants as atom
-use Rattle.ir_core.specs.declared.operands.BinOp.{BinOp}
-use Rattle.ir_core.specs.declared.operands.Flags.{Flags}
-use Rattle.ir_core.specs.declared.functions.Binary.{Binary}
-use Rattle.ir_core.specs.declared.expressions.Reg.{Reg}
+use Rattle.ir_core.specs.declared.functions.Calm.{Calm}
 use Rattle.ir_core.specs.declared.expressions.Reg.TheVariants as reg
-use Rattle.ir_core.specs.declared.expressions.Expr0.{Expr0}
-use Rattle.ir_core.specs.declared.expressions.Expr0.TheVariants.{Plain, Binary as Binary'}
+use Rattle.ir_core.specs.Types.{kind_of}
+use Rattle.ir_core.specs.Expressions.{type_of}
 use Rattle.ir_values.specs.declared.operations.Outcome.TheVariants.{Gives}
 use Rattle.ir_values.specs.Operations.{IsOutcomeLessDefined}
-use Rattle.ir_machine.specs.Registers.{kind_of, atom_value, binary_at}
-use Rattle.ir_machine.proofs.Runs.{read_set_same}
+use Rattle.ir_values.proofs.OperationLaws.{less_defined_refl}
+use Rattle.ir_machine.specs.Registers.{read, outcome}
 use Rattle.erhl_assert.specs.declared.facts.Fact.{Fact}
 use Rattle.erhl_assert.specs.declared.facts.Fact.TheVariants.{LessDef}
-use Rattle.erhl_assert.specs.Sides.{SideState, read_reg, worth}
-use Rattle.erhl_assert.specs.Facts.{Holds, same_fact, has_fact, with_fact, atom_names, expr_names, fact_names, without_naming}
+use Rattle.erhl_assert.specs.Sides.{SideState}
+use Rattle.erhl_assert.specs.Facts.{Holds, kind_of_expr, same_fact, has_fact, with_fact, expr_names, fact_names, without_naming}
 use Rattle.erhl_assert.specs.Postcondition.{right_side, register_of, facts_after_line}
 use Rattle.erhl_assert.proofs.SameFact.{same_fact_true}
-use Rattle.ir_values.proofs.OperationLaws.{less_defined_refl}
-use Rattle.erhl_soundness.proofs.Lines.{result_value, line_value, set_now, side_after, read_reg_other, right_side_gives}
+use Rattle.erhl_soundness.proofs.Readings.{type_mapped}
+use Rattle.erhl_soundness.proofs.Lines.{set_now, side_after, worth_kept, register_gives, right_side_gives}
 
 -- a fact that stands in a list of facts that hold
 pub has_fact_holds : (side : SideState) (f : Fact) (fs : List Fact) → has_fact f fs ≡ true → AllByRecursion (Holds side) fs → Holds side f
@@ -41,24 +36,12 @@ pub with_fact_holds : (side : SideState) (f : Fact) (fs : List Fact) → AllByRe
 with_fact_holds side f fs all h =
     cond_both (has_fact f fs) fs (fs ++ f ∷ []) (AllByRecursion (Holds side)) (λ e. all) (λ e. push_holds side f fs all h)
 
--- what doesn't name the register that is set is worth the same
+-- facts that don't name the register that is set hold after it
 module _ (side : SideState) (x : Name) (o : Option Kind) (v : Value) where
-  pub atom_kept : (k : Option Kind) (a : Atom Reg) → atom_names (reg.Now x) a ≡ false
-      → atom_value (read_reg (set_now side x o v)) k a ≡ atom_value (read_reg side) k a
-  atom_kept None a h = refl
-  atom_kept (Some k) (atom.Constant c) h = refl
-  atom_kept (Some k) (atom.Register r) h = read_reg_other side x o v k r h
-
-  pub worth_kept : (e : Expr0) → expr_names (reg.Now x) e ≡ false → worth (set_now side x o v) e ≡ worth side e
-  worth_kept (Plain a) h = ap Gives (atom_kept (kind_of a.ty) a.atom h)
-  worth_kept (Binary' e) h =
-      let parts = or_parts (atom_names (reg.Now x) e.left) (atom_names (reg.Now x) e.right) h in
-      ap₂ (binary_at e.op e.flags (kind_of e.ty)) (atom_kept (kind_of e.ty) e.left parts.0) (atom_kept (kind_of e.ty) e.right parts.1)
-
-  pub holds_kept : (f : Fact) → fact_names (reg.Now x) f ≡ false → Holds side f → Holds (set_now side x o v) f
+  holds_kept : (f : Fact) → fact_names (reg.Now x) f ≡ false → Holds side f → Holds (set_now side x o v) f
   holds_kept (LessDef a b) h known =
       let parts = or_parts (expr_names (reg.Now x) a) (expr_names (reg.Now x) b) h in
-      (known.0, subst₂ IsOutcomeLessDefined (sym (worth_kept a parts.0)) (sym (worth_kept b parts.1)) known.1)
+      (known.0, subst₂ IsOutcomeLessDefined (sym (worth_kept side x o v a parts.0)) (sym (worth_kept side x o v b parts.1)) known.1)
 
   pub facts_kept : (fs : List Fact) → AllByRecursion (Holds side) fs → AllByRecursion (Holds (set_now side x o v)) (without_naming (reg.Now x) fs)
   facts_kept [] all = tt
@@ -68,36 +51,31 @@ module _ (side : SideState) (x : Name) (o : Option Kind) (v : Value) where
       (AllByRecursion (Holds (set_now side x o v)))
       (λ e. (holds_kept f (not-true (fact_names (reg.Now x) f) e) all.0, rest)) (λ e. rest)
 
--- the register of a line holds what the line's operator gave
-module _ (side : SideState) (b : Binary) where
-  register_reads : (o : Option Kind) (op : BinOp) (flags : Flags) (v w : Value)
-      → atom_value (read_reg (set_now side b.name o (result_value op flags o v w))) o (atom.Register (reg.Now b.name)) ≡ result_value op flags o v w
-  register_reads None op flags v w = refl
-  register_reads (Some k) op flags v w = read_set_same side.now b.name k (result_value op flags (Some k) v w)
+-- after a line x = e that gave a value, where e doesn't name x, both are worth that value
+module _ (side : SideState) (l : Calm) (v : Value) (gives : outcome (read side.now) l.right ≡ Gives v) where
+  one_kind : kind_of_expr (right_side l) ≡ kind_of_expr (register_of l)
+  one_kind = ap kind_of (type_mapped reg.Now l.right)
 
-  pub register_gives : worth (side_after side b) (register_of b) ≡ Gives (line_value side.now b)
-  register_gives = ap Gives (register_reads (kind_of b.ty) b.op b.flags _ _)
+  right_below : expr_names (reg.Now l.name) (right_side l) ≡ false → Holds (side_after side l v) (LessDef (right_side l) (register_of l))
+  right_below apart = (
+    one_kind,
+    subst₂ IsOutcomeLessDefined (sym (right_side_gives side l v gives apart)) (sym (register_gives side l v gives)) (less_defined_refl v),
+  )
 
-  -- after x = e, where e doesn't name x, both have the line's value
-  right_side_after : expr_names (reg.Now b.name) (right_side b) ≡ false → worth (side_after side b) (right_side b) ≡ Gives (line_value side.now b)
-  right_side_after apart = worth_kept side b.name (kind_of b.ty) (line_value side.now b) (right_side b) apart ∙ right_side_gives side b
-
-  pub right_below : expr_names (reg.Now b.name) (right_side b) ≡ false → Holds (side_after side b) (LessDef (right_side b) (register_of b))
-  right_below apart =
-      (refl, subst₂ IsOutcomeLessDefined (sym (right_side_after apart)) (sym register_gives) (less_defined_refl (line_value side.now b)))
-
-  pub right_above : expr_names (reg.Now b.name) (right_side b) ≡ false → Holds (side_after side b) (LessDef (register_of b) (right_side b))
-  right_above apart =
-      (refl, subst₂ IsOutcomeLessDefined (sym register_gives) (sym (right_side_after apart)) (less_defined_refl (line_value side.now b)))
+  right_above : expr_names (reg.Now l.name) (right_side l) ≡ false → Holds (side_after side l v) (LessDef (register_of l) (right_side l))
+  right_above apart = (
+    sym one_kind,
+    subst₂ IsOutcomeLessDefined (sym (register_gives side l v gives)) (sym (right_side_gives side l v gives apart)) (less_defined_refl v),
+  )
 
   -- the facts after a line hold after it
-  pub facts_after_hold : (fs : List Fact) → AllByRecursion (Holds side) fs → AllByRecursion (Holds (side_after side b)) (facts_after_line b fs)
+  pub facts_after_hold : (fs : List Fact) → AllByRecursion (Holds side) fs → AllByRecursion (Holds (side_after side l v)) (facts_after_line l fs)
   facts_after_hold fs all =
-      let after = side_after side b in
-      let kept = without_naming (reg.Now b.name) fs in
-      let below = LessDef (right_side b) (register_of b) in
-      let above = LessDef (register_of b) (right_side b) in
-      let hold = facts_kept side b.name (kind_of b.ty) (line_value side.now b) fs all in
-      cond_both (expr_names (reg.Now b.name) (right_side b)) kept (with_fact below (with_fact above kept)) (AllByRecursion (Holds after))
+      let after = side_after side l v in
+      let kept = without_naming (reg.Now l.name) fs in
+      let below = LessDef (right_side l) (register_of l) in
+      let above = LessDef (register_of l) (right_side l) in
+      let hold = facts_kept side l.name (kind_of (type_of l.right)) v fs all in
+      cond_both (expr_names (reg.Now l.name) (right_side l)) kept (with_fact below (with_fact above kept)) (AllByRecursion (Holds after))
       (λ e. hold)
       (λ e. with_fact_holds after below (with_fact above kept) (with_fact_holds after above kept hold (right_above e)) (right_below e))

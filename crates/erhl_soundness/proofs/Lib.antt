@@ -1,11 +1,12 @@
+mod Readings
 mod Lines
 mod Facts
 mod Matched
 mod Related
-mod Frames
 mod Steps
-mod Bodies
-mod Returns
 mod Simulation
+mod Returning
+mod States
+mod Moves
 mod Entry
 mod Modules

@@ -1,4 +1,4 @@
--- What is matched is less defined on the source than on the target.
+-- What is matched has related values on the source and the target.
 use Rattle.std.proofs.Common.{◌≡◌, Bool, true, false, ◌&&◌, not, List, [], ◌∷◌, Option, None, Some, sym, ap, subst, subst₂, ⊎_elim}
 use Rattle.std.specs.List.{list_any, AllByRecursion}
 use Rattle.std.proofs.lemmas.Bool.{false≢true, not-true, or_cases}
@@ -10,21 +10,23 @@ use Rattle.ir_core.specs.declared.operands.Atom.{Atom}
 use Rattle.ir_core.specs.declared.operands.Atom.TheVariants as atom
 use Rattle.ir_core.specs.declared.operands.Operand.{Operand}
 use Rattle.ir_core.specs.declared.expressions.Reg.{Reg}
-use Rattle.ir_core.specs.declared.expressions.Expr0.{Expr0}
-use Rattle.ir_core.specs.declared.expressions.Expr0.TheVariants.{Plain, Binary}
+use Rattle.ir_core.specs.declared.expressions.Reg.TheVariants.{Now}
+use Rattle.ir_core.specs.declared.expressions.Expr.TheVariants.{Plain, Binary}
+use Rattle.ir_core.specs.Expressions.{Expr0}
 use Rattle.ir_core.specs.Same.{same_ty, same_const, same_reg, same_expr}
-use Rattle.ir_core.proofs.SameLaws.{left_true, right_true, same_ty_true, same_const_true, same_reg_true, same_expr_true}
+use Rattle.ir_core.proofs.SameLaws.{left_true, right_true, same_ty_true, same_const_true, same_reg_true, same_reg_expr_true}
 use Rattle.ir_values.specs.Values.{IsLessDefined}
 use Rattle.ir_values.proofs.KindLaws.{same_kind_true}
-use Rattle.ir_machine.specs.Registers.{read, kind_of, constant_value, atom_at, atom_value, operand_value}
+use Rattle.ir_core.specs.Types.{kind_of}
+use Rattle.ir_machine.specs.Registers.{read, constant_value, atom_at, atom_value, operand_value}
 use Rattle.erhl_assert.specs.declared.facts.Fact.{Fact}
 use Rattle.erhl_assert.specs.declared.facts.Fact.TheVariants.{LessDef}
 use Rattle.erhl_assert.specs.declared.facts.Assertion.{Assertion}
-use Rattle.erhl_assert.specs.Sides.{SideState, read_reg, has_reg, AreRelated}
+use Rattle.erhl_assert.specs.Sides.{SideState, IsRelated, read_reg, has_reg, AreRelated}
 use Rattle.erhl_assert.specs.Facts.{Holds, AssertionHolds}
 use Rattle.erhl_assert.specs.Matched.{now_operand, from_fact, into_fact, some_from, some_into, is_kind, meet_at, meet, matched_at, matched_reg, matched, atoms_matched}
 use Rattle.ir_values.proofs.OperationLaws.{less_defined_refl, less_defined_trans}
-use Rattle.erhl_soundness.proofs.Lines.{now_atom_value}
+use Rattle.erhl_soundness.proofs.Readings.{atom_mapped}
 
 abbrev pub value_on : SideState → Operand Reg → Value
 value_on side o = operand_value (read_reg side) o
@@ -39,10 +41,10 @@ SomeBelow side p b = (c : Operand Reg) × (p c ≡ true) × IsLessDefined (value
 module _ (side : SideState) (p : Operand Reg → Bool) where
   above_by_fact : (a : Operand Reg) (x y : Expr0) → from_fact p a (LessDef x y) ≡ true → Holds side (LessDef x y) → SomeAbove side p a
   above_by_fact a x (Plain c) h known =
-      let same = same_expr_true x (Plain a) (left_true (same_expr x (Plain a)) (p c) h) in
+      let same = same_reg_expr_true x (Plain a) (left_true (same_expr same_reg x (Plain a)) (p c) h) in
       let fact = subst (λ z. Holds side (LessDef z (Plain c))) same known in
-      (c, right_true (same_expr x (Plain a)) (p c) h, fact.1)
-  above_by_fact a x (Binary e) h known = absurd (false≢true (right_true (same_expr x (Plain a)) false h))
+      (c, right_true (same_expr same_reg x (Plain a)) (p c) h, fact.1)
+  above_by_fact a x (Binary e) h known = absurd (false≢true (right_true (same_expr same_reg x (Plain a)) false h))
 
   above_by_facts : (a : Operand Reg) (fs : List Fact) → list_any (from_fact p a) fs ≡ true → AllByRecursion (Holds side) fs → SomeAbove side p a
   above_by_facts a [] h all = absurd (false≢true h)
@@ -55,10 +57,10 @@ module _ (side : SideState) (p : Operand Reg → Bool) where
 
   below_by_fact : (b : Operand Reg) (x y : Expr0) → into_fact p b (LessDef x y) ≡ true → Holds side (LessDef x y) → SomeBelow side p b
   below_by_fact b (Plain c) y h known =
-      let same = same_expr_true y (Plain b) (left_true (same_expr y (Plain b)) (p c) h) in
+      let same = same_reg_expr_true y (Plain b) (left_true (same_expr same_reg y (Plain b)) (p c) h) in
       let fact = subst (λ z. Holds side (LessDef (Plain c) z)) same known in
-      (c, right_true (same_expr y (Plain b)) (p c) h, fact.1)
-  below_by_fact b (Binary e) y h known = absurd (false≢true (right_true (same_expr y (Plain b)) false h))
+      (c, right_true (same_expr same_reg y (Plain b)) (p c) h, fact.1)
+  below_by_fact b (Binary e) y h known = absurd (false≢true (right_true (same_expr same_reg y (Plain b)) false h))
 
   below_by_facts : (b : Operand Reg) (fs : List Fact) → list_any (into_fact p b) fs ≡ true → AllByRecursion (Holds side) fs → SomeBelow side p b
   below_by_facts b [] h all = absurd (false≢true h)
@@ -73,56 +75,59 @@ pub is_kind_true : (o : Option Kind) (k : Kind) → is_kind o k ≡ true → o �
 is_kind_true None k h = absurd (false≢true h)
 is_kind_true (Some j) k h = ap Some (same_kind_true j k h)
 
-meet_at_less : (diff : List Reg) (source target : SideState) → AreRelated diff source target → (k : Kind) (c d : Operand Reg) (x y : Atom Reg)
-    → meet_at diff c d x y ≡ true → IsLessDefined (atom_at (read_reg source) k x) (atom_at (read_reg target) k y)
-meet_at_less diff source target related k c d (atom.Constant m) (atom.Constant n) h =
+meet_at_related : (diff : List Reg) (source target : SideState) → AreRelated diff source target → (k : Kind) (c d : Operand Reg) (x y : Atom Reg)
+    → meet_at diff c d x y ≡ true → IsRelated (atom_at (read_reg source) k x) (atom_at (read_reg target) k y)
+meet_at_related diff source target related k c d (atom.Constant m) (atom.Constant n) h =
     let same = same_const_true m n (right_true (same_ty c.ty d.ty) (same_const m n) h) in
-    subst (λ i. IsLessDefined (constant_value k m) (constant_value k i)) same (less_defined_refl (constant_value k m))
-meet_at_less diff source target related k c d (atom.Register x) (atom.Register y) h =
+    subst (λ i. IsRelated (constant_value k m) (constant_value k i)) same (less_defined_refl (constant_value k m))
+meet_at_related diff source target related k c d (atom.Register x) (atom.Register y) h =
     let same = same_reg_true x y (left_true (same_reg x y) (not (has_reg x diff)) h) in
     let free = not-true (has_reg x diff) (right_true (same_reg x y) (not (has_reg x diff)) h) in
-    subst (λ r. IsLessDefined (read_reg source k x) (read_reg target k r)) same (related x k free)
-meet_at_less diff source target related k c d (atom.Constant m) (atom.Register y) h = absurd (false≢true h)
-meet_at_less diff source target related k c d (atom.Register x) (atom.Constant n) h = absurd (false≢true h)
+    subst (λ r. IsRelated (read_reg source k x) (read_reg target k r)) same (related x k free)
+meet_at_related diff source target related k c d (atom.Constant m) (atom.Register y) h = absurd (false≢true h)
+meet_at_related diff source target related k c d (atom.Register x) (atom.Constant n) h = absurd (false≢true h)
 
-meet_less : (diff : List Reg) (source target : SideState) → AreRelated diff source target → (k : Kind) (c d : Operand Reg)
-    → meet diff k c d ≡ true → IsLessDefined (value_on source c) (value_on target d)
-meet_less diff source target related k c d h =
+meet_related : (diff : List Reg) (source target : SideState) → AreRelated diff source target → (k : Kind) (c d : Operand Reg)
+    → meet diff k c d ≡ true → IsRelated (value_on source c) (value_on target d)
+meet_related diff source target related k c d h =
     let at = meet_at diff c d c.atom d.atom in
     let kinds = left_true (is_kind (kind_of c.ty) k && is_kind (kind_of d.ty) k) at h in
     let of_c = is_kind_true (kind_of c.ty) k (left_true (is_kind (kind_of c.ty) k) (is_kind (kind_of d.ty) k) kinds) in
     let of_d = is_kind_true (kind_of d.ty) k (right_true (is_kind (kind_of c.ty) k) (is_kind (kind_of d.ty) k) kinds) in
-    subst₂ (λ i j. IsLessDefined (atom_value (read_reg source) i c.atom) (atom_value (read_reg target) j d.atom)) (sym of_c) (sym of_d)
-    (meet_at_less diff source target related k c d c.atom d.atom
+    subst₂ (λ i j. IsRelated (atom_value (read_reg source) i c.atom) (atom_value (read_reg target) j d.atom)) (sym of_c) (sym of_d)
+    (meet_at_related diff source target related k c d c.atom d.atom
     (right_true (is_kind (kind_of c.ty) k && is_kind (kind_of d.ty) k) at h))
 
-matched_at_less : (known : Assertion) (source target : SideState) → AssertionHolds known source target → (o : Option Kind) (a b : Operand Reg)
-    → matched_at known o a b ≡ true → IsLessDefined (value_on source a) (value_on target b)
-matched_at_less known source target holds None a b h = absurd (false≢true h)
-matched_at_less known source target holds (Some k) a b h =
+-- less defined on the source, related, less defined on the target
+between : (a c d b : Value) → IsLessDefined a c → IsRelated c d → IsLessDefined d b → IsRelated a b
+between a c d b first middle last = less_defined_trans a c b first (less_defined_trans c d b middle last)
+
+matched_at_related : (known : Assertion) (source target : SideState) → AssertionHolds known source target → (o : Option Kind) (a b : Operand Reg)
+    → matched_at known o a b ≡ true → IsRelated (value_on source a) (value_on target b)
+matched_at_related known source target holds None a b h = absurd (false≢true h)
+matched_at_related known source target holds (Some k) a b h =
     let through = λ (c : Operand Reg). some_into (λ d. meet known.diff k c d) b known.tgt in
     let found : SomeAbove source through a = some_above source through a known.src h holds.source_facts in
     let back : SomeBelow target (λ d. meet known.diff k found.0 d) b =
     some_below target (λ d. meet known.diff k found.0 d) b known.tgt found.1 holds.target_facts in
-    less_defined_trans (value_on source a) (value_on source found.0) (value_on target b) found.2
-    (less_defined_trans (value_on source found.0) (value_on target back.0) (value_on target b)
-    (meet_less known.diff source target holds.related k found.0 back.0 back.1) back.2)
+    between (value_on source a) (value_on source found.0) (value_on target back.0) (value_on target b) found.2
+    (meet_related known.diff source target holds.related k found.0 back.0 back.1) back.2
 
-pub matched_reg_less : (known : Assertion) (source target : SideState) → AssertionHolds known source target → (a b : Operand Reg)
-    → matched_reg known a b ≡ true → IsLessDefined (value_on source a) (value_on target b)
-matched_reg_less known source target holds a b h =
-    matched_at_less known source target holds (kind_of a.ty) a b (right_true (same_ty a.ty b.ty) (matched_at known (kind_of a.ty) a b) h)
+pub matched_reg_related : (known : Assertion) (source target : SideState) → AssertionHolds known source target → (a b : Operand Reg)
+    → matched_reg known a b ≡ true → IsRelated (value_on source a) (value_on target b)
+matched_reg_related known source target holds a b h =
+    matched_at_related known source target holds (kind_of a.ty) a b (right_true (same_ty a.ty b.ty) (matched_at known (kind_of a.ty) a b) h)
 
 -- the operands of two functions
 module _ (known : Assertion) (source target : SideState) (holds : AssertionHolds known source target) where
-  pub matched_less : (a b : Operand Name) → matched known a b ≡ true → IsLessDefined (operand_value (read source.now) a) (operand_value (read target.now) b)
-  matched_less a b h =
-      subst₂ IsLessDefined (now_atom_value source (kind_of a.ty) a.atom) (now_atom_value target (kind_of b.ty) b.atom)
-      (matched_reg_less known source target holds (now_operand a) (now_operand b) h)
+  pub matched_related : (a b : Operand Name) → matched known a b ≡ true → IsRelated (operand_value (read source.now) a) (operand_value (read target.now) b)
+  matched_related a b h =
+      subst₂ IsRelated (atom_mapped Now (read_reg source) (kind_of a.ty) a.atom) (atom_mapped Now (read_reg target) (kind_of b.ty) b.atom)
+      (matched_reg_related known source target holds (now_operand a) (now_operand b) h)
 
-  pub atoms_matched_less : (s : Ty) (a : Atom Name) (t : Ty) (b : Atom Name) → atoms_matched known s a t b ≡ true
-      → IsLessDefined (atom_value (read source.now) (kind_of s) a) (atom_value (read target.now) (kind_of t) b)
-  atoms_matched_less s a t b h = matched_less (record { ty = s; atom = a }) (record { ty = t; atom = b }) h
+  pub atoms_matched_related : (s : Ty) (a : Atom Name) (t : Ty) (b : Atom Name) → atoms_matched known s a t b ≡ true
+      → IsRelated (atom_value (read source.now) (kind_of s) a) (atom_value (read target.now) (kind_of t) b)
+  atoms_matched_related s a t b h = matched_related (record { ty = s; atom = a }) (record { ty = t; atom = b }) h
 
 pub matched_type : (known : Assertion) (a b : Operand Name) → matched known a b ≡ true → a.ty ≡ b.ty
 matched_type known a b h =

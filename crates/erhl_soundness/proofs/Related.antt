@@ -1,6 +1,5 @@
 -- Registers stay related over an aligned line, but for those that it lets differ.
 use Rattle.std.proofs.Common.{◌≡◌, Bool, true, false, ◌&&◌, ◌||◌, not, cond, List, [], ◌∷◌, ◌++◌, Option, None, Some, refl, sym, ap, ◌∙◌, subst, subst₂, ⊎_elim}
-use Rattle.std.specs.List.{AllByRecursion}
 use Rattle.std.proofs.lemmas.Bool.{false≢true, cond_both, false_from_ne_true, or_parts, or_from, cases_Bool, not_from_false, not_from_true, cond-true, cond-false}
 use Rattle.std.proofs.lemmas.List.Folds.{list_any-append}
 use Rattle.ir_core.specs.declared.names.Name.{Name}
@@ -10,28 +9,38 @@ use Rattle.ir_core.specs.declared.values.Kind.{Kind}
 use Rattle.ir_core.specs.declared.values.Kind.TheVariants as kind
 use Rattle.ir_core.specs.declared.operands.BinOp.{BinOp}
 use Rattle.ir_core.specs.declared.operands.Flags.{Flags}
-use Rattle.ir_core.specs.declared.functions.Binary.{Binary}
+use Rattle.ir_core.specs.declared.functions.Calm.{Calm}
 use Rattle.ir_core.specs.declared.functions.Instr.{Instr}
 use Rattle.ir_core.specs.declared.functions.Instr.TheVariants as line
+use Rattle.ir_core.specs.declared.expressions.Binary.{Binary}
+use Rattle.ir_core.specs.declared.expressions.Expr.{Expr}
+use Rattle.ir_core.specs.declared.expressions.Expr.TheVariants as expr
 use Rattle.ir_core.specs.declared.expressions.Reg.{Reg}
 use Rattle.ir_core.specs.declared.expressions.Reg.TheVariants as reg
 use Rattle.ir_core.specs.Same.{same_name, same_ty, same_op, same_reg}
 use Rattle.ir_core.proofs.SameLaws.{left_true, right_true, same_name_true, same_name_refl, same_ty_true, same_op_true, same_reg_true, same_reg_refl}
 use Rattle.ir_values.specs.Values.{IsLessDefined, same_kind}
 use Rattle.ir_values.specs.Laws.{flags_among}
-use Rattle.ir_machine.specs.Registers.{held_at, holding, read, kind_of, atom_value}
+use Rattle.ir_core.specs.Types.{kind_of}
+use Rattle.ir_core.specs.Expressions.{type_of}
+use Rattle.ir_values.specs.declared.operations.Outcome.{Outcome}
+use Rattle.ir_values.specs.declared.operations.Outcome.TheVariants.{Gives, Trap}
+use Rattle.ir_values.specs.Operations.{IsOutcomeLessDefined}
+use Rattle.ir_machine.specs.Registers.{Registers, held_at, holding, read, set, atom_value, binary_at, outcome}
+use Rattle.ir_machine.specs.State.{Frame, Pending, World}
+use Rattle.ir_machine.specs.Machine.{set_to}
 use Rattle.ir_machine.proofs.Runs.{read_set_at}
-use Rattle.erhl_assert.specs.declared.facts.Fact.{Fact}
 use Rattle.erhl_assert.specs.declared.facts.Assertion.{Assertion}
-use Rattle.erhl_assert.specs.Sides.{SideState, IsSideInKind, read_reg, has_reg, AreRelated}
-use Rattle.erhl_assert.specs.Facts.{Holds, AssertionHolds}
+use Rattle.erhl_assert.specs.Sides.{SideState, IsRelated, read_reg, has_reg, AreRelated}
+use Rattle.erhl_assert.specs.Facts.{AssertionHolds}
 use Rattle.erhl_assert.specs.Matched.{atoms_matched}
-use Rattle.erhl_assert.specs.Alignment.{Line}
-use Rattle.erhl_assert.specs.Postcondition.{facts_after, lines_agree, without_reg, with_reg, diff_after, after_line}
+use Rattle.erhl_assert.specs.Postcondition.{rights_agree, lines_agree, without_reg, with_reg, diff_after, after_line}
 use Rattle.ir_values.proofs.OperationLaws.{binary_monotone}
-use Rattle.erhl_soundness.proofs.Lines.{result_value, line_value, set_now, read_reg_other, side_after, side_after_in_kind}
+use Rattle.erhl_soundness.specs.Laws.{goes_on, Leads, Keeps, ALineKeepsWhatHolds, MatchedOperandsAreRelated}
+use Rattle.erhl_soundness.proofs.Readings.{no_trap}
+use Rattle.erhl_soundness.proofs.Lines.{set_now, read_reg_other, side_after}
 use Rattle.erhl_soundness.proofs.Facts.{facts_after_hold}
-use Rattle.erhl_soundness.proofs.Matched.{atoms_matched_less}
+use Rattle.erhl_soundness.proofs.Matched.{matched_related, matched_type, atoms_matched_related}
 
 same_reg_apart : (a b : Reg) → same_reg a b ≡ false → same_reg b a ≡ false
 same_reg_apart a b h =
@@ -74,47 +83,47 @@ module _ (diff : List Reg) (source target : SideState) (related : AreRelated dif
   pub related_source : AreRelated (with_reg (reg.Now x) diff) (set_now source x o v) target
   related_source r k out =
       let parts = outside_with r (reg.Now x) diff out in
-      subst (λ a. IsLessDefined a (read_reg target k r)) (sym (read_reg_other source x o v k r parts.1)) (related r k parts.0)
+      subst (λ a. IsRelated a (read_reg target k r)) (sym (read_reg_other source x o v k r parts.1)) (related r k parts.0)
 
   pub related_target : AreRelated (with_reg (reg.Now x) diff) source (set_now target x o v)
   related_target r k out =
       let parts = outside_with r (reg.Now x) diff out in
-      subst (λ b. IsLessDefined (read_reg source k r) b) (sym (read_reg_other target x o v k r parts.1)) (related r k parts.0)
+      subst (λ b. IsRelated (read_reg source k r) b) (sym (read_reg_other target x o v k r parts.1)) (related r k parts.0)
 
 -- two lines that set one register to related values
-at_less : (b : Bool) (v w : Value) → IsLessDefined v w → IsLessDefined (cond b v Poison) (cond b w Poison)
-at_less true v w h = h
-at_less false v w h = tt
+at_related : (b : Bool) (v w : Value) → IsRelated v w → IsRelated (cond b v Poison) (cond b w Poison)
+at_related true v w h = h
+at_related false v w h = tt
 
-held_less : (o : Option Kind) (k : Kind) (v w : Value) → IsLessDefined v w → IsLessDefined (held_at k (holding o v)) (held_at k (holding o w))
-held_less None k v w h = tt
-held_less (Some j) k v w h = at_less (same_kind j k) v w h
+held_related : (o : Option Kind) (k : Kind) (v w : Value) → IsRelated v w → IsRelated (held_at k (holding o v)) (held_at k (holding o w))
+held_related None k v w h = tt
+held_related (Some j) k v w h = at_related (same_kind j k) v w h
 
-pub related_both : (diff : List Reg) (source target : SideState) (x : Name) (o : Option Kind) (v w : Value) → IsLessDefined v w
+pub related_both : (diff : List Reg) (source target : SideState) (x : Name) (o : Option Kind) (v w : Value) → IsRelated v w
     → AreRelated diff source target → AreRelated (without_reg (reg.Now x) diff) (set_now source x o v) (set_now target x o w)
 related_both diff source target x o v w less related r k out = ⊎_elim
     (λ e.
-    subst (λ q. IsLessDefined (read_reg (set_now source x o v) k q) (read_reg (set_now target x o w) k q)) (same_reg_true (reg.Now x) r e)
-    (subst₂ IsLessDefined (sym (read_set_at source.now x x o k v (same_name_refl x))) (sym (read_set_at target.now x x o k w (same_name_refl x))) (held_less o k v w less)))
+    subst (λ q. IsRelated (read_reg (set_now source x o v) k q) (read_reg (set_now target x o w) k q)) (same_reg_true (reg.Now x) r e)
+    (subst₂ IsRelated (sym (read_set_at source.now x x o k v (same_name_refl x))) (sym (read_set_at target.now x x o k w (same_name_refl x))) (held_related o k v w less)))
     (λ e.
-    subst₂ IsLessDefined (sym (read_reg_other source x o v k r e)) (sym (read_reg_other target x o w k r e))
+    subst₂ IsRelated (sym (read_reg_other source x o v k r e)) (sym (read_reg_other target x o w k r e))
     (related r k (outside_without r (reg.Now x) diff e out)))
     (cases_Bool (same_reg (reg.Now x) r))
 
-result_monotone : (op : BinOp) (many few : Flags) (k : Option Kind) (a b c d : Value) → flags_among few many ≡ true → IsLessDefined a c → IsLessDefined b d
-    → IsLessDefined (result_value op many k a b) (result_value op few k c d)
-result_monotone op many few None a b c d h p q = tt
-result_monotone op many few (Some (kind.Int width)) a b c d h p q = binary_monotone op many few width a b c d h p q
+binary_related : (op : BinOp) (many few : Flags) (k : Option Kind) (a b c d : Value) → flags_among few many ≡ true → IsLessDefined a c → IsLessDefined b d
+    → IsOutcomeLessDefined (binary_at op many k a b) (binary_at op few k c d)
+binary_related op many few None a b c d h p q = tt
+binary_related op many few (Some (kind.Int width)) a b c d h p q = binary_monotone op many few width a b c d h p q
 
--- what it takes of two lines to agree
-record Agree (known : Assertion) (s t : Binary) : Type 0 where
+-- what it takes of two operators to agree
+record Agree (known : Assertion) (s t : Binary Name) : Type 0 where
   op : s.op ≡ t.op
   type : s.ty ≡ t.ty
   flags : flags_among t.flags s.flags ≡ true
   left : atoms_matched known s.ty s.left t.ty t.left ≡ true
   right : atoms_matched known s.ty s.right t.ty t.right ≡ true
 
-agree_parts : (known : Assertion) (s t : Binary) → lines_agree known s t ≡ true → Agree known s t
+agree_parts : (known : Assertion) (s t : Binary Name) → rights_agree known (expr.Binary s) (expr.Binary t) ≡ true → Agree known s t
 agree_parts known s t h =
     let op = same_op s.op t.op in
     let type = same_ty s.ty t.ty in
@@ -132,65 +141,115 @@ agree_parts known s t h =
       right = right_true (op && type && flags && left) right h;
     }
 
--- lines that agree
-module _ (known : Assertion) (source target : SideState) (holds : AssertionHolds known source target) (s t : Binary) where
-  agree_less : Agree known s t → IsLessDefined (line_value source.now s) (line_value target.now t)
-  agree_less agree =
+-- right sides that agree have one type, and related outcomes
+module _ (known : Assertion) (source target : SideState) (holds : AssertionHolds known source target) where
+  binaries_related : (s t : Binary Name) → Agree known s t → IsOutcomeLessDefined (outcome (read source.now) (expr.Binary s)) (outcome (read target.now) (expr.Binary t))
+  binaries_related s t agree =
       let a = atom_value (read source.now) (kind_of s.ty) s.left in
       let b = atom_value (read source.now) (kind_of s.ty) s.right in
       let c = atom_value (read target.now) (kind_of t.ty) t.left in
       let d = atom_value (read target.now) (kind_of t.ty) t.right in
-      subst₂ (λ o k. IsLessDefined (result_value s.op s.flags (kind_of s.ty) a b) (result_value o t.flags k c d)) agree.op (ap kind_of agree.type)
-      (result_monotone s.op s.flags t.flags (kind_of s.ty) a b c d agree.flags
-      (atoms_matched_less known source target holds s.ty s.left t.ty t.left agree.left)
-      (atoms_matched_less known source target holds s.ty s.right t.ty t.right agree.right))
+      subst₂ (λ o k. IsOutcomeLessDefined (binary_at s.op s.flags (kind_of s.ty) a b) (binary_at o t.flags k c d)) agree.op (ap kind_of agree.type)
+      (binary_related s.op s.flags t.flags (kind_of s.ty) a b c d agree.flags
+      (atoms_matched_related known source target holds s.ty s.left t.ty t.left agree.left)
+      (atoms_matched_related known source target holds s.ty s.right t.ty t.right agree.right))
 
-  agree_related : (same_name s.name t.name && lines_agree known s t) ≡ true
-      → AreRelated (without_reg (reg.Now s.name) known.diff) (side_after source s) (side_after target t)
+  rights_related : (e f : Expr Name) → rights_agree known e f ≡ true
+      → (type_of e ≡ type_of f) × IsOutcomeLessDefined (outcome (read source.now) e) (outcome (read target.now) f)
+  rights_related (expr.Plain a) (expr.Plain b) h = (matched_type known a b h, matched_related known source target holds a b h)
+  rights_related (expr.Binary s) (expr.Binary t) h = let agree = agree_parts known s t h in (agree.type, binaries_related s t agree)
+  rights_related (expr.Plain a) (expr.Binary t) h = absurd (false≢true h)
+  rights_related (expr.Binary s) (expr.Plain b) h = absurd (false≢true h)
+
+-- two lines that gave values
+module _ (known : Assertion) (source target : SideState) (holds : AssertionHolds known source target) (s t : Calm) (v w : Value)
+    (source_gives : outcome (read source.now) s.right ≡ Gives v) (target_gives : outcome (read target.now) t.right ≡ Gives w) where
+  agree_related : lines_agree known s t ≡ true → AreRelated (without_reg (reg.Now s.name) known.diff) (side_after source s v) (side_after target t w)
   agree_related h =
-      let agree = agree_parts known s t (right_true (same_name s.name t.name) (lines_agree known s t) h) in
-      let name = same_name_true s.name t.name (left_true (same_name s.name t.name) (lines_agree known s t) h) in
-      subst₂ (λ x k. AreRelated (without_reg (reg.Now s.name) known.diff) (side_after source s) (set_now target x k (line_value target.now t)))
-      name (ap kind_of agree.type)
-      (related_both known.diff source target s.name (kind_of s.ty) (line_value source.now s) (line_value target.now t) (agree_less agree) holds.related)
+      let rights = rights_related known source target holds s.right t.right (right_true (same_name s.name t.name) (rights_agree known s.right t.right) h) in
+      let name = same_name_true s.name t.name (left_true (same_name s.name t.name) (rights_agree known s.right t.right) h) in
+      let related : IsRelated v w = subst₂ IsOutcomeLessDefined source_gives target_gives rights.1 in
+      subst₂ (λ x k. AreRelated (without_reg (reg.Now s.name) known.diff) (side_after source s v) (set_now target x k w))
+      name (ap kind_of rights.0)
+      (related_both known.diff source target s.name (kind_of (type_of s.right)) v w related holds.related)
 
-  both_related : AreRelated (diff_after known (Some (line.Binary s)) (Some (line.Binary t))) (side_after source s) (side_after target t)
+  pub both_related : AreRelated (diff_after known (Some (line.Calm s)) (Some (line.Calm t))) (side_after source s v) (side_after target t w)
   both_related =
-      cond_both (same_name s.name t.name && lines_agree known s t) (without_reg (reg.Now s.name) known.diff)
+      cond_both (lines_agree known s t) (without_reg (reg.Now s.name) known.diff)
       (with_reg (reg.Now t.name) (with_reg (reg.Now s.name) known.diff))
-      (λ diff. AreRelated diff (side_after source s) (side_after target t))
+      (λ diff. AreRelated diff (side_after source s v) (side_after target t w))
       agree_related
       (λ e.
-      related_target (with_reg (reg.Now s.name) known.diff) (side_after source s) target
-      (related_source known.diff source target holds.related s.name (kind_of s.ty) (line_value source.now s))
-      t.name (kind_of t.ty) (line_value target.now t))
+      related_target (with_reg (reg.Now s.name) known.diff) (side_after source s v) target
+      (related_source known.diff source target holds.related s.name (kind_of (type_of s.right)) v)
+      t.name (kind_of (type_of t.right)) w)
 
--- a side after a line, or after a no-op
-abbrev pub after_instr : SideState → Option Instr → SideState
-after_instr side None = side
-after_instr side (Some (line.Binary b)) = side_after side b
+-- the registers after an outcome, if it isn't a trap
+abbrev pub set_by : Option Kind → Name → Outcome → Registers → Option Registers
+set_by k x (Gives v) registers = Some (set registers x k v)
+set_by k x Trap registers = None
 
-pub after_instr_in_kind : (side : SideState) (i : Option Instr) → IsSideInKind side → IsSideInKind (after_instr side i)
-after_instr_in_kind side None h = h
-after_instr_in_kind side (Some (line.Binary b)) h = side_after_in_kind side b h
+-- the registers after a line, or after a no-op
+abbrev pub registers_after : Option Instr → Registers → Option Registers
+registers_after None registers = Some registers
+registers_after (Some (line.Calm l)) registers = set_by (kind_of (type_of l.right)) l.name (outcome (read registers) l.right) registers
 
--- the facts after a line, or after a no-op, hold after it
-pub after_instr_holds : (side : SideState) (i : Option Instr) (fs : List Fact) → AllByRecursion (Holds side) fs
-    → AllByRecursion (Holds (after_instr side i)) (facts_after i fs)
-after_instr_holds side None fs all = all
-after_instr_holds side (Some (line.Binary b)) fs all = facts_after_hold side b fs all
+outcome_leads : (k : Option Kind) (x : Name) (o : Outcome) (registers : Registers) (frame : Frame) (rest : List Pending) (world : World)
+    → set_to k x o (record frame { registers = registers }) rest world ≡ goes_on (set_by k x o registers) frame rest world
+outcome_leads k x (Gives v) registers frame rest world = refl
+outcome_leads k x Trap registers frame rest world = refl
 
--- the assertion after an aligned line holds after it
+leads_so : (i : Option Instr) (registers : Registers) → Leads i registers (registers_after i registers)
+leads_so None registers = refl
+leads_so (Some (line.Calm l)) registers =
+    λ frame rest world. outcome_leads (kind_of (type_of l.right)) l.name (outcome (read registers) l.right) registers frame rest world
+
+-- after an aligned line what its postcondition says holds
 module _ (known : Assertion) (source target : SideState) (holds : AssertionHolds known source target) where
-  lines_related : (i j : Option Instr) → AreRelated (diff_after known i j) (after_instr source i) (after_instr target j)
-  lines_related None None = holds.related
-  lines_related (Some (line.Binary s)) None = related_source known.diff source target holds.related s.name (kind_of s.ty) (line_value source.now s)
-  lines_related None (Some (line.Binary t)) = related_target known.diff source target holds.related t.name (kind_of t.ty) (line_value target.now t)
-  lines_related (Some (line.Binary s)) (Some (line.Binary t)) = both_related known source target holds s t
-
-  pub after_line_holds : (l : Line) → AssertionHolds (after_line known l) (after_instr source l.source) (after_instr target l.target)
-  after_line_holds l = record {
-    source_facts = after_instr_holds source l.source known.src holds.source_facts;
-    target_facts = after_instr_holds target l.target known.tgt holds.target_facts;
-    related = lines_related l.source l.target;
+  source_keeps : (s : Calm) (o : Outcome) → outcome (read source.now) s.right ≡ o
+      → Keeps (after_line known (record { source = Some (line.Calm s); target = None })) source target (set_by (kind_of (type_of s.right)) s.name o source.now) (Some target.now)
+  source_keeps s Trap is = tt
+  source_keeps s (Gives v) is = record {
+    source_facts = facts_after_hold source s v is known.src holds.source_facts;
+    target_facts = holds.target_facts;
+    related = related_source known.diff source target holds.related s.name (kind_of (type_of s.right)) v;
   }
+
+  target_keeps : (t : Calm) (o : Outcome) → outcome (read target.now) t.right ≡ o
+      → Keeps (after_line known (record { source = None; target = Some (line.Calm t) })) source target (Some source.now) (set_by (kind_of (type_of t.right)) t.name o target.now)
+  target_keeps t Trap is = absurd (no_trap (read target.now) t.right is)
+  target_keeps t (Gives w) is = record {
+    source_facts = holds.source_facts;
+    target_facts = facts_after_hold target t w is known.tgt holds.target_facts;
+    related = related_target known.diff source target holds.related t.name (kind_of (type_of t.right)) w;
+  }
+
+  both_keep : (s t : Calm) (o p : Outcome) → outcome (read source.now) s.right ≡ o → outcome (read target.now) t.right ≡ p
+      → Keeps (after_line known (record { source = Some (line.Calm s); target = Some (line.Calm t) })) source target
+      (set_by (kind_of (type_of s.right)) s.name o source.now) (set_by (kind_of (type_of t.right)) t.name p target.now)
+  both_keep s t Trap p is_source is_target = tt
+  both_keep s t (Gives v) Trap is_source is_target = absurd (no_trap (read target.now) t.right is_target)
+  both_keep s t (Gives v) (Gives w) is_source is_target = record {
+    source_facts = facts_after_hold source s v is_source known.src holds.source_facts;
+    target_facts = facts_after_hold target t w is_target known.tgt holds.target_facts;
+    related = both_related known source target holds s t v w is_source is_target;
+  }
+
+  keeps_so : (i j : Option Instr) → Keeps (after_line known (record { source = i; target = j })) source target (registers_after i source.now) (registers_after j target.now)
+  keeps_so None None = holds
+  keeps_so (Some (line.Calm s)) None = source_keeps s (outcome (read source.now) s.right) refl
+  keeps_so None (Some (line.Calm t)) = target_keeps t (outcome (read target.now) t.right) refl
+  keeps_so (Some (line.Calm s)) (Some (line.Calm t)) = both_keep s t (outcome (read source.now) s.right) (outcome (read target.now) t.right) refl refl
+
+-- the laws of lines and of matched operands
+pub line_keeps : ALineKeepsWhatHolds
+line_keeps known l source target holds = (
+  registers_after l.source source.now,
+  registers_after l.target target.now,
+  leads_so l.source source.now,
+  leads_so l.target target.now,
+  keeps_so known source target holds l.source l.target,
+)
+
+pub operands_related : MatchedOperandsAreRelated
+operands_related known source target a b holds h = matched_related known source target holds a b h

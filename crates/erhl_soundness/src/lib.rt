@@ -6,30 +6,22 @@
 //! in place of proving the optimiser, is credible compilation (Rinard).
 #![tactic(auto)]
 
-ghost use Rattle.erhl_soundness.specs.Laws.{ALineKeepsWhatHolds, MatchedOperandsAreRelated, AcceptedFunctionsRefine, AcceptedModulesRefine};
+ghost use Rattle.erhl_soundness.specs.Laws.{ALineKeepsWhatHolds, MatchedOperandsAreRelated, AcceptedModulesRefine};
 
-/// After an aligned line of two sides of which an assertion holds, what the postcondition gives holds of the two sides,
-/// whatever their old and ghost registers are.
+/// Two sides of which an assertion holds come, by an aligned line, to two sides of which holds what the postcondition gives,
+/// unless the source's line is undefined behaviour; whatever their old and ghost registers are.
 pub fn a_line_keeps_what_holds()
     ensures { ALineKeepsWhatHolds }
 {}
 
-/// Where an assertion holds of two sides and two operands are matched, the source's value is less defined than the target's.
+/// Where an assertion holds of two sides and two operands are matched, the source's value and the target's are related.
 pub fn matched_operands_are_related()
     ensures { MatchedOperandsAreRelated }
 {}
 
-/// Where every step that the rules take is sound, and the verdict on a source's and a target's function is `Valid`, under
-/// whatever hint, the target's function refines the source's: whatever input the two are entered on, what the target can show
-/// within some number of steps the source can show too, or it has undefined behaviour after a first part of it. The rules are
-/// asked beside a module `m`; the two functions may stand in any modules.
-pub fn accepted_functions_refine()
-    ensures { AcceptedFunctionsRefine }
-{}
-
-/// Where every step that the rules take is sound, and the verdict on two modules is `Valid`, the target refines the source:
-/// whichever function is entered, on whatever input, what the target can show the source can show too, or it has undefined
-/// behaviour after a first part of it.
+/// Where every step that the rules take is sound, and each pair of functions of two modules is accepted under some hint, the
+/// target refines the source: whichever function is entered, on whatever input, what the target can show the source can show
+/// too, or it has undefined behaviour after a first part of it.
 pub fn accepted_modules_refine()
     ensures { AcceptedModulesRefine }
 {}

@@ -1,10 +1,12 @@
 //! Lists of facts.
 ghost use Rattle.std.specs.Prelude.{◌≡◌, IfOk};
-ghost use Rattle.erhl_assert.specs.Facts.{has_fact, with_fact, atom_names, expr_names, fact_names, without_naming};
+ghost use Rattle.ir_core.specs.Same.{same_reg};
+ghost use Rattle.ir_core.specs.Expressions.{atom_has};
+ghost use Rattle.erhl_assert.specs.Facts.{has_fact, with_fact, expr_names, fact_names, without_naming};
 
 use contents::Seq;
 use erhl_assert::{Fact, same_fact};
-use ir_core::{Atom, Expr0, Reg, same_reg};
+use ir_core::{Atom, Expr, Expr0, Reg, same_reg};
 use std::alloc::AllocError;
 
 /// Whether the fact stands in the list.
@@ -30,7 +32,7 @@ pub fn with_fact(fact: Fact, mut facts: Seq<Fact>) -> Result<Seq<Fact>, AllocErr
 }
 
 fn atom_names(register: &Reg, atom: &Atom<Reg>) -> bool
-    ensures { result ≡ atom_names register.now atom.now }
+    ensures { result ≡ atom_has (same_reg register.now) atom.now }
 {
     match atom {
         Atom::Constant(_) => false,
@@ -42,8 +44,8 @@ fn expr_names(register: &Reg, expr: &Expr0) -> bool
     ensures { result ≡ expr_names register.now expr.now }
 {
     match expr {
-        Expr0::Plain(operand) => atom_names(register, &operand.atom),
-        Expr0::Binary(binary) => {
+        Expr::Plain(operand) => atom_names(register, &operand.atom),
+        Expr::Binary(binary) => {
             atom_names(register, &binary.left) || atom_names(register, &binary.right)
         }
     }

@@ -1,27 +1,28 @@
 //! What is known after an aligned line.
-ghost use Rattle.std.specs.Prelude.{◌≡◌, ◌&&◌, ◌++◌, [], ◌∷◌, IfOk, None, Some, cond};
-ghost use Rattle.ir_core.specs.Same.{same_name};
+ghost use Rattle.std.specs.Prelude.{◌≡◌, ◌++◌, [], ◌∷◌, IfOk, None, Some, cond};
 ghost use Rattle.std.specs.Option.{option_copied};
 ghost use Rattle.ir_core.specs.declared.expressions.Reg.TheVariants.{Now};
+ghost use Rattle.ir_core.specs.declared.expressions.Expr.TheVariants as expr;
 ghost use Rattle.ir_core.specs.declared.functions.Instr.TheVariants as line;
+ghost use Rattle.ir_core.specs.Same.{same_reg};
+ghost use Rattle.ir_core.specs.Expressions.{map_atom, map_operand, map_binary, map_expr, atom_has};
 ghost use Rattle.ir_values.specs.Laws.{flags_among};
 ghost use Rattle.erhl_assert.specs.declared.facts.Fact.TheVariants.{LessDef};
-ghost use Rattle.erhl_assert.specs.Facts.{atom_names, expr_names, without_naming};
-ghost use Rattle.erhl_assert.specs.Matched.{now_atom};
-ghost use Rattle.erhl_assert.specs.Postcondition.{right_side, register_of, facts_after_line, lines_agree, without_reg, with_reg, after_line};
+ghost use Rattle.erhl_assert.specs.Facts.{expr_names, without_naming};
+ghost use Rattle.erhl_assert.specs.Postcondition.{right_side, register_of, facts_after_line, rights_agree, lines_agree, without_reg, with_reg, after_line};
 
 use crate::facts::without_naming;
-use crate::matching::atoms_matched;
+use crate::matching::{atoms_matched, matched};
 use crate::registers::{with_reg, without_reg};
 use contents::{Exact, Seq};
 use erhl_assert::{Assertion, Fact};
 use ir_core::{
-    Atom, Binary, BinaryExpr, Expr0, Flags, Instr, Name, Operand, Reg, same_name, same_op, same_ty,
+    Atom, Binary, Calm, Expr, Expr0, Flags, Instr, Name, Operand, Reg, same_name, same_op, same_ty,
 };
 use std::alloc::{AllocError, Global};
 
 fn now_atom(alloc: Global, atom: &Atom<Name>) -> Result<Atom<Reg>, AllocError>
-    ensures { IfOk result (λ named. named ≡ now_atom atom.now) }
+    ensures { IfOk result (λ named. named ≡ map_atom Now atom.now) }
 {
     match atom {
         Atom::Constant(constant) => Ok(Atom::Constant(constant.copy(alloc)?)),
@@ -29,25 +30,43 @@ fn now_atom(alloc: Global, atom: &Atom<Name>) -> Result<Atom<Reg>, AllocError>
     }
 }
 
-/// The right side of a line, as an expression.
-fn right_side(alloc: Global, line: &Binary) -> Result<Expr0, AllocError>
-    ensures { IfOk result (λ right. right ≡ right_side line.now) }
+fn now_operand(alloc: Global, operand: &Operand<Name>) -> Result<Operand<Reg>, AllocError>
+    ensures { IfOk result (λ named. named ≡ map_operand Now operand.now) }
 {
-    Ok(Expr0::Binary(BinaryExpr {
-        op: line.op,
-        flags: line.flags,
-        ty: line.ty.copy(alloc)?,
-        left: now_atom(alloc, &line.left)?,
-        right: now_atom(alloc, &line.right)?,
-    }))
+    Ok(Operand {
+        ty: operand.ty.copy(alloc)?,
+        atom: now_atom(alloc, &operand.atom)?,
+    })
+}
+
+fn now_binary(alloc: Global, binary: &Binary<Name>) -> Result<Binary<Reg>, AllocError>
+    ensures { IfOk result (λ named. named ≡ map_binary Now binary.now) }
+{
+    Ok(Binary {
+        op: binary.op,
+        flags: binary.flags,
+        ty: binary.ty.copy(alloc)?,
+        left: now_atom(alloc, &binary.left)?,
+        right: now_atom(alloc, &binary.right)?,
+    })
+}
+
+/// An expression of a function, as the logic names its registers.
+fn now_expr(alloc: Global, expr: &Expr<Name>) -> Result<Expr0, AllocError>
+    ensures { IfOk result (λ named. named ≡ map_expr Now expr.now) }
+{
+    match expr {
+        Expr::Plain(operand) => Ok(Expr::Plain(now_operand(alloc, operand)?)),
+        Expr::Binary(binary) => Ok(Expr::Binary(now_binary(alloc, binary)?)),
+    }
 }
 
 /// The register of a line, as an expression.
-fn register_of(alloc: Global, line: &Binary) -> Result<Expr0, AllocError>
+fn register_of(alloc: Global, line: &Calm) -> Result<Expr0, AllocError>
     ensures { IfOk result (λ register. register ≡ register_of line.now) }
 {
-    Ok(Expr0::Plain(Operand {
-        ty: line.ty.copy(alloc)?,
+    Ok(Expr::Plain(Operand {
+        ty: line.right.ty().copy(alloc)?,
         atom: Atom::Register(Reg::Now(line.name.copy(alloc)?)),
     }))
 }
@@ -76,18 +95,18 @@ fn with_equal(alloc: Global, facts: Seq<Fact>, a: Expr0, b: Expr0) -> Result<Seq
 }
 
 /// The facts, and then that the register and the right side are less defined than each other.
-fn with_line(alloc: Global, facts: Seq<Fact>, line: &Binary) -> Result<Seq<Fact>, AllocError>
+fn with_line(alloc: Global, facts: Seq<Fact>, line: &Calm) -> Result<Seq<Fact>, AllocError>
     ensures { IfOk result
         (λ after. after
         ≡ (facts ++ LessDef (register_of line.now) (right_side line.now) ∷ [])
         ++ LessDef (right_side line.now) (register_of line.now) ∷ []) }
 {
     let register = register_of(alloc, line)?;
-    with_equal(alloc, facts, register, right_side(alloc, line)?)
+    with_equal(alloc, facts, register, now_expr(alloc, &line.right)?)
 }
 
 fn is_named(name: &Name, atom: &Atom<Name>) -> bool
-    ensures { result ≡ atom_names (Now name.now) (now_atom atom.now) }
+    ensures { result ≡ atom_has (same_reg (Now name.now)) (map_atom Now atom.now) }
 {
     match atom {
         Atom::Constant(_) => false,
@@ -95,11 +114,14 @@ fn is_named(name: &Name, atom: &Atom<Name>) -> bool
     }
 }
 
-/// Whether the register of a line stands in its right side.
-fn names_itself(line: &Binary) -> bool
-    ensures { result ≡ expr_names (Now line.now.name) (right_side line.now) }
+/// Whether the register stands in the expression.
+fn names(name: &Name, expr: &Expr<Name>) -> bool
+    ensures { result ≡ expr_names (Now name.now) (map_expr Now expr.now) }
 {
-    is_named(&line.name, &line.left) || is_named(&line.name, &line.right)
+    match expr {
+        Expr::Plain(operand) => is_named(name, &operand.atom),
+        Expr::Binary(binary) => is_named(name, &binary.left) || is_named(name, &binary.right),
+    }
 }
 
 fn without_name(alloc: Global, name: &Name, facts: Seq<Fact>) -> Result<Seq<Fact>, AllocError>
@@ -110,11 +132,11 @@ fn without_name(alloc: Global, name: &Name, facts: Seq<Fact>) -> Result<Seq<Fact
 
 /// What is known of a side after its line.
 #[tactic(auto, using(crate::proofs::Fresh::facts_added))]
-fn facts_after(alloc: Global, line: &Binary, facts: Seq<Fact>) -> Result<Seq<Fact>, AllocError>
+fn facts_after(alloc: Global, line: &Calm, facts: Seq<Fact>) -> Result<Seq<Fact>, AllocError>
     ensures { IfOk result (λ after. after ≡ facts_after_line line.now facts) }
 {
     let kept = without_name(alloc, &line.name, facts)?;
-    if names_itself(line) {
+    if names(&line.name, &line.right) {
         Ok(kept)
     } else {
         // No fact that is left names the register, so neither of these is there yet.
@@ -129,8 +151,9 @@ fn flags_among(few: &Flags, many: &Flags) -> bool
     (!few.nuw || many.nuw) && (!few.nsw || many.nsw)
 }
 
-fn lines_agree(known: &Assertion, s: &Binary, t: &Binary) -> bool
-    ensures { result ≡ lines_agree known.now s.now t.now }
+/// Whether the operators are one, and the operands are matched.
+fn binaries_agree(known: &Assertion, s: &Binary<Name>, t: &Binary<Name>) -> bool
+    ensures { result ≡ rights_agree known.now (expr.Binary s.now) (expr.Binary t.now) }
 {
     same_op(&s.op, &t.op)
         && same_ty(&s.ty, &t.ty)
@@ -139,11 +162,21 @@ fn lines_agree(known: &Assertion, s: &Binary, t: &Binary) -> bool
         && atoms_matched(known, &s.ty, &s.right, &t.ty, &t.right)
 }
 
-/// Whether the lines define one register, and agree.
-fn define_alike(known: &Assertion, s: &Binary, t: &Binary) -> bool
-    ensures { result ≡ (same_name s.now.name t.now.name && lines_agree known.now s.now t.now) }
+fn rights_agree(known: &Assertion, s: &Expr<Name>, t: &Expr<Name>) -> bool
+    ensures { result ≡ rights_agree known.now s.now t.now }
 {
-    same_name(&s.name, &t.name) && lines_agree(known, s, t)
+    match (s, t) {
+        (Expr::Plain(a), Expr::Plain(b)) => matched(known, a, b),
+        (Expr::Binary(a), Expr::Binary(b)) => binaries_agree(known, a, b),
+        _ => false,
+    }
+}
+
+/// Whether the lines define one register, and agree.
+fn lines_agree(known: &Assertion, s: &Calm, t: &Calm) -> bool
+    ensures { result ≡ lines_agree known.now s.now t.now }
+{
+    same_name(&s.name, &t.name) && rights_agree(known, &s.right, &t.right)
 }
 
 fn differing(alloc: Global, name: &Name, diff: Seq<Reg>) -> Result<Seq<Reg>, AllocError>
@@ -177,17 +210,12 @@ fn diff_after_both(
     }
 }
 
-fn after_both(
-    alloc: Global,
-    known: Assertion,
-    s: &Binary,
-    t: &Binary,
-) -> Result<Assertion, AllocError>
+fn after_both(alloc: Global, known: Assertion, s: &Calm, t: &Calm) -> Result<Assertion, AllocError>
     ensures { IfOk result
         (λ after. after
-        ≡ after_line known (record { source = Some (line.Binary s.now); target = Some (line.Binary t.now) })) }
+        ≡ after_line known (record { source = Some (line.Calm s.now); target = Some (line.Calm t.now) })) }
 {
-    let agree = define_alike(&known, s, t);
+    let agree = lines_agree(&known, s, t);
     let Assertion { src, tgt, diff } = known;
     Ok(Assertion {
         src: facts_after(alloc, s, src)?,
@@ -196,9 +224,9 @@ fn after_both(
     })
 }
 
-fn after_source(alloc: Global, known: Assertion, s: &Binary) -> Result<Assertion, AllocError>
+fn after_source(alloc: Global, known: Assertion, s: &Calm) -> Result<Assertion, AllocError>
     ensures { IfOk result
-        (λ after. after ≡ after_line known (record { source = Some (line.Binary s.now); target = None })) }
+        (λ after. after ≡ after_line known (record { source = Some (line.Calm s.now); target = None })) }
 {
     let Assertion { src, tgt, diff } = known;
     Ok(Assertion {
@@ -208,9 +236,9 @@ fn after_source(alloc: Global, known: Assertion, s: &Binary) -> Result<Assertion
     })
 }
 
-fn after_target(alloc: Global, known: Assertion, t: &Binary) -> Result<Assertion, AllocError>
+fn after_target(alloc: Global, known: Assertion, t: &Calm) -> Result<Assertion, AllocError>
     ensures { IfOk result
-        (λ after. after ≡ after_line known (record { source = None; target = Some (line.Binary t.now) })) }
+        (λ after. after ≡ after_line known (record { source = None; target = Some (line.Calm t.now) })) }
 {
     let Assertion { src, tgt, diff } = known;
     Ok(Assertion {
@@ -220,11 +248,11 @@ fn after_target(alloc: Global, known: Assertion, t: &Binary) -> Result<Assertion
     })
 }
 
-fn binary_of(instr: &Instr) -> &Binary
-    ensures { instr.now ≡ line.Binary result.now }
+fn calm_of(instr: &Instr) -> &Calm
+    ensures { instr.now ≡ line.Calm result.now }
 {
-    let Instr::Binary(binary) = instr;
-    binary
+    let Instr::Calm(calm) = instr;
+    calm
 }
 
 /// What is known after a line of the source and a line of the target, of which one may be absent.
@@ -240,11 +268,11 @@ pub fn after_line(
 {
     match source {
         Some(s) => match target {
-            Some(t) => after_both(alloc, known, binary_of(s), binary_of(t)),
-            None => after_source(alloc, known, binary_of(s)),
+            Some(t) => after_both(alloc, known, calm_of(s), calm_of(t)),
+            None => after_source(alloc, known, calm_of(s)),
         },
         None => match target {
-            Some(t) => after_target(alloc, known, binary_of(t)),
+            Some(t) => after_target(alloc, known, calm_of(t)),
             None => Ok(known),
         },
     }

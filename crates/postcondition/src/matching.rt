@@ -3,21 +3,22 @@
 ghost use Rattle.std.specs.Prelude.{◌≡◌};
 ghost use Rattle.std.specs.List.{list_any};
 ghost use Rattle.ir_core.specs.declared.expressions.Reg.TheVariants.{Now};
-ghost use Rattle.ir_core.specs.declared.expressions.Expr0.TheVariants.{Plain};
+ghost use Rattle.ir_core.specs.declared.expressions.Expr.TheVariants.{Plain};
 ghost use Rattle.ir_core.specs.Same.{same_reg, same_atom, same_expr};
-ghost use Rattle.ir_machine.specs.Registers.{kind_of};
+ghost use Rattle.ir_core.specs.Types.{kind_of};
+ghost use Rattle.ir_core.specs.Expressions.{map_atom};
 ghost use Rattle.erhl_assert.specs.Sides.{has_reg};
-ghost use Rattle.erhl_assert.specs.Matched.{now_atom, now_operand, of_plain, from_fact, into_fact, some_into, is_kind, meet, meet_at, matched_at, matched, atoms_matched};
-ghost use Rattle.postcondition.specs.InLogic.{atom_in_logic};
+ghost use Rattle.erhl_assert.specs.Matched.{now_operand, of_plain, from_fact, into_fact, some_into, is_kind, meet, meet_at, matched_at, matched, atoms_matched};
 
 use contents::Seq;
 use erhl_assert::{Assertion, Fact};
 use ir_core::{
-    Atom, Expr0, Kind, Name, Operand, Reg, Ty, same_const, same_name, same_reg, same_ty,
+    Atom, Expr, Expr0, Kind, Name, Operand, Reg, Ty, kind_of, same_const, same_name, same_reg,
+    same_ty,
 };
 
 /// A register as the logic names it: that of a function is the register of now.
-trait InLogic {
+pub(crate) trait InLogic {
     ghost use Rattle.ir_core.specs.declared.expressions.Reg.{Reg};
 
     ghost in_logic: { Self → Reg };
@@ -59,7 +60,7 @@ impl InLogic for Reg {
     }
 }
 
-fn may_differ<R: InLogic>(register: &R, diff: &Seq<Reg>) -> bool
+pub(crate) fn may_differ<R: InLogic>(register: &R, diff: &Seq<Reg>) -> bool
     ensures { result ≡ has_reg (R.in_logic register.now) diff.now }
 {
     for other in diff.as_slice() {
@@ -68,21 +69,6 @@ fn may_differ<R: InLogic>(register: &R, diff: &Seq<Reg>) -> bool
         }
     }
     false
-}
-
-fn kind_of(ty: &Ty) -> Option<Kind>
-    ensures { result ≡ kind_of ty.now }
-{
-    match ty {
-        Ty::Int(width) => {
-            if 1 <= *width && *width <= 64 {
-                Some(Kind::Int(*width))
-            } else {
-                None
-            }
-        }
-        Ty::Void => None,
-    }
 }
 
 /// Whether the type's values are of that kind.
@@ -99,8 +85,8 @@ fn is_kind(ty: &Ty, kind: Kind) -> bool
 /// Whether c and the target's operand are one constant of one type, or one register that doesn't differ.
 fn is_one_now<R: InLogic>(diff: &Seq<Reg>, s: &Ty, c: &Atom<R>, t: &Ty, b: &Atom<Name>) -> bool
     ensures { result
-        ≡ meet_at diff.now (record { ty = s.now; atom = atom_in_logic R.in_logic c.now })
-        (now_operand (record { ty = t.now; atom = b.now })) (atom_in_logic R.in_logic c.now) (now_atom b.now) }
+        ≡ meet_at diff.now (record { ty = s.now; atom = map_atom R.in_logic c.now })
+        (now_operand (record { ty = t.now; atom = b.now })) (map_atom R.in_logic c.now) (map_atom Now b.now) }
 {
     match (c, b) {
         (Atom::Constant(m), Atom::Constant(n)) => same_ty(s, t) && same_const(m, n),
@@ -112,8 +98,8 @@ fn is_one_now<R: InLogic>(diff: &Seq<Reg>, s: &Ty, c: &Atom<R>, t: &Ty, b: &Atom
 /// Whether c and an operand of a fact are one constant of one type, or one register that doesn't differ.
 fn is_one<R: InLogic>(diff: &Seq<Reg>, s: &Ty, c: &Atom<R>, d: &Operand<Reg>) -> bool
     ensures { result
-        ≡ meet_at diff.now (record { ty = s.now; atom = atom_in_logic R.in_logic c.now }) d.now
-        (atom_in_logic R.in_logic c.now) d.now.atom }
+        ≡ meet_at diff.now (record { ty = s.now; atom = map_atom R.in_logic c.now }) d.now
+        (map_atom R.in_logic c.now) d.now.atom }
 {
     match (c, &d.atom) {
         (Atom::Constant(m), Atom::Constant(n)) => same_ty(s, &d.ty) && same_const(m, n),
@@ -132,7 +118,7 @@ fn meets_now<R: InLogic>(
     b: &Atom<Name>,
 ) -> bool
     ensures { result
-        ≡ meet diff.now kind (record { ty = s.now; atom = atom_in_logic R.in_logic c.now })
+        ≡ meet diff.now kind (record { ty = s.now; atom = map_atom R.in_logic c.now })
         (now_operand (record { ty = t.now; atom = b.now })) }
 {
     is_kind(s, kind) && is_kind(t, kind) && is_one_now(diff, s, c, t, b)
@@ -142,17 +128,17 @@ fn meets_now<R: InLogic>(
 fn meets_plain<R: InLogic>(diff: &Seq<Reg>, kind: Kind, s: &Ty, c: &Atom<R>, expr: &Expr0) -> bool
     ensures { result
         ≡ of_plain
-        (λ d. meet diff.now kind (record { ty = s.now; atom = atom_in_logic R.in_logic c.now }) d)
+        (λ d. meet diff.now kind (record { ty = s.now; atom = map_atom R.in_logic c.now }) d)
         expr.now }
 {
     match expr {
-        Expr0::Plain(d) => is_kind(s, kind) && is_kind(&d.ty, kind) && is_one(diff, s, c, d),
-        Expr0::Binary(_) => false,
+        Expr::Plain(d) => is_kind(s, kind) && is_kind(&d.ty, kind) && is_one(diff, s, c, d),
+        Expr::Binary(_) => false,
     }
 }
 
 fn is_now_atom(a: &Atom<Reg>, b: &Atom<Name>) -> bool
-    ensures { result ≡ same_atom same_reg a.now (now_atom b.now) }
+    ensures { result ≡ same_atom same_reg a.now (map_atom Now b.now) }
 {
     match (a, b) {
         (Atom::Constant(m), Atom::Constant(n)) => same_const(m, n),
@@ -163,11 +149,11 @@ fn is_now_atom(a: &Atom<Reg>, b: &Atom<Name>) -> bool
 
 /// Whether the expression is the function's operand.
 fn is_plain_now(expr: &Expr0, ty: &Ty, atom: &Atom<Name>) -> bool
-    ensures { result ≡ same_expr expr.now (Plain (now_operand (record { ty = ty.now; atom = atom.now }))) }
+    ensures { result ≡ same_expr same_reg expr.now (Plain (now_operand (record { ty = ty.now; atom = atom.now }))) }
 {
     match expr {
-        Expr0::Plain(operand) => is_now_atom(&operand.atom, atom) && same_ty(&operand.ty, ty),
-        Expr0::Binary(_) => false,
+        Expr::Plain(operand) => is_now_atom(&operand.atom, atom) && same_ty(&operand.ty, ty),
+        Expr::Binary(_) => false,
     }
 }
 
@@ -183,7 +169,7 @@ fn leads_into<R: InLogic>(
 ) -> bool
     ensures { result
         ≡ into_fact
-        (λ d. meet diff.now kind (record { ty = s.now; atom = atom_in_logic R.in_logic c.now }) d)
+        (λ d. meet diff.now kind (record { ty = s.now; atom = map_atom R.in_logic c.now }) d)
         (now_operand (record { ty = t.now; atom = b.now })) fact.now }
 {
     let Fact::LessDef(x, y) = fact;
@@ -202,7 +188,7 @@ fn some_leads_into<R: InLogic>(
     ensures { result
         ≡ list_any
         (into_fact
-        (λ d. meet diff.now kind (record { ty = s.now; atom = atom_in_logic R.in_logic c.now }) d)
+        (λ d. meet diff.now kind (record { ty = s.now; atom = map_atom R.in_logic c.now }) d)
         (now_operand (record { ty = t.now; atom = b.now })))
         facts.now }
 {
@@ -226,7 +212,7 @@ fn reaches<R: InLogic>(
     ensures { result
         ≡ some_into
         (λ d. meet known.now.diff kind
-        (record { ty = s.now; atom = atom_in_logic R.in_logic c.now }) d)
+        (record { ty = s.now; atom = map_atom R.in_logic c.now }) d)
         (now_operand (record { ty = t.now; atom = b.now })) known.now.tgt }
 {
     meets_now(&known.diff, kind, s, c, t, b)
@@ -241,8 +227,8 @@ fn plain_reaches(known: &Assertion, kind: Kind, expr: &Expr0, t: &Ty, b: &Atom<N
         expr.now }
 {
     match expr {
-        Expr0::Plain(c) => reaches(known, kind, &c.ty, &c.atom, t, b),
-        Expr0::Binary(_) => false,
+        Expr::Plain(c) => reaches(known, kind, &c.ty, &c.atom, t, b),
+        Expr::Binary(_) => false,
     }
 }
 
@@ -292,7 +278,6 @@ fn reaches_by_fact(
 }
 
 /// Whether two atoms are matched at the kind of the first one's type.
-#[tactic(auto, using(crate::proofs::Atoms::now_in_logic))]
 fn atoms_meet(known: &Assertion, s: &Ty, a: &Atom<Name>, t: &Ty, b: &Atom<Name>) -> bool
     ensures { result
         ≡ matched_at known.now (kind_of s.now) (now_operand (record { ty = s.now; atom = a.now }))

@@ -3,19 +3,15 @@ ghost use Rattle.std.specs.Prelude.{◌≡◌, IfOk};
 ghost use Rattle.erhl_assert.specs.Sides.{has_reg};
 ghost use Rattle.erhl_assert.specs.Postcondition.{with_reg, without_reg};
 
+use crate::matching::may_differ;
 use contents::Seq;
 use ir_core::{Reg, same_reg};
 use std::alloc::AllocError;
 
-pub(crate) fn has_reg(register: &Reg, registers: &Seq<Reg>) -> bool
+fn has_reg(register: &Reg, registers: &Seq<Reg>) -> bool
     ensures { result ≡ has_reg register.now registers.now }
 {
-    for other in registers.as_slice() {
-        if same_reg(register, other) {
-            return true;
-        }
-    }
-    false
+    may_differ(register, registers)
 }
 
 /// The list with the register at its end, where it isn't there yet.

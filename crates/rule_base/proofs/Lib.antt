@@ -1,3 +1,1 @@
-pub mod Books
 pub mod Table
-pub mod Widths

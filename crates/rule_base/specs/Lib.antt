@@ -1,3 +1,4 @@
 pub mod Book
 pub mod Rows
 pub mod RowLaws
+pub mod Books

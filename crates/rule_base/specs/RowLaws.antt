@@ -1,5 +1,5 @@
 -- Whatever the shipped rules take is sound.
-use Rattle.std.proofs.Common.{◌≡◌, ◌||◌, ℕ, ◌<◌, ◌^◌, true, false, ◌&&◌, cond, nat_lt, List, [], ◌∷◌, sym, ap}
+use Rattle.std.proofs.Common.{◌≡◌, ◌||◌, ℕ, ◌<◌, ◌^◌, true, false, ◌&&◌, cond, List, [], ◌∷◌, sym, ap, subst}
 use Rattle.std.specs.List.{AllByRecursion}
 use Rattle.std.proofs.lemmas.Bool.{eqb-true, ltb-true}
 use Rattle.std.proofs.Math.Nat.{mod-eq_of_lt, add-mod_right, add-zero, sub-zero}
@@ -17,24 +17,25 @@ use Rattle.ir_core.specs.declared.operands.BinOp.TheVariants as op
 use Rattle.ir_core.specs.declared.operands.Flags.{Flags}
 use Rattle.ir_core.specs.declared.expressions.Reg.{Reg}
 use Rattle.ir_core.specs.declared.expressions.Reg.TheVariants as reg
-use Rattle.ir_core.specs.declared.expressions.Expr0.{Expr0}
-use Rattle.ir_core.specs.declared.expressions.Expr0.TheVariants.{Plain, Binary}
-use Rattle.ir_core.specs.Types.{is_width}
+use Rattle.ir_core.specs.declared.expressions.Expr.TheVariants.{Plain, Binary}
+use Rattle.ir_core.specs.Types.{kind_of}
+use Rattle.ir_core.specs.Expressions.{Expr0, type_of}
+use Rattle.ir_core.specs.Modules.{Scope}
 use Rattle.ir_core.specs.Same.{same_ty, same_atom, same_reg, same_expr}
-use Rattle.ir_core.proofs.SameLaws.{left_true, right_true, same_ty_true, same_reg_atom_true, same_expr_true}
+use Rattle.ir_core.proofs.SameLaws.{left_true, right_true, same_ty_true, same_reg_atom_true, same_reg_expr_true}
 use Rattle.ir_values.specs.declared.operations.Outcome.TheVariants.{Gives}
 use Rattle.ir_values.specs.Values.{IsInKind, IsLessDefined}
 use Rattle.ir_values.specs.Operations.{IsOutcomeLessDefined, binary_value, breaks_flag, wrapped}
 use Rattle.ir_values.proofs.OperationLaws.{outcome_less_defined_trans}
-use Rattle.ir_machine.specs.Registers.{kind_of, atom_value, atom_at}
+use Rattle.ir_machine.specs.Registers.{atom_value, atom_at}
 use Rattle.erhl_assert.specs.declared.facts.Fact.{Fact}
 use Rattle.erhl_assert.specs.declared.facts.Fact.TheVariants.{LessDef}
 use Rattle.erhl_assert.specs.declared.facts.Schema.{Schema}
 use Rattle.erhl_assert.specs.Sides.{SideState, IsSideInKind, read_reg, worth}
-use Rattle.erhl_assert.specs.Facts.{Scope, IsSound, Holds, kind_of_expr}
+use Rattle.erhl_assert.specs.Facts.{IsSound, Holds, kind_of_expr, has_values, has_type, atom_fits, fits_constants}
 use Rattle.rule_base.specs.declared.shipped.Rule.{Rule}
 use Rattle.rule_base.specs.declared.shipped.Rule.TheVariants.{Trans, UndefConst, ZeroRight}
-use Rattle.rule_base.specs.Rows.{takes_row, is_atom_of, is_typed, have_one_type, is_trans, is_undef, is_constant, is_zero, is_undef_const, is_zero_right}
+use Rattle.rule_base.specs.Rows.{takes_row, is_typed, have_one_type, is_trans, is_undef, is_constant, is_zero, is_undef_const, is_zero_right}
 
 trans_holds : (side : SideState) (a b c d e f : Expr0) → b ≡ c → e ≡ a → f ≡ d → Holds side (LessDef a b) → Holds side (LessDef c d) → Holds side (LessDef e f)
 trans_holds side a b c d e f p q r first second =
@@ -49,40 +50,51 @@ module _ (side : SideState) (fine : IsSideInKind side) where
   trans_is_sound (x ∷ []) to h all = cc
   trans_is_sound (x ∷ y ∷ z ∷ more) to h all = cc
   trans_is_sound (LessDef a b ∷ LessDef c d ∷ []) (LessDef e f) h all =
-      let h1 : (have_one_type a b && have_one_type c d && same_expr b c && same_expr e a) ≡ true = left_true _ (same_expr f d) h in
-      let h2 : (have_one_type a b && have_one_type c d && same_expr b c) ≡ true = left_true _ (same_expr e a) h1 in
+      let h1 : (have_one_type a b && have_one_type c d && same_expr same_reg b c && same_expr same_reg e a) ≡ true = left_true _ (same_expr same_reg f d) h in
+      let h2 : (have_one_type a b && have_one_type c d && same_expr same_reg b c) ≡ true = left_true _ (same_expr same_reg e a) h1 in
       trans_holds side a b c d e f
-      (same_expr_true b c (right_true (have_one_type a b && have_one_type c d) (same_expr b c) h2))
-      (same_expr_true e a (right_true (have_one_type a b && have_one_type c d && same_expr b c) (same_expr e a) h1))
-      (same_expr_true f d (right_true (have_one_type a b && have_one_type c d && same_expr b c && same_expr e a) (same_expr f d) h))
+      (same_reg_expr_true b c (right_true (have_one_type a b && have_one_type c d) (same_expr same_reg b c) h2))
+      (same_reg_expr_true e a (right_true (have_one_type a b && have_one_type c d && same_expr same_reg b c) (same_expr same_reg e a) h1))
+      (same_reg_expr_true f d (right_true (have_one_type a b && have_one_type c d && same_expr same_reg b c && same_expr same_reg e a) (same_expr same_reg f d) h))
       all.0 all.1.0
 
-  -- an atom of an integer type has a type of 1 to 64 bits
-  width_of_atom : (w : ℕ) (x : Atom Reg) → is_atom_of (ty.Int w) x ≡ true → is_width w ≡ true
-  width_of_atom w (atom.Constant (constant.Number n)) h = left_true (is_width w) (nat_lt n (2 ^ w)) h
-  width_of_atom w (atom.Constant constant.Undef) h = h
-  width_of_atom w (atom.Register r) h = h
-
   -- undef is less defined than a number of its type, and than undef
-  undef_less : (t : Ty) (x y : Atom Reg) → is_undef x ≡ true → is_constant y ≡ true → is_atom_of t y ≡ true
+  undef_less : (t : Ty) (x y : Atom Reg) → is_undef x ≡ true → is_constant y ≡ true → has_values t ≡ true → atom_fits t y ≡ true
       → IsLessDefined (atom_value (read_reg side) (kind_of t) x) (atom_value (read_reg side) (kind_of t) y)
-  undef_less ty.Void x y p q r = tt
-  undef_less (ty.Int w) (atom.Constant constant.Undef) (atom.Constant (constant.Number n)) p q r =
-      rw (left_true (is_width w) (nat_lt n (2 ^ w)) r, right_true (is_width w) (nat_lt n (2 ^ w)) r) tt
-  undef_less (ty.Int w) (atom.Constant constant.Undef) (atom.Constant constant.Undef) p q r = rw r tt
-  undef_less (ty.Int w) (atom.Constant constant.Undef) (atom.Register s) p q r = cc
-  undef_less (ty.Int w) (atom.Constant (constant.Number n)) y p q r = cc
-  undef_less (ty.Int w) (atom.Register s) y p q r = cc
+  undef_less ty.Void x y p q v r = tt
+  undef_less (ty.Int w) (atom.Constant constant.Undef) (atom.Constant (constant.Number n)) p q v r = rw (v, r) tt
+  undef_less (ty.Int w) (atom.Constant constant.Undef) (atom.Constant constant.Undef) p q v r = rw v tt
+  undef_less (ty.Int w) (atom.Constant constant.Undef) (atom.Register s) p q v r = cc
+  undef_less (ty.Int w) (atom.Constant (constant.Number n)) y p q v r = cc
+  undef_less (ty.Int w) (atom.Register s) y p q v r = cc
+
+  -- what two expressions of one type are
+  record OneType (a b : Expr0) : Type 0 where
+    left : fits_constants a ≡ true
+    right : fits_constants b ≡ true
+    values : has_type a ≡ true
+    type : type_of a ≡ type_of b
+
+  one_type : (a b : Expr0) → have_one_type a b ≡ true → OneType a b
+  one_type a b h =
+      let both : (is_typed a && is_typed b) ≡ true = left_true _ (same_ty (type_of a) (type_of b)) h in
+      let first : is_typed a ≡ true = left_true (is_typed a) (is_typed b) both in
+      record {
+        left = right_true (has_type a) (fits_constants a) first;
+        right = right_true (has_type b) (fits_constants b) (right_true (is_typed a) (is_typed b) both);
+        values = left_true (has_type a) (fits_constants a) first;
+        type = same_ty_true (type_of a) (type_of b) (right_true (is_typed a && is_typed b) (same_ty (type_of a) (type_of b)) h);
+      }
 
   undef_const_is_sound : (from : List Fact) (to : Fact) → is_undef_const from to ≡ true → Holds side to
   undef_const_is_sound [] (LessDef (Plain a) (Plain b)) h =
       let h1 : (have_one_type (Plain a) (Plain b) && is_undef a.atom) ≡ true = left_true _ (is_constant b.atom) h in
-      let typed : have_one_type (Plain a) (Plain b) ≡ true = left_true _ (is_undef a.atom) h1 in
-      let t : a.ty ≡ b.ty = same_ty_true a.ty b.ty (right_true (is_typed (Plain a) && is_typed (Plain b)) (same_ty a.ty b.ty) typed) in
-      let fits : is_atom_of b.ty b.atom ≡ true = right_true (is_typed (Plain a)) (is_typed (Plain b)) (left_true _ (same_ty a.ty b.ty) typed) in (
+      let typed = one_type (Plain a) (Plain b) (left_true _ (is_undef a.atom) h1) in
+      let t : a.ty ≡ b.ty = typed.type in
+      let values : has_values b.ty ≡ true = subst (λ (x : Ty). has_values x ≡ true) t typed.values in (
         ap kind_of t,
         rw t (undef_less b.ty a.atom b.atom (right_true (have_one_type (Plain a) (Plain b)) (is_undef a.atom) h1)
-            (right_true (have_one_type (Plain a) (Plain b) && is_undef a.atom) (is_constant b.atom) h) fits),
+            (right_true (have_one_type (Plain a) (Plain b) && is_undef a.atom) (is_constant b.atom) h) values typed.right),
       )
   undef_const_is_sound [] (LessDef (Plain a) (Binary e)) h = cc
   undef_const_is_sound [] (LessDef (Binary e) b) h = cc
@@ -93,9 +105,8 @@ module _ (side : SideState) (fine : IsSideInKind side) where
   reg_in_kind k (reg.Old x) = fine.old x k
   reg_in_kind k (reg.Ghost x) = fine.ghost x k
 
-  atom_in_kind : (w : ℕ) (x : Atom Reg) → is_atom_of (ty.Int w) x ≡ true → IsInKind (kind.Int w) (atom_at (read_reg side) (kind.Int w) x)
-  atom_in_kind w (atom.Constant (constant.Number n)) h =
-      let below : nat_lt n (2 ^ w) ≡ true = right_true (is_width w) (nat_lt n (2 ^ w)) h in rw below (ltb-true n (2 ^ w) below)
+  atom_in_kind : (w : ℕ) (x : Atom Reg) → atom_fits (ty.Int w) x ≡ true → IsInKind (kind.Int w) (atom_at (read_reg side) (kind.Int w) x)
+  atom_in_kind w (atom.Constant (constant.Number n)) h = rw h (ltb-true n (2 ^ w) h)
   atom_in_kind w (atom.Constant constant.Undef) h = tt
   atom_in_kind w (atom.Register r) h = reg_in_kind (kind.Int w) r
 
@@ -109,34 +120,32 @@ module _ (side : SideState) (fine : IsSideInKind side) where
   zero_less o flags w (value.Num m) h = elim (breaks_flag o flags w m 0) as (λ b. IsLessDefined (cond b value.Poison (value.Num (wrapped o w m 0))) (value.Num m))
       [ true ↦ tt | false ↦ ap value.Num (sym (wrapped_zero o w m h)) ]
 
-  zero_is_worth : (w : ℕ) (z : Atom Reg) → is_zero z ≡ true → is_atom_of (ty.Int w) z ≡ true → atom_at (read_reg side) (kind.Int w) z ≡ value.Num 0
-  zero_is_worth w (atom.Constant (constant.Number n)) p q =
-      rw (right_true (is_width w) (nat_lt n (2 ^ w)) q) (ap value.Num (eqb-true n 0 p))
+  zero_is_worth : (w : ℕ) (z : Atom Reg) → is_zero z ≡ true → atom_fits (ty.Int w) z ≡ true → atom_at (read_reg side) (kind.Int w) z ≡ value.Num 0
+  zero_is_worth w (atom.Constant (constant.Number n)) p q = rw q (ap value.Num (eqb-true n 0 p))
   zero_is_worth w (atom.Constant constant.Undef) p q = cc
   zero_is_worth w (atom.Register r) p q = cc
 
-  zero_right_less : (o : BinOp) (flags : Flags) (t : Ty) (x z : Atom Reg) → is_zero z ≡ true → is_atom_of t z ≡ true → is_atom_of t x ≡ true
+  zero_right_less : (o : BinOp) (flags : Flags) (t : Ty) (x z : Atom Reg) → is_zero z ≡ true → has_values t ≡ true → atom_fits t z ≡ true → atom_fits t x ≡ true
       → IsOutcomeLessDefined (worth side (Binary (record { op = o; flags = flags; ty = t; left = x; right = z }))) (Gives (atom_value (read_reg side) (kind_of t) x))
-  zero_right_less o flags ty.Void x z p q r = tt
-  zero_right_less o flags (ty.Int w) x z p q r =
-      rw (width_of_atom w x r, zero_is_worth w z p q) (zero_less o flags w (atom_at (read_reg side) (kind.Int w) x) (atom_in_kind w x r))
+  zero_right_less o flags ty.Void x z p v q r = tt
+  zero_right_less o flags (ty.Int w) x z p v q r =
+      rw (v, zero_is_worth w z p q) (zero_less o flags w (atom_at (read_reg side) (kind.Int w) x) (atom_in_kind w x r))
 
   zero_right_is_sound : (from : List Fact) (to : Fact) → is_zero_right from to ≡ true → Holds side to
   zero_right_is_sound [] (LessDef (Binary e) (Plain x)) h =
       let h1 : (have_one_type (Binary e) (Plain x) && is_zero e.right) ≡ true = left_true _ (same_atom same_reg e.left x.atom) h in
-      let typed : have_one_type (Binary e) (Plain x) ≡ true = left_true _ (is_zero e.right) h1 in
-      let both : (is_typed (Binary e) && is_typed (Plain x)) ≡ true = left_true _ (same_ty e.ty x.ty) typed in
-      let line : is_typed (Binary e) ≡ true = left_true _ (is_typed (Plain x)) both in
-      let t : e.ty ≡ x.ty = same_ty_true e.ty x.ty (right_true (is_typed (Binary e) && is_typed (Plain x)) (same_ty e.ty x.ty) typed) in
+      let typed = one_type (Binary e) (Plain x) (left_true _ (is_zero e.right) h1) in
+      let t : e.ty ≡ x.ty = typed.type in
       let l : e.left ≡ x.atom = same_reg_atom_true e.left x.atom (right_true (have_one_type (Binary e) (Plain x) && is_zero e.right) (same_atom same_reg e.left x.atom) h) in
       let zero : is_zero e.right ≡ true = right_true (have_one_type (Binary e) (Plain x)) (is_zero e.right) h1 in
-      let less = zero_right_less e.op e.flags e.ty e.left e.right zero (right_true (is_atom_of e.ty e.left) (is_atom_of e.ty e.right) line) (left_true _ (is_atom_of e.ty e.right) line) in
+      let less = zero_right_less e.op e.flags e.ty e.left e.right zero typed.values
+      (right_true (atom_fits e.ty e.left) (atom_fits e.ty e.right) typed.left) (left_true (atom_fits e.ty e.left) (atom_fits e.ty e.right) typed.left) in
       (ap kind_of t, rw (← t, ← l) less)
   zero_right_is_sound [] (LessDef (Binary e) (Binary f)) h = cc
   zero_right_is_sound [] (LessDef (Plain a) b) h = cc
   zero_right_is_sound (x ∷ more) to h = cc
 
 pub row_is_sound : (rule : Rule) (scope : Scope) (schema : Schema) → takes_row rule scope schema ≡ true → IsSound scope schema
-row_is_sound Trans scope schema h side fine all = trans_is_sound side fine schema.from schema.to h all
-row_is_sound UndefConst scope schema h side fine all = undef_const_is_sound side fine schema.from schema.to h
-row_is_sound ZeroRight scope schema h side fine all = zero_right_is_sound side fine schema.from schema.to h
+row_is_sound Trans scope schema h side same fine all = trans_is_sound side fine schema.from schema.to h all
+row_is_sound UndefConst scope schema h side same fine all = undef_const_is_sound side fine schema.from schema.to h
+row_is_sound ZeroRight scope schema h side same fine all = zero_right_is_sound side fine schema.from schema.to h

@@ -1,49 +1,34 @@
 -- What the shipped rules take, as tests that compute. A fact `a >= b` says that a is less defined than b.
-use Rattle.std.specs.Prelude.{ℕ, ◌^◌, Bool, true, false, ◌&&◌, not, nat_lt, nat_eq, List, [], ◌∷◌, codes}
+use Rattle.std.specs.Prelude.{ℕ, Bool, true, false, ◌&&◌, not, nat_eq, List, [], ◌∷◌, map, codes}
 use Rattle.std.specs.List.{list_any}
-use Rattle.ir_core.specs.declared.operands.Ty.{Ty}
-use Rattle.ir_core.specs.declared.operands.Ty.TheVariants as ty
-use Rattle.ir_core.specs.declared.operands.Const.{Const}
 use Rattle.ir_core.specs.declared.operands.Const.TheVariants as constant
 use Rattle.ir_core.specs.declared.operands.Atom.{Atom}
 use Rattle.ir_core.specs.declared.operands.Atom.TheVariants as atom
 use Rattle.ir_core.specs.declared.expressions.Reg.{Reg}
-use Rattle.ir_core.specs.declared.expressions.Expr0.{Expr0}
-use Rattle.ir_core.specs.declared.expressions.Expr0.TheVariants.{Plain, Binary}
-use Rattle.ir_core.specs.Types.{is_width}
+use Rattle.ir_core.specs.declared.expressions.Expr.TheVariants.{Plain, Binary}
+use Rattle.ir_core.specs.Expressions.{Expr0, type_of}
+use Rattle.ir_core.specs.Modules.{Scope}
 use Rattle.ir_core.specs.Same.{same_list, same_ty, same_atom, same_reg, same_expr}
 use Rattle.erhl_assert.specs.declared.facts.Fact.{Fact}
 use Rattle.erhl_assert.specs.declared.facts.Fact.TheVariants.{LessDef}
 use Rattle.erhl_assert.specs.declared.facts.Schema.{Schema}
-use Rattle.erhl_assert.specs.Facts.{Scope, type_of}
+use Rattle.erhl_assert.specs.Facts.{has_type, fits_constants}
+use Rattle.erhl_assert.specs.Steps.{Meaning, Rules}
 use Rattle.rule_base.specs.declared.shipped.Rule.{Rule}
 use Rattle.rule_base.specs.declared.shipped.Rule.TheVariants.{Trans, UndefConst, ZeroRight}
 
--- an integer type has 1 to 64 bits, and a number of iN lies below 2 to the N
-abbrev pub is_constant_of : Ty → Const → Bool
-is_constant_of (ty.Int width) (constant.Number n) = is_width width && nat_lt n (2 ^ width)
-is_constant_of (ty.Int width) constant.Undef = is_width width
-is_constant_of ty.Void c = false
-
--- the type has values, and a constant is one of it
-abbrev pub is_atom_of : Ty → Atom Reg → Bool
-is_atom_of t (atom.Constant c) = is_constant_of t c
-is_atom_of (ty.Int width) (atom.Register r) = is_width width
-is_atom_of ty.Void (atom.Register r) = false
-
--- the expression has a type
+-- the expression has a type, and its constants fit their stated types
 abbrev pub is_typed : Expr0 → Bool
-is_typed (Plain o) = is_atom_of o.ty o.atom
-is_typed (Binary e) = is_atom_of e.ty e.left && is_atom_of e.ty e.right
+is_typed e = has_type e && fits_constants e
 
--- both expressions have a type, and it is one type
+-- both expressions are so, and have one type
 abbrev pub have_one_type : Expr0 → Expr0 → Bool
 have_one_type a b = is_typed a && is_typed b && same_ty (type_of a) (type_of b)
 
 -- `a >= b, b >= c` to `a >= c`
 abbrev pub is_trans : List Fact → Fact → Bool
 is_trans (LessDef a b ∷ LessDef c d ∷ []) (LessDef e f) =
-    have_one_type a b && have_one_type c d && same_expr b c && same_expr e a && same_expr f d
+    have_one_type a b && have_one_type c d && same_expr same_reg b c && same_expr same_reg e a && same_expr same_reg f d
 is_trans [] to = false
 is_trans (x ∷ []) to = false
 is_trans (x ∷ y ∷ z ∷ more) to = false
@@ -92,3 +77,11 @@ abbrev pub takes_row : Rule → Scope → Schema → Bool
 takes_row Trans scope schema = is_trans schema.from schema.to
 takes_row UndefConst scope schema = is_undef_const schema.from schema.to
 takes_row ZeroRight scope schema = is_zero_right schema.from schema.to
+
+-- a shipped rule: its name, and what it takes
+abbrev pub meaning_of : Rule → Meaning
+meaning_of rule = record { name = name_of rule; takes = takes_row rule }
+
+-- the rules that are shipped, in the order of the table
+abbrev pub shipped_rules : Rules
+shipped_rules = map meaning_of (Trans ∷ UndefConst ∷ ZeroRight ∷ [])

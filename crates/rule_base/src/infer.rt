@@ -1,6 +1,7 @@
 ghost use Rattle.std.specs.Prelude.{◌≡◌, ℕ, List, Bool, true};
+ghost use Rattle.ir_core.specs.Modules.{Scope, scope_of};
 ghost use Rattle.erhl_assert.specs.declared.facts.Schema.{Schema};
-ghost use Rattle.erhl_assert.specs.Facts.{Scope, scope_of, IsSound};
+ghost use Rattle.erhl_assert.specs.Facts.{IsSound};
 
 use erhl_assert::Schema;
 use ir_core::Module;

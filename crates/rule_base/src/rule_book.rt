@@ -1,6 +1,6 @@
-ghost use Rattle.std.specs.Prelude.{◌≡◌, nat_eq};
+ghost use Rattle.std.specs.Prelude.{◌≡◌, cond, nat_eq};
 ghost use Rattle.ir_core.specs.Same.{same_list};
-ghost use Rattle.erhl_assert.specs.Facts.{scope_of};
+ghost use Rattle.ir_core.specs.Modules.{scope_of};
 ghost use Rattle.erhl_assert.specs.Steps.{rule_named, AreSound};
 ghost use Rattle.rule_base.specs.Book.{meanings_of, answer_of};
 
@@ -44,6 +44,18 @@ fn takes(rule: &Box<dyn InferRule>, module: &Module, schema: &Schema) -> bool
     rule.fits(module, schema)
 }
 
+fn answer_by(rule: &Box<dyn InferRule>, module: &Module, schema: &Schema) -> Answer
+    ensures { result ≡ cond
+        ((⟦<dyn InferRule as InferRule>⟧ rule.now.vtable).takes rule.now.value (scope_of «module».now) schema.now)
+        Answer.Fits Answer.Unfit }
+{
+    if takes(rule, module, schema) {
+        Answer::Fits
+    } else {
+        Answer::Unfit
+    }
+}
+
 impl RuleBook {
     pub fn new(rules: Vec<Box<dyn InferRule>>) -> RuleBook
         ensures { result.rules ≡ rules }
@@ -64,11 +76,7 @@ impl RuleBook {
     {
         for rule in &self.rules {
             if is_called(rule, name) {
-                return if takes(rule, module, schema) {
-                    Answer::Fits
-                } else {
-                    Answer::Unfit
-                };
+                return answer_by(rule, module, schema);
             }
         }
         Answer::Unknown

@@ -1,13 +1,12 @@
-ghost use Rattle.std.specs.Prelude.{◌≡◌, ◌^◌, true, nat_lt, [], ◌∷◌, map, Contains};
-ghost use Rattle.ir_core.specs.Types.{is_width};
-ghost use Rattle.erhl_assert.specs.Facts.{type_of};
+ghost use Rattle.std.specs.Prelude.{◌≡◌, true, [], ◌∷◌, map, Contains};
+ghost use Rattle.erhl_assert.specs.Facts.{has_values, has_type, constant_fits, atom_fits, fits_constants};
 ghost use Rattle.rule_base.specs.declared.shipped.Rule.{Rule};
-ghost use Rattle.rule_base.specs.Rows.{name_of, stand_apart, is_constant_of, is_atom_of, is_typed, have_one_type, is_trans, is_undef_const, is_zero_right, is_undef, is_constant, is_zero};
+ghost use Rattle.rule_base.specs.Rows.{name_of, stand_apart, is_typed, have_one_type, is_trans, is_undef_const, is_zero_right, is_undef, is_constant, is_zero};
 
 use crate::InferRule;
 use erhl_assert::{Fact, Schema};
 use ir_core::{
-    Atom, BinaryExpr, Const, Expr0, Module, Operand, Reg, Ty, same_expr, same_reg_atom, same_ty,
+    Atom, Const, Expr, Expr0, Module, Reg, Ty, fits, is_width, same_expr, same_reg_atom, same_ty,
 };
 
 /// The rules that are shipped.
@@ -59,68 +58,63 @@ pub fn rules_stand_in_the_table()
     ensures named_apart { stand_apart (map name_of Rule.ALL) ≡ true }
 {}
 
-fn is_width(width: u32) -> bool
-    ensures { result ≡ is_width width }
+fn has_values(ty: &Ty) -> bool
+    ensures { result ≡ has_values ty.now }
 {
-    1 <= width && width <= 64
-}
-
-fn is_number_of(width: u32, number: u64) -> bool
-    ensures { result ≡ nat_lt number (2 ^ width) }
-{
-    if width < 64 {
-        number < 1 << width
-    } else {
-        true
+    match ty {
+        Ty::Int(width) => is_width(*width),
+        Ty::Void => false,
     }
 }
 
-fn is_constant_of(ty: &Ty, constant: &Const) -> bool
-    ensures { result ≡ is_constant_of ty.now constant.now }
+fn has_type(expr: &Expr0) -> bool
+    ensures { result ≡ has_type expr.now }
+{
+    match expr {
+        Expr::Plain(operand) => has_values(&operand.ty),
+        Expr::Binary(binary) => has_values(&binary.ty),
+    }
+}
+
+fn constant_fits(ty: &Ty, constant: &Const) -> bool
+    ensures { result ≡ constant_fits ty.now constant.now }
 {
     match (ty, constant) {
-        (Ty::Int(width), Const::Number(number)) => is_width(*width)
-            && is_number_of(*width, *number),
-        (Ty::Int(width), Const::Undef) => is_width(*width),
+        (Ty::Int(width), Const::Number(number)) => fits(*number, *width),
+        (Ty::Int(_), Const::Undef) => true,
         (Ty::Void, _) => false,
     }
 }
 
-fn is_atom_of(ty: &Ty, atom: &Atom<Reg>) -> bool
-    ensures { result ≡ is_atom_of ty.now atom.now }
+fn atom_fits(ty: &Ty, atom: &Atom<Reg>) -> bool
+    ensures { result ≡ atom_fits ty.now atom.now }
 {
     match atom {
-        Atom::Constant(constant) => is_constant_of(ty, constant),
-        Atom::Register(_) => match ty {
-            Ty::Int(width) => is_width(*width),
-            Ty::Void => false,
-        },
+        Atom::Constant(constant) => constant_fits(ty, constant),
+        Atom::Register(_) => true,
+    }
+}
+
+fn fits_constants(expr: &Expr0) -> bool
+    ensures { result ≡ fits_constants expr.now }
+{
+    match expr {
+        Expr::Plain(operand) => atom_fits(&operand.ty, &operand.atom),
+        Expr::Binary(binary) => atom_fits(&binary.ty, &binary.left)
+            && atom_fits(&binary.ty, &binary.right),
     }
 }
 
 fn is_typed(expr: &Expr0) -> bool
     ensures { result ≡ is_typed expr.now }
 {
-    match expr {
-        Expr0::Plain(operand) => is_atom_of(&operand.ty, &operand.atom),
-        Expr0::Binary(binary) => is_atom_of(&binary.ty, &binary.left)
-            && is_atom_of(&binary.ty, &binary.right),
-    }
-}
-
-fn type_of(expr: &Expr0) -> &Ty
-    ensures { result.now ≡ type_of expr.now }
-{
-    match expr {
-        Expr0::Plain(operand) => &operand.ty,
-        Expr0::Binary(binary) => &binary.ty,
-    }
+    has_type(expr) && fits_constants(expr)
 }
 
 fn have_one_type(a: &Expr0, b: &Expr0) -> bool
     ensures { result ≡ have_one_type a.now b.now }
 {
-    is_typed(a) && is_typed(b) && same_ty(type_of(a), type_of(b))
+    is_typed(a) && is_typed(b) && same_ty(a.ty(), b.ty())
 }
 
 fn is_trans(from: &[Fact], to: &Fact) -> bool
@@ -163,7 +157,7 @@ fn is_undef_const(from: &[Fact], to: &Fact) -> bool
     }
     let Fact::LessDef(a, b) = to;
     match (a, b) {
-        (Expr0::Plain(undef), Expr0::Plain(other)) => {
+        (Expr::Plain(undef), Expr::Plain(other)) => {
             have_one_type(a, b) && is_undef(&undef.atom) && is_constant(&other.atom)
         }
         _ => false,
@@ -178,7 +172,7 @@ fn is_zero_right(from: &[Fact], to: &Fact) -> bool
     }
     let Fact::LessDef(a, b) = to;
     match (a, b) {
-        (Expr0::Binary(binary), Expr0::Plain(x)) => {
+        (Expr::Binary(binary), Expr::Plain(x)) => {
             have_one_type(a, b) && is_zero(&binary.right) && same_reg_atom(&binary.left, &x.atom)
         }
         _ => false,

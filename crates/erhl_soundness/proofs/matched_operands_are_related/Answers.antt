@@ -1,5 +1,5 @@
-use Rattle.erhl_soundness.proofs.Frames.{matched_related}
+use Rattle.erhl_soundness.proofs.Related.{operands_related}
 use Rattle.erhl_soundness.proofs.matched_operands_are_related.Goals as goal
 
 pub returns : goal.returns
-returns c = matched_related
+returns c = operands_related

@@ -1,10 +1,10 @@
 use Rattle.std.proofs.Common.{◌≡◌, drop}
 use Rattle.std.specs.List.{list_any}
 use Rattle.erhl_assert.specs.Matched.{now_operand, into_fact, meet}
-use Rattle.postcondition.specs.InLogic.{atom_in_logic}
+use Rattle.ir_core.specs.Expressions.{map_atom}
 use Rattle.postcondition.proofs.matching.some_leads_into.Given as goal
 
 abbrev pub invariant-loop-fact : goal.invariant-loop-fact
 invariant-loop-fact g l =
-    let leads = into_fact (λ d. meet l.diff l.kind (record { ty = l.s; atom = atom_in_logic g.R.InLogic.in_logic l.c }) d) (now_operand (record { ty = l.t; atom = l.b })) in
+    let leads = into_fact (λ d. meet l.diff l.kind (record { ty = l.s; atom = map_atom g.R.InLogic.in_logic l.c }) d) (now_operand (record { ty = l.t; atom = l.b })) in
     list_any leads (drop l.fact-index l.facts) ≡ list_any leads l.facts

@@ -1,4 +1,4 @@
-use Rattle.rule_base.proofs.Books.{sound_along}
+use Rattle.rule_base.specs.Books.{sound_along}
 use Rattle.rule_base.proofs.rule_book.book_is_sound.Goals as goal
 
 pub returns : goal.returns

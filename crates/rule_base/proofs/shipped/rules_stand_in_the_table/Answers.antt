@@ -7,3 +7,6 @@ returns-clause-table c = refl
 
 pub returns-clause-whole : goal.returns-clause-whole
 returns-clause-whole c = all_stand_there
+
+pub returns-clause-named_apart : goal.returns-clause-named_apart
+returns-clause-named_apart c = refl

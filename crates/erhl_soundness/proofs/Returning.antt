@@ -1,0 +1,52 @@
+-- The last terminator of a run: what the target's value shows, the source's shows too, or is undefined behaviour.
+use Rattle.std.proofs.Common.{◌≡◌, ◌⊎◌, ◌^◌, List, [], ◌∷◌, Option, None, Some, refl, sym, ap, ◌∙◌, subst, inl, inr}
+use Rattle.std.proofs.lemmas.Bool.{lt-ltb}
+use Rattle.ir_core.specs.declared.values.Value.{Value}
+use Rattle.ir_core.specs.declared.values.Value.TheVariants.{Num, Undef, Poison}
+use Rattle.ir_core.specs.declared.values.Kind.{Kind}
+use Rattle.ir_core.specs.declared.values.Kind.TheVariants.{Int}
+use Rattle.ir_values.specs.Values.{IsInKindOf}
+use Rattle.ir_machine.specs.declared.items.Item.{Item}
+use Rattle.ir_machine.specs.declared.items.Item.TheVariants.{Turn, Returned, Wrong}
+use Rattle.ir_machine.specs.declared.items.Shown.TheVariants as shown
+use Rattle.ir_machine.specs.declared.items.Choice.TheVariants.{Pick}
+use Rattle.ir_machine.specs.State.{no_world, Over}
+use Rattle.ir_machine.specs.Machine.{Asks, Chosen, Made, Follows, picked, return_step}
+use Rattle.erhl_assert.specs.Sides.{IsRelated}
+
+-- the result of a run
+abbrev pub result_step : Option Kind → Value → Asks
+result_step k v = return_step k v [] no_world
+
+abbrev pub wrong_made : Made
+wrong_made = record { told = []; items = Turn ∷ Wrong ∷ []; after = Over }
+
+-- it shows the turn first, and the run is over
+abbrev pub IsLast : Made → Type 0
+IsLast made = (more : List Item) × (made.items ≡ Turn ∷ more) × (made.after ≡ Over)
+
+last_of : (made : Made) (told : List Chosen) (more : List Item) → made ≡ record { told = told; items = Turn ∷ more; after = Over } → IsLast made
+last_of made told more e = (more, ap (λ (x : Made). x.items) e, ap (λ (x : Made). x.after) e)
+
+pub result_is_last : (k : Option Kind) (v : Value) (made : Made) → Follows (result_step k v) made → IsLast made
+result_is_last k Poison made h = last_of made [] (Wrong ∷ []) h
+result_is_last k (Num n) made h = last_of made [] (Returned (Some (shown.Num n)) ∷ []) h
+result_is_last None Undef made h = last_of made [] (Wrong ∷ []) h
+result_is_last (Some k) Undef made h =
+    last_of made (h.0 ∷ h.1.told) (Returned (Some (picked h.0)) ∷ [])
+    (h.4 ∙ ap (λ (x : Made). record { told = h.0 ∷ h.1.told; items = x.items; after = x.after }) h.3)
+
+-- a step of the source that does as the target's, or is undefined behaviour
+abbrev pub DoesAs : Option Kind → Value → Made → Type 0
+DoesAs k v made = ((other : Made) × Follows (result_step k v) other × (other.items ≡ made.items)) ⊎ Follows (result_step k v) wrong_made
+
+pub result_does_as : (k : Option Kind) (a b : Value) (made : Made) → IsRelated a b → IsInKindOf k b → Follows (result_step k b) made → DoesAs k a made
+result_does_as k Poison b made related kind h = inr refl
+result_does_as k (Num m) b made related kind h = inl (made, subst (λ v. Follows (result_step k v) made) related h, refl)
+result_does_as None Undef b made related kind h = inr refl
+result_does_as (Some k) Undef Poison made related kind h = absurd related
+result_does_as (Some k) Undef Undef made related kind h = inl (made, h, refl)
+result_does_as (Some (Int width)) Undef (Num n) made related kind h =
+    let more : Made = record { told = []; items = Turn ∷ Returned (Some (shown.Num n)) ∷ []; after = Over } in
+    let other : Made = record { told = Pick (shown.Num n) ∷ []; items = Turn ∷ Returned (Some (shown.Num n)) ∷ []; after = Over } in
+    inl (other, (Pick (shown.Num n), more, lt-ltb n (2 ^ width) kind, refl, refl), ap (λ (x : Made). x.items) (sym h))
