@@ -1,4 +1,4 @@
--- What a reader of JSON answers.
+-- Words of private functions. What a reader of JSON answers.
 use Rattle.std.specs.Prelude.{◌≡◌, Result, MatchResult, Option, Some, None}
 use Rattle.hint_format.specs.declared.fault.HintFault.{HintFault}
 use Rattle.hint_format.specs.declared.fault.HintFault.TheVariants.{NotOfTheFirstForm}

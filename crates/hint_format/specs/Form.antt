@@ -11,11 +11,11 @@ use Rattle.serde_json.specs.Written.{compact_text}
 use Rattle.ir_core.specs.declared.names.Name.{Name}
 use Rattle.ir_core.specs.declared.names.Sigil.{Sigil}
 use Rattle.ir_core.specs.declared.names.Sigil.TheVariants.{Local, Global}
-use Rattle.ir_core.specs.declared.expressions.Expr0.{Expr0}
+use Rattle.ir_core.specs.Expressions.{Expr0}
 use Rattle.ir_core.specs.Same.{same_name}
 use Rattle.ir_reader.specs.Expressions.{expression_of}
 use Rattle.ir_reader.specs.Names.{name_of}
-use Rattle.ir_printer.specs.Printed.{printed_name, printed_expr}
+use Rattle.ir_printer.specs.Printed.{printed_name, printed_expr, printed_register}
 use Rattle.erhl_assert.specs.declared.facts.Fact.{Fact}
 use Rattle.erhl_assert.specs.declared.facts.Fact.TheVariants.{LessDef}
 use Rattle.erhl_assert.specs.declared.facts.Schema.{Schema}
@@ -147,4 +147,4 @@ HintsOf bytes hints = IsUtf8 bytes × (option_and_then hints_of (read bytes) ≡
 
 -- a fact as a JSON array without spaces
 abbrev pub printed_fact : Fact → List ℕ
-printed_fact (LessDef a b) = compact_text (array (item (string (codes "ge")) (item (string (printed_expr a)) (item (string (printed_expr b)) no_items))))
+printed_fact (LessDef a b) = compact_text (array (item (string (codes "ge")) (item (string (printed_expr printed_register a)) (item (string (printed_expr printed_register b)) no_items))))

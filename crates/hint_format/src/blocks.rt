@@ -124,13 +124,26 @@ fn optional_steps(alloc: Global, value: &Value) -> Result<Seq<PlacedStep>, HintF
     }
 }
 
+/// Names that are let go by one call.
+struct Names<'a> {
+    set: IndexSet<&'a Name>,
+}
+
+impl<'a> Drop for Names<'a> {
+    fn drop(self) {
+        let Names { set: _ } = self;
+    }
+}
+
 /// No two of the blocks have one name.
 pub(crate) fn stand_apart(alloc: Global, blocks: &[HintBlock]) -> Result<bool, AllocError>
     ensures { IfOk result (λ apart. apart ≡ are_apart blocks.now) }
 {
-    let mut names = IndexSet::new(alloc);
+    let mut names = Names {
+        set: IndexSet::new(alloc),
+    };
     for block in blocks {
-        if !names.insert(&block.at)? {
+        if !names.set.insert(&block.at)? {
             return Ok(false);
         }
     }

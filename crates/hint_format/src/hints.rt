@@ -21,15 +21,26 @@ pub fn read_hints(alloc: Global, text: &[u8]) -> Result<Hints, HintFault>
     ensures refused { result ≡ Err HintFault.NotOfTheFirstForm → (hints : Hints) → ¬ HintsOf text.now hints }
 {
     let value = parse(alloc, text)?;
-    hints(alloc, &value)
+    hints(alloc, &value.json)
 }
 
-fn parse(alloc: Global, text: &[u8]) -> Result<Value, HintFault>
-    ensures ok { IfOk result (λ value. IsUtf8 text.now × (read text.now ≡ Some (view value))) }
+/// A value that is let go by one call.
+struct Parsed {
+    json: Value,
+}
+
+impl Drop for Parsed {
+    fn drop(self) {
+        let Parsed { json: _ } = self;
+    }
+}
+
+fn parse(alloc: Global, text: &[u8]) -> Result<Parsed, HintFault>
+    ensures ok { IfOk result (λ value. IsUtf8 text.now × (read text.now ≡ Some (view value.json))) }
     ensures refused { result ≡ Err HintFault.NotOfTheFirstForm → IsUtf8 text.now → read text.now ≡ None }
 {
     match Value::from_slice(alloc, text) {
-        Ok(value) => Ok(value),
+        Ok(json) => Ok(Parsed { json }),
         Err(error) => match error.classify() {
             Category::Memory => Err(HintFault::Memory),
             _ => Err(HintFault::NotOfTheFirstForm),

@@ -2,7 +2,7 @@ ghost use Rattle.std.specs.Prelude.{◌≡◌, IfOk, string_bytes};
 ghost use Rattle.serde_json.specs.Data.{string};
 ghost use Rattle.serde_json.specs.View.{view};
 ghost use Rattle.hint_format.specs.Form.{printed_fact};
-ghost use Rattle.ir_printer.specs.Printed.{printed_expr};
+ghost use Rattle.ir_printer.specs.Printed.{printed_expr, printed_register};
 
 use erhl_assert::Fact;
 use ir_core::Expr0;
@@ -26,7 +26,7 @@ pub fn print_fact(alloc: Global, fact: &Fact) -> Result<Vec<u8>, AllocError>
 }
 
 fn text_value(alloc: Global, expr: &Expr0) -> Result<Value, AllocError>
-    ensures { IfOk result (λ value. view value ≡ string (printed_expr expr.now)) }
+    ensures { IfOk result (λ value. view value ≡ string (printed_expr printed_register expr.now)) }
 {
     match String::from_utf8(print_expr(alloc, expr)?) {
         Ok(text) => Ok(Value::String(text)),

@@ -4,9 +4,8 @@ use Rattle.std.specs.Prelude.{nat_le, nat_lt, if◌then◌else◌}
 use Rattle.std.specs.Fmt.{decimal, digits}
 use Rattle.std.proofs.lemmas.Bool.{and_parts, cond_both, cond-true, leb-true, le-leb, lt-ltb}
 use Rattle.std.proofs.lemmas.List.{append-nil}
-use Rattle.ir_core.specs.declared.expressions.BinaryExpr.{BinaryExpr}
-use Rattle.ir_core.specs.declared.expressions.Expr0.{Expr0}
-use Rattle.ir_core.specs.declared.expressions.Expr0.TheVariants.{Plain, Binary}
+use Rattle.ir_core.specs.declared.expressions.Binary.{Binary}
+use Rattle.ir_core.specs.declared.expressions.Expr.TheVariants as expr
 use Rattle.ir_core.specs.declared.expressions.Reg.{Reg}
 use Rattle.ir_core.specs.declared.expressions.Reg.TheVariants.{Now, Old, Ghost}
 use Rattle.ir_core.specs.declared.names.Sigil.TheVariants.{Local}
@@ -16,6 +15,7 @@ use Rattle.ir_core.specs.declared.operands.BinOp.{BinOp}
 use Rattle.ir_core.specs.declared.operands.BinOp.TheVariants.{Add, Sub}
 use Rattle.ir_core.specs.declared.operands.Const.TheVariants as const
 use Rattle.ir_core.specs.declared.operands.Operand.{Operand}
+use Rattle.ir_core.specs.Words as words
 use Rattle.ir_lexer.specs.declared.token.Number.{Number}
 use Rattle.ir_lexer.specs.declared.token.TokenKind.{TokenKind}
 use Rattle.ir_lexer.specs.declared.token.TokenKind.TheVariants as kind
@@ -25,13 +25,13 @@ use Rattle.ir_spelling.specs.declared.texts.FlagWord.TheVariants.{Nuw, Nsw}
 use Rattle.ir_spelling.specs.declared.texts.OperationText.{OperationText}
 use Rattle.ir_spelling.specs.declared.texts.ValueText.{ValueText}
 use Rattle.ir_spelling.specs.declared.texts.ValueText.TheVariants as text
-use Rattle.ir_spelling.specs.Expressions.{IsNow, SpellsExpression, expression, i32}
+use Rattle.ir_spelling.specs.Expressions.{IsNow, SpellsExpression}
 use Rattle.ir_spelling.specs.Grammar as grammar
 use Rattle.ir_spelling.specs.Operations.{flags_of}
-use Rattle.ir_spelling.specs.Reading.{◌>>=◌, tokens_of}
-use Rattle.ir_spelling.specs.Values.{kept}
-use Rattle.ir_spelling.proofs.Alone.{expression_again}
-use Rattle.ir_printer.specs.Printed.{is_negative, name_text, printed_atom, printed_binary, printed_expr, printed_flags, printed_op, printed_operand, printed_type, signed_text}
+use Rattle.ir_spelling.specs.Reading.{tokens_of}
+use Rattle.ir_spelling.specs.Values.{i32, kept}
+use Rattle.ir_spelling.proofs.Alone.{expression_once}
+use Rattle.ir_printer.specs.Printed.{is_negative, name_text, printed_atom, printed_binary, printed_expr, printed_flags, printed_op, printed_operand, printed_register, printed_type, signed_text, spaced}
 use Rattle.hint_laws.specs.Laws.{IsWritableAtom, IsWritableExpression, PrintedExpressionsAreRead, PrintedExpressionsAreApart}
 use Rattle.hint_laws.proofs.Decimals.{decimal_means}
 use Rattle.hint_laws.proofs.Lexed.{Lexes, stops}
@@ -56,32 +56,32 @@ unfolding plain
 op_first Add rest kinds lexes = one_run 97 (100 ∷ 100 ∷ []) (32 ∷ rest) (grammar.operator Add) kinds refl refl refl (lexed.spaced rest kinds lexes)
 op_first Sub rest kinds lexes = one_run 115 (117 ∷ 98 ∷ []) (32 ∷ rest) (grammar.operator Sub) kinds refl refl refl (lexed.spaced rest kinds lexes)
 
-nuw_first : (rest : List ℕ) (kinds : List TokenKind) → Lexes rest kinds → Lexes (codes "nuw " ++ rest) (grammar.flag Nuw ∷ kinds)
+nuw_first : (rest : List ℕ) (kinds : List TokenKind) → Lexes rest kinds → Lexes (spaced words.nuw_word ++ rest) (grammar.flag Nuw ∷ kinds)
 unfolding plain
 nuw_first rest kinds lexes = one_run 110 (117 ∷ 119 ∷ []) (32 ∷ rest) (grammar.flag Nuw) kinds refl refl refl (lexed.spaced rest kinds lexes)
 
-nsw_first : (rest : List ℕ) (kinds : List TokenKind) → Lexes rest kinds → Lexes (codes "nsw " ++ rest) (grammar.flag Nsw ∷ kinds)
+nsw_first : (rest : List ℕ) (kinds : List TokenKind) → Lexes rest kinds → Lexes (spaced words.nsw_word ++ rest) (grammar.flag Nsw ∷ kinds)
 unfolding plain
 nsw_first rest kinds lexes = one_run 110 (115 ∷ 119 ∷ []) (32 ∷ rest) (grammar.flag Nsw) kinds refl refl refl (lexed.spaced rest kinds lexes)
 
-undef_first : (rest : List ℕ) (kinds : List TokenKind) → stops goes_on rest ≡ true → Lexes rest kinds → Lexes (codes "undef" ++ rest) (grammar.value text.Undef ∷ kinds)
+undef_first : (rest : List ℕ) (kinds : List TokenKind) → stops goes_on rest ≡ true → Lexes rest kinds → Lexes (words.undef_word ++ rest) (grammar.value text.Undef ∷ kinds)
 unfolding plain
 undef_first rest kinds stop lexes = one_run 117 (110 ∷ 100 ∷ 101 ∷ 102 ∷ []) rest (grammar.value text.Undef) kinds refl refl stop lexes
 
 -- ---- flags
 
-abbrev words : Bool → Bool → List FlagWord
-words nuw nsw = (if nuw then Nuw ∷ [] else []) ++ (if nsw then Nsw ∷ [] else [])
+abbrev flag_words : Bool → Bool → List FlagWord
+flag_words nuw nsw = (if nuw then Nuw ∷ [] else []) ++ (if nsw then Nsw ∷ [] else [])
 
-words_mean : (nuw nsw : Bool) → record { nuw = nuw; nsw = nsw } ≡ flags_of (words nuw nsw)
+flag_words_mean : (nuw nsw : Bool) → record { nuw = nuw; nsw = nsw } ≡ flags_of (flag_words nuw nsw)
 unfolding flags_of
-words_mean true true = refl
-words_mean true false = refl
-words_mean false true = refl
-words_mean false false = refl
+flag_words_mean true true = refl
+flag_words_mean true false = refl
+flag_words_mean false true = refl
+flag_words_mean false false = refl
 
-flags_first : (nuw nsw : Bool) (rest : List ℕ) (kinds : List TokenKind) → Lexes rest kinds → Lexes (printed_flags (record { nuw = nuw; nsw = nsw }) ++ rest) (map grammar.flag (words nuw nsw) ++ kinds)
-flags_first true true rest kinds lexes = nuw_first (codes "nsw " ++ rest) (grammar.flag Nsw ∷ kinds) (nsw_first rest kinds lexes)
+flags_first : (nuw nsw : Bool) (rest : List ℕ) (kinds : List TokenKind) → Lexes rest kinds → Lexes (printed_flags (record { nuw = nuw; nsw = nsw }) ++ rest) (map grammar.flag (flag_words nuw nsw) ++ kinds)
+flags_first true true rest kinds lexes = nuw_first (spaced words.nsw_word ++ rest) (grammar.flag Nsw ∷ kinds) (nsw_first rest kinds lexes)
 flags_first true false rest kinds lexes = nuw_first rest kinds lexes
 flags_first false true rest kinds lexes = nsw_first rest kinds lexes
 flags_first false false rest kinds lexes = lexes
@@ -92,7 +92,7 @@ flags_first false false rest kinds lexes = lexes
 record Read (atom : Atom Reg) (rest : List ℕ) (kinds : List TokenKind) : Type 0 where
   value : ValueText
   now : IsNow value atom
-  lexes : Lexes (printed_atom i32 atom ++ rest) (grammar.value value ∷ kinds)
+  lexes : Lexes (printed_atom printed_register i32 atom ++ rest) (grammar.value value ∷ kinds)
 
 positive_kept : (n : ℕ) → n < 2 ^ 32 → kept (record { negative = false; magnitude = n }) ≡ Some n
 positive_kept n small = cond-true _ _ _ (lt-ltb n (2 ^ 32) small)
@@ -138,7 +138,7 @@ value_first (Constant const.Undef) rest kinds small stop lexes =
 value_first (Register (Now name)) rest kinds writable stop lexes =
     record {
       value = text.Local name;
-      now = refl;
+      now = (Now name, refl, refl);
       lexes = lexed.name Local name (name_text name) rest kinds (name_found name rest writable (run_stops rest stop)) lexes;
     }
 value_first (Register (Old name)) rest kinds none stop lexes = absurd none
@@ -148,48 +148,42 @@ value_first (Register (Ghost name)) rest kinds none stop lexes = absurd none
 value_last : (atom : Atom Reg) → IsWritableAtom atom → Read atom [] []
 value_last atom writable = value_first atom [] [] writable refl lexed.nothing
 
-last_lexes : (atom : Atom Reg) (r : Read atom [] []) → Lexes (printed_atom i32 atom) (grammar.value r.value ∷ [])
-last_lexes atom r = subst (λ bytes. Lexes bytes (grammar.value r.value ∷ [])) (append-nil (printed_atom i32 atom)) r.lexes
+last_lexes : (atom : Atom Reg) (r : Read atom [] []) → Lexes (printed_atom printed_register i32 atom) (grammar.value r.value ∷ [])
+last_lexes atom r = subst (λ bytes. Lexes bytes (grammar.value r.value ∷ [])) (append-nil (printed_atom printed_register i32 atom)) r.lexes
 
 -- ---- expressions
 
-plain_read : (operand : Operand Reg) → IsWritableExpression (Plain operand) → SpellsExpression (printed_expr (Plain operand)) (Plain operand)
+plain_read : (operand : Operand Reg) → IsWritableExpression (expr.Plain operand) → SpellsExpression (printed_expr printed_register (expr.Plain operand)) (expr.Plain operand)
 plain_read operand writable =
     let r = value_last operand.atom writable.1 in
-    let text : printed_operand operand ≡ printed_type i32 ++ 32 ∷ printed_atom i32 operand.atom =
-    ap (λ ty. printed_type ty ++ 32 ∷ printed_atom ty operand.atom) writable.0 in
-    let lexes = i32_first (printed_atom i32 operand.atom) (grammar.value r.value ∷ []) (last_lexes operand.atom r) in
+    let text : printed_operand printed_register operand ≡ printed_type i32 ++ 32 ∷ printed_atom printed_register i32 operand.atom =
+    ap (λ ty. printed_type ty ++ 32 ∷ printed_atom printed_register ty operand.atom) writable.0 in
+    let lexes = i32_first (printed_atom printed_register i32 operand.atom) (grammar.value r.value ∷ []) (last_lexes operand.atom r) in
     (grammar.i32_word ∷ grammar.value r.value ∷ [], ap tokens_of text ∙ lexes.at 0, (r.value, refl, writable.0, r.now))
 
-binary_read : (b : BinaryExpr) → IsWritableExpression (Binary b) → SpellsExpression (printed_expr (Binary b)) (Binary b)
+binary_read : (b : Binary Reg) → IsWritableExpression (expr.Binary b) → SpellsExpression (printed_expr printed_register (expr.Binary b)) (expr.Binary b)
 binary_read b writable =
-    let right = value_last b.right writable.2 in
-    let behind_left = codes ", " ++ printed_atom i32 b.right in
-    let comma_first = lexed.comma (32 ∷ printed_atom i32 b.right) (grammar.value right.value ∷ [])
-    (lexed.spaced (printed_atom i32 b.right) (grammar.value right.value ∷ []) (last_lexes b.right right)) in
-    let left = value_first b.left behind_left (grammar.comma ∷ grammar.value right.value ∷ []) writable.1 refl comma_first in
+    let right = value_last b.right writable.1.1 in
+    let behind_left = codes ", " ++ printed_atom printed_register i32 b.right in
+    let comma_first = lexed.comma (32 ∷ printed_atom printed_register i32 b.right) (grammar.value right.value ∷ [])
+    (lexed.spaced (printed_atom printed_register i32 b.right) (grammar.value right.value ∷ []) (last_lexes b.right right)) in
+    let left = value_first b.left behind_left (grammar.comma ∷ grammar.value right.value ∷ []) writable.1.0 refl comma_first in
     let values = grammar.value left.value ∷ grammar.comma ∷ grammar.value right.value ∷ [] in
-    let operands = printed_type i32 ++ (32 ∷ (printed_atom i32 b.left ++ behind_left)) in
-    let operands_lex = i32_first (printed_atom i32 b.left ++ behind_left) values left.lexes in
+    let operands = printed_type i32 ++ (32 ∷ (printed_atom printed_register i32 b.left ++ behind_left)) in
+    let operands_lex = i32_first (printed_atom printed_register i32 b.left ++ behind_left) values left.lexes in
     let flags_lex = flags_first b.flags.nuw b.flags.nsw operands (grammar.i32_word ∷ values) operands_lex in
-    let o : OperationText = record { op = b.op; flags = words b.flags.nuw b.flags.nsw; left = left.value; right = right.value } in
+    let o : OperationText = record { op = b.op; flags = flag_words b.flags.nuw b.flags.nsw; left = left.value; right = right.value } in
     let lexes = op_first b.op (printed_flags b.flags ++ operands) (map grammar.flag o.flags ++ (grammar.i32_word ∷ values)) flags_lex in
-    let text : printed_binary b ≡ printed_op b.op ++ (printed_flags b.flags ++ operands) =
-    ap (λ ty. printed_op b.op ++ (printed_flags b.flags ++ (printed_type ty ++ (32 ∷ (printed_atom ty b.left ++ (codes ", " ++ printed_atom ty b.right)))))) writable.0 in
-    (grammar.operation o, ap tokens_of text ∙ lexes.at 0, (o, refl, refl, words_mean b.flags.nuw b.flags.nsw, writable.0, left.now, right.now))
+    let text : printed_binary printed_register b ≡ printed_op b.op ++ (printed_flags b.flags ++ operands) =
+    ap (λ ty. printed_op b.op ++ (printed_flags b.flags ++ (printed_type ty ++ (32 ∷ (printed_atom printed_register ty b.left ++ (codes ", " ++ printed_atom printed_register ty b.right)))))) writable.0 in
+    (grammar.operation o, ap tokens_of text ∙ lexes.at 0, (o, refl, (refl, flag_words_mean b.flags.nuw b.flags.nsw, writable.0, left.now, right.now)))
 
 pub printed_expressions_are_read : PrintedExpressionsAreRead
-printed_expressions_are_read (Plain operand) writable = plain_read operand writable
-printed_expressions_are_read (Binary b) writable = binary_read b writable
-
--- what is spelled is what its tokens are read as
-spelled_reads : (bytes : List ℕ) (e : Expr0) → SpellsExpression bytes e → tokens_of bytes >>= expression ≡ Some e
-spelled_reads bytes e spelled = ap (λ kinds. kinds >>= expression) spelled.1 ∙ expression_again spelled.0 e spelled.2
+printed_expressions_are_read (expr.Plain operand) writable = plain_read operand writable
+printed_expressions_are_read (expr.Binary b) writable = binary_read b writable
 
 pub printed_expressions_are_apart : PrintedExpressionsAreApart
 printed_expressions_are_apart a b a_writable b_writable same =
-    let one : Some a ≡ Some b =
-    sym (spelled_reads (printed_expr a) a (printed_expressions_are_read a a_writable))
-    ∙ ap (λ bytes. tokens_of bytes >>= expression) same
-    ∙ spelled_reads (printed_expr b) b (printed_expressions_are_read b b_writable) in
-    cc
+    expression_once (printed_expr printed_register b) a b
+    (subst (λ bytes. SpellsExpression bytes a) same (printed_expressions_are_read a a_writable))
+    (printed_expressions_are_read b b_writable)

@@ -13,10 +13,10 @@ use Rattle.serde_json.specs.Data.{Data, string, array, no_items, item}
 use Rattle.serde_json.specs.Read.{max_depth, of_json, read}
 use Rattle.serde_json.specs.Written.{compact_text, outline}
 use Rattle.serde_json.proofs.Texts.{print-outline}
-use Rattle.ir_core.specs.declared.expressions.Expr0.{Expr0}
+use Rattle.ir_core.specs.Expressions.{Expr0}
 use Rattle.ir_spelling.specs.Expressions.{expression_of}
 use Rattle.ir_spelling.proofs.Alone.{expressions}
-use Rattle.ir_printer.specs.Printed.{printed_expr}
+use Rattle.ir_printer.specs.Printed.{printed_expr, printed_register}
 use Rattle.erhl_assert.specs.declared.facts.Fact.TheVariants.{LessDef}
 use Rattle.hint_format.specs.Form.{expression_in, fact_of}
 use Rattle.hint_laws.specs.Laws.{IsWritableExpression, PrintedFactsAreRead}
@@ -50,8 +50,8 @@ three_read a b c =
     ap tokens (sym (print-outline (three a b c))) ∙ tokens-print written (three_printable a b c) in
     ap of_tokens cut ∙ three_tokens a b c
 
-expression_short : (e : Expr0) → IsWritableExpression e → length (printed_expr e) ≤ 2 ^ 24 → expression_of (printed_expr e) ≡ Some e
-expression_short e writable short = (expressions (printed_expr e)).again e short (printed_expressions_are_read e writable)
+expression_short : (e : Expr0) → IsWritableExpression e → length (printed_expr printed_register e) ≤ 2 ^ 24 → expression_of (printed_expr printed_register e) ≡ Some e
+expression_short e writable short = (expressions (printed_expr printed_register e)).again e short (printed_expressions_are_read e writable)
 
 fact_read : (a b : List ℕ) (x y : Expr0) → expression_of a ≡ Some x → expression_of b ≡ Some y → fact_of (three (codes "ge") a b) ≡ Some (LessDef x y)
 fact_read a b x y left right =
@@ -60,6 +60,6 @@ fact_read a b x y left right =
 
 pub printed_facts_are_read : PrintedFactsAreRead
 printed_facts_are_read (LessDef a b) writable =
-    ap (option_and_then fact_of) (three_read (codes "ge") (printed_expr a) (printed_expr b))
-    ∙ fact_read (printed_expr a) (printed_expr b) a b
+    ap (option_and_then fact_of) (three_read (codes "ge") (printed_expr printed_register a) (printed_expr printed_register b))
+    ∙ fact_read (printed_expr printed_register a) (printed_expr printed_register b) a b
     (expression_short a writable.0.0 writable.0.1) (expression_short b writable.1.0 writable.1.1)

@@ -1,17 +1,14 @@
 -- A printed name is read as that name.
-use Rattle.std.proofs.Common.{◌≡◌, [], ◌∷◌, Some, refl, ap, sym, ◌∙◌}
+use Rattle.std.proofs.Common.{[], ◌∷◌, Some, refl, ap, sym, ◌∙◌, subst}
 use Rattle.std.specs.Prelude.{if◌then◌else◌, None, option_and_then}
 use Rattle.std.specs.Str.{bytes_eq}
 use Rattle.std.proofs.lemmas.Bool.{cond-true}
 use Rattle.std.proofs.lemmas.Slice.Eq.{bytes_eq-Decides}
 use Rattle.std.proofs.lemmas.List.{append-nil}
-use Rattle.ir_core.specs.declared.names.Name.{Name}
-use Rattle.ir_core.specs.declared.names.Sigil.{Sigil}
-use Rattle.ir_core.specs.declared.names.Sigil.TheVariants.{Local, Global}
-use Rattle.ir_spelling.specs.Grammar as grammar
+use Rattle.ir_spelling.specs.Names.{SpellsName}
 use Rattle.ir_spelling.specs.Reading.{tokens_of}
 use Rattle.ir_printer.specs.Printed.{name_text, sigil_byte, printed_name}
-use Rattle.ir_spelling.proofs.Alone.{names}
+use Rattle.ir_spelling.proofs.Alone.{name_once, names}
 use Rattle.hint_laws.specs.Laws.{PrintedNamesAreRead, PrintedNamesAreApart, PrintedNamesAreKeys}
 use Rattle.hint_laws.proofs.Lexed as lexed
 use Rattle.hint_laws.proofs.Names.{name_found}
@@ -21,13 +18,11 @@ printed_names_are_read sigil name writable =
     ap (λ text. tokens_of (sigil_byte sigil ∷ text)) (sym (append-nil (name_text name)))
     ∙ (lexed.name sigil name (name_text name) [] [] (name_found name [] writable refl) lexed.nothing).at 0
 
-one_name : (sigil : Sigil) (a b : Name) → Some (grammar.name sigil a ∷ []) ≡ Some (grammar.name sigil b ∷ []) → a ≡ b
-one_name Local a b same = cc
-one_name Global a b same = cc
-
 pub printed_names_are_apart : PrintedNamesAreApart
 printed_names_are_apart sigil a b a_writable b_writable same =
-    one_name sigil a b (sym (printed_names_are_read sigil a a_writable) ∙ ap tokens_of same ∙ printed_names_are_read sigil b b_writable)
+    name_once sigil (printed_name sigil b) a b
+    (subst (λ bytes. SpellsName sigil bytes a) same (printed_names_are_read sigil a a_writable))
+    (printed_names_are_read sigil b b_writable)
 
 pub printed_names_are_keys : PrintedNamesAreKeys
 printed_names_are_keys sigil name writable short =

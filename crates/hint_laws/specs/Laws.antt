@@ -2,8 +2,6 @@
 use Rattle.std.specs.Prelude.{◌≡◌, ◌<◌, ◌≤◌, ◌^◌, length, Some, option_and_then}
 use Rattle.std.specs.List.{AllByRecursion}
 use Rattle.serde_json.specs.Read.{read}
-use Rattle.ir_core.specs.declared.expressions.Expr0.{Expr0}
-use Rattle.ir_core.specs.declared.expressions.Expr0.TheVariants.{Plain, Binary}
 use Rattle.ir_core.specs.declared.expressions.Reg.{Reg}
 use Rattle.ir_core.specs.declared.expressions.Reg.TheVariants.{Now, Old, Ghost}
 use Rattle.ir_core.specs.declared.operands.Atom.{Atom}
@@ -11,10 +9,11 @@ use Rattle.ir_core.specs.declared.operands.Atom.TheVariants.{Constant, Register}
 use Rattle.ir_core.specs.declared.names.Name.{Name}
 use Rattle.ir_core.specs.declared.names.Name.TheVariants.{Text, Number}
 use Rattle.ir_core.specs.declared.names.Sigil.{Sigil}
-use Rattle.ir_spelling.specs.Expressions.{SpellsExpression, i32}
+use Rattle.ir_core.specs.Expressions.{Expr0}
+use Rattle.ir_spelling.specs.Expressions.{SpellsExpression}
 use Rattle.ir_spelling.specs.Names.{SpellsName}
-use Rattle.ir_spelling.specs.WellFormed.{IsI32}
-use Rattle.ir_printer.specs.Printed.{printed_name, printed_expr}
+use Rattle.ir_spelling.specs.WellFormed.{IsI32, IsOfI32}
+use Rattle.ir_printer.specs.Printed.{printed_name, printed_register, printed_expr}
 use Rattle.erhl_assert.specs.declared.facts.Fact.{Fact}
 use Rattle.erhl_assert.specs.declared.facts.Fact.TheVariants.{LessDef}
 use Rattle.hint_format.specs.Form.{exact_name, fact_of, printed_fact}
@@ -52,22 +51,21 @@ IsWritableAtom (Register r) = IsWritableRegister r
 
 -- an expression of i32 over such atoms
 abbrev pub IsWritableExpression : Expr0 → Type 0
-IsWritableExpression (Plain operand) = (operand.ty ≡ i32) × IsWritableAtom operand.atom
-IsWritableExpression (Binary b) = (b.ty ≡ i32) × IsWritableAtom b.left × IsWritableAtom b.right
+IsWritableExpression = IsOfI32 IsWritableAtom
 
 -- A printed expression spells that expression.
 abbrev pub PrintedExpressionsAreRead : Type 0
-PrintedExpressionsAreRead = (e : Expr0) → IsWritableExpression e → SpellsExpression (printed_expr e) e
+PrintedExpressionsAreRead = (e : Expr0) → IsWritableExpression e → SpellsExpression (printed_expr printed_register e) e
 
 -- Two expressions with one printed text are one expression.
 abbrev pub PrintedExpressionsAreApart : Type 0
-PrintedExpressionsAreApart = (a b : Expr0) → IsWritableExpression a → IsWritableExpression b → printed_expr a ≡ printed_expr b → a ≡ b
+PrintedExpressionsAreApart = (a b : Expr0) → IsWritableExpression a → IsWritableExpression b → printed_expr printed_register a ≡ printed_expr printed_register b → a ≡ b
 
 -- ---- facts
 
 -- such an expression, printed in at most 2^24 bytes
 abbrev pub IsShort : Expr0 → Type 0
-IsShort e = IsWritableExpression e × (length (printed_expr e) ≤ 2 ^ 24)
+IsShort e = IsWritableExpression e × (length (printed_expr printed_register e) ≤ 2 ^ 24)
 
 abbrev pub IsWritableFact : Fact → Type 0
 IsWritableFact (LessDef a b) = IsShort a × IsShort b

@@ -1,7 +1,6 @@
 ghost use Rattle.std.specs.Prelude.{◌≡◌};
 ghost use Rattle.std.specs.Char.{is_ascii_digit};
 ghost use Rattle.std.specs.List.{list_all};
-ghost use Rattle.std.specs.Str.{bytes_eq};
 ghost use Rattle.ir_core.specs.Names.{is_name_byte};
 ghost use Rattle.ir_lexer.specs.Runs.{is_in_line};
 ghost use Rattle.ir_lexer.specs.Bytes.{is_blank, is_mark, begins_word, are_digits, begins_with_colon};
@@ -27,12 +26,6 @@ pub fn is_run_byte(byte: u8) -> bool
         || byte == b'_'
 }
 
-pub fn is_digit(byte: u8) -> bool
-    ensures { result ≡ is_ascii_digit byte }
-{
-    byte.is_ascii_digit()
-}
-
 /// Neither a line feed nor a carriage return.
 pub fn is_in_line(byte: u8) -> bool
     ensures { result ≡ is_in_line byte }
@@ -52,13 +45,6 @@ pub fn begins_word(byte: u8) -> bool
     ensures { result ≡ begins_word byte }
 {
     byte.is_ascii_alphabetic() || byte == b'_' || byte == b'.' || byte == b'$'
-}
-
-/// Whether the bytes are those of the text.
-pub fn are(bytes: &[u8], text: &[u8]) -> bool
-    ensures { result ≡ bytes_eq bytes.now text.now }
-{
-    bytes == text
 }
 
 fn are_all_digits(bytes: &[u8]) -> bool

@@ -169,7 +169,7 @@ fn is_dots(run: &[u8]) -> bool
     ensures value { result ≡ bytes_eq run.now (codes "...") }
     ensures len { IsTrue result → length run.now ≡ 3 }
 {
-    bytes::are(run, b"...")
+    run == b"...".as_slice()
 }
 
 fn word(alloc: Global, run: &[u8]) -> Result<Piece, AllocError>

@@ -1,5 +1,6 @@
 ghost use Rattle.std.specs.Prelude.{◌≡◌, [], ◌∷◌, length, ◌<◌, ◌≤◌, MatchOption, IfSome, option_map};
-ghost use Rattle.ir_lexer.specs.Runs.{run_at, digits_at, line_at, quoted_at};
+ghost use Rattle.std.specs.List.{prefix_len};
+ghost use Rattle.ir_lexer.specs.Runs.{belongs, run_at, digits_at, line_at, quoted_at};
 
 use crate::bytes;
 
@@ -11,18 +12,47 @@ pub fn split(text: &[u8]) -> Option<(u8, &[u8])>
     Some((*first, rest))
 }
 
+/// What the bytes of a front are.
+#[derive(Drop, Clone, Copy)]
+pub enum Front {
+    Run,
+    Digits,
+    Line,
+    Quoted,
+}
+
+fn belongs(front: Front, byte: u8) -> bool
+    ensures { result ≡ belongs front byte }
+{
+    match front {
+        Front::Run => bytes::is_run_byte(byte),
+        Front::Digits => byte.is_ascii_digit(),
+        Front::Line => bytes::is_in_line(byte),
+        Front::Quoted => !(byte == b'"'),
+    }
+}
+
+/// How many bytes at the front of the text belong to it.
+#[tactic(auto, using(crate::proofs::Fronts::fronts))]
+fn front_len(front: Front, text: &[u8]) -> usize
+    ensures len { result ≡ prefix_len (belongs front) text.now }
+    ensures within { result ≤ length text.now }
+{
+    for (len, byte) in text.iter().enumerate() {
+        if !belongs(front, *byte) {
+            return len;
+        }
+    }
+    text.len()
+}
+
 /// The longest run at the front of the text.
 #[tactic(auto, using(crate::proofs::Fronts::fronts), unfolding(crate::specs::Runs::run_at))]
 pub fn run_at(text: &[u8]) -> &[u8]
     ensures front { result.now ≡ run_at text.now }
     ensures within { length result.now ≤ length text.now }
 {
-    for (len, byte) in text.iter().enumerate() {
-        if !bytes::is_run_byte(*byte) {
-            return &text[..len];
-        }
-    }
-    text
+    &text[..front_len(Front::Run, text)]
 }
 
 /// The decimal digits at the front of the text.
@@ -31,12 +61,7 @@ pub fn digits_at(text: &[u8]) -> &[u8]
     ensures front { result.now ≡ digits_at text.now }
     ensures within { length result.now ≤ length text.now }
 {
-    for (len, byte) in text.iter().enumerate() {
-        if !bytes::is_digit(*byte) {
-            return &text[..len];
-        }
-    }
-    text
+    &text[..front_len(Front::Digits, text)]
 }
 
 /// The rest of the line, without its end.
@@ -45,12 +70,7 @@ pub fn line_at(text: &[u8]) -> &[u8]
     ensures front { result.now ≡ line_at text.now }
     ensures within { length result.now ≤ length text.now }
 {
-    for (len, byte) in text.iter().enumerate() {
-        if !bytes::is_in_line(*byte) {
-            return &text[..len];
-        }
-    }
-    text
+    &text[..front_len(Front::Line, text)]
 }
 
 /// What stands before the next quote, if there is one.
@@ -59,10 +79,10 @@ pub fn quoted_at(text: &[u8]) -> Option<&[u8]>
     ensures front { option_map (λ quoted. quoted.now) result ≡ quoted_at text.now }
     ensures within { IfSome result (λ quoted. length quoted.now < length text.now) }
 {
-    for (len, byte) in text.iter().enumerate() {
-        if *byte == b'"' {
-            return Some(&text[..len]);
-        }
+    let len = front_len(Front::Quoted, text);
+    if len < text.len() {
+        Some(&text[..len])
+    } else {
+        None
     }
-    None
 }

@@ -6,15 +6,37 @@ use ir_core::Name;
 use std::alloc::{AllocError, AllocFailed};
 
 /// A token, and the bytes that spell it: from `start` up to `end`, counted from 0.
-#[derive(Drop)]
 pub struct Token {
     pub kind: TokenKind,
     pub start: usize,
     pub end: usize,
 }
 
+impl Drop for Token {
+    fn drop(self) {
+        let Token {
+            kind: _,
+            start: _,
+            end: _,
+        } = self;
+    }
+}
+
+impl Token {
+    /// The token without its place.
+    pub fn into_kind(self) -> TokenKind
+        ensures { result ≡ self.kind }
+    {
+        let Token {
+            kind,
+            start: _,
+            end: _,
+        } = self;
+        kind
+    }
+}
+
 /// What a token is and says.
-#[derive(Drop)]
 pub enum TokenKind {
     /// `%x`, `%"x y"`, `%5`.
     Local(Name),
@@ -37,6 +59,24 @@ pub enum TokenKind {
     Text(Seq<u8>),
     /// One of `= , ( ) { } [ ] * < > |`.
     Mark(u8),
+}
+
+impl Drop for TokenKind {
+    fn drop(self) {
+        match self {
+            TokenKind::Local(_) => {}
+            TokenKind::Global(_) => {}
+            TokenKind::Attribute(_) => {}
+            TokenKind::Bang => {}
+            TokenKind::Metadata(_) => {}
+            TokenKind::Label(_) => {}
+            TokenKind::Dots => {}
+            TokenKind::Number(_) => {}
+            TokenKind::Word(_) => {}
+            TokenKind::Text(_) => {}
+            TokenKind::Mark(_) => {}
+        }
+    }
 }
 
 /// A number as it is written: its sign and its absolute value.

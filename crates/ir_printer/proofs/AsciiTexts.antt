@@ -9,7 +9,6 @@ use Rattle.std.specs.List.{list_all, flat_map}
 use Rattle.std.specs.Fmt.{digits_onto, digits, decimal, digit_glyph}
 use Rattle.ir_core.specs.declared.names.Name.{Name}
 use Rattle.ir_core.specs.declared.names.Name.TheVariants.{Text, Number}
-use Rattle.ir_core.specs.declared.names.Sigil.TheVariants.{Local}
 use Rattle.ir_core.specs.declared.operands.Ty.{Ty}
 use Rattle.ir_core.specs.declared.operands.Ty.TheVariants.{Int, Void}
 use Rattle.ir_core.specs.declared.operands.Const.{Const}
@@ -22,11 +21,12 @@ use Rattle.ir_core.specs.declared.operands.BinOp.TheVariants.{Add, Sub}
 use Rattle.ir_core.specs.declared.operands.Flags.{Flags}
 use Rattle.ir_core.specs.declared.expressions.Reg.{Reg}
 use Rattle.ir_core.specs.declared.expressions.Reg.TheVariants.{Now, Old, Ghost}
-use Rattle.ir_core.specs.declared.expressions.Expr0.{Expr0}
-use Rattle.ir_core.specs.declared.expressions.Expr0.TheVariants.{Plain, Binary}
-use Rattle.ir_core.specs.declared.expressions.BinaryExpr.{BinaryExpr}
+use Rattle.ir_core.specs.declared.expressions.Binary.{Binary}
+use Rattle.ir_core.specs.declared.expressions.Expr.{Expr}
+use Rattle.ir_core.specs.declared.expressions.Expr.TheVariants as expr
 use Rattle.ir_core.specs.Names.{is_name_byte, is_plain}
-use Rattle.ir_printer.specs.Printed.{hexadecimal_digit, escaped, quoted, name_text, printed_name, printed_type, is_negative, signed_text, number_text, printed_constant, printed_register, printed_atom, printed_operand, printed_op, printed_flags, printed_operands, printed_expr}
+use Rattle.ir_core.specs.Words.{void_word, false_word, true_word, undef_word, op_word, nuw_word, nsw_word}
+use Rattle.ir_printer.specs.Printed.{hexadecimal_digit, escaped, quoted, name_text, printed_local, printed_type, is_negative, signed_text, number_text, printed_constant, printed_register, printed_atom, printed_operand, spaced, printed_op, printed_flag, printed_flags, printed_operands, printed_expr}
 
 record Ascii (bs : List ℕ) : Type 0 where
   bytes : IsAscii bs
@@ -102,18 +102,18 @@ of_name_text : (name : Name) → Ascii (name_text name)
 of_name_text (Text bs) = of_choice (is_plain bs) bs (quoted bs) (λ h. of_name_bytes bs (both _ (list_all is_name_byte bs) h).1) (of_quoted bs)
 of_name_text (Number n) = of_decimal n
 
-of_name : (name : Name) → Ascii (printed_name Local name)
-of_name name = begun 37 (name_text name) (lit< tt) (of_name_text name)
+of_local : (name : Name) → Ascii (printed_local name)
+of_local name = begun 37 (name_text name) (lit< tt) (of_name_text name)
 
 of_type : (ty : Ty) → Ascii (printed_type ty)
 of_type (Int width) = begun 105 (decimal width) (lit< tt) (of_decimal width)
-of_type Void = of_small (codes "void") refl
+of_type Void = of_small (void_word) refl
 
-of_false : Ascii (codes "false")
-of_false = of_small (codes "false") refl
+of_false : Ascii (false_word)
+of_false = of_small (false_word) refl
 
-of_true : Ascii (codes "true")
-of_true = of_small (codes "true") refl
+of_true : Ascii (true_word)
+of_true = of_small (true_word) refl
 
 of_signed : (width n : ℕ) → Ascii (signed_text width n)
 of_signed width n = of_choice (is_negative width n) _ _ (λ _. begun 45 _ (lit< tt) (of_decimal (2 ^ width - n))) (of_decimal n)
@@ -124,7 +124,7 @@ of_number Void n = of_decimal n
 
 of_constant : (ty : Ty) (c : Const) → Ascii (printed_constant ty c)
 of_constant ty (const.Number n) = of_number ty n
-of_constant ty const.Undef = of_small (codes "undef") refl
+of_constant ty const.Undef = of_small (undef_word) refl
 
 of_old : Ascii (codes "old ")
 of_old = of_small (codes "old ") refl
@@ -133,40 +133,45 @@ of_ghost : Ascii (codes "ghost ")
 of_ghost = of_small (codes "ghost ") refl
 
 of_register : (r : Reg) → Ascii (printed_register r)
-of_register (Now name) = of_name name
-of_register (Old name) = append (codes "old ") (printed_name Local name) of_old (of_name name)
-of_register (Ghost name) = append (codes "ghost ") (printed_name Local name) of_ghost (of_name name)
+of_register (Now name) = of_local name
+of_register (Old name) = append (codes "old ") (printed_local name) of_old (of_local name)
+of_register (Ghost name) = append (codes "ghost ") (printed_local name) of_ghost (of_local name)
 
-of_atom : (ty : Ty) (atom : Atom Reg) → Ascii (printed_atom ty atom)
-of_atom ty (Constant c) = of_constant ty c
-of_atom ty (Register r) = of_register r
-
-of_operand : (o : Operand Reg) → Ascii (printed_operand o)
-of_operand o = append (printed_type o.ty) (32 ∷ printed_atom o.ty o.atom) (of_type o.ty) (begun 32 _ (lit< tt) (of_atom o.ty o.atom))
+of_spaced : (word : List ℕ) → list_all (λ b. nat_lt b 128) word ≡ true → Ascii (spaced word)
+of_spaced word small = append word (32 ∷ []) (of_small word small) (of_small (32 ∷ []) refl)
 
 of_op : (op : BinOp) → Ascii (printed_op op)
-of_op Add = of_small (codes "add ") refl
-of_op Sub = of_small (codes "sub ") refl
+of_op Add = of_spaced (op_word Add) refl
+of_op Sub = of_spaced (op_word Sub) refl
 
-of_nuw : Ascii (codes "nuw ")
-of_nuw = of_small (codes "nuw ") refl
+of_nuw : Ascii (spaced nuw_word)
+of_nuw = of_spaced nuw_word refl
 
-of_nsw : Ascii (codes "nsw ")
-of_nsw = of_small (codes "nsw ") refl
+of_nsw : Ascii (spaced nsw_word)
+of_nsw = of_spaced nsw_word refl
 
 of_flags : (flags : Flags) → Ascii (printed_flags flags)
-of_flags flags = append _ _ (of_choice flags.nuw (codes "nuw ") [] (λ _. of_nuw) empty) (of_choice flags.nsw (codes "nsw ") [] (λ _. of_nsw) empty)
+of_flags flags = append (printed_flag flags.nuw nuw_word) (printed_flag flags.nsw nsw_word) (of_choice flags.nuw (spaced nuw_word) [] (λ _. of_nuw) empty) (of_choice flags.nsw (spaced nsw_word) [] (λ _. of_nsw) empty)
 
 of_comma : Ascii (codes ", ")
 of_comma = of_small (codes ", ") refl
 
-of_operands : (b : BinaryExpr) → Ascii (printed_operands b)
-of_operands b = append (printed_type b.ty) _ (of_type b.ty) (begun 32 _ (lit< tt)
-    (append (printed_atom b.ty b.left) _ (of_atom b.ty b.left) (append (codes ", ") _ of_comma (of_atom b.ty b.right))))
+-- over registers of which each is printed so
+module _ {R : Type 0} (register : R → List ℕ) (of : (r : R) → Ascii (register r)) where
+  of_atom : (ty : Ty) (atom : Atom R) → Ascii (printed_atom register ty atom)
+  of_atom ty (Constant c) = of_constant ty c
+  of_atom ty (Register r) = of r
 
-of_expr_text : (e : Expr0) → Ascii (printed_expr e)
-of_expr_text (Plain operand) = of_operand operand
-of_expr_text (Binary b) = append (printed_op b.op) _ (of_op b.op) (append (printed_flags b.flags) (printed_operands b) (of_flags b.flags) (of_operands b))
+  of_operand : (o : Operand R) → Ascii (printed_operand register o)
+  of_operand o = append (printed_type o.ty) (32 ∷ printed_atom register o.ty o.atom) (of_type o.ty) (begun 32 _ (lit< tt) (of_atom o.ty o.atom))
 
-pub of_expr : (e : Expr0) → IsAscii (printed_expr e)
-of_expr e = (of_expr_text e).bytes
+  of_operands : (b : Binary R) → Ascii (printed_operands register b)
+  of_operands b = append (printed_type b.ty) _ (of_type b.ty) (begun 32 _ (lit< tt)
+      (append (printed_atom register b.ty b.left) _ (of_atom b.ty b.left) (append (codes ", ") _ of_comma (of_atom b.ty b.right))))
+
+  of_text : (e : Expr R) → Ascii (printed_expr register e)
+  of_text (expr.Plain operand) = of_operand operand
+  of_text (expr.Binary b) = append (printed_op b.op) _ (of_op b.op) (append (printed_flags b.flags) (printed_operands register b) (of_flags b.flags) (of_operands b))
+
+pub logic_is_ascii : (e : Expr Reg) → IsAscii (printed_expr printed_register e)
+logic_is_ascii e = (of_text printed_register of_register e).bytes

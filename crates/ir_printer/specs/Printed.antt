@@ -14,14 +14,14 @@ use Rattle.ir_core.specs.declared.operands.Atom.{Atom}
 use Rattle.ir_core.specs.declared.operands.Atom.TheVariants.{Constant, Register}
 use Rattle.ir_core.specs.declared.operands.Operand.{Operand}
 use Rattle.ir_core.specs.declared.operands.BinOp.{BinOp}
-use Rattle.ir_core.specs.declared.operands.BinOp.TheVariants.{Add, Sub}
 use Rattle.ir_core.specs.declared.operands.Flags.{Flags}
 use Rattle.ir_core.specs.declared.expressions.Reg.{Reg}
 use Rattle.ir_core.specs.declared.expressions.Reg.TheVariants.{Now, Old, Ghost}
-use Rattle.ir_core.specs.declared.expressions.Expr0.{Expr0}
-use Rattle.ir_core.specs.declared.expressions.Expr0.TheVariants.{Plain, Binary}
-use Rattle.ir_core.specs.declared.expressions.BinaryExpr.{BinaryExpr}
+use Rattle.ir_core.specs.declared.expressions.Binary.{Binary}
+use Rattle.ir_core.specs.declared.expressions.Expr.{Expr}
+use Rattle.ir_core.specs.declared.expressions.Expr.TheVariants as expr
 use Rattle.ir_core.specs.Names.{is_plain}
+use Rattle.ir_core.specs.Words.{void_word, false_word, true_word, undef_word, op_word, nuw_word, nsw_word}
 
 -- ---- names
 
@@ -52,7 +52,7 @@ printed_name sigil name = sigil_byte sigil ∷ name_text name
 
 abbrev pub printed_type : Ty → List ℕ
 printed_type (Int width) = 105 ∷ decimal width
-printed_type Void = codes "void"
+printed_type Void = void_word
 
 -- A number of so many bits is printed as a signed one: it is negative where its highest bit is set.
 abbrev pub is_negative : ℕ → ℕ → Bool
@@ -63,51 +63,58 @@ signed_text width n = if is_negative width n then 45 ∷ decimal (2 ^ width - n)
 
 -- a number of one bit is a truth value
 abbrev pub number_text : Ty → ℕ → List ℕ
-number_text (Int width) n = if width == 1 then (if n == 0 then codes "false" else codes "true") else signed_text width n
+number_text (Int width) n = if width == 1 then (if n == 0 then false_word else true_word) else signed_text width n
 number_text Void n = decimal n
 
 abbrev pub printed_constant : Ty → Const → List ℕ
 printed_constant ty (const.Number n) = number_text ty n
-printed_constant ty const.Undef = codes "undef"
+printed_constant ty const.Undef = undef_word
 
 -- ---- operands and expressions
 
+-- a register of a function
+abbrev pub printed_local : Name → List ℕ
+printed_local name = printed_name Local name
+
 -- a register of the logic
 abbrev pub printed_register : Reg → List ℕ
-printed_register (Now name) = printed_name Local name
-printed_register (Old name) = codes "old " ++ printed_name Local name
-printed_register (Ghost name) = codes "ghost " ++ printed_name Local name
+printed_register (Now name) = printed_local name
+printed_register (Old name) = codes "old " ++ printed_local name
+printed_register (Ghost name) = codes "ghost " ++ printed_local name
 
--- an atom without its type, by what a register is printed as
-abbrev pub printed_by : {R : Type 0} → (R → List ℕ) → Ty → Atom R → List ℕ
-printed_by register ty (Constant c) = printed_constant ty c
-printed_by register ty (Register r) = register r
+-- An atom without its type. This and what follows are over whatever registers there are, by what a register is printed as.
+abbrev pub printed_atom : {R : Type 0} → (R → List ℕ) → Ty → Atom R → List ℕ
+printed_atom register ty (Constant c) = printed_constant ty c
+printed_atom register ty (Register r) = register r
 
-abbrev pub printed_atom : Ty → Atom Reg → List ℕ
-printed_atom ty atom = printed_by printed_register ty atom
-
--- an atom of a function, whose registers are names
+-- an atom of a function
 abbrev pub printed_value : Ty → Atom Name → List ℕ
-printed_value ty atom = printed_by (λ name. printed_name Local name) ty atom
+printed_value ty atom = printed_atom printed_local ty atom
 
-abbrev pub printed_operand : Operand Reg → List ℕ
-printed_operand operand = printed_type operand.ty ++ 32 ∷ printed_atom operand.ty operand.atom
+abbrev pub printed_operand : {R : Type 0} → (R → List ℕ) → Operand R → List ℕ
+printed_operand register operand = printed_type operand.ty ++ 32 ∷ printed_atom register operand.ty operand.atom
+
+-- a word and a space
+abbrev pub spaced : List ℕ → List ℕ
+spaced word = word ++ 32 ∷ []
 
 abbrev pub printed_op : BinOp → List ℕ
-printed_op Add = codes "add "
-printed_op Sub = codes "sub "
+printed_op op = spaced (op_word op)
 
--- each followed by a space
+abbrev pub printed_flag : Bool → List ℕ → List ℕ
+printed_flag set word = if set then spaced word else []
+
 abbrev pub printed_flags : Flags → List ℕ
-printed_flags flags = (if flags.nuw then codes "nuw " else []) ++ (if flags.nsw then codes "nsw " else [])
+printed_flags flags = printed_flag flags.nuw nuw_word ++ printed_flag flags.nsw nsw_word
 
 -- the type, which stands once, and the two operands
-abbrev pub printed_operands : BinaryExpr → List ℕ
-printed_operands b = printed_type b.ty ++ (32 ∷ (printed_atom b.ty b.left ++ (codes ", " ++ printed_atom b.ty b.right)))
+abbrev pub printed_operands : {R : Type 0} → (R → List ℕ) → Binary R → List ℕ
+printed_operands register b = printed_type b.ty ++ (32 ∷ (printed_atom register b.ty b.left ++ (codes ", " ++ printed_atom register b.ty b.right)))
 
-abbrev pub printed_binary : BinaryExpr → List ℕ
-printed_binary b = printed_op b.op ++ (printed_flags b.flags ++ printed_operands b)
+abbrev pub printed_binary : {R : Type 0} → (R → List ℕ) → Binary R → List ℕ
+printed_binary register b = printed_op b.op ++ (printed_flags b.flags ++ printed_operands register b)
 
-abbrev pub printed_expr : Expr0 → List ℕ
-printed_expr (Plain operand) = printed_operand operand
-printed_expr (Binary binary) = printed_binary binary
+-- the right side of a line, or an expression of the logic
+abbrev pub printed_expr : {R : Type 0} → (R → List ℕ) → Expr R → List ℕ
+printed_expr register (expr.Plain operand) = printed_operand register operand
+printed_expr register (expr.Binary binary) = printed_binary register binary

@@ -5,8 +5,10 @@
 
 mod expressions;
 mod names;
+mod registers;
 mod values;
 
-pub use expressions::{print_expr, print_register, print_value};
+pub use expressions::{print_expr, print_right, print_value};
 pub use names::print_name;
+pub use registers::print_register;
 pub use values::print_type;

@@ -1,29 +1,26 @@
 ghost use Rattle.std.specs.Prelude.{◌≡◌, ◌<◌, ◌≤◌, ◌^◌, length, IfOk, IfErr, Some, None, Err};
-ghost use Rattle.ir_core.specs.declared.expressions.Expr0.{Expr0};
-ghost use Rattle.ir_spelling.specs.Expressions.{now_atom, plain, binary, expression, expression_of, SpellsExpression};
+ghost use Rattle.ir_core.specs.Expressions.{Expr0};
+ghost use Rattle.ir_spelling.specs.Expressions.{plain, binary, expression, expression_of, SpellsExpression};
 ghost use Rattle.ir_spelling.specs.Reading.{Reads};
 
 use crate::TextFault;
-use crate::operations::{flags_of, operation_at};
-use crate::terminals::{end_at, is_word, split};
-use crate::tokens::kinds_of;
-use crate::values::{kept, value_at};
-use ir_core::{Atom, BinaryExpr, Const, Expr0, Operand, Reg, Ty};
+use crate::atoms::{Means, atom_of, operation_of};
+use contents::Exact;
+use ir_core::{Expr, Expr0, Name, Operand, Reg, Ty};
 use ir_lexer::TokenKind;
-use ir_spelling::ValueText;
+use ir_parser::{end_at, is_i32, kinds_of, operation_at, split, value_at};
 use std::alloc::Global;
 
-/// What the written value is in an expression.
-fn now_atom(value: ValueText) -> Result<Atom<Reg>, TextFault>
-    ensures { Reads (λ atom. atom) result (now_atom value) }
-{
-    match value {
-        ValueText::Number(number) => match kept(number) {
-            Some(number) => Ok(Atom::Constant(Const::Number(number))),
-            None => Err(TextFault::NotOfTheFirstForm),
-        },
-        ValueText::Undef => Ok(Atom::Constant(Const::Undef)),
-        ValueText::Local(name) => Ok(Atom::Register(Reg::Now(name))),
+/// Names of registers as they are now.
+struct AsNow;
+
+impl Means<Reg> for AsNow {
+    ghost use Rattle.ir_spelling.specs.Expressions.{now};
+
+    ghost meaning = { λ _. now };
+
+    fn register(&self, alloc: Global, name: &Name) -> Result<Reg, TextFault> {
+        Ok(Reg::Now(name.copy(alloc)?))
     }
 }
 
@@ -34,9 +31,9 @@ fn plain(alloc: Global, kinds: &[TokenKind]) -> Result<Expr0, TextFault>
 {
     let (value, rest) = value_at(alloc, kinds)?;
     end_at(rest)?;
-    let atom = now_atom(value)?;
+    let atom = atom_of(alloc, &AsNow, &value)?;
     let ty = Ty::Int(32);
-    Ok(Expr0::Plain(Operand { ty, atom }))
+    Ok(Expr::Plain(Operand { ty, atom }))
 }
 
 /// `op flags i32 V, V`.
@@ -46,15 +43,7 @@ fn binary(alloc: Global, kinds: &[TokenKind]) -> Result<Expr0, TextFault>
 {
     let (operation, rest) = operation_at(alloc, kinds)?;
     end_at(rest)?;
-    let left = now_atom(operation.left)?;
-    let right = now_atom(operation.right)?;
-    Ok(Expr0::Binary(BinaryExpr {
-        op: operation.op,
-        flags: flags_of(operation.flags.as_slice()),
-        ty: Ty::Int(32),
-        left,
-        right,
-    }))
+    operation_of(alloc, &AsNow, &operation)
 }
 
 /// The expression that the tokens are, all of them.
@@ -65,7 +54,7 @@ fn expression(alloc: Global, kinds: &[TokenKind]) -> Result<Expr0, TextFault>
     let Some((kind, rest)) = split(kinds) else {
         return Err(TextFault::NotOfTheFirstForm);
     };
-    if is_word(b"i32", kind) {
+    if is_i32(kind) {
         plain(alloc, rest)
     } else {
         binary(alloc, kinds)

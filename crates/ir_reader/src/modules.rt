@@ -7,10 +7,9 @@ ghost use Rattle.ir_spelling.specs.Spells.{Spells, HasFirstForm};
 ghost use Rattle.ir_spelling.specs.WellFormed.{IsWellFormed};
 
 use crate::TextFault;
-use crate::definitions::definition_at;
 use crate::naming::ordered_module;
-use crate::tokens::kinds_of;
 use ir_core::Module;
+use ir_parser::{definition_at, kinds_of};
 use std::alloc::Global;
 
 /// The module that is read from the text, from the left.

@@ -4,11 +4,10 @@ ghost use Rattle.ir_spelling.specs.Names.{name_in, only_name, name_of, SpellsNam
 ghost use Rattle.ir_spelling.specs.Reading.{Reads};
 
 use crate::TextFault;
-use crate::terminals::split;
-use crate::tokens::kinds_of;
 use contents::Exact;
 use ir_core::{Name, Sigil};
 use ir_lexer::TokenKind;
+use ir_parser::{kinds_of, split};
 use std::alloc::{AllocError, Global};
 
 fn name_in(alloc: Global, sigil: Sigil, kind: &TokenKind) -> Result<Option<Name>, AllocError>

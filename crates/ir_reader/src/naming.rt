@@ -1,43 +1,34 @@
 ghost use Rattle.std.specs.Prelude.{◌≡◌, [], ◌∷◌, IfOk, codes, nat_eq};
 ghost use Rattle.std.specs.List.{starts_with};
-ghost use Rattle.ir_spelling.specs.Modules.{value_in, param_in, function_name, module_from};
+ghost use Rattle.ir_spelling.specs.Modules.{param_in, function_name, module_from};
 ghost use Rattle.ir_spelling.specs.Ordered.{ordered_line, ordered_name, ordered_module};
 ghost use Rattle.ir_spelling.specs.Reading.{Reads};
 ghost use Rattle.ir_spelling.specs.Scopes.{each_in};
 ghost use Rattle.ir_spelling.specs.WellFormed.{is_debug};
 
 use crate::TextFault;
-use crate::operations::flags_of;
+use crate::atoms::{Means, atom_of, operation_of};
 use crate::scopes::{start, with_block, with_register};
-use crate::terminals::split;
-use crate::values::kept;
 use contents::{Exact, Seq};
-use ir_core::{
-    Atom, Binary, Block, Const, Function, Instr, Module, Name, Operand, Param, Term, Ty,
-};
-use ir_spelling::{DefinitionText, LineText, ParamText, Scope, ValueText};
+use ir_core::{Atom, Block, Calm, Function, Instr, Module, Name, Operand, Param, Term, Ty};
+use ir_parser::split;
+use ir_spelling::{DefinitionText, LineText, ParamText, Scope};
 use std::alloc::{AllocError, Global};
 
 /// The most lines of a function, `ret` among them.
 const LINE_LIMIT: usize = 1_048_576;
 
-/// What the written value is, where these names are defined.
-#[tactic(auto, unfolding(ir_spelling::specs::Modules::value_in))]
-fn value_in(alloc: Global, scope: &Scope, value: &ValueText) -> Result<Atom<Name>, TextFault>
-    ensures { Reads (λ atom. atom) result (value_in scope.now value.now) }
-{
-    match value {
-        ValueText::Number(number) => match kept(*number) {
-            Some(number) => Ok(Atom::Constant(Const::Number(number))),
-            None => Err(TextFault::NotOfTheFirstForm),
-        },
-        ValueText::Undef => Ok(Atom::Constant(Const::Undef)),
-        ValueText::Local(name) => {
-            if scope.registers.has(name) {
-                Ok(Atom::Register(name.copy(alloc)?))
-            } else {
-                Err(TextFault::NotOfTheFirstForm)
-            }
+/// The names that are defined.
+impl Means<Name> for Scope {
+    ghost use Rattle.ir_spelling.specs.Modules.{known};
+
+    ghost meaning = { known };
+
+    fn register(&self, alloc: Global, name: &Name) -> Result<Name, TextFault> {
+        if self.registers.has(name) {
+            Ok(name.copy(alloc)?)
+        } else {
+            Err(TextFault::NotOfTheFirstForm)
         }
     }
 }
@@ -55,23 +46,9 @@ fn param_in(alloc: Global, scope: Scope, param: &ParamText) -> Result<(Param, Sc
 fn ordered_line(alloc: Global, scope: Scope, line: &LineText) -> Result<(Instr, Scope), TextFault>
     ensures { Reads (λ parts. parts) result (ordered_line scope line.now) }
 {
-    let left = value_in(alloc, &scope, &line.operation.left)?;
-    let right = value_in(alloc, &scope, &line.operation.right)?;
+    let right = operation_of(alloc, &scope, &line.operation)?;
     let (name, scope) = with_register(alloc, scope, &line.register)?;
-    let op = line.operation.op;
-    let flags = flags_of(line.operation.flags.as_slice());
-    let ty = Ty::Int(32);
-    Ok((
-        Instr::Binary(Binary {
-            name,
-            op,
-            flags,
-            ty,
-            left,
-            right,
-        }),
-        scope,
-    ))
+    Ok((Instr::Calm(Calm { name, right }), scope))
 }
 
 fn params_in(
@@ -206,6 +183,6 @@ pub fn ordered_module(alloc: Global, definition: &DefinitionText) -> Result<Modu
     let (params, scope) = params_in(alloc, start(alloc), definition.params.as_slice())?;
     let (block, scope) = with_block(alloc, scope, &definition.label)?;
     let (body, scope) = ordered_lines(alloc, scope, definition.lines.as_slice())?;
-    let value = value_in(alloc, &scope, &definition.result)?;
+    let value = atom_of(alloc, &scope, &definition.result)?;
     Ok(module_from(alloc, name, params, block, body, value)?)
 }

@@ -65,19 +65,12 @@ fn due(alloc: Global, next: u64, written: &Option<Name>) -> Result<(Name, u64), 
 fn with_name(alloc: Global, scope: Scope, name: &Name, next: u64) -> Result<Scope, TextFault>
     ensures { Reads (λ it. it) result (with_name scope name.now next) }
 {
-    let Scope {
-        mut registers,
-        block,
-        ..
-    } = scope;
-    if is_block(name, &block) || !registers.add(alloc, name)? {
+    let mut scope = scope;
+    if is_block(name, &scope.block) || !scope.registers.add(alloc, name)? {
         return Err(TextFault::NotOfTheFirstForm);
     }
-    Ok(Scope {
-        next,
-        registers,
-        block,
-    })
+    scope.next = next;
+    Ok(scope)
 }
 
 /// Defines a parameter or a register.
@@ -108,13 +101,10 @@ fn with_block_name(alloc: Global, scope: Scope, name: &Name, next: u64) -> Resul
     if is_taken(&scope, name) {
         return Err(TextFault::NotOfTheFirstForm);
     }
-    let block = Some(name.copy(alloc)?);
-    let Scope { registers, .. } = scope;
-    Ok(Scope {
-        next,
-        registers,
-        block,
-    })
+    let mut scope = scope;
+    scope.block = Some(name.copy(alloc)?);
+    scope.next = next;
+    Ok(scope)
 }
 
 /// Defines the block.

@@ -1,9 +1,10 @@
 -- What is written is read again.
-use Rattle.std.proofs.Common.{◌≡◌, ℕ, suc, zero, ◌<◌, ◌≤◌, false, List, [], ◌∷◌, ◌++◌, length, drop, map, Option, Some, None, refl, ap, sym, ◌∙◌, append_assoc, arith, codes, length-append}
+use Rattle.std.proofs.Common.{◌≡◌, ℕ, suc, zero, ◌<◌, ◌≤◌, false, List, [], ◌∷◌, ◌++◌, length, drop, map, Option, Some, None, refl, ap, sym, ◌∙◌, append_assoc, arith, length-append}
 use Rattle.std.specs.List.{flat_map}
 use Rattle.ir_core.specs.declared.names.Name.{Name}
 use Rattle.ir_core.specs.declared.operands.BinOp.{BinOp}
 use Rattle.ir_core.specs.declared.operands.BinOp.TheVariants.{Add, Sub}
+use Rattle.ir_core.specs.Words as words
 use Rattle.ir_lexer.specs.declared.token.TokenKind.{TokenKind}
 use Rattle.ir_lexer.specs.declared.token.TokenKind.TheVariants as kind
 use Rattle.ir_spelling.specs.declared.texts.DefinitionText.{DefinitionText}
@@ -45,7 +46,7 @@ drop_flags : (fs : List FlagWord) (rest : List TokenKind) → drop (length fs) (
 drop_flags [] rest = refl
 drop_flags (f ∷ fs) rest = drop_flags fs rest
 
-word_again : (rest : List TokenKind) → word_at (codes "i32") (i32_word ∷ rest) ≡ Some rest
+word_again : (rest : List TokenKind) → word_at words.i32_word (i32_word ∷ rest) ≡ Some rest
 unfolding word_at
 word_again rest = refl
 
@@ -68,17 +69,12 @@ operation_again o rest =
     ap (λ kinds. operation_at (operator o.op ∷ kinds)) (append_assoc (map flag o.flags) (i32_word ∷ value o.left ∷ comma ∷ value o.right ∷ []) rest)
     ∙ operation_read o.op o.flags o.left o.right rest
 
-no_register : (op : BinOp) (rest : List TokenKind) → local_at (operator op ∷ rest) ≡ (None, operator op ∷ rest)
-unfolding local_at
-no_register Add rest = refl
-no_register Sub rest = refl
-
 line_from : (r : Option Name) (o : OperationText) (more : List TokenKind) → line_at ((register r ++ operation o) ++ more) ≡ Some (record { register = r; operation = o }, more)
 unfolding line_at local_at mark_at
-line_from None o more = rw (no_register o.op ((map flag o.flags ++ (i32_word ∷ value o.left ∷ comma ∷ value o.right ∷ [])) ++ more), operation_again o more) refl
+line_from None o more = rw (operation_again o more) refl
 line_from (Some name) o more = rw (operation_again o more) refl
 
-not_ret : (op : BinOp) → is_word (codes "ret") (operator op) ≡ false
+not_ret : (op : BinOp) → is_word words.ret_word (operator op) ≡ false
 not_ret Add = refl
 not_ret Sub = refl
 
@@ -119,7 +115,7 @@ unfolding next_line_at
 lines_again ls result =
     repeated_again next_line_at line (ending result) (i32_word ∷ value result ∷ kind.Mark 125 ∷ [])
     (λ l more. next_line_from l.register l.operation (flat_map line more ++ ending result)) refl
-    (length (flat_map line ls ++ ending result)) ls (fuel line ls (kind.Word (codes "ret")) (i32_word ∷ value result ∷ kind.Mark 125 ∷ []) (λ l. line_has_token l.register l.operation))
+    (length (flat_map line ls ++ ending result)) ls (fuel line ls (kind.Word words.ret_word) (i32_word ∷ value result ∷ kind.Mark 125 ∷ []) (λ l. line_has_token l.register l.operation))
 
 ending_again : (result : ValueText) → ending_at (i32_word ∷ value result ∷ kind.Mark 125 ∷ []) ≡ Some result
 unfolding ending_at word_at mark_at end_at
@@ -165,14 +161,9 @@ params_again [] rest = refl
 params_again (p ∷ ps) rest =
     ap params_at (append_assoc (param p) (flat_map next_param ps) (kind.Mark 41 ∷ rest)) ∙ params_from p ps rest
 
-no_label_operator : (op : BinOp) (rest : List TokenKind) → label_at (operator op ∷ rest) ≡ (None, operator op ∷ rest)
-unfolding label_at
-no_label_operator Add rest = refl
-no_label_operator Sub rest = refl
-
 no_label_from : (r : Option Name) (o : OperationText) (rest : List TokenKind) → label_at (((register r ++ operation o) ++ rest)) ≡ (None, (register r ++ operation o) ++ rest)
 unfolding label_at
-no_label_from None o rest = no_label_operator o.op _
+no_label_from None o rest = refl
 no_label_from (Some name) o rest = refl
 
 no_label : (ls : List LineText) (result : ValueText) → label_at (flat_map line ls ++ ending result) ≡ (None, flat_map line ls ++ ending result)
@@ -185,7 +176,7 @@ unfolding label_at
 label_again None more none = none
 label_again (Some name) more none = refl
 
-head_again : (name : Name) (rest : List TokenKind) → head_at (kind.Word (codes "define") ∷ i32_word ∷ kind.Global name ∷ kind.Mark 40 ∷ rest) ≡ Some (name, rest)
+head_again : (name : Name) (rest : List TokenKind) → head_at (kind.Word words.define_word ∷ i32_word ∷ kind.Global name ∷ kind.Mark 40 ∷ rest) ≡ Some (name, rest)
 unfolding head_at word_at global_at mark_at
 head_again name rest = refl
 

@@ -43,7 +43,7 @@ spelled : (bytes : List ℕ) (m : Module) → HowRead bytes m → Spells bytes m
 spelled bytes m how = record { definition = how.definition; tokens = how.tokens; names = (named_and_formed how.definition m how.names).0 }
 
 -- a text spells one module
-spelled_once : (bytes : List ℕ) (a b : Module) → Spells bytes a → Spells bytes b → a ≡ b
+pub spelled_once : (bytes : List ℕ) (a b : Module) → Spells bytes a → Spells bytes b → a ≡ b
 spelled_once bytes a b s t =
     let same : s.definition ≡ t.definition = some_is s.definition t.definition (sym (definition_again s.definition)
     ∙ sym (ap (λ kinds. kinds >>= definition_at) s.tokens)

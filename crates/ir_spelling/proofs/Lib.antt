@@ -1,5 +1,6 @@
 pub mod Again
 pub mod Alone
+pub mod Atoms
 pub mod Eaches
 pub mod FlagSteps
 pub mod Grammar

@@ -5,8 +5,10 @@ use Rattle.std.specs.Prelude.{nat_lt}
 use Rattle.std.proofs.lemmas.Bool.{le-ltb}
 use Rattle.std.proofs.lemmas.List.{append-nil}
 use Rattle.std.proofs.lemmas.List.Elements.{Contains-append_left, Contains-append_right, Contains-append_cases}
-use Rattle.ir_core.specs.declared.functions.Binary.{Binary}
+use Rattle.ir_core.specs.declared.expressions.Expr.{Expr}
+use Rattle.ir_core.specs.declared.expressions.Expr.TheVariants as expr
 use Rattle.ir_core.specs.declared.functions.Block.{Block}
+use Rattle.ir_core.specs.declared.functions.Calm.{Calm}
 use Rattle.ir_core.specs.declared.functions.Function.{Function}
 use Rattle.ir_core.specs.declared.functions.Instr.{Instr}
 use Rattle.ir_core.specs.declared.functions.Instr.TheVariants as instr
@@ -18,30 +20,25 @@ use Rattle.ir_core.specs.declared.functions.Term.TheVariants.{Ret}
 use Rattle.ir_core.specs.declared.names.Name.{Name}
 use Rattle.ir_core.specs.declared.names.Name.TheVariants.{Text, Number}
 use Rattle.ir_core.specs.declared.operands.Atom.{Atom}
-use Rattle.ir_core.specs.declared.operands.Atom.TheVariants.{Constant}
-use Rattle.ir_core.specs.declared.operands.BinOp.{BinOp}
-use Rattle.ir_core.specs.declared.operands.Const.TheVariants as const
-use Rattle.ir_core.specs.declared.operands.Flags.{Flags}
 use Rattle.ir_core.specs.declared.operands.Ty.{Ty}
 use Rattle.ir_core.specs.Same.{same_name}
 use Rattle.ir_core.proofs.SameLaws.{same_name_true}
 use Rattle.ir_spelling.specs.declared.scopes.Scope.{Scope}
 use Rattle.ir_spelling.specs.declared.texts.DefinitionText.{DefinitionText}
 use Rattle.ir_spelling.specs.declared.texts.LineText.{LineText}
+use Rattle.ir_spelling.specs.declared.texts.OperationText.{OperationText}
 use Rattle.ir_spelling.specs.declared.texts.ParamText.{ParamText}
 use Rattle.ir_spelling.specs.declared.texts.ValueText.{ValueText}
-use Rattle.ir_spelling.specs.declared.texts.ValueText.TheVariants as text
-use Rattle.ir_spelling.specs.Expressions.{i32}
-use Rattle.ir_spelling.specs.Modules.{function_name, line_of, module_from, param_in, value_in}
-use Rattle.ir_spelling.specs.Operations.{flags_of}
+use Rattle.ir_spelling.specs.Modules.{function_name, known, module_from, param_in, value_in}
+use Rattle.ir_spelling.specs.Operations.{IsOperation, operation_of}
 use Rattle.ir_spelling.specs.Order.{AreCounted, AreNew, Counts, params_of, register_of, registers_of}
 use Rattle.ir_spelling.specs.Ordered.{ordered_line, ordered_module, ordered_name}
 use Rattle.ir_spelling.specs.Scopes.{due, each_in, is_among, is_block, is_taken, start, with_block, with_register}
-use Rattle.ir_spelling.specs.Spells.{IsLine, IsNamed, IsParam, IsReturn, IsValue, Names}
-use Rattle.ir_spelling.specs.Values.{number_atom}
-use Rattle.ir_spelling.specs.WellFormed.{IsDefined, IsWellFormed, IsWellFormedFunction, LinesUseDefined, UsesDefined, is_debug}
+use Rattle.ir_spelling.specs.Spells.{IsLine, IsNamed, IsParam, IsReturn, IsValue, MeansOne, Names}
+use Rattle.ir_spelling.specs.Values.{i32}
+use Rattle.ir_spelling.specs.WellFormed.{IsDefined, IsOfI32, IsWellFormed, IsWellFormedFunction, LinesUseDefined, UsesDefined, is_debug}
+use Rattle.ir_spelling.proofs.Atoms.{atom_again, atom_once, operation_once, operation_read}
 use Rattle.ir_spelling.proofs.Order.{among_at, among_is, value_defined}
-use Rattle.ir_spelling.proofs.Tools.{some_is}
 
 -- ---- a definition names one module
 
@@ -57,11 +54,8 @@ name_once due_now (Some w) x y next further p q c e =
     let same : x ≡ y = p ∙ sym q in
     (same, counts_once due_now y next further (subst (λ n. Counts due_now n next) same c) e)
 
-value_once : (known others : List Name) (v : ValueText) (a b : Atom Name) → IsValue known v a → IsValue others v b → a ≡ b
-value_once known others (text.Number n) a b p q =
-    p.2 ∙ ap (λ v. Constant (const.Number v)) (some_is p.0 q.0 (sym p.1 ∙ q.1)) ∙ sym q.2
-value_once known others text.Undef a b p q = p ∙ sym q
-value_once known others (text.Local name) a b p q = p.1 ∙ sym q.1
+value_once : (registers others : List Name) (v : ValueText) (a b : Atom Name) → IsValue registers v a → IsValue others v b → a ≡ b
+value_once registers others = atom_once (MeansOne registers) (MeansOne others) (λ name r s p q. p.1 ∙ sym q.1)
 
 -- the names counted behind the parameters, in both
 pub record ParamsOnce (ps qs : List Param) (more others : List Name) (b c : ℕ) : Type 0 where
@@ -91,15 +85,10 @@ params_once (w ∷ ws) (p ∷ ps) (q ∷ qs) due_now more others b c zip also co
       also = rest.also;
     }
 
-binary_same : (a b : Binary) → a.name ≡ b.name → a.op ≡ b.op → a.flags ≡ b.flags → a.ty ≡ b.ty → a.left ≡ b.left → a.right ≡ b.right → a ≡ b
-binary_same a b name op flags ty left right =
-    let of : Name → BinOp → Flags → Ty → Atom Name → Atom Name → Binary = λ n o f t l r. record { name = n; op = o; flags = f; ty = t; left = l; right = r } in
-    ap (λ n. of n a.op a.flags a.ty a.left a.right) name
-    ∙ ap (λ o. of b.name o a.flags a.ty a.left a.right) op
-    ∙ ap (λ f. of b.name b.op f a.ty a.left a.right) flags
-    ∙ ap (λ t. of b.name b.op b.flags t a.left a.right) ty
-    ∙ ap (λ l. of b.name b.op b.flags b.ty l a.right) left
-    ∙ ap (λ r. of b.name b.op b.flags b.ty b.left r) right
+calm_same : (a b : Calm) → a.name ≡ b.name → a.right ≡ b.right → a ≡ b
+calm_same a b name right =
+    let of : Name → Expr Name → Calm = λ n r. record { name = n; right = r } in
+    ap (λ n. of n a.right) name ∙ ap (λ r. of b.name r) right
 
 lines_once : (known others : List Name) (ws : List LineText) (ls ms : List Instr) (due_now b c : ℕ) → AllZip (IsLine known) ws ls → AllZip (IsLine others) ws ms → AreCounted due_now (map register_of ls) b → AreCounted due_now (map register_of ms) c → ls ≡ ms
 lines_once known others [] [] [] due_now b c zip also counted further = refl
@@ -107,13 +96,13 @@ lines_once known others [] (l ∷ ls) ms due_now b c zip also counted further = 
 lines_once known others [] [] (m ∷ ms) due_now b c zip also counted further = absurd also
 lines_once known others (w ∷ ws) [] ms due_now b c zip also counted further = absurd zip
 lines_once known others (w ∷ ws) (l ∷ ls) [] due_now b c zip also counted further = absurd also
-lines_once known others (w ∷ ws) (instr.Binary l ∷ ls) (instr.Binary m ∷ ms) due_now b c zip also counted further =
+lines_once known others (w ∷ ws) (instr.Calm l ∷ ls) (instr.Calm m ∷ ms) due_now b c zip also counted further =
     let p = zip.0 in
     let q = also.0 in
     let one = name_once due_now w.register l.name m.name counted.0 further.0 p.0 q.0 counted.1 further.1 in
     let rest = lines_once known others ws ls ms counted.0 b c zip.1 also.1 counted.2 (subst (λ n. AreCounted n (map register_of ms) c) (sym one.1) further.2) in
-    let same = binary_same l m one.0 (p.1 ∙ sym q.1) (p.2 ∙ sym q.2) (p.3 ∙ sym q.3) (value_once known others w.operation.left l.left m.left p.4 q.4) (value_once known others w.operation.right l.right m.right p.5 q.5) in
-    ap (λ x. instr.Binary x ∷ ls) same ∙ ap (λ xs. instr.Binary m ∷ xs) rest
+    let right = operation_once (IsValue known) (IsValue others) (value_once known others) w.operation l.right m.right p.1 q.1 in
+    ap (λ x. instr.Calm x ∷ ls) (calm_same l m one.0 right) ∙ ap (λ xs. instr.Calm m ∷ xs) rest
 
 return_is : (known : List Name) (w : ValueText) (t : Term) → IsReturn known w t → (a : Atom Name) × IsValue known w a × (Ret (record { ty = i32; atom = a }) ≡ t)
 return_is known w (Ret operand) is = (operand.atom, is.1, ap (λ ty. Ret (record { ty = ty; atom = operand.atom })) (sym is.0))
@@ -235,26 +224,33 @@ params_read (w ∷ ws) scope (p ∷ ps) more count none zip new counted =
       counted = rest.counted;
     }
 
-value_read : (scope : Scope) (known : List Name) (v : ValueText) (atom : Atom Name) → IsValue known v atom → IsDefined scope.registers atom → value_in scope v ≡ Some atom
-unfolding value_in
-value_read scope known (text.Number n) atom is defined = ap (λ r. number_atom r) is.1 ∙ ap Some (sym is.2)
-value_read scope known text.Undef atom is defined = ap Some (sym is)
-value_read scope known (text.Local name) atom is defined =
-    let there : Contains scope.registers name = (let P : Atom Name → Type 0 = λ a. IsDefined scope.registers a in subst P is.1 defined) in
-    rw (among_at name scope.registers there.0 there.1 there.2) (ap Some (sym is.1))
+known_read : (scope : Scope) (name r : Name) → Contains scope.registers r → r ≡ name → known scope name ≡ Some r
+known_read scope name r there same =
+    let at : Contains scope.registers name = subst (Contains scope.registers) same there in
+    rw (among_at name scope.registers at.0 at.1 at.2) (ap Some (sym same))
 
-line_ordered : (scope : Scope) (w : LineText) (name : Name) (next : Scope) (left right : Atom Name) → value_in scope w.operation.left ≡ Some left → value_in scope w.operation.right ≡ Some right → with_register scope w.register ≡ Some (name, next) → ordered_line scope w ≡ Some (line_of name w.operation left right, next)
+value_read : (scope : Scope) (registers : List Name) (v : ValueText) (atom : Atom Name) → IsValue registers v atom → IsDefined scope.registers atom → value_in scope v ≡ Some atom
+value_read scope registers v atom is defined =
+    atom_again (known scope) (MeansOne registers) v atom
+    (λ name r means same. known_read scope name r (subst (IsDefined scope.registers) same defined) means.1)
+    is
+
+operation_ordered : (scope : Scope) (registers : List Name) (o : OperationText) (e : Expr Name) → IsOperation (IsValue registers) o e → IsOfI32 (IsDefined scope.registers) e → operation_of (value_in scope) o ≡ Some e
+operation_ordered scope registers o (expr.Plain operand) is uses = absurd is
+operation_ordered scope registers o (expr.Binary b) is uses =
+    operation_read (value_in scope) (IsValue registers) o b is
+    (value_read scope registers o.left b.left is.3 uses.1.0)
+    (value_read scope registers o.right b.right is.4 uses.1.1)
+
+line_ordered : (scope : Scope) (w : LineText) (name : Name) (next : Scope) (right : Expr Name) → operation_of (value_in scope) w.operation ≡ Some right → with_register scope w.register ≡ Some (name, next) → ordered_line scope w ≡ Some (instr.Calm (record { name = name; right = right }), next)
 unfolding ordered_line
-line_ordered scope w name next left right l r named = rw (l, r, named) refl
+line_ordered scope w name next right r named = rw (r, named) refl
 
-line_read : (scope : Scope) (known : List Name) (w : LineText) (line : Instr) (behind : ℕ) → IsLine known w line → UsesDefined scope.registers line → Counts scope.next (register_of line) behind → is_taken scope (register_of line) ≡ false → ordered_line scope w ≡ Some (line, record { next = behind; registers = scope.registers ++ register_of line ∷ []; block = scope.block })
-line_read scope known w (instr.Binary b) behind is uses counts free =
-    let after : Scope = record { next = behind; registers = scope.registers ++ b.name ∷ []; block = scope.block } in
-    line_ordered scope w b.name after b.left b.right
-    (value_read scope known w.operation.left b.left is.4 uses.1)
-    (value_read scope known w.operation.right b.right is.5 uses.2)
-    (registered scope w.register b.name behind is.0 counts free)
-    ∙ ap (λ x. Some (instr.Binary x, after)) (binary_same (record { name = b.name; op = w.operation.op; flags = flags_of w.operation.flags; ty = i32; left = b.left; right = b.right }) b refl (sym is.1) (sym is.2) (sym is.3) refl refl)
+line_read : (scope : Scope) (registers : List Name) (w : LineText) (line : Instr) (behind : ℕ) → IsLine registers w line → UsesDefined scope.registers line → Counts scope.next (register_of line) behind → is_taken scope (register_of line) ≡ false → ordered_line scope w ≡ Some (line, record { next = behind; registers = scope.registers ++ register_of line ∷ []; block = scope.block })
+line_read scope registers w (instr.Calm c) behind is uses counts free =
+    line_ordered scope w c.name (record { next = behind; registers = scope.registers ++ c.name ∷ []; block = scope.block }) c.right
+    (operation_ordered scope registers w.operation c.right is.1 uses)
+    (registered scope w.register c.name behind is.0 counts free)
 
 pub record LinesRead (scope : Scope) (ws : List LineText) (lines : List Instr) (front done : List Name) : Type 0 where
   pub next : Scope

@@ -1,9 +1,11 @@
 -- A module that is read is in order and well-formed.
-use Rattle.std.proofs.Common.{◌≡◌, ℕ, suc, zero, ◌+◌, ◌-◌, ◌%◌, ◌^◌, ◌<◌, Bool, true, false, cond, List, [], ◌∷◌, ◌++◌, length, map, get_or, Option, Some, None, ⊎_elim, refl, ap, sym, ◌∙◌, subst, append_assoc, arith, eqb-true, eq-eqb, ltb-true}
+use Rattle.std.proofs.Common.{◌≡◌, ℕ, suc, zero, ◌+◌, ◌-◌, ◌%◌, ◌^◌, ◌<◌, Bool, true, false, cond, List, [], ◌∷◌, ◌++◌, length, map, get_or, Option, Some, None, ⊎_elim, refl, ap, sym, ◌∙◌, subst, append_assoc, arith, eqb-true, ltb-true}
 use Rattle.std.specs.List.{AllByRecursion, AllZip, Contains}
 use Rattle.std.proofs.lemmas.Bool.{ltb-false, or_cases, or_parts, or_left, or_right}
 use Rattle.std.proofs.lemmas.List.{append-nil}
 use Rattle.std.proofs.lemmas.List.Elements.{Contains-append_left, Contains-append_right, Contains-append_cases}
+use Rattle.ir_core.specs.declared.expressions.Expr.{Expr}
+use Rattle.ir_core.specs.declared.expressions.Expr.TheVariants as expr
 use Rattle.ir_core.specs.declared.functions.Instr.{Instr}
 use Rattle.ir_core.specs.declared.functions.Instr.TheVariants as instr
 use Rattle.ir_core.specs.declared.functions.Module.{Module}
@@ -11,28 +13,28 @@ use Rattle.ir_core.specs.declared.functions.Param.{Param}
 use Rattle.ir_core.specs.declared.names.Name.{Name}
 use Rattle.ir_core.specs.declared.names.Name.TheVariants.{Text, Number}
 use Rattle.ir_core.specs.declared.operands.Atom.{Atom}
-use Rattle.ir_core.specs.declared.operands.Atom.TheVariants.{Constant, Register}
-use Rattle.ir_core.specs.declared.operands.Const.TheVariants as const
 use Rattle.std.specs.Prelude.{nat_eq, nat_le, nat_lt}
 use Rattle.ir_core.specs.Same.{same_name}
 use Rattle.ir_core.proofs.SameLaws.{same_name_true, same_name_refl}
-use Rattle.ir_spelling.specs.Expressions.{i32}
 use Rattle.ir_lexer.specs.declared.token.Number as lexed
 use Rattle.ir_spelling.specs.declared.scopes.Scope.{Scope}
 use Rattle.ir_spelling.specs.declared.texts.DefinitionText.{DefinitionText}
 use Rattle.ir_spelling.specs.declared.texts.LineText.{LineText}
+use Rattle.ir_spelling.specs.declared.texts.OperationText.{OperationText}
 use Rattle.ir_spelling.specs.declared.texts.ParamText.{ParamText}
 use Rattle.ir_spelling.specs.declared.texts.ValueText.{ValueText}
 use Rattle.ir_spelling.specs.declared.texts.ValueText.TheVariants as text
 use Rattle.ir_spelling.specs.Definitions.{behind}
-use Rattle.ir_spelling.specs.Modules.{function_name, line_of, module_from, param_in, value_in}
+use Rattle.ir_spelling.specs.Modules.{function_name, known, module_from, param_in, value_in}
+use Rattle.ir_spelling.specs.Operations.{IsOperation, operation_of}
 use Rattle.ir_spelling.specs.Order.{AreCounted, AreNew, Counts, IsInOrder, register_of}
 use Rattle.ir_spelling.specs.Ordered.{ordered_line, ordered_module, ordered_name}
 use Rattle.ir_spelling.specs.Reading.{◌>>=◌}
 use Rattle.ir_spelling.specs.Scopes.{due, each_in, is_among, is_block, is_taken, start, with_block, with_register}
-use Rattle.ir_spelling.specs.Spells.{IsLine, IsNamed, IsParam, IsValue, Names}
-use Rattle.ir_spelling.specs.Values.{kept, number_atom}
-use Rattle.ir_spelling.specs.WellFormed.{IsDefined, IsWellFormed, LinesUseDefined, UsesDefined, is_debug}
+use Rattle.ir_spelling.specs.Spells.{IsLine, IsNamed, IsParam, IsValue, MeansOne, Names}
+use Rattle.ir_spelling.specs.Values.{i32, kept}
+use Rattle.ir_spelling.specs.WellFormed.{IsDefined, IsOfI32, IsOperator, IsWellFormed, LinesUseDefined, SetsByOperator, UsesDefined, is_debug}
+use Rattle.ir_spelling.proofs.Atoms.{atom_is, operation_is}
 use Rattle.ir_spelling.proofs.Tools.{bind_ok, chosen, guard_ok, some_is}
 
 -- is_among says whether the name is one of them
@@ -74,36 +76,54 @@ kept_small n k e =
     (λ positive. let both = guard_ok (nat_lt n.magnitude (2 ^ 32)) n.magnitude k positive.1 in omega (arith, ltb-true n.magnitude (2 ^ 32) both.0, both.1))
     (chosen n.negative (cond (nat_le n.magnitude (2 ^ 31)) (Some ((2 ^ 32 - n.magnitude) % 2 ^ 32)) None) (cond (nat_lt n.magnitude (2 ^ 32)) (Some n.magnitude) None) (Some k) e)
 
-number_is : (read : Option ℕ) (atom : Atom Name) → number_atom read ≡ Some atom → (v : ℕ) × (read ≡ Some v) × (atom ≡ Constant (const.Number v))
-number_is None atom e = cc
-number_is (Some v) atom e = (v, refl, sym (some_is (Constant (const.Number v)) atom e))
+known_means : (scope : Scope) (name r : Name) → known scope name ≡ Some r → MeansOne scope.registers name r
+known_means scope name r e =
+    let both = guard_ok (is_among name scope.registers) name r e in
+    (among_is name scope.registers both.0, sym both.1)
 
 value_is : (scope : Scope) (v : ValueText) (atom : Atom Name) → value_in scope v ≡ Some atom → IsValue scope.registers v atom
-unfolding value_in
-value_is scope (text.Number n) atom e = number_is (kept n) atom e
-value_is scope text.Undef atom e = sym (some_is (Constant const.Undef) atom e)
-value_is scope (text.Local name) atom e =
-    let both = guard_ok (is_among name scope.registers) (Register name) atom e in
-    (among_is name scope.registers both.0, sym both.1)
+value_is scope = atom_is (known scope) (MeansOne scope.registers) (known_means scope)
 
 pub value_defined : (registers : List Name) (v : ValueText) (atom : Atom Name) → IsValue registers v atom → IsDefined registers atom
 value_defined registers (text.Number n) atom is = subst (IsDefined registers) (sym is.2) (kept_small n is.0 is.1)
 value_defined registers text.Undef atom is = subst (IsDefined registers) (sym is) tt
-value_defined registers (text.Local name) atom is = subst (IsDefined registers) (sym is.1) is.0
+value_defined registers (text.Local name) atom is =
+    subst (IsDefined registers) (sym is.2) (subst (Contains registers) (sym is.1.1) is.1.0)
 
 -- a value stays what it is where more registers are known
-value_wider : (known more : List Name) (v : ValueText) (atom : Atom Name) → IsValue known v atom → IsValue (known ++ more) v atom
-value_wider known more (text.Number n) atom is = is
-value_wider known more text.Undef atom is = is
-value_wider known more (text.Local name) atom is = (Contains-append_left known more name is.0, is.1)
+value_wider : (registers more : List Name) (v : ValueText) (atom : Atom Name) → IsValue registers v atom → IsValue (registers ++ more) v atom
+value_wider registers more (text.Number n) atom is = is
+value_wider registers more text.Undef atom is = is
+value_wider registers more (text.Local name) atom is = (is.0, (Contains-append_left registers more name is.1.0, is.1.1), is.2)
 
-line_wider : (known more : List Name) (w : LineText) (line : Instr) → IsLine known w line → IsLine (known ++ more) w line
-line_wider known more w (instr.Binary b) is =
-    (is.0, is.1, is.2, is.3, value_wider known more w.operation.left b.left is.4, value_wider known more w.operation.right b.right is.5)
+operation_wider : (registers more : List Name) (o : OperationText) (e : Expr Name) → IsOperation (IsValue registers) o e → IsOperation (IsValue (registers ++ more)) o e
+operation_wider registers more o (expr.Plain operand) is = absurd is
+operation_wider registers more o (expr.Binary b) is =
+    (is.0, is.1, is.2, value_wider registers more o.left b.left is.3, value_wider registers more o.right b.right is.4)
 
-line_uses : (known : List Name) (w : LineText) (line : Instr) → IsLine known w line → UsesDefined known line
-line_uses known w (instr.Binary b) is =
-    (is.3, value_defined known w.operation.left b.left is.4, value_defined known w.operation.right b.right is.5)
+line_wider : (registers more : List Name) (w : LineText) (line : Instr) → IsLine registers w line → IsLine (registers ++ more) w line
+line_wider registers more w (instr.Calm c) is = (is.0, operation_wider registers more w.operation c.right is.1)
+
+operation_uses : (registers : List Name) (o : OperationText) (e : Expr Name) → IsOperation (IsValue registers) o e → IsOfI32 (IsDefined registers) e
+operation_uses registers o (expr.Plain operand) is = absurd is
+operation_uses registers o (expr.Binary b) is =
+    (is.2, (value_defined registers o.left b.left is.3, value_defined registers o.right b.right is.4))
+
+line_uses : (registers : List Name) (w : LineText) (line : Instr) → IsLine registers w line → UsesDefined registers line
+line_uses registers w (instr.Calm c) is = operation_uses registers w.operation c.right is.1
+
+operation_operates : (registers : List Name) (o : OperationText) (e : Expr Name) → IsOperation (IsValue registers) o e → IsOperator e
+operation_operates registers o (expr.Plain operand) is = absurd is
+operation_operates registers o (expr.Binary b) is = tt
+
+line_operates : (registers : List Name) (w : LineText) (line : Instr) → IsLine registers w line → SetsByOperator line
+line_operates registers w (instr.Calm c) is = operation_operates registers w.operation c.right is.1
+
+lines_operate : (registers : List Name) (ws : List LineText) (lines : List Instr) → AllZip (IsLine registers) ws lines → AllByRecursion SetsByOperator lines
+lines_operate registers [] [] all = tt
+lines_operate registers [] (l ∷ ls) all = absurd all
+lines_operate registers (w ∷ ws) [] all = absurd all
+lines_operate registers (w ∷ ws) (l ∷ ls) all = (line_operates registers w l all.0, lines_operate registers ws ls all.1)
 
 due_counts : (due_now : ℕ) (w : Option Name) (named : Name × ℕ) → due due_now w ≡ Some named → Counts due_now named.0 named.1
 unfolding due
@@ -171,13 +191,13 @@ param_adds scope w p next e =
 line_adds : (scope : Scope) (w : LineText) (line : Instr) (next : Scope) → ordered_line scope w ≡ Some (line, next) → IsLine scope.registers w line × Adds scope w.register (register_of line) next
 unfolding ordered_line
 line_adds scope w line next e =
-    let left = bind_ok (value_in scope w.operation.left) _ (line, next) e in
-    let right = bind_ok (value_in scope w.operation.right) _ (line, next) left.2 in
+    let right = bind_ok (operation_of (value_in scope) w.operation) _ (line, next) e in
     let named = bind_ok (with_register scope w.register) _ (line, next) right.2 in
     let adds = register_adds scope w.register named.0.0 named.0.1 named.1 in
+    let is = operation_is (value_in scope) (IsValue scope.registers) (value_is scope) w.operation right.0 right.1 in
     let P : Instr × Scope → Type 0 = λ parts. IsLine scope.registers w parts.0 × Adds scope w.register (register_of parts.0) parts.1 in
-    subst P (some_is (line_of named.0.0 w.operation left.0 right.0, named.0.1) (line, next) named.2)
-    ((adds.named, refl, refl, refl, value_is scope w.operation.left left.0 left.1, value_is scope w.operation.right right.0 right.1), adds)
+    subst P (some_is (instr.Calm (record { name = named.0.0; right = right.0 }), named.0.1) (line, next) named.2)
+    ((adds.named, is), adds)
 
 -- items read one after another
 pub behind_ok : {X S : Type 0} (x : X) (read : Option (List X × S)) (all : List X × S) → behind (x ∷ []) read ≡ Some all → (more : List X × S) × (read ≡ Some more) × ((x ∷ more.0, more.1) ≡ all)
@@ -342,6 +362,7 @@ named_and_formed d m e =
             params = typed_params d.params ps.0.0 before.params;
             result = refl;
             names = new;
+            operators = lines_operate body.0.1.registers d.lines body.0.0 added.lines_named;
             lines = subst (λ r. LinesUseDefined r body.0.0) (append-nil params) added.uses;
             returns = (refl, value_defined (params ++ map register_of body.0.0) d.result value.0 is);
           },

@@ -1,6 +1,6 @@
 -- What a reader answers, as clauses: what it reads is spelled, nothing else is, and what isn't read isn't spelled.
 use Rattle.std.proofs.Common.{◌≡◌, ℕ, ◌≤◌, ◌^◌, Bool, true, false, cond, List, length, Option, Some, None, Result, Ok, Err, IfOk, IfErr, refl, ap, sym, ◌∙◌}
-use Rattle.std.specs.Prelude.{nat_lt}
+use Rattle.std.specs.Prelude.{◌↔◌, nat_lt}
 use Rattle.std.proofs.lemmas.Bool.{le-ltb, ltb-false}
 use Rattle.ir_lexer.specs.declared.token.LexFault.TheVariants.{Limit}
 use Rattle.ir_lexer.specs.declared.token.TokenKind.{TokenKind}
@@ -29,6 +29,9 @@ pub record ReadsSpelled {X : Type 0} (bytes : List ℕ) (read : Option X) (Spell
   pub again : (x : X) → length bytes ≤ 2 ^ 24 → Spelled x → read ≡ Some x
 
 module _ {X : Type 0} (bytes : List ℕ) (read : Option X) (Spelled : X → Type 0) (both : ReadsSpelled bytes read Spelled) where
+  pub both_ways : (x : X) → (read ≡ Some x) ↔ ((length bytes ≤ 2 ^ 24) × Spelled x)
+  both_ways x = (both.takes x, λ s. both.again x s.0 s.1)
+
   pub spelled_by : (answer : Result X TextFault) → Reads (λ x. x) answer read → IfOk answer Spelled
   spelled_by (Ok x) e = (both.takes x e).1
   spelled_by (Err fault) e = tt

@@ -1,11 +1,12 @@
 -- What is read is written so.
-use Rattle.std.proofs.Common.{◌≡◌, ℕ, suc, zero, true, cond, List, [], ◌∷◌, ◌++◌, length, drop, map, Option, Some, None, ⊎_elim, refl, ap, sym, ◌∙◌, append_assoc, codes, eqb-true}
+use Rattle.std.proofs.Common.{◌≡◌, ℕ, suc, zero, true, cond, List, [], ◌∷◌, ◌++◌, length, drop, map, Option, Some, None, ⊎_elim, refl, ap, sym, ◌∙◌, append_assoc, eqb-true}
 use Rattle.std.specs.List.{flat_map}
 use Rattle.std.specs.Str.{bytes_eq}
 use Rattle.std.proofs.lemmas.Slice.Eq.{bytes_eq-Decides}
 use Rattle.ir_core.specs.declared.names.Name.{Name}
 use Rattle.ir_core.specs.declared.operands.BinOp.{BinOp}
 use Rattle.ir_core.specs.declared.operands.BinOp.TheVariants.{Add, Sub}
+use Rattle.ir_core.specs.Words as words
 use Rattle.ir_lexer.specs.declared.token.TokenKind.{TokenKind}
 use Rattle.ir_lexer.specs.declared.token.TokenKind.TheVariants as kind
 use Rattle.ir_spelling.specs.declared.texts.DefinitionText.{DefinitionText}
@@ -60,12 +61,12 @@ operator_of_is : (k : TokenKind) (op : BinOp) → operator_of k ≡ Some op → 
 unfolding operator_of
 operator_of_is k op e =
     ⊎_elim
-    (λ yes. is_word_is (codes "add") k yes.0 ∙ ap operator (some_is Add op yes.1))
+    (λ yes. is_word_is (words.op_word Add) k yes.0 ∙ ap operator (some_is Add op yes.1))
     (λ no. ⊎_elim
-    (λ yes. is_word_is (codes "sub") k yes.0 ∙ ap operator (some_is Sub op yes.1))
+    (λ yes. is_word_is (words.op_word Sub) k yes.0 ∙ ap operator (some_is Sub op yes.1))
     (λ never. cc)
-    (chosen (is_word (codes "sub") k) (Some Sub) None (Some op) no.1))
-    (chosen (is_word (codes "add") k) (Some Add) (cond (is_word (codes "sub") k) (Some Sub) None) (Some op) e)
+    (chosen (is_word (words.op_word Sub) k) (Some Sub) None (Some op) no.1))
+    (chosen (is_word (words.op_word Add) k) (Some Add) (cond (is_word (words.op_word Sub) k) (Some Sub) None) (Some op) e)
 
 operator_takes : (kinds : List TokenKind) (op : BinOp) (rest : List TokenKind) → operator_at kinds ≡ Some (op, rest) → kinds ≡ operator op ∷ rest
 unfolding operator_at
@@ -79,8 +80,8 @@ unfolding value_of
 value_of_is (kind.Number n) v e = ap value (some_is (text.Number n) v e)
 value_of_is (kind.Local name) v e = ap value (some_is (text.Local name) v e)
 value_of_is (kind.Word word) v e =
-    let both = guard_ok (bytes_eq word (codes "undef")) text.Undef v e in
-    is_word_is (codes "undef") (kind.Word word) both.0 ∙ ap value both.1
+    let both = guard_ok (bytes_eq word words.undef_word) text.Undef v e in
+    is_word_is words.undef_word (kind.Word word) both.0 ∙ ap value both.1
 value_of_is _ v e = cc
 
 pub value_takes : (kinds : List TokenKind) (v : ValueText) (rest : List TokenKind) → value_at kinds ≡ Some (v, rest) → kinds ≡ value v ∷ rest
@@ -94,12 +95,12 @@ flag_of_is : (k : TokenKind) (f : FlagWord) → flag_of k ≡ Some f → k ≡ f
 unfolding flag_of
 flag_of_is k f e =
     ⊎_elim
-    (λ yes. is_word_is (codes "nuw") k yes.0 ∙ ap flag (some_is Nuw f yes.1))
+    (λ yes. is_word_is words.nuw_word k yes.0 ∙ ap flag (some_is Nuw f yes.1))
     (λ no. ⊎_elim
-    (λ yes. is_word_is (codes "nsw") k yes.0 ∙ ap flag (some_is Nsw f yes.1))
+    (λ yes. is_word_is words.nsw_word k yes.0 ∙ ap flag (some_is Nsw f yes.1))
     (λ never. cc)
-    (chosen (is_word (codes "nsw") k) (Some Nsw) None (Some f) no.1))
-    (chosen (is_word (codes "nuw") k) (Some Nuw) (cond (is_word (codes "nsw") k) (Some Nsw) None) (Some f) e)
+    (chosen (is_word words.nsw_word k) (Some Nsw) None (Some f) no.1))
+    (chosen (is_word words.nuw_word k) (Some Nuw) (cond (is_word words.nsw_word k) (Some Nsw) None) (Some f) e)
 
 -- one flag more, or none
 flags_from : (k : TokenKind) (tail : List TokenKind) (f : Option FlagWord) → flag_of k ≡ f → tail ≡ map flag (flags_at tail) ++ drop (length (flags_at tail)) tail → k ∷ tail ≡ map flag (in_front f (flags_at tail)) ++ drop (length (in_front f (flags_at tail))) (k ∷ tail)
@@ -124,12 +125,12 @@ last w kinds x y same e = e ∙ ap w (some_is x y same)
 values_take : (kinds : List TokenKind) (l r : ValueText) (rest : List TokenKind) → values_at kinds ≡ Some (l, r, rest) → kinds ≡ i32_word ∷ value l ∷ comma ∷ value r ∷ rest
 unfolding values_at
 values_take kinds l r rest e =
-    let typed = bind_ok (word_at (codes "i32") kinds) _ (l, r, rest) e in
+    let typed = bind_ok (word_at words.i32_word kinds) _ (l, r, rest) e in
     let left = bind_ok (value_at typed.0) _ (l, r, rest) typed.2 in
     let behind = bind_ok (mark_at 44 left.0.1) _ (l, r, rest) left.2 in
     let right = bind_ok (value_at behind.0) _ (l, r, rest) behind.2 in
     last (λ parts. i32_word ∷ value parts.0 ∷ comma ∷ value parts.1 ∷ parts.2) kinds _ (l, r, rest) right.2
-    (word_takes (codes "i32") kinds typed.0 typed.1
+    (word_takes words.i32_word kinds typed.0 typed.1
     ∙ ap (λ x. i32_word ∷ x) (value_takes typed.0 left.0.0 left.0.1 left.1
     ∙ ap (λ x. value left.0.0 ∷ x) (mark_takes 44 left.0.1 behind.0 behind.1
     ∙ ap (λ x. comma ∷ x) (value_takes behind.0 right.0.0 right.0.1 right.1))))
@@ -207,14 +208,14 @@ one_more_none None rest e = cc
 one_more_none (Some parts) rest e =
     let item = ap (λ p. p.0) (some_is (Some parts.0, parts.1) (None, rest) e) in cc
 
-next_line_ends : (kinds rest : List TokenKind) → next_line_at kinds ≡ Some (None, rest) → kinds ≡ kind.Word (codes "ret") ∷ rest
+next_line_ends : (kinds rest : List TokenKind) → next_line_at kinds ≡ Some (None, rest) → kinds ≡ kind.Word words.ret_word ∷ rest
 unfolding next_line_at
 next_line_ends [] rest e = cc
 next_line_ends (k ∷ tail) rest e =
     ⊎_elim
-    (λ yes. ap (λ front. front ∷ tail) (is_word_is (codes "ret") k yes.0) ∙ ap (λ p. kind.Word (codes "ret") ∷ p.1) (some_is (None, tail) (None, rest) yes.1))
+    (λ yes. ap (λ front. front ∷ tail) (is_word_is words.ret_word k yes.0) ∙ ap (λ p. kind.Word words.ret_word ∷ p.1) (some_is (None, tail) (None, rest) yes.1))
     (λ no. absurd (one_more_none (line_at (k ∷ tail)) rest no.1))
-    (chosen (is_word (codes "ret") k) (Some (None, tail)) (one_more (line_at (k ∷ tail))) (Some (None, rest)) e)
+    (chosen (is_word words.ret_word k) (Some (None, tail)) (one_more (line_at (k ∷ tail))) (Some (None, rest)) e)
 
 next_line_takes : (kinds : List TokenKind) (l : LineText) (rest : List TokenKind) → next_line_at kinds ≡ Some (Some l, rest) → kinds ≡ line l ++ rest
 unfolding next_line_at
@@ -223,7 +224,7 @@ next_line_takes (k ∷ tail) l rest e =
     ⊎_elim
     (λ yes. let never = ap (λ p. p.0) (some_is (None, tail) (Some l, rest) yes.1) in cc)
     (λ no. line_takes (k ∷ tail) l rest (one_more_ok (line_at (k ∷ tail)) l rest no.1))
-    (chosen (is_word (codes "ret") k) (Some (None, tail)) (one_more (line_at (k ∷ tail))) (Some (Some l, rest)) e)
+    (chosen (is_word words.ret_word k) (Some (None, tail)) (one_more (line_at (k ∷ tail))) (Some (Some l, rest)) e)
 
 -- items that a step reads, up to their end
 module _ {T : Type 0} (step : List TokenKind → Option (Option T × List TokenKind)) (w : T → List TokenKind) (stop : TokenKind) (ends : (kinds rest : List TokenKind) → step kinds ≡ Some (None, rest) → kinds ≡ stop ∷ rest) (takes : (kinds : List TokenKind) (t : T) (rest : List TokenKind) → step kinds ≡ Some (Some t, rest) → kinds ≡ w t ++ rest) where
@@ -244,14 +245,14 @@ module _ {T : Type 0} (step : List TokenKind → Option (Option T × List TokenK
       let next = bind_ok (step kinds) _ (ts, rest) e in
       added_takes kinds next.0.0 next.0.1 (repeated step n next.0.1) ts rest next.1 next.2 (λ us r. repeated_takes n next.0.1 us r)
 
-lines_take : (kinds : List TokenKind) (ls : List LineText) (rest : List TokenKind) → lines_at kinds ≡ Some (ls, rest) → kinds ≡ flat_map line ls ++ (kind.Word (codes "ret") ∷ rest)
-lines_take kinds = repeated_takes next_line_at line (kind.Word (codes "ret")) next_line_ends next_line_takes (length kinds) kinds
+lines_take : (kinds : List TokenKind) (ls : List LineText) (rest : List TokenKind) → lines_at kinds ≡ Some (ls, rest) → kinds ≡ flat_map line ls ++ (kind.Word words.ret_word ∷ rest)
+lines_take kinds = repeated_takes next_line_at line (kind.Word words.ret_word) next_line_ends next_line_takes (length kinds) kinds
 
 param_takes : (kinds : List TokenKind) (p : ParamText) (rest : List TokenKind) → param_at kinds ≡ Some (p, rest) → kinds ≡ param p ++ rest
 unfolding param_at
 param_takes kinds p rest e =
-    let typed = bind_ok (word_at (codes "i32") kinds) _ (p, rest) e in
-    word_takes (codes "i32") kinds typed.0 typed.1
+    let typed = bind_ok (word_at words.i32_word kinds) _ (p, rest) e in
+    word_takes words.i32_word kinds typed.0 typed.1
     ∙ ap (λ behind. i32_word ∷ behind) (local_takes typed.0)
     ∙ ap (λ parts. param parts.0 ++ parts.1) (some_is (record { name = (local_at typed.0).0 }, (local_at typed.0).1) (p, rest) typed.2)
 
@@ -311,27 +312,27 @@ params_take kinds ps rest e =
     params_from kinds first.0.0 first.0.1 (repeated next_param_at (length first.0.1) first.0.1) ps rest first.1 first.2
     (λ qs r. repeated_takes next_param_at next_param (kind.Mark 41) next_param_ends next_param_takes (length first.0.1) first.0.1 qs r)
 
-head_takes : (kinds : List TokenKind) (name : Name) (rest : List TokenKind) → head_at kinds ≡ Some (name, rest) → kinds ≡ kind.Word (codes "define") ∷ i32_word ∷ kind.Global name ∷ kind.Mark 40 ∷ rest
+head_takes : (kinds : List TokenKind) (name : Name) (rest : List TokenKind) → head_at kinds ≡ Some (name, rest) → kinds ≡ kind.Word words.define_word ∷ i32_word ∷ kind.Global name ∷ kind.Mark 40 ∷ rest
 unfolding head_at
 head_takes kinds name rest e =
-    let defined = bind_ok (word_at (codes "define") kinds) _ (name, rest) e in
-    let typed = bind_ok (word_at (codes "i32") defined.0) _ (name, rest) defined.2 in
+    let defined = bind_ok (word_at words.define_word kinds) _ (name, rest) e in
+    let typed = bind_ok (word_at words.i32_word defined.0) _ (name, rest) defined.2 in
     let named = bind_ok (global_at typed.0) _ (name, rest) typed.2 in
     let opened = bind_ok (mark_at 40 named.0.1) _ (name, rest) named.2 in
-    word_takes (codes "define") kinds defined.0 defined.1
-    ∙ ap (λ behind. kind.Word (codes "define") ∷ behind) (word_takes (codes "i32") defined.0 typed.0 typed.1
+    word_takes words.define_word kinds defined.0 defined.1
+    ∙ ap (λ behind. kind.Word words.define_word ∷ behind) (word_takes words.i32_word defined.0 typed.0 typed.1
     ∙ ap (λ behind. i32_word ∷ behind) (global_takes typed.0 named.0.0 named.0.1 named.1
     ∙ ap (λ behind. kind.Global named.0.0 ∷ behind) (mark_takes 40 named.0.1 opened.0 opened.1)))
-    ∙ ap (λ parts. kind.Word (codes "define") ∷ i32_word ∷ kind.Global parts.0 ∷ kind.Mark 40 ∷ parts.1) (some_is (named.0.0, opened.0) (name, rest) opened.2)
+    ∙ ap (λ parts. kind.Word words.define_word ∷ i32_word ∷ kind.Global parts.0 ∷ kind.Mark 40 ∷ parts.1) (some_is (named.0.0, opened.0) (name, rest) opened.2)
 
 ending_takes : (kinds : List TokenKind) (result : ValueText) → ending_at kinds ≡ Some result → kinds ≡ i32_word ∷ value result ∷ kind.Mark 125 ∷ []
 unfolding ending_at
 ending_takes kinds result e =
-    let typed = bind_ok (word_at (codes "i32") kinds) _ result e in
+    let typed = bind_ok (word_at words.i32_word kinds) _ result e in
     let read = bind_ok (value_at typed.0) _ result typed.2 in
     let closed = bind_ok (mark_at 125 read.0.1) _ result read.2 in
     let end = bind_ok (end_at closed.0) _ result closed.2 in
-    word_takes (codes "i32") kinds typed.0 typed.1
+    word_takes words.i32_word kinds typed.0 typed.1
     ∙ ap (λ behind. i32_word ∷ behind) (value_takes typed.0 read.0.0 read.0.1 read.1
     ∙ ap (λ behind. value read.0.0 ∷ behind) (mark_takes 125 read.0.1 closed.0 closed.1
     ∙ ap (λ behind. kind.Mark 125 ∷ behind) (end_takes closed.0 end.0 end.1)))
@@ -346,9 +347,9 @@ definition_takes kinds d e =
     let ls = bind_ok (lines_at (label_at opened.0).1) _ d opened.2 in
     let result = bind_ok (ending_at ls.0.1) _ d ls.2 in
     head_takes kinds head.0.0 head.0.1 head.1
-    ∙ ap (λ x. kind.Word (codes "define") ∷ i32_word ∷ kind.Global head.0.0 ∷ kind.Mark 40 ∷ x) (params_take head.0.1 ps.0.0 ps.0.1 ps.1
+    ∙ ap (λ x. kind.Word words.define_word ∷ i32_word ∷ kind.Global head.0.0 ∷ kind.Mark 40 ∷ x) (params_take head.0.1 ps.0.0 ps.0.1 ps.1
     ∙ ap (λ x. params ps.0.0 ++ (kind.Mark 41 ∷ x)) (mark_takes 123 ps.0.1 opened.0 opened.1
     ∙ ap (λ x. kind.Mark 123 ∷ x) (label_takes opened.0
     ∙ ap (λ x. label (label_at opened.0).0 ++ x) (lines_take (label_at opened.0).1 ls.0.0 ls.0.1 ls.1
-    ∙ ap (λ x. flat_map line ls.0.0 ++ (kind.Word (codes "ret") ∷ x)) (ending_takes ls.0.1 result.0 result.1)))))
+    ∙ ap (λ x. flat_map line ls.0.0 ++ (kind.Word words.ret_word ∷ x)) (ending_takes ls.0.1 result.0 result.1)))))
     ∙ ap written (some_is _ d result.2)

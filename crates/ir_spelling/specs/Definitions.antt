@@ -1,6 +1,8 @@
--- A definition read from the left: each part at the front of a list of tokens, and what stands behind it.
-use Rattle.std.specs.Prelude.{ℕ, suc, zero, List, [], ◌∷◌, ◌++◌, length, Option, Some, None, if◌then◌else◌, codes}
+-- Words of the parser, which the reader alone calls. A definition read from the left: each part at the front of a list of
+-- tokens, and what stands behind it.
+use Rattle.std.specs.Prelude.{ℕ, suc, zero, List, [], ◌∷◌, ◌++◌, length, Option, Some, None, if◌then◌else◌}
 use Rattle.ir_core.specs.declared.names.Name.{Name}
+use Rattle.ir_core.specs.Words as words
 use Rattle.ir_lexer.specs.declared.token.TokenKind.{TokenKind}
 use Rattle.ir_lexer.specs.declared.token.TokenKind.TheVariants as kind
 use Rattle.ir_spelling.specs.declared.texts.DefinitionText.{DefinitionText}
@@ -61,7 +63,7 @@ repeated step (suc count) kinds = step kinds >>= λ next. added next.0 next.1 (r
 -- `i32` and a LOCAL, if one stands there
 unfoldable pub param_at : List TokenKind → Option (ParamText × List TokenKind)
 param_at kinds = do
-  typed ← word_at (codes "i32") kinds
+  typed ← word_at words.i32_word kinds
   Some (record { name = (local_at typed).0 }, (local_at typed).1)
 
 abbrev pub one_more : {T : Type 0} → Option (T × List TokenKind) → Option (Option T × List TokenKind)
@@ -98,7 +100,7 @@ line_at kinds = do
 -- `ret`, or a line
 unfoldable pub next_line_at : List TokenKind → Option (Option LineText × List TokenKind)
 next_line_at [] = None
-next_line_at (k ∷ rest) = if is_word (codes "ret") k then Some (None, rest) else one_more (line_at (k ∷ rest))
+next_line_at (k ∷ rest) = if is_word words.ret_word k then Some (None, rest) else one_more (line_at (k ∷ rest))
 
 -- the lines and their `ret`
 abbrev pub lines_at : List TokenKind → Option (List LineText × List TokenKind)
@@ -107,8 +109,8 @@ lines_at kinds = repeated next_line_at (length kinds) kinds
 -- what stands up to the body
 unfoldable pub head_at : List TokenKind → Option (Name × List TokenKind)
 head_at kinds = do
-  defined ← word_at (codes "define") kinds
-  typed ← word_at (codes "i32") defined
+  defined ← word_at words.define_word kinds
+  typed ← word_at words.i32_word defined
   name ← global_at typed
   opened ← mark_at 40 name.1
   Some (name.0, opened)
@@ -116,7 +118,7 @@ head_at kinds = do
 -- `i32 V }` and nothing more
 unfoldable pub ending_at : List TokenKind → Option ValueText
 ending_at kinds = do
-  typed ← word_at (codes "i32") kinds
+  typed ← word_at words.i32_word kinds
   result ← value_at typed
   closed ← mark_at 125 result.1
   end ← end_at closed

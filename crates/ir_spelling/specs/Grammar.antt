@@ -1,11 +1,11 @@
 -- The grammar: how each thing is written, as tokens.
-use Rattle.std.specs.Prelude.{List, [], ◌∷◌, ◌++◌, map, Option, Some, None, codes}
+use Rattle.std.specs.Prelude.{List, [], ◌∷◌, ◌++◌, map, Option, Some, None}
 use Rattle.std.specs.List.{flat_map}
 use Rattle.ir_core.specs.declared.names.Name.{Name}
 use Rattle.ir_core.specs.declared.names.Sigil.{Sigil}
 use Rattle.ir_core.specs.declared.names.Sigil.TheVariants as sigil
 use Rattle.ir_core.specs.declared.operands.BinOp.{BinOp}
-use Rattle.ir_core.specs.declared.operands.BinOp.TheVariants.{Add, Sub}
+use Rattle.ir_core.specs.Words as words
 use Rattle.ir_lexer.specs.declared.token.TokenKind.{TokenKind}
 use Rattle.ir_lexer.specs.declared.token.TokenKind.TheVariants as kind
 use Rattle.ir_spelling.specs.declared.texts.DefinitionText.{DefinitionText}
@@ -18,7 +18,7 @@ use Rattle.ir_spelling.specs.declared.texts.ValueText.{ValueText}
 use Rattle.ir_spelling.specs.declared.texts.ValueText.TheVariants as text
 
 abbrev pub i32_word : TokenKind
-i32_word = kind.Word (codes "i32")
+i32_word = kind.Word words.i32_word
 
 abbrev pub comma : TokenKind
 comma = kind.Mark 44
@@ -40,16 +40,15 @@ close_brace = kind.Mark 125
 
 abbrev pub value : ValueText → TokenKind
 value (text.Number n) = kind.Number n
-value text.Undef = kind.Word (codes "undef")
+value text.Undef = kind.Word words.undef_word
 value (text.Local name) = kind.Local name
 
 abbrev pub operator : BinOp → TokenKind
-operator Add = kind.Word (codes "add")
-operator Sub = kind.Word (codes "sub")
+operator op = kind.Word (words.op_word op)
 
 abbrev pub flag : FlagWord → TokenKind
-flag Nuw = kind.Word (codes "nuw")
-flag Nsw = kind.Word (codes "nsw")
+flag Nuw = kind.Word words.nuw_word
+flag Nsw = kind.Word words.nsw_word
 
 -- a name behind its sigil
 abbrev pub name : Sigil → Name → TokenKind
@@ -92,10 +91,10 @@ label (Some name) = kind.Label name ∷ []
 
 -- ret i32 V }
 abbrev pub ending : ValueText → List TokenKind
-ending result = kind.Word (codes "ret") ∷ i32_word ∷ value result ∷ close_brace ∷ []
+ending result = kind.Word words.ret_word ∷ i32_word ∷ value result ∷ close_brace ∷ []
 
 -- define i32 GLOBAL ( params ) { [LABEL] {line} ret i32 V }
 abbrev pub written : DefinitionText → List TokenKind
 written d =
-    kind.Word (codes "define") ∷ i32_word ∷ kind.Global d.name ∷ open_paren ∷ (params d.params
+    kind.Word words.define_word ∷ i32_word ∷ kind.Global d.name ∷ open_paren ∷ (params d.params
     ++ (close_paren ∷ open_brace ∷ (label d.label ++ (flat_map line d.lines ++ ending d.result))))

@@ -1,6 +1,7 @@
 pub mod Definitions
 pub mod Expressions
 pub mod Grammar
+pub mod Laws
 pub mod Modules
 pub mod Names
 pub mod Operations

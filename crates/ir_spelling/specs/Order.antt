@@ -27,7 +27,7 @@ AreCounted due [] behind = behind ≡ due
 AreCounted due (name ∷ names) behind = (next : ℕ) × Counts due name next × AreCounted next names behind
 
 abbrev pub register_of : Instr → Name
-register_of (instr.Binary b) = b.name
+register_of (instr.Calm c) = c.name
 
 abbrev pub params_of : Function → List Name
 params_of f = map (λ (p : Param). p.name) f.params

@@ -1,14 +1,16 @@
--- A definition read line by line, so that names and well-formedness are tested at once: words of private functions. What is
+-- Words of private functions. A definition read line by line, so that names and well-formedness are tested at once. What is
 -- read so is the module that the definition names (`Names`, in Spells), where that is well-formed.
 use Rattle.std.specs.Prelude.{ℕ, ◌+◌, ◌^◌, List, length, Option, Some, None, nat_lt, if◌then◌else◌}
 use Rattle.ir_core.specs.declared.functions.Instr.{Instr}
+use Rattle.ir_core.specs.declared.functions.Instr.TheVariants as instr
 use Rattle.ir_core.specs.declared.functions.Module.{Module}
 use Rattle.ir_core.specs.declared.names.Name.{Name}
 use Rattle.ir_spelling.specs.declared.scopes.Scope.{Scope}
 use Rattle.ir_spelling.specs.declared.texts.DefinitionText.{DefinitionText}
 use Rattle.ir_spelling.specs.declared.texts.LineText.{LineText}
 use Rattle.ir_spelling.specs.Definitions.{definition_at}
-use Rattle.ir_spelling.specs.Modules.{value_in, param_in, line_of, function_name, module_from}
+use Rattle.ir_spelling.specs.Modules.{value_in, param_in, function_name, module_from}
+use Rattle.ir_spelling.specs.Operations.{operation_of}
 use Rattle.ir_spelling.specs.Reading.{◌>>=◌, kinds_of}
 use Rattle.ir_spelling.specs.Scopes.{start, with_register, with_block, each_in}
 use Rattle.ir_spelling.specs.WellFormed.{is_debug}
@@ -16,10 +18,9 @@ use Rattle.ir_spelling.specs.WellFormed.{is_debug}
 -- A register that is used was defined before.
 unfoldable pub ordered_line : Scope → LineText → Option (Instr × Scope)
 ordered_line scope l = do
-  left ← value_in scope l.operation.left
-  right ← value_in scope l.operation.right
+  right ← operation_of (value_in scope) l.operation
   named ← with_register scope l.register
-  Some (line_of named.0 l.operation left right, named.1)
+  Some (instr.Calm (record { name = named.0; right = right }), named.1)
 
 -- a function's name that is no name of debugging
 unfoldable pub ordered_name : Name → Option Name

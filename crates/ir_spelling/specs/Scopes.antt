@@ -1,5 +1,5 @@
--- The names of a function as they are defined from the left, its parameters, its block and its registers: words of private
--- functions. What they have to be is `Names`, in Spells.
+-- Words of private functions, and of `Registers`. The names of a function as they are defined from the left, its parameters,
+-- its block and its registers. What they have to be is `Names`, in Spells.
 use Rattle.std.specs.Prelude.{ℕ, ◌+◌, ◌^◌, ◌==◌, Bool, false, ◌||◌, List, [], ◌∷◌, ◌++◌, Option, Some, None, nat_lt, if◌then◌else◌}
 use Rattle.std.specs.List.{list_any}
 use Rattle.ir_core.specs.declared.names.Name.{Name}

@@ -12,19 +12,15 @@ use Rattle.ir_core.specs.declared.functions.Term.TheVariants.{Ret}
 use Rattle.ir_core.specs.declared.names.Name.{Name}
 use Rattle.ir_core.specs.declared.names.Name.TheVariants.{Text, Number}
 use Rattle.ir_core.specs.declared.operands.Atom.{Atom}
-use Rattle.ir_core.specs.declared.operands.Atom.TheVariants.{Constant, Register}
-use Rattle.ir_core.specs.declared.operands.Const.TheVariants as const
 use Rattle.ir_spelling.specs.declared.texts.DefinitionText.{DefinitionText}
 use Rattle.ir_spelling.specs.declared.texts.LineText.{LineText}
 use Rattle.ir_spelling.specs.declared.texts.ParamText.{ParamText}
 use Rattle.ir_spelling.specs.declared.texts.ValueText.{ValueText}
-use Rattle.ir_spelling.specs.declared.texts.ValueText.TheVariants as text
-use Rattle.ir_spelling.specs.Expressions.{i32}
 use Rattle.ir_spelling.specs.Grammar.{written}
-use Rattle.ir_spelling.specs.Operations.{flags_of}
+use Rattle.ir_spelling.specs.Operations.{IsOperation}
 use Rattle.ir_spelling.specs.Order.{AreCounted, AreNew, params_of, registers_of}
 use Rattle.ir_spelling.specs.Reading.{tokens_of}
-use Rattle.ir_spelling.specs.Values.{kept}
+use Rattle.ir_spelling.specs.Values.{IsAtom, i32}
 use Rattle.ir_spelling.specs.WellFormed.{IsWellFormed}
 
 -- A thing has the name that is written. Where none is, its name is a number; the count says which one.
@@ -33,23 +29,19 @@ IsNamed None (Number n) = n < 2 ^ 32
 IsNamed None (Text bytes) = ⊥
 IsNamed (Some written) name = name ≡ written
 
+-- a register is one of those that the function has
+abbrev pub MeansOne : List Name → Name → Name → Type 0
+MeansOne registers name register = Contains registers name × (register ≡ name)
+
 -- what a written value is, where the function has these registers
 abbrev pub IsValue : List Name → ValueText → Atom Name → Type 0
-IsValue registers (text.Number n) atom = (v : ℕ) × (kept n ≡ Some v) × (atom ≡ Constant (const.Number v))
-IsValue registers text.Undef atom = atom ≡ Constant const.Undef
-IsValue registers (text.Local name) atom = Contains registers name × (atom ≡ Register name)
+IsValue registers = IsAtom (MeansOne registers)
 
 abbrev pub IsParam : ParamText → Param → Type 0
 IsParam w p = IsNamed w.name p.name × (p.ty ≡ i32)
 
 abbrev pub IsLine : List Name → LineText → Instr → Type 0
-IsLine registers w (instr.Binary b) =
-    IsNamed w.register b.name
-    × (b.op ≡ w.operation.op)
-    × (b.flags ≡ flags_of w.operation.flags)
-    × (b.ty ≡ i32)
-    × IsValue registers w.operation.left b.left
-    × IsValue registers w.operation.right b.right
+IsLine registers w (instr.Calm c) = IsNamed w.register c.name × IsOperation (IsValue registers) w.operation c.right
 
 abbrev pub IsReturn : List Name → ValueText → Term → Type 0
 IsReturn registers w (Ret operand) = (operand.ty ≡ i32) × IsValue registers w operand.atom

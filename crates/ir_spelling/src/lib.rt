@@ -6,11 +6,13 @@
 #![tactic(auto)]
 
 mod fault;
+mod laws;
 mod registers;
 mod scopes;
 mod texts;
 
 pub use fault::TextFault;
+pub use laws::{texts_spell_one, what_is_read_is_spelled};
 pub use registers::Registers;
 pub use scopes::Scope;
 pub use texts::{DefinitionText, FlagWord, LineText, OperationText, ParamText, ValueText};

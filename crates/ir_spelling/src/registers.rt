@@ -7,9 +7,14 @@ use std::alloc::{AllocError, Global};
 use std::marker::Model;
 
 /// Names in the order of their definitions, each found without a walk through the others.
-#[derive(Drop)]
 pub struct Registers {
     names: IndexSet<Name>,
+}
+
+impl Drop for Registers {
+    fn drop(self) {
+        let Registers { names: _ } = self;
+    }
 }
 
 impl Model for Registers {

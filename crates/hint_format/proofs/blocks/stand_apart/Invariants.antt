@@ -7,5 +7,5 @@ use Rattle.hint_format.proofs.blocks.stand_apart.Given as goal
 abbrev pub invariant-loop-block : goal.invariant-loop-block
 invariant-loop-block l = record {
   apart : are_apart (take l.block-index l.blocks) ≡ true;
-  known : AreNamesOf l.names.keys (take l.block-index l.blocks);
+  known : AreNamesOf l.names.set.keys (take l.block-index l.blocks);
 }

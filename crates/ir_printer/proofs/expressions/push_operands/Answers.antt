@@ -1,6 +1,6 @@
-use Rattle.std.proofs.Common.{arith}
-use Rattle.std.proofs.lemmas.Grind.{common_steps}
+-- The pieces stand one behind the other.
+use Rattle.std.proofs.Common.{rules, append_assoc}
 use Rattle.ir_printer.proofs.expressions.push_operands.Goals as goal
 
 pub returns : goal.returns
-returns c = grind (arith, common_steps)
+returns g c = search (rules, append_assoc)

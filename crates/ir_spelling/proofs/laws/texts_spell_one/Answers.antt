@@ -1,0 +1,13 @@
+-- What is spelled is read back from its tokens.
+use Rattle.ir_spelling.proofs.Alone.{expression_once, name_once}
+use Rattle.ir_spelling.proofs.Grammar.{spelled_once}
+use Rattle.ir_spelling.proofs.laws.texts_spell_one.Goals as goal
+
+pub returns-clause-modules : goal.returns-clause-modules
+returns-clause-modules c = spelled_once
+
+pub returns-clause-expressions : goal.returns-clause-expressions
+returns-clause-expressions c = expression_once
+
+pub returns-clause-names : goal.returns-clause-names
+returns-clause-names c = name_once

@@ -1,0 +1,29 @@
+-- What a text spells is one thing; and what is read from the left is what the text spells, within the limit of bytes.
+use Rattle.std.specs.Prelude.{◌≡◌, ◌↔◌, ◌≤◌, ◌^◌, ℕ, List, length, Option, Some}
+use Rattle.ir_core.specs.declared.names.Sigil.{Sigil}
+use Rattle.ir_spelling.specs.Expressions.{SpellsExpression, expression_of}
+use Rattle.ir_spelling.specs.Names.{SpellsName, name_of}
+use Rattle.ir_spelling.specs.Spells.{Spells}
+
+-- no text is said to spell two
+abbrev pub SpellsOne : {X : Type 0} → (List ℕ → X → Type 0) → Type 0
+SpellsOne {X} Is = (bytes : List ℕ) (a b : X) → Is bytes a → Is bytes b → a ≡ b
+
+abbrev pub ModulesAreOne : Type 0
+ModulesAreOne = SpellsOne Spells
+
+abbrev pub ExpressionsAreOne : Type 0
+ExpressionsAreOne = SpellsOne SpellsExpression
+
+abbrev pub NamesAreOne : Type 0
+NamesAreOne = (sigil : Sigil) → SpellsOne (SpellsName sigil)
+
+-- what is read of a text is what it spells, where the text is short enough
+abbrev pub ReadsWhatIsSpelled : {X : Type 0} → (List ℕ → Option X) → (List ℕ → X → Type 0) → Type 0
+ReadsWhatIsSpelled {X} read Is = (bytes : List ℕ) (x : X) → (read bytes ≡ Some x) ↔ ((length bytes ≤ 2 ^ 24) × Is bytes x)
+
+abbrev pub ExpressionsAreRead : Type 0
+ExpressionsAreRead = ReadsWhatIsSpelled expression_of SpellsExpression
+
+abbrev pub NamesAreRead : Type 0
+NamesAreRead = (sigil : Sigil) → ReadsWhatIsSpelled (name_of sigil) (SpellsName sigil)

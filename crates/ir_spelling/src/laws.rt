@@ -1,0 +1,20 @@
+//! The laws of what texts spell.
+ghost use Rattle.ir_spelling.specs.Laws.{ModulesAreOne, ExpressionsAreOne, NamesAreOne, ExpressionsAreRead, NamesAreRead};
+
+/// Empty on purpose: its contract is the law.
+///
+/// A text spells one module, one expression and, behind each sigil, one name.
+pub fn texts_spell_one()
+    ensures modules { ModulesAreOne }
+    ensures expressions { ExpressionsAreOne }
+    ensures names { NamesAreOne }
+{}
+
+/// Empty on purpose: its contract is the law.
+///
+/// The expression, or the name, that is read of a text from the left is exactly the one that it spells, if it has at most
+/// 2 to the 24 bytes.
+pub fn what_is_read_is_spelled()
+    ensures expressions { ExpressionsAreRead }
+    ensures names { NamesAreRead }
+{}
