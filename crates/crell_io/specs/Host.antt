@@ -1,4 +1,4 @@
--- What reading a file takes from it, and how it ends.
+-- Words of private functions. What reading a file takes from it, and how it ends.
 use Rattle.std.specs.Prelude.{◌≡◌, ℕ, List, ◌++◌, length, Option, Result, Ok, Err}
 use Rattle.std.specs.Io.KnownBytes.{Consumes}
 use Rattle.crell_io.specs.Count.{raised_by}

@@ -10,13 +10,14 @@ use Rattle.crell_io.specs.Shelf.{IfTold}
 use Rattle.crell_io.specs.Sink.{appended}
 use Rattle.crell_program.specs.declared.answer.Answer.{Answer}
 use Rattle.crell_program.specs.Answer.{usage, usage_text, not_of_the_first_form, read_failed, past_limit, absent}
-use Rattle.crell_program.specs.Command.{Files}
+use Rattle.crell_program.specs.declared.command.Form.TheVariants.{ModuleText, HintFile}
+use Rattle.crell_program.specs.Command.{File, limit_of, CheckFiles, Command, Check, files_of}
 use Rattle.crell_program.specs.VerdictText.{verdict_answer}
-use Rattle.crell_program.specs.Due.{ShelfSeen, Held, Missing, Long, Broken, MayCome, DueOfFile, DueOfFiles, DueOfTexts, NamesNoModule, HoldsNoHints, text_limit, json_limit}
+use Rattle.crell_program.specs.Due.{ShelfSeen, Held, Missing, Long, Broken, MayCome, DueOfFile, DueOfFiles, DueOfCheck, DueOfTexts, NamesNoModule, HoldsNoHints}
 use Rattle.crell_program.specs.Delivery.{SinkSeen, GotAll, GotPart, GotNothing, IsDelivered}
 use Rattle.crell_program.specs.Rows.{Run, IsAnswered, WritingFailed}
-use Rattle.crell_program.specs.Statuses.{IsRefusal, AreJudged, NoneIsAbsent, NamesSomeModule, HoldsSomeHints, SomeFileIsUnfit, SomeFileIsLonger, SomeFileIsMissing, IsStatus}
-use Rattle.crell_program.proofs.Bytes.{if_told, if_told_three, not_absent}
+use Rattle.crell_program.specs.Statuses.{SomeOf, IsFit, IsRefusal, AreJudged, NoneIsAbsent, SomeFileIsUnfit, SomeFileIsLonger, SomeFileIsMissing, IsStatus}
+use Rattle.crell_program.proofs.Bytes.{if_told, TellsAll, if_all_told, none_absent}
 
 -- what is said at a status
 abbrev pub Says : Run → ℕ → Type 0
@@ -56,89 +57,105 @@ part_of_nothing : (sink : SinkSeen) → GotPart sink [] → ⊥
 part_of_nothing sink part = part_isnt_empty part.1.0 part.1.1 part.1.2 part.1.3
 
 -- a run whose words are a command's
-abbrev command_run : Rules → ShelfSeen → SinkSeen → SinkSeen → Files → Run
-command_run rules shelf out err files = record { rules = rules; command = Some files; shelf = shelf; out = out; err = err }
+abbrev command_run : Rules → ShelfSeen → SinkSeen → SinkSeen → Command → Run
+command_run rules shelf out err command = record { rules = rules; command = Some command; shelf = shelf; out = out; err = err }
 
 -- a run whose words are no command's
 abbrev other_run : Rules → ShelfSeen → SinkSeen → SinkSeen → Run
 other_run rules shelf out err = record { rules = rules; command = None; shelf = shelf; out = out; err = err }
 
-some_isnt_none : (files : Files) → Some files ≢ None
-some_isnt_none files e = cc
+some_isnt_none : (command : Command) → Some command ≢ None
+some_isnt_none command e = cc
 
-module _ (rules : Rules) (shelf : ShelfSeen) (out err : SinkSeen) (files : Files) where
-  -- the verdict on three texts
-  says_verdict : (v : ModuleVerdict) → (v ≢ modules.Valid → IsRefusal rules shelf.told (Some files)) → SaysOf (command_run rules shelf out err files) (verdict_answer v)
+module _ (rules : Rules) (shelf : ShelfSeen) (out err : SinkSeen) (command : Command) where
+  abbrev this : Run
+  this = command_run rules shelf out err command
+
+  -- the verdict on the texts
+  says_verdict : (v : ModuleVerdict) → (v ≢ modules.Valid → IsRefusal rules shelf.told (Some command)) → SaysOf this (verdict_answer v)
   says_verdict modules.Valid refusal = λ to_out to_err. tt
   says_verdict (modules.Differs what) refusal = λ to_out to_err. refusal (λ e. cc)
   says_verdict (modules.Refused function block spot reason) refusal = λ to_out to_err. refusal (λ e. cc)
 
-  says_unfit : (file : List ℕ) → SomeFileIsUnfit shelf.told (Some files) → SaysOf (command_run rules shelf out err files) (not_of_the_first_form file)
+  says_unfit : (file : List ℕ) → SomeFileIsUnfit shelf.told (Some command) → SaysOf this (not_of_the_first_form file)
   says_unfit file unfit = λ to_out to_err. (unfit, nothing_of out to_out)
 
-  none_absent : (source target hints : List ℕ)
-      → IfTold (shelf.told files.source) (λ held. source ≡ held)
-      → IfTold (shelf.told files.target) (λ held. target ≡ held)
-      → IfTold (shelf.told files.hints) (λ held. hints ≡ held)
-      → NoneIsAbsent shelf.told files
-  none_absent source target hints a b c = (not_absent _ source a, not_absent _ target b, not_absent _ hints c)
+  -- a file decides, or leads on with its bytes
+  by_file : (answer : Answer) (file : File) (next : List ℕ → Type 0)
+      → (MayCome shelf file Missing → SomeFileIsMissing shelf (Some command))
+      → (MayCome shelf file Long → SomeFileIsLonger shelf (Some command))
+      → ((text : List ℕ) → IfTold (shelf.told file.name) (λ held. text ≡ held) → next text → SaysOf this answer)
+      → DueOfFile shelf file answer next → SaysOf this answer
+  by_file answer file next missing longer leads (Held text, m, d) = leads text m.1 d
+  by_file answer file next missing longer leads (Missing, m, d) = along this answer (absent file.name) d (λ to_out to_err. (missing m, nothing_of out to_out))
+  by_file answer file next missing longer leads (Long, m, d) =
+      along this answer (past_limit (limit_of file.form) file.name) d (λ to_out to_err. (longer m, nothing_of out to_out))
+  by_file answer file next missing longer leads (Broken, m, d) = along this answer (read_failed file.name) d (λ to_out to_err. (m, nothing_of out to_out))
 
-  says_texts : (answer : Answer) (source target hints : List ℕ)
-      → IfTold (shelf.told files.source) (λ held. source ≡ held)
-      → IfTold (shelf.told files.target) (λ held. target ≡ held)
-      → IfTold (shelf.told files.hints) (λ held. hints ≡ held)
-      → DueOfTexts rules files answer source target hints → SaysOf (command_run rules shelf out err files) answer
-  says_texts answer source target hints a b c (inl (unread, e)) =
-      along (command_run rules shelf out err files) answer (not_of_the_first_form files.source) e
-      (says_unfit files.source (none_absent source target hints a b c, inl (if_told _ source NamesNoModule a unread)))
-  says_texts answer source target hints a b c (inr (s, sp, inl (unread, e))) =
-      along (command_run rules shelf out err files) answer (not_of_the_first_form files.target) e
-      (says_unfit files.target (none_absent source target hints a b c, inr (inl (if_told _ target NamesNoModule b unread))))
-  says_texts answer source target hints a b c (inr (s, sp, inr (t, tp, inl (unread, e)))) =
-      along (command_run rules shelf out err files) answer (not_of_the_first_form files.hints) e
-      (says_unfit files.hints (none_absent source target hints a b c, inr (inr (if_told _ hints HoldsNoHints c unread))))
-  says_texts answer source target hints a b c (inr (s, sp, inr (t, tp, inr (h, hp, e)))) =
-      along (command_run rules shelf out err files) answer (verdict_answer (module_verdict rules s t h)) e
-      (says_verdict (module_verdict rules s t h) (λ other. (
-        none_absent source target hints a b c,
-        if_told _ source NamesSomeModule a (s, sp.0),
-        if_told _ target NamesSomeModule b (t, tp.0),
-        if_told _ hints HoldsSomeHints c (h, hp),
-        if_told_three (shelf.told files.source) (shelf.told files.target) (shelf.told files.hints) source target hints
-            (AreJudged rules (λ v. v ≢ modules.Valid)) a b c (s, t, h, sp.0, tp.0, hp, other),
+  by_files : (answer : Answer) (files : List File) (next : List (List ℕ) → Type 0)
+      → (SomeOf (λ file. MayCome shelf file Missing) files → SomeFileIsMissing shelf (Some command))
+      → (SomeOf (λ file. MayCome shelf file Long) files → SomeFileIsLonger shelf (Some command))
+      → ((texts : List (List ℕ)) → TellsAll shelf.told files texts → next texts → SaysOf this answer)
+      → DueOfFiles shelf files answer next → SaysOf this answer
+  by_files answer [] next missing longer leads due = leads [] tt due
+  by_files answer (file ∷ files) next missing longer leads due =
+      by_file answer file (λ text. DueOfFiles shelf files answer (λ more. next (text ∷ more))) (λ m. missing (inl m)) (λ l. longer (inl l)) (λ text told.
+      by_files answer files (λ more. next (text ∷ more)) (λ m. missing (inr m)) (λ l. longer (inr l)) (λ texts all. leads (text ∷ texts) (told, all))) due
+
+module _ (rules : Rules) (shelf : ShelfSeen) (out err : SinkSeen) (names : CheckFiles) (source target hints : List ℕ)
+    (told : TellsAll shelf.told (files_of (Check names)) (source ∷ target ∷ hints ∷ [])) where
+  abbrev checks : Run
+  checks = command_run rules shelf out err (Check names)
+
+  present : NoneIsAbsent shelf.told (files_of (Check names))
+  present = none_absent shelf.told (files_of (Check names)) (source ∷ target ∷ hints ∷ []) told
+
+  pub says_check : (answer : Answer) → DueOfCheck rules names answer source target hints → SaysOf checks answer
+  says_check answer (inl (unread, e)) =
+      along checks answer (not_of_the_first_form names.source) e
+      (says_unfit rules shelf out err (Check names) names.source (present, inl (if_told _ source NamesNoModule told.0 unread)))
+  says_check answer (inr (s, sp, inl (unread, e))) =
+      along checks answer (not_of_the_first_form names.target) e
+      (says_unfit rules shelf out err (Check names) names.target (present, inr (inl (if_told _ target NamesNoModule told.1.0 unread))))
+  says_check answer (inr (s, sp, inr (t, tp, inl (unread, e)))) =
+      along checks answer (not_of_the_first_form names.hints) e
+      (says_unfit rules shelf out err (Check names) names.hints (present, inr (inr (inl (if_told _ hints HoldsNoHints told.1.1.0 unread)))))
+  says_check answer (inr (s, sp, inr (t, tp, inr (h, hp, e)))) =
+      along checks answer (verdict_answer (module_verdict rules s t h)) e
+      (says_verdict rules shelf out err (Check names) (module_verdict rules s t h) (λ other. (
+        present,
+        (
+          if_told _ source (IsFit ModuleText) told.0 (s, sp.0),
+          (if_told _ target (IsFit ModuleText) told.1.0 (t, tp.0), (if_told _ hints (IsFit HintFile) told.1.1.0 (h, hp), tt)),
+        ),
+        if_all_told shelf.told (files_of (Check names)) (source ∷ target ∷ hints ∷ [])
+            (AreJudged rules (λ v. v ≢ modules.Valid) (Check names)) told (s, t, h, sp.0, tp.0, hp, other),
       )))
 
-  -- a file decides, or leads on with its bytes
-  by_file : (answer : Answer) (limit : ℕ) (limit_name name : List ℕ) (next : List ℕ → Type 0)
-      → (MayCome shelf limit name Missing → SomeFileIsMissing shelf (Some files))
-      → (MayCome shelf limit name Long → SomeFileIsLonger shelf (Some files))
-      → ((bytes : List ℕ) → IfTold (shelf.told name) (λ held. bytes ≡ held) → next bytes → SaysOf (command_run rules shelf out err files) answer)
-      → DueOfFile shelf limit limit_name name answer next → SaysOf (command_run rules shelf out err files) answer
-  by_file answer limit limit_name name next missing longer leads (Held bytes, m, d) = leads bytes m.1 d
-  by_file answer limit limit_name name next missing longer leads (Missing, m, d) =
-      along (command_run rules shelf out err files) answer (absent name) d (λ to_out to_err. (missing m, nothing_of out to_out))
-  by_file answer limit limit_name name next missing longer leads (Long, m, d) =
-      along (command_run rules shelf out err files) answer (past_limit limit_name name) d (λ to_out to_err. (longer m, nothing_of out to_out))
-  by_file answer limit limit_name name next missing longer leads (Broken, m, d) =
-      along (command_run rules shelf out err files) answer (read_failed name) d (λ to_out to_err. (m, nothing_of out to_out))
+says_texts : (rules : Rules) (shelf : ShelfSeen) (out err : SinkSeen) (command : Command) (answer : Answer) (texts : List (List ℕ))
+    → TellsAll shelf.told (files_of command) texts → DueOfTexts rules command answer texts → SaysOf (command_run rules shelf out err command) answer
+says_texts rules shelf out err (Check names) answer (source ∷ target ∷ hints ∷ []) told due = says_check rules shelf out err names source target hints told answer due
+says_texts rules shelf out err (Check names) answer [] told due = absurd due
+says_texts rules shelf out err (Check names) answer (source ∷ []) told due = absurd due
+says_texts rules shelf out err (Check names) answer (source ∷ target ∷ []) told due = absurd due
+says_texts rules shelf out err (Check names) answer (source ∷ target ∷ hints ∷ text ∷ more) told due = absurd due
 
-  says_files : (answer : Answer) → DueOfFiles shelf files answer (DueOfTexts rules files answer) → SaysOf (command_run rules shelf out err files) answer
+module _ (rules : Rules) (shelf : ShelfSeen) (out err : SinkSeen) (command : Command) where
+  says_files : (answer : Answer) → DueOfFiles shelf (files_of command) answer (DueOfTexts rules command answer) → SaysOf (command_run rules shelf out err command) answer
   says_files answer due =
-      by_file answer text_limit _ files.source _ (λ m. inl m) (λ l. inl l) (λ source a.
-      by_file answer text_limit _ files.target _ (λ m. inr (inl m)) (λ l. inr (inl l)) (λ target b.
-      by_file answer json_limit _ files.hints _ (λ m. inr (inr m)) (λ l. inr (inr l)) (λ hints c.
-      says_texts answer source target hints a b c))) due
+      by_files rules shelf out err command answer (files_of command) (DueOfTexts rules command answer) (λ m. m) (λ l. l)
+      (λ texts told texts_due. says_texts rules shelf out err command answer texts told texts_due) due
 
-  said_of_command : (answer : Answer) (status : ℕ) → DueOfFiles shelf files answer (DueOfTexts rules files answer)
-      → IsDelivered answer out err status → Says (command_run rules shelf out err files) status
+  said_of_command : (answer : Answer) (status : ℕ) → DueOfFiles shelf (files_of command) answer (DueOfTexts rules command answer)
+      → IsDelivered answer out err status → Says (command_run rules shelf out err command) status
   said_of_command answer status due (inl (e, to_out, to_err)) =
-      let P : ℕ → Type 0 = λ n. Says (command_run rules shelf out err files) n in
+      let P : ℕ → Type 0 = λ n. Says (command_run rules shelf out err command) n in
       subst P (sym e) (says_files answer due to_out to_err)
   said_of_command answer status due (inr (inl (e, part, nothing))) =
-      let P : ℕ → Type 0 = λ n. Says (command_run rules shelf out err files) n in
+      let P : ℕ → Type 0 = λ n. Says (command_run rules shelf out err command) n in
       subst P (sym e) (inl part.0)
   said_of_command answer status due (inr (inr (e, all, part))) =
-      let P : ℕ → Type 0 = λ n. Says (command_run rules shelf out err files) n in
+      let P : ℕ → Type 0 = λ n. Says (command_run rules shelf out err command) n in
       subst P (sym e) (inr part.0)
 
 -- other words than a command's get the usage
@@ -150,15 +167,15 @@ said_of_others rules shelf out err status (inr (inl (e, part, nothing))) = absur
 said_of_others rules shelf out err status (inr (inr (e, all, part))) =
     let P : ℕ → Type 0 = λ n. Says (other_run rules shelf out err) n in subst P (sym e) (inr part.0)
 
-said_by : (rules : Rules) (shelf : ShelfSeen) (out err : SinkSeen) (command : Option Files) (status : ℕ)
+said_by : (rules : Rules) (shelf : ShelfSeen) (out err : SinkSeen) (command : Option Command) (status : ℕ)
     → IsAnswered (record { rules = rules; command = command; shelf = shelf; out = out; err = err }) status
     → Says (record { rules = rules; command = command; shelf = shelf; out = out; err = err }) status
 said_by rules shelf out err None status (inl (answer, due, delivered)) =
     let P : Answer → Type 0 = λ a. IsDelivered a out err status in said_of_others rules shelf out err status (subst P due delivered)
-said_by rules shelf out err (Some files) status (inl (answer, due, delivered)) = said_of_command rules shelf out err files answer status due delivered
+said_by rules shelf out err (Some command) status (inl (answer, due, delivered)) = said_of_command rules shelf out err command answer status due delivered
 said_by rules shelf out err None status (inr (some, e, to_out, to_err)) = absurd (some refl)
-said_by rules shelf out err (Some files) status (inr (some, e, to_out, to_err)) =
-    let P : ℕ → Type 0 = λ n. Says (command_run rules shelf out err files) n in subst P (sym e) to_out.0
+said_by rules shelf out err (Some command) status (inr (some, e, to_out, to_err)) =
+    let P : ℕ → Type 0 = λ n. Says (command_run rules shelf out err command) n in subst P (sym e) to_out.0
 
 pub said : (run : Run) (status : ℕ) → IsAnswered run status → Says run status
 said run status answered = said_by run.rules run.shelf run.out run.err run.command status answered
@@ -197,10 +214,10 @@ is_status run (suc (suc (suc (suc (suc (suc (suc (suc (suc (suc zero)))))))))) s
 is_status run (suc (suc (suc (suc (suc (suc (suc (suc (suc (suc (suc n))))))))))) s = absurd s
 
 -- where the words are no command's, two statuses are left
-other_status_by : (rules : Rules) (shelf : ShelfSeen) (out err : SinkSeen) (command : Option Files) (status : ℕ)
+other_status_by : (rules : Rules) (shelf : ShelfSeen) (out err : SinkSeen) (command : Option Command) (status : ℕ)
     → IsAnswered (record { rules = rules; command = command; shelf = shelf; out = out; err = err }) status
     → command ≡ None → (status ≡ 2) ⊎ ((status ≡ 7) × HasRisen err.faults err.faults_after)
-other_status_by rules shelf out err (Some files) status answered none = absurd (some_isnt_none files none)
+other_status_by rules shelf out err (Some command) status answered e = absurd (some_isnt_none command e)
 other_status_by rules shelf out err None status (inl (answer, due, inl (e, to_out, to_err))) none = inl (e ∙ ap (λ (a : Answer). a.status) due)
 other_status_by rules shelf out err None status (inl (answer, due, inr (inl (e, part, nothing)))) none =
     let P : Answer → Type 0 = λ a. GotPart out a.out in absurd (part_of_nothing out (subst P due part))

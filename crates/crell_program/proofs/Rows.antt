@@ -1,9 +1,5 @@
 -- The rows of the table of statuses follow from the first.
-use Rattle.std.proofs.Common.{ℕ, [], Option}
-use Rattle.erhl_assert.specs.Steps.{Rules, AreSound}
-use Rattle.crell_program.specs.Command.{Files}
-use Rattle.crell_program.specs.Due.{ShelfSeen}
-use Rattle.crell_program.specs.Delivery.{SinkSeen}
+use Rattle.std.proofs.Common.{ℕ}
 use Rattle.crell_program.specs.Rows.{Run, IsAnswered, KeepsRows}
 use Rattle.crell_program.proofs.Causes.{said, said_at, kept, is_status, other_status}
 use Rattle.crell_program.proofs.Completeness.{valid, invalid, unread, missing, overlong}
@@ -28,19 +24,3 @@ rows_follow run status answered = record {
   overlong = overlong run status answered;
   statuses = is_status run status (said run status answered);
 }
-
--- the rows of a run under sound rules
-pub under_sound : (rules : Rules) (command : Option Files) (shelf : ShelfSeen) (out err : SinkSeen) (status : ℕ)
-    → KeepsRows (record { rules = rules; command = command; shelf = shelf; out = out; err = err }) status → AreSound rules
-    → (r : Rules) × AreSound r × KeepsRows (record { rules = r; command = command; shelf = shelf; out = out; err = err }) status
-under_sound rules command shelf out err status rows sound = (rules, sound, rows)
-
--- no rules take nothing
-pub no_rules_are_sound : AreSound []
-no_rules_are_sound name scope schema h = cc
-
--- what is answered is answered under no rules
-pub answered_under_none : (command : Option Files) (shelf : ShelfSeen) (out err : SinkSeen) (status : ℕ)
-    → IsAnswered (record { rules = []; command = command; shelf = shelf; out = out; err = err }) status
-    → (r : Rules) × AreSound r × KeepsRows (record { rules = r; command = command; shelf = shelf; out = out; err = err }) status
-answered_under_none command shelf out err status answered = ([], no_rules_are_sound, rows_follow _ status answered)

@@ -1,5 +1,7 @@
 -- What the program answers, for each cause.
 use Rattle.std.specs.Prelude.{ℕ, List, [], ◌∷◌, ◌++◌, codes}
+use Rattle.ir_core.specs.declared.limits.Limit.{Limit}
+use Rattle.ir_core.specs.Limits.{limit_name}
 use Rattle.crell_program.specs.declared.answer.Answer.{Answer}
 
 -- a text on a line of its own
@@ -39,9 +41,9 @@ not_of_the_first_form file = fault_of 3 file (codes ": not of the first form")
 abbrev pub read_failed : List ℕ → Answer
 read_failed file = fault_of 6 file (codes ": read failed")
 
--- the limit that the file passes has a name
-abbrev pub past_limit : List ℕ → List ℕ → Answer
-past_limit limit file = fault_of 9 file (codes ": limit " ++ limit)
+-- the file passes the limit
+abbrev pub past_limit : Limit → List ℕ → Answer
+past_limit limit file = fault_of 9 file (codes ": limit " ++ limit_name limit)
 
 abbrev pub absent : List ℕ → Answer
 absent file = fault_of 10 file (codes ": absent")

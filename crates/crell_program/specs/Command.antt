@@ -1,29 +1,63 @@
 -- The words of the command line.
 use Rattle.std.specs.Prelude.{ℕ, Bool, false, ◌&&◌, ◌==◌, not, cond, List, [], ◌∷◌, Option, None, Some, codes}
 use Rattle.std.specs.Str.{bytes_eq}
+use Rattle.ir_core.specs.declared.limits.Limit.{Limit}
+use Rattle.ir_core.specs.declared.limits.Limit.TheVariants as limit
+use Rattle.ir_core.specs.Limits.{limit_number}
+use Rattle.crell_program.specs.declared.command.Form.{Form}
+use Rattle.crell_program.specs.declared.command.Form.TheVariants.{ModuleText, HintFile}
+use Rattle.crell_program.specs.declared.command.Wanted.{Wanted}
 use Rattle.crell_program.specs.declared.command.FileNames.{FileNames}
 
+-- the limit on the bytes of a file of that form
+abbrev pub limit_of : Form → Limit
+limit_of ModuleText = limit.Text
+limit_of HintFile = limit.Json
+
+-- a file that a command reads
+pub record File : Type 0 where
+  pub name : List ℕ
+  pub form : Form
+
+abbrev pub most_bytes : File → ℕ
+most_bytes file = limit_number (limit_of file.form)
+
 -- the names of the three files of `check`, in their order
-pub record Files : Type 0 where
+pub record CheckFiles : Type 0 where
   pub source : List ℕ
   pub target : List ℕ
   pub hints : List ℕ
+
+pub data Command : Type 0 where
+  Check : CheckFiles → Command
+
+-- the files that a command reads, in the order in which they are judged
+abbrev pub files_of : Command → List File
+files_of (Check names) =
+    record { name = names.source; form = ModuleText } ∷ record { name = names.target; form = ModuleText }
+    ∷ record { name = names.hints; form = HintFile } ∷ []
 
 abbrev pub begins_with_dash : List ℕ → Bool
 begins_with_dash [] = false
 begins_with_dash (b ∷ rest) = b == 45
 
-abbrev pub files_of : List ℕ → List ℕ → List ℕ → List ℕ → Option Files
-files_of command source target hints =
+-- `check` and three names of files, none of which begins with `-`
+abbrev pub check_of : List ℕ → List ℕ → List ℕ → List ℕ → Option Command
+check_of command source target hints =
     cond (bytes_eq command (codes "check") && not (begins_with_dash source) && not (begins_with_dash target) && not (begins_with_dash hints))
-    (Some (record { source = source; target = target; hints = hints })) None
+    (Some (Check (record { source = source; target = target; hints = hints }))) None
 
--- The words are the program's name, `check`, and three names of files, none of which begins with `-`. All other words are
--- no command.
-abbrev pub command_of : List (List ℕ) → Option Files
-command_of (program ∷ command ∷ source ∷ target ∷ hints ∷ []) = files_of command source target hints
+-- The words are the program's name, and then these. All other words are no command.
+abbrev pub command_of : List (List ℕ) → Option Command
+command_of (program ∷ command ∷ source ∷ target ∷ hints ∷ []) = check_of command source target hints
 command_of words = None
 
 -- the code's names of files, as their bytes
-abbrev pub shown_files : FileNames → Files
-shown_files files = record { source = files.source.now; target = files.target.now; hints = files.hints.now }
+abbrev pub shown_file : Wanted → File
+shown_file wanted = record { name = wanted.name.now; form = wanted.form }
+
+abbrev pub shown_names : FileNames → CheckFiles
+shown_names names = record { source = names.source.now; target = names.target.now; hints = names.hints.now }
+
+abbrev pub shown_command : FileNames → Command
+shown_command names = Check (shown_names names)

@@ -1,6 +1,6 @@
 -- Which answer is due: the words, then the files in their order, then their forms in their order, then the work. The first
 -- cause decides.
-use Rattle.std.specs.Prelude.{◌≡◌, ◌⊎◌, ◌≤◌, ◌<◌, ◌^◌, ℕ, List, length, Option, None, Some, codes}
+use Rattle.std.specs.Prelude.{◌≡◌, ◌⊎◌, ◌≤◌, ◌<◌, ℕ, List, [], ◌∷◌, length, Option, None, Some}
 use Rattle.ir_core.specs.declared.functions.Module.{Module}
 use Rattle.ir_reader.specs.Spells.{Spells, HasFirstForm}
 use Rattle.hint_format.specs.Form.{HintsOf}
@@ -10,17 +10,10 @@ use Rattle.erhl_assert.specs.Acceptance.{module_verdict}
 use Rattle.crell_io.specs.Count.{HasRisen, HasRisenAbove}
 use Rattle.crell_io.specs.Shelf.{Told, IfTold}
 use Rattle.crell_io.specs.Shelf.Told.{NoSuch}
-use Rattle.crell_program.specs.Command.{Files}
+use Rattle.crell_program.specs.Command.{File, limit_of, most_bytes, CheckFiles, Command, Check, files_of}
 use Rattle.crell_program.specs.declared.answer.Answer.{Answer}
 use Rattle.crell_program.specs.Answer.{usage, not_of_the_first_form, read_failed, past_limit, absent}
 use Rattle.crell_program.specs.VerdictText.{verdict_answer}
-
--- a module's text may have 16 MiB, a JSON file 64 MiB
-abbrev pub text_limit : ℕ
-text_limit = 2 ^ 24
-
-abbrev pub json_limit : ℕ
-json_limit = 2 ^ 26
 
 -- what came of asking for a file
 pub data Got : Type 0 where
@@ -41,32 +34,31 @@ abbrev pub shelf_seen : {S : Type 0} → (S → List ℕ → Told) → (S → �
 shelf_seen told faults taken old new =
     record { told = told old; faults = faults old; faults_after = faults new; taken = taken old; taken_after = taken new }
 
--- What may come of asking for a file of that name under a limit: its bytes, as the shelf tells them; that it is missing,
--- where the shelf tells so; that it is too long, where more bytes were taken; or that reading failed, where a fault was counted in the run.
-abbrev pub MayCome : ShelfSeen → ℕ → List ℕ → Got → Type 0
-MayCome shelf limit name (Held bytes) = (length bytes ≤ limit) × IfTold (shelf.told name) (λ held. bytes ≡ held)
-MayCome shelf limit name Missing = shelf.told name ≡ NoSuch
-MayCome shelf limit name Long =
-    HasRisenAbove limit shelf.taken shelf.taken_after × IfTold (shelf.told name) (λ held. limit < length held)
-MayCome shelf limit name Broken = HasRisen shelf.faults shelf.faults_after
+-- What may come of asking for a file: its bytes, as the shelf tells them; that it is missing, where the shelf tells so; that
+-- it is too long, where more bytes were taken; or that reading failed, where a fault was counted in the run.
+abbrev pub MayCome : ShelfSeen → File → Got → Type 0
+MayCome shelf file (Held bytes) = (length bytes ≤ most_bytes file) × IfTold (shelf.told file.name) (λ held. bytes ≡ held)
+MayCome shelf file Missing = shelf.told file.name ≡ NoSuch
+MayCome shelf file Long =
+    HasRisenAbove (most_bytes file) shelf.taken shelf.taken_after × IfTold (shelf.told file.name) (λ held. most_bytes file < length held)
+MayCome shelf file Broken = HasRisen shelf.faults shelf.faults_after
 
 -- a file that isn't held is the answer's cause; one that is held leads on
-abbrev pub DueAfter : Got → List ℕ → List ℕ → Answer → (List ℕ → Type 0) → Type 0
-DueAfter (Held bytes) limit name answer next = next bytes
-DueAfter Missing limit name answer next = answer ≡ absent name
-DueAfter Long limit name answer next = answer ≡ past_limit limit name
-DueAfter Broken limit name answer next = answer ≡ read_failed name
+abbrev pub DueAfter : Got → File → Answer → (List ℕ → Type 0) → Type 0
+DueAfter (Held bytes) file answer next = next bytes
+DueAfter Missing file answer next = answer ≡ absent file.name
+DueAfter Long file answer next = answer ≡ past_limit (limit_of file.form) file.name
+DueAfter Broken file answer next = answer ≡ read_failed file.name
 
--- one file is judged, under a limit that has a name
-abbrev pub DueOfFile : ShelfSeen → ℕ → List ℕ → List ℕ → Answer → (List ℕ → Type 0) → Type 0
-DueOfFile shelf limit limit_name name answer next = (got : Got) × MayCome shelf limit name got × DueAfter got limit_name name answer next
+-- one file is judged
+abbrev pub DueOfFile : ShelfSeen → File → Answer → (List ℕ → Type 0) → Type 0
+DueOfFile shelf file answer next = (got : Got) × MayCome shelf file got × DueAfter got file answer next
 
--- the three files are judged, one after another
-abbrev pub DueOfFiles : ShelfSeen → Files → Answer → (List ℕ → List ℕ → List ℕ → Type 0) → Type 0
-DueOfFiles shelf files answer next =
-    DueOfFile shelf text_limit (codes "text") files.source answer (λ source.
-    DueOfFile shelf text_limit (codes "text") files.target answer (λ target.
-    DueOfFile shelf json_limit (codes "json") files.hints answer (λ hints. next source target hints)))
+-- files are judged one after another; where all are held, their bytes lead on
+abbrev pub DueOfFiles : ShelfSeen → List File → Answer → (List (List ℕ) → Type 0) → Type 0
+DueOfFiles shelf [] answer next = next []
+DueOfFiles shelf (file ∷ files) answer next =
+    DueOfFile shelf file answer (λ bytes. DueOfFiles shelf files answer (λ more. next (bytes ∷ more)))
 
 -- the text has the first form of no module
 abbrev pub NamesNoModule : List ℕ → Type 0
@@ -79,17 +71,30 @@ SpellsOnly text m = HasFirstForm text m × ((other : Module) → Spells text oth
 abbrev pub HoldsNoHints : List ℕ → Type 0
 HoldsNoHints text = (h : Hints) → HintsOf text h → ⊥
 
--- the three texts are there: each has its first form, or is the answer's cause
-abbrev pub DueOfTexts : Rules → Files → Answer → List ℕ → List ℕ → List ℕ → Type 0
-DueOfTexts rules files answer source target hints =
-    (NamesNoModule source × (answer ≡ not_of_the_first_form files.source))
-    ⊎ ((s : Module) × SpellsOnly source s
-    × ((NamesNoModule target × (answer ≡ not_of_the_first_form files.target))
-    ⊎ ((t : Module) × SpellsOnly target t
-    × ((HoldsNoHints hints × (answer ≡ not_of_the_first_form files.hints))
-    ⊎ ((h : Hints) × HintsOf hints h × (answer ≡ verdict_answer (module_verdict rules s t h)))))))
+-- a module's text is judged: without its first form it is the answer's cause, and its module leads on
+abbrev pub DueOfModule : List ℕ → List ℕ → Answer → (Module → Type 0) → Type 0
+DueOfModule name text answer next = (NamesNoModule text × (answer ≡ not_of_the_first_form name)) ⊎ ((m : Module) × SpellsOnly text m × next m)
+
+-- a hint file's text is judged
+abbrev pub DueOfHints : List ℕ → List ℕ → Answer → (Hints → Type 0) → Type 0
+DueOfHints name text answer next = (HoldsNoHints text × (answer ≡ not_of_the_first_form name)) ⊎ ((h : Hints) × HintsOf text h × next h)
+
+-- the three texts of `check` are judged, and then the pair
+abbrev pub DueOfCheck : Rules → CheckFiles → Answer → List ℕ → List ℕ → List ℕ → Type 0
+DueOfCheck rules names answer source target hints =
+    DueOfModule names.source source answer (λ s.
+    DueOfModule names.target target answer (λ t.
+    DueOfHints names.hints hints answer (λ h. answer ≡ verdict_answer (module_verdict rules s t h))))
+
+-- the texts of a command's files are there, one for each
+abbrev pub DueOfTexts : Rules → Command → Answer → List (List ℕ) → Type 0
+DueOfTexts rules (Check names) answer (source ∷ target ∷ hints ∷ []) = DueOfCheck rules names answer source target hints
+DueOfTexts rules (Check names) answer [] = ⊥
+DueOfTexts rules (Check names) answer (source ∷ []) = ⊥
+DueOfTexts rules (Check names) answer (source ∷ target ∷ []) = ⊥
+DueOfTexts rules (Check names) answer (source ∷ target ∷ hints ∷ text ∷ more) = ⊥
 
 -- the answer that is due to these words
-abbrev pub IsDue : Rules → ShelfSeen → Option Files → Answer → Type 0
+abbrev pub IsDue : Rules → ShelfSeen → Option Command → Answer → Type 0
 IsDue rules shelf None answer = answer ≡ usage
-IsDue rules shelf (Some files) answer = DueOfFiles shelf files answer (DueOfTexts rules files answer)
+IsDue rules shelf (Some command) answer = DueOfFiles shelf (files_of command) answer (DueOfTexts rules command answer)

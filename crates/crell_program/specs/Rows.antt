@@ -5,7 +5,7 @@ use Rattle.erhl_assert.specs.Steps.{Rules}
 use Rattle.crell_io.specs.Count.{HasRisen}
 use Rattle.crell_program.specs.declared.answer.Answer.{Answer}
 use Rattle.crell_program.specs.Answer.{usage_text}
-use Rattle.crell_program.specs.Command.{Files}
+use Rattle.crell_program.specs.Command.{Command, files_of}
 use Rattle.crell_program.specs.Due.{ShelfSeen, IsDue}
 use Rattle.crell_program.specs.Delivery.{SinkSeen, IsDelivered, GotAll, GotNothing, Untouched}
 use Rattle.crell_program.specs.Statuses.{IsRefusal, SomeFileIsUnfit, SomeFileIsLonger, SomeFileIsMissing, HoldsAll, OneIsUnfit, HasVerdict, FirstUnheld, IsAbsent, IsOverlong, IsStatus}
@@ -13,7 +13,7 @@ use Rattle.crell_program.specs.Statuses.{IsRefusal, SomeFileIsUnfit, SomeFileIsL
 -- the rules, the command that the words name, and the shelf and the sinks before the run and after it
 pub record Run : Type 0 where
   pub rules : Rules
-  pub command : Option Files
+  pub command : Option Command
   pub shelf : ShelfSeen
   pub out : SinkSeen
   pub err : SinkSeen
@@ -51,9 +51,9 @@ pub record KeepsRows (run : Run) (status : ℕ) : Type 0 where
   pub absent : status ≡ 10 → SomeFileIsMissing run.shelf run.command
   -- Nothing is written to out but under 0 and 1, and a first part of it under 7.
   pub out_kept : status ≢ 0 → status ≢ 1 → status ≢ 7 → GotNothing run.out
-  -- Where all three files are told and within their limits, and no count of faults rises: the status is 3 where one of them
+  -- Where all of its files are told and within their limits, and no count of faults rises: the status is 3 where one of them
   -- hasn't its first form, and else the verdict's; or memory was refused.
-  pub unread : HoldsAll run.shelf.told run.command OneIsUnfit → NoFault run → (status ≡ 3) ⊎ (status ≡ 8)
+  pub unread : HoldsAll run.shelf.told run.command (λ command. OneIsUnfit (files_of command)) → NoFault run → (status ≡ 3) ⊎ (status ≡ 8)
   pub valid : HasVerdict run.rules run.shelf.told run.command (λ v. v ≡ modules.Valid) → NoFault run → (status ≡ 0) ⊎ (status ≡ 8)
   pub invalid : HasVerdict run.rules run.shelf.told run.command (λ v. v ≢ modules.Valid) → NoFault run → (status ≡ 1) ⊎ (status ≡ 8)
   -- Where the first of the files that isn't told to be held within its limit is told to be absent, or to be longer, and no

@@ -2,14 +2,24 @@ ghost use Rattle.std.specs.Prelude.{◌≡◌, ◌++◌, [], IfOk, OnOk, codes};
 ghost use Rattle.crell_program.specs.Answer as answer;
 
 use contents::Seq;
+use ir_core::Limit;
 use std::alloc::{AllocError, Global};
 
 /// What the program answers: its status, and the texts for its two sinks.
-#[derive(Drop)]
 pub struct Answer {
     pub status: u8,
     pub out: Seq<u8>,
     pub err: Seq<u8>,
+}
+
+impl Drop for Answer {
+    fn drop(self) {
+        let Answer {
+            status: _,
+            out: _,
+            err: _,
+        } = self;
+    }
 }
 
 /// The text that other words than a command's get.
@@ -47,12 +57,12 @@ pub fn read_failed(alloc: Global, file: &str) -> Result<Answer, AllocError>
     fault(alloc, 6, file, b": read failed")
 }
 
-/// A file is longer than the limit of that name.
-pub fn past_limit(alloc: Global, limit: &[u8], file: &str) -> Result<Answer, AllocError>
-    ensures { IfOk result (λ a. a ≡ answer.past_limit limit.now file.now) }
+/// A file passes a limit.
+pub fn past_limit(alloc: Global, limit: Limit, file: &str) -> Result<Answer, AllocError>
+    ensures { IfOk result (λ a. a ≡ answer.past_limit limit file.now) }
 {
     let mut what = Vec::from_slice(alloc, b": limit ")?;
-    what.extend_from_slice(limit)?;
+    what.extend_from_slice(limit.name().as_bytes())?;
     fault(alloc, 9, file, what.as_slice())
 }
 

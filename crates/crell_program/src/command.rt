@@ -1,5 +1,48 @@
-ghost use Rattle.std.specs.Prelude.{◌≡◌, map, string_bytes, option_map};
-ghost use Rattle.crell_program.specs.Command.{begins_with_dash, command_of, shown_files};
+ghost use Rattle.std.specs.Prelude.{◌≡◌, ◌<◌, ◌^◌, ◌-◌, map, string_bytes, option_map};
+ghost use Rattle.crell_program.specs.Command.{begins_with_dash, command_of, files_of, limit_of, most_bytes, shown_command, shown_file};
+
+use ir_core::Limit;
+
+/// What a file is to hold.
+#[derive(Drop, Clone, Copy)]
+pub enum Form {
+    /// A module's text.
+    ModuleText,
+    /// Hints, as JSON.
+    HintFile,
+}
+
+impl Form {
+    /// The limit on the bytes of such a file.
+    pub fn limit(self) -> Limit
+        ensures { result ≡ limit_of self }
+    {
+        match self {
+            Form::ModuleText => Limit::Text,
+            Form::HintFile => Limit::Json,
+        }
+    }
+}
+
+/// A file that a command reads.
+#[derive(Drop, Clone, Copy)]
+pub struct Wanted<'a> {
+    pub name: &'a str,
+    pub form: Form,
+}
+
+impl Wanted<'_> {
+    /// How many bytes it may have.
+    pub fn most_bytes(&self) -> u64
+        ensures value { result ≡ most_bytes (shown_file self.now) }
+        ensures small { result < 2 ^ 64 - 1 }
+    {
+        match self.form {
+            Form::ModuleText => Limit::Text.number(),
+            Form::HintFile => Limit::Json.number(),
+        }
+    }
+}
 
 /// The names of the three files of `check`, in their order.
 #[derive(Drop)]
@@ -9,9 +52,31 @@ pub struct FileNames<'a> {
     pub hints: &'a str,
 }
 
+impl FileNames<'_> {
+    /// The files, in the order in which they are judged.
+    pub fn wanted(&self) -> [Wanted<'_>; 3]
+        ensures { map shown_file result ≡ files_of (shown_command self.now) }
+    {
+        [
+            Wanted {
+                name: self.source,
+                form: Form::ModuleText,
+            },
+            Wanted {
+                name: self.target,
+                form: Form::ModuleText,
+            },
+            Wanted {
+                name: self.hints,
+                form: Form::HintFile,
+            },
+        ]
+    }
+}
+
 /// The files of the command, if the words are a command's.
 pub fn command_of(words: &[String]) -> Option<FileNames<'_>>
-    ensures { option_map shown_files result ≡ command_of (map string_bytes words.now) }
+    ensures { option_map shown_command result ≡ command_of (map string_bytes words.now) }
 {
     let [_program, command, source, target, hints] = words else {
         return None;

@@ -6,8 +6,6 @@ mod command;
 mod delivery;
 mod fetch;
 mod program;
-mod shipped;
 mod verdict_text;
 
-pub use program::{WANT_OF_MEMORY, crell};
-pub use shipped::crell_with_shipped_rules;
+pub use program::{WANT_OF_MEMORY, crell, crell_with_shipped_rules};

@@ -2,12 +2,14 @@ ghost use Rattle.std.specs.Prelude.{◌≡◌, ◌≤◌, length, None, Some, If
 ghost use Rattle.ir_machine.specs.Refinement.{Refines};
 ghost use Rattle.erhl_assert.specs.Acceptance.{module_verdict};
 ghost use Rattle.rule_base.specs.Book.{meanings_of};
+ghost use Rattle.rule_base.specs.Rows.{shipped_rules};
 ghost use Rattle.crell_program.specs.Answer.{usage};
-ghost use Rattle.crell_program.specs.Command.{command_of, shown_files};
-ghost use Rattle.crell_program.specs.Due.{shelf_seen, text_limit, DueOfFiles, DueOfTexts};
+ghost use Rattle.ir_core.specs.Limits.{limit_number};
+ghost use Rattle.crell_program.specs.Command.{command_of, files_of, shown_command, shown_names};
+ghost use Rattle.crell_program.specs.Due.{shelf_seen, DueOfFiles, DueOfCheck, DueOfTexts};
 ghost use Rattle.crell_program.specs.Delivery.{sink_seen, IsDelivered};
 ghost use Rattle.crell_program.specs.Rows.{IsAnswered, KeepsRows};
-ghost use Rattle.crell_program.specs.Statuses.{AreRefined, IsRefinementOfBytes};
+ghost use Rattle.crell_program.specs.Statuses.{AreRefined, IsRefinement, IsRefinementOfBytes};
 ghost use Rattle.crell_program.specs.VerdictText.{verdict_answer};
 
 use crate::answer::{self, Answer};
@@ -17,12 +19,13 @@ use crate::fetch::{Stop, gather};
 use crate::verdict_text::verdict_answer;
 use crell_io::{Shelf, Sink};
 use erhl_assert::{Hints, ModuleVerdict};
-use erhl_checker::{CheckEnd, check_module};
+use erhl_checker::{CheckEnd, check_module_under};
 use hint_format::{HintFault, read_hints};
-use ir_core::Module;
+use ir_core::{Limit, Module};
 use ir_reader::{TextFault, read_module};
-use rule_base::{InferRule, Pass, RuleBook};
+use rule_base::{InferRule, LentBook, Pass, RuleBook, RuleSet, ShippedRules};
 use std::alloc::{AllocError, Global};
+use std::marker::PhantomData;
 
 /// The status where the words are no command's.
 const USAGE: u8 = 2;
@@ -65,14 +68,50 @@ pub fn crell<S: Shelf, O: Sink, E: Sink>(
     // Where the words are no command's, the shelf isn't asked.
     ensures unasked { command_of (map string_bytes words.now) ≡ None → shelf.new ≡ shelf.old }
 {
-    run(alloc, words, rules, shelf, out, err)
+    let lent = LentBook {
+        book: rules,
+        boxes: PhantomData,
+    };
+    run(alloc, words, &lent, shelf, out, err)
+}
+
+/// Runs the command that the words name, over this shelf and these sinks, under the shipped rules, and gives the status.
+pub fn crell_with_shipped_rules<S: Shelf, O: Sink, E: Sink>(
+    alloc: Global,
+    words: &[String],
+    shelf: &mut S,
+    out: &mut O,
+    err: &mut E,
+) -> u8
+    // THE HEADLINE: where the status is 0, the bytes under the two names spell modules of which the target's refines the source's.
+    ensures headline { result ≡ 0 → IsRefinementOfBytes (S.told shelf.old)
+        (command_of (map string_bytes words.now)) }
+
+    // The rows of the table of statuses, under the shipped rules.
+    ensures rows { KeepsRows (record {
+      rules = shipped_rules;
+      command = command_of (map string_bytes words.now);
+      shelf = shelf_seen S.told S.faults S.taken shelf.old shelf.new;
+      out = sink_seen O.written O.faults out.old out.new;
+      err = sink_seen E.written E.faults err.old err.new;
+    }) result }
+
+    // The shelf tells what it told before, and no count falls.
+    ensures told { S.told shelf.new ≡ S.told shelf.old }
+    ensures counts { (S.faults shelf.old ≤ S.faults shelf.new) × (S.taken shelf.old ≤ S.taken shelf.new)
+        × (O.faults out.old ≤ O.faults out.new) × (E.faults err.old ≤ E.faults err.new) }
+
+    // Where the words are no command's, the shelf isn't asked.
+    ensures unasked { command_of (map string_bytes words.now) ≡ None → shelf.new ≡ shelf.old }
+{
+    run(alloc, words, &ShippedRules, shelf, out, err)
 }
 
 /// Finds the answer, and delivers it.
-fn run<S: Shelf, O: Sink, E: Sink>(
+pub(crate) fn run<R: RuleSet, S: Shelf, O: Sink, E: Sink>(
     alloc: Global,
     words: &[String],
-    rules: &RuleBook,
+    rules: &R,
     shelf: &mut S,
     out: &mut O,
     err: &mut E,
@@ -80,10 +119,7 @@ fn run<S: Shelf, O: Sink, E: Sink>(
     ensures headline { result ≡ 0 → IsRefinementOfBytes (S.told shelf.old)
         (command_of (map string_bytes words.now)) }
     ensures answered { IsAnswered (record {
-      rules = meanings_of
-          (λ b. (⟦<dyn InferRule as InferRule>⟧ b.vtable).called b.value)
-          (λ b. (⟦<dyn InferRule as InferRule>⟧ b.vtable).takes b.value)
-          rules.now.rules.items;
+      rules = R.rules rules.now;
       command = command_of (map string_bytes words.now);
       shelf = shelf_seen S.told S.faults S.taken shelf.old shelf.new;
       out = sink_seen O.written O.faults out.old out.new;
@@ -101,7 +137,7 @@ fn run<S: Shelf, O: Sink, E: Sink>(
 }
 
 /// Writes the usage to err.
-pub(crate) fn tell_usage<O: Sink, E: Sink>(out: &mut O, err: &mut E) -> u8
+fn tell_usage<O: Sink, E: Sink>(out: &mut O, err: &mut E) -> u8
     ensures delivered { IsDelivered usage
         (sink_seen O.written O.faults out.old out.new)
         (sink_seen E.written E.faults err.old err.new) result }
@@ -112,22 +148,18 @@ pub(crate) fn tell_usage<O: Sink, E: Sink>(out: &mut O, err: &mut E) -> u8
 }
 
 /// Finds the answer that is due to the three files, and delivers it.
-fn check<S: Shelf, O: Sink, E: Sink>(
+fn check<R: RuleSet, S: Shelf, O: Sink, E: Sink>(
     alloc: Global,
     files: &FileNames<'_>,
-    rules: &RuleBook,
+    rules: &R,
     shelf: &mut S,
     out: &mut O,
     err: &mut E,
 ) -> u8
-    ensures headline { result ≡ 0 → IsRefinementOfBytes (S.told shelf.old) (Some
-        (shown_files files.now)) }
+    ensures headline { result ≡ 0 → IsRefinement (S.told shelf.old) (shown_command files.now) }
     ensures answered { IsAnswered (record {
-      rules = meanings_of
-          (λ b. (⟦<dyn InferRule as InferRule>⟧ b.vtable).called b.value)
-          (λ b. (⟦<dyn InferRule as InferRule>⟧ b.vtable).takes b.value)
-          rules.now.rules.items;
-      command = Some (shown_files files.now);
+      rules = R.rules rules.now;
+      command = Some (shown_command files.now);
       shelf = shelf_seen S.told S.faults S.taken shelf.old shelf.new;
       out = sink_seen O.written O.faults out.old out.new;
       err = sink_seen E.written E.faults err.old err.new;
@@ -149,61 +181,55 @@ fn check<S: Shelf, O: Sink, E: Sink>(
 }
 
 /// The answer that is due to the three files.
-fn check_files<S: Shelf>(
+fn check_files<R: RuleSet, S: Shelf>(
     alloc: Global,
     files: &FileNames<'_>,
-    rules: &RuleBook,
+    rules: &R,
     shelf: &mut S,
 ) -> Result<Answer, AllocError>
     ensures due { IfOk result
         (λ answer. DueOfFiles
         (shelf_seen S.told S.faults S.taken shelf.old shelf.new)
-        (shown_files files.now)
-        answer (DueOfTexts
-        (meanings_of
-        (λ b. (⟦<dyn InferRule as InferRule>⟧ b.vtable).called b.value)
-        (λ b. (⟦<dyn InferRule as InferRule>⟧ b.vtable).takes b.value)
-        rules.now.rules.items)
-        (shown_files files.now) answer)) }
+        (files_of (shown_command files.now))
+        answer (DueOfTexts (R.rules rules.now) (shown_command files.now) answer)) }
     ensures refines { IfOk result
-        (λ answer. answer.status ≡ 0 → IsRefinementOfBytes (S.told shelf.old) (Some
-        (shown_files files.now))) }
+        (λ answer. answer.status ≡ 0 → IsRefinement (S.told shelf.old) (shown_command files.now)) }
     ensures told { S.told shelf.new ≡ S.told shelf.old }
     ensures faults { S.faults shelf.old ≤ S.faults shelf.new }
     ensures taken { S.taken shelf.old ≤ S.taken shelf.new }
 {
-    match gather(alloc, shelf, files) {
-        Ok(texts) => check_texts(
-            alloc,
-            files,
-            rules,
-            texts.source.as_slice(),
-            texts.target.as_slice(),
-            texts.hints.as_slice(),
-        ),
+    match gather(alloc, shelf, &files.wanted()) {
+        Ok(texts) => {
+            let [source, target, hints] = texts.as_slice() else {
+                unreachable!()
+            };
+            check_texts(
+                alloc,
+                files,
+                rules,
+                source.as_slice(),
+                target.as_slice(),
+                hints.as_slice(),
+            )
+        }
         Err(Stop::Due(answer)) => Ok(answer),
         Err(Stop::Memory) => Err(AllocError),
     }
 }
 
 /// The answer that is due to the three texts.
-fn check_texts(
+fn check_texts<R: RuleSet>(
     alloc: Global,
     files: &FileNames<'_>,
-    rules: &RuleBook,
+    rules: &R,
     source: &[u8],
     target: &[u8],
     hints: &[u8],
 ) -> Result<Answer, AllocError>
-    ensures due { length source.now ≤ text_limit
-        → length target.now ≤ text_limit
+    ensures due { length source.now ≤ limit_number Limit.Text
+        → length target.now ≤ limit_number Limit.Text
         → IfOk result
-        (λ answer. DueOfTexts
-        (meanings_of
-        (λ b. (⟦<dyn InferRule as InferRule>⟧ b.vtable).called b.value)
-        (λ b. (⟦<dyn InferRule as InferRule>⟧ b.vtable).takes b.value)
-        rules.now.rules.items)
-        (shown_files files.now) answer source.now target.now hints.now) }
+        (λ answer. DueOfCheck (R.rules rules.now) (shown_names files.now) answer source.now target.now hints.now) }
     ensures refines { IfOk result (λ answer. answer.status ≡ 0 → AreRefined source.now target.now) }
 {
     let source = match read_module(alloc, source) {
@@ -234,22 +260,19 @@ fn check_texts(
 }
 
 /// The checker's verdict on two modules.
-fn judge(
+fn judge<R: RuleSet>(
     alloc: Global,
     source: &Module,
     target: &Module,
     hints: &Hints,
-    rules: &RuleBook,
+    rules: &R,
 ) -> Result<Answer, AllocError>
     ensures verdict { IfOk result
         (λ answer. answer ≡ verdict_answer (module_verdict
-        (meanings_of
-        (λ b. (⟦<dyn InferRule as InferRule>⟧ b.vtable).called b.value)
-        (λ b. (⟦<dyn InferRule as InferRule>⟧ b.vtable).takes b.value)
-        rules.now.rules.items) source.now target.now hints.now)) }
+        (R.rules rules.now) source.now target.now hints.now)) }
     ensures refines { IfOk result (λ answer. answer.status ≡ 0 → Refines source.now target.now) }
 {
-    match check_module(alloc, source, target, hints, rules) {
+    match check_module_under(alloc, source, target, hints, rules) {
         Ok(verdict) => verdict_answer(alloc, &verdict),
         Err(CheckEnd::Memory) => Err(AllocError),
     }

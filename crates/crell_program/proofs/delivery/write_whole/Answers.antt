@@ -1,4 +1,4 @@
-use Rattle.std.proofs.Common.{arith}
+use Rattle.std.proofs.Common.{arith, rules}
 use Rattle.std.proofs.lemmas.List.{length-drop}
 use Rattle.crell_program.proofs.Writing.{wrote_more, some_in_rest, rest_from, risen_after, stopped, took_none}
 use Rattle.crell_program.proofs.delivery.write_whole.Goals as goal
@@ -31,3 +31,6 @@ returns-in-Err-clause-part g c = λ _. (
   stopped (g.K.Sink.written c.args.sink.now) (g.K.Sink.written c.loop-done.sink) (g.K.Sink.written c.put.new.self)
       c.args.text.now c.loop-done.done c.loop-done-test.true c.loop-done.invariant.appended_so_far c.in-Err.ensures.nothing,
 )
+
+pub returns-in-Err-clause-whole : goal.returns-in-Err-clause-whole
+returns-in-Err-clause-whole g c = search rules

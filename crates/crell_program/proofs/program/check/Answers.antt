@@ -1,5 +1,5 @@
 use Rattle.std.proofs.Common.{inl, refl}
-use Rattle.crell_program.specs.Command.{shown_files}
+use Rattle.crell_program.specs.Command.{shown_names}
 use Rattle.crell_program.specs.Delivery.{sink_seen}
 use Rattle.crell_program.specs.Due.{shelf_seen}
 use Rattle.crell_program.proofs.Inner.{delivered_as, unanswered, zero_of}
@@ -25,4 +25,4 @@ returns-in-Err-clause-answered g c =
     let shelf = shelf_seen g.S.Shelf.told g.S.Shelf.faults g.S.Shelf.taken c.args.shelf.now c.check_files.new.shelf in
     let out = sink_seen g.O.Sink.written g.O.Sink.faults c.args.out.now c.args.out.now in
     let err = sink_seen g.E.Sink.written g.E.Sink.faults c.args.err.now c.args.err.now in
-    unanswered _ shelf out err (shown_files c.args.files.now) (refl, refl) (refl, refl)
+    unanswered _ shelf out err (shown_names c.args.files.now) (refl, refl) (refl, refl)

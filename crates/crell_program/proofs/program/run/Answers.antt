@@ -1,5 +1,5 @@
 use Rattle.std.proofs.Common.{map, string_bytes}
-use Rattle.crell_program.specs.Command.{command_of, shown_files}
+use Rattle.crell_program.specs.Command.{command_of, shown_names}
 use Rattle.crell_program.specs.Delivery.{sink_seen}
 use Rattle.crell_program.specs.Due.{shelf_seen}
 use Rattle.crell_program.proofs.Inner.{answered_with_usage, answered_for, refinement_for, usage_isnt_zero}
@@ -23,10 +23,10 @@ returns-in-Some-clause-answered g c =
     let shelf = shelf_seen g.S.Shelf.told g.S.Shelf.faults g.S.Shelf.taken c.args.shelf.now c.check.new.shelf in
     let out = sink_seen g.O.Sink.written g.O.Sink.faults c.args.out.now c.check.new.out in
     let err = sink_seen g.E.Sink.written g.E.Sink.faults c.args.err.now c.check.new.err in
-    answered_for _ shelf out err (shown_files c.in-Some.files) (command_of (map string_bytes c.args.words.now)) c.check.result
+    answered_for _ shelf out err (shown_names c.in-Some.files) (command_of (map string_bytes c.args.words.now)) c.check.result
     c.in-Some.ensures c.check.ensures.answered
 
 pub returns-in-Some-clause-headline : goal.returns-in-Some-clause-headline
 returns-in-Some-clause-headline g c =
-    refinement_for (g.S.Shelf.told c.args.shelf.now) (shown_files c.in-Some.files) (command_of (map string_bytes c.args.words.now)) c.check.result
+    refinement_for (g.S.Shelf.told c.args.shelf.now) (shown_names c.in-Some.files) (command_of (map string_bytes c.args.words.now)) c.check.result
     c.in-Some.ensures c.check.ensures.headline

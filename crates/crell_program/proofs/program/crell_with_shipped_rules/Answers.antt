@@ -1,0 +1,5 @@
+use Rattle.crell_program.proofs.Rows.{rows_follow}
+use Rattle.crell_program.proofs.program.crell_with_shipped_rules.Goals as goal
+
+pub returns-clause-rows : goal.returns-clause-rows
+returns-clause-rows g c = rows_follow _ c.run.result c.run.ensures.answered
