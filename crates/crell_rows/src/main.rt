@@ -1,19 +1,17 @@
 //! Runs rows of data through `crell`, over a shelf and two sinks in memory: `crell_rows FILE..`.
 //!
-//! Each file is a JSON array of rows (`row.rt`). A row that fails is told on a line; the last line counts. The status is 0 where all
-//! rows pass and there is one, 1 where one fails or there is none, and where a file or a row can't be read.
+//! Each file is a table of rows (`row_table`). A row that fails is told on a line, and so is a row or a table that can't be read; the last
+//! line counts. The status is 0 where all rows pass and there is one, else 1.
 #![tactic(auto)]
 
-mod contents_of_files;
-mod row;
+mod comparing;
 mod running;
 
-use anyhow::{Context, Result};
-use row::Row;
+use row_table::Table;
 use running::told_of;
 use std::process::ExitCode;
 use std::rt::Files;
-use std::{env, fs};
+use std::{env, fs, io};
 
 /// How many rows passed, and how many failed.
 #[derive(Clone, Copy)]
@@ -22,7 +20,7 @@ struct Tally {
     failed: u64,
 }
 
-fn main(rt: HostRuntime) -> Result<ExitCode> {
+fn main(rt: HostRuntime) -> io::Result<ExitCode> {
     let mut tally = Tally {
         passed: 0,
         failed: 0,
@@ -32,30 +30,73 @@ fn main(rt: HostRuntime) -> Result<ExitCode> {
     }
     let Tally { passed, failed } = tally;
     println!(rt; "{passed} passed, {failed} failed")?;
-    Ok(if passed > 0 && failed == 0 {
+    Ok(status_of(tally))
+}
+
+fn status_of(tally: Tally) -> ExitCode {
+    if tally.passed > 0 && tally.failed == 0 {
         ExitCode::SUCCESS
     } else {
         ExitCode::FAILURE
-    })
+    }
 }
 
 /// Runs the rows of a file.
-fn run_file<R: Files + AllocGlobal + Print>(rt: &R, file: &str, tally: &mut Tally) -> Result<()> {
-    let alloc = rt.alloc();
-    let text = fs::read_to_string(rt, file).context(format_args!("reading {file}"))?;
-    let rows: Vec<Row> = serde_json::from_str(alloc, text.as_str()).context(format_args!(
-        "reading the rows of {file}"
-    ))?;
-    for row in &rows {
-        let name = row.name.as_str();
-        let told = told_of(alloc, row).context(format_args!("{file}: {name}"))?;
-        if told.is_empty() {
-            tally.passed = tally.passed.saturating_add(1);
-        } else {
-            tally.failed = tally.failed.saturating_add(1);
-            let told = told.as_str();
-            println!(rt; "{file}: {name}: {told}")?;
-        }
+fn run_file<R: Files + AllocGlobal + Print>(
+    rt: &R,
+    file: &str,
+    tally: &mut Tally,
+) -> io::Result<()> {
+    let text = fs::read_to_string(rt, file)?;
+    match Table::read(rt.alloc(), text.as_str()) {
+        Ok(table) => run_rows(rt, file, &table, tally),
+        Err(fault) => fail(rt, file, "all of it", fault.told(), tally),
+    }
+}
+
+fn run_rows<R: AllocGlobal + Print>(
+    rt: &R,
+    file: &str,
+    table: &Table,
+    tally: &mut Tally,
+) -> io::Result<()> {
+    for place in 0..table.len() {
+        run_row(rt, file, table, place, tally)?;
     }
     Ok(())
+}
+
+fn run_row<R: AllocGlobal + Print>(
+    rt: &R,
+    file: &str,
+    table: &Table,
+    place: usize,
+    tally: &mut Tally,
+) -> io::Result<()> {
+    let name = table.name(place);
+    match told_of(rt.alloc(), table, place) {
+        Ok(told) => count(rt, file, name, told.as_str(), tally),
+        Err(fault) => fail(rt, file, name, fault.told(), tally),
+    }
+}
+
+/// Counts a row that was run: it passes where nothing is told.
+fn count<R: Print>(
+    rt: &R,
+    file: &str,
+    name: &str,
+    told: &str,
+    tally: &mut Tally,
+) -> io::Result<()> {
+    if told.is_empty() {
+        tally.passed = tally.passed.saturating_add(1);
+        return Ok(());
+    }
+    fail(rt, file, name, told, tally)
+}
+
+/// Counts a failure, and tells it.
+fn fail<R: Print>(rt: &R, file: &str, name: &str, told: &str, tally: &mut Tally) -> io::Result<()> {
+    tally.failed = tally.failed.saturating_add(1);
+    println!(rt; "{file}: {name}: {told}")
 }

@@ -1,93 +1,93 @@
-//! A row is run, and what came is compared with what it wants.
-use crate::contents_of_files::bytes_of;
-use crate::row::{Plan, Row};
-use anyhow::{Result, bail};
+// A row is run.
+ghost use Rattle.std.specs.Prelude.{◌≤◌};
+
+use crate::comparing::told_of_run;
 use crell_io::{Entry, MemShelf, MemSink};
 use crell_program::crell_with_shipped_rules;
+use row_table::{Fault, File, Given, Plan, Row, Table};
 use std::alloc::{AllocError, Global};
-use std::str;
+use std::mem;
 
-/// How many bytes a sink takes where a row doesn't say.
-const ROOM: u32 = 65536;
-
-const CHECK: [&str; 5] = ["crell", "check", "a.ll", "b.ll", "h.json"];
-
-/// What came otherwise than the row wants; nothing where it passes.
-pub fn told_of(alloc: Global, row: &Row) -> Result<String> {
-    let mut shelf = shelf_of(alloc, row)?;
-    let mut out = sink_of(alloc, &row.out)?;
-    let mut err = sink_of(alloc, &row.err)?;
-    let words = words_of(alloc, &row.words)?;
-    let status = crell_with_shipped_rules(alloc, &words, &mut shelf, &mut out, &mut err);
-    let mut told = String::new(alloc);
-    if status != row.status {
-        let wanted = row.status;
-        write!(&mut told, " status {status} and not {wanted}")?;
-    }
-    push_difference(&mut told, "out", out.bytes(), row.stdout.as_str())?;
-    push_difference(&mut told, "err", err.bytes(), row.stderr.as_str())?;
-    push_count(&mut told, "faults", shelf.faults(), row.faults)?;
-    push_count(&mut told, "bytes taken", shelf.taken(), row.taken)?;
-    Ok(told)
+/// The shelf and the sinks that a row is run over.
+pub struct Stage {
+    pub shelf: MemShelf,
+    pub out: MemSink,
+    pub err: MemSink,
 }
 
-fn push_difference(
-    told: &mut String,
-    what: &str,
-    came: &[u8],
-    wanted: &str,
-) -> Result<(), AllocError> {
-    if came == wanted.as_bytes() {
-        return Ok(());
-    }
-    match str::from_utf8(came) {
-        Ok(text) => write!(told, " {what} {text:?} and not {wanted:?}"),
-        Err(_) => write!(told, " {what} {came:?} and not {wanted:?}"),
+impl Drop for Stage {
+    fn drop(self) {
+        let Stage {
+            shelf: _,
+            out: _,
+            err: _,
+        } = self;
     }
 }
 
-fn push_count(
-    told: &mut String,
-    what: &str,
-    came: u64,
-    wanted: Option<u64>,
-) -> Result<(), AllocError> {
-    match wanted {
-        Some(wanted) if came != wanted => write!(told, " {came} {what} and not {wanted}"),
-        _ => Ok(()),
-    }
+/// What came otherwise than the row at that place wants; nothing where it passes.
+pub fn told_of(alloc: Global, table: &Table, place: usize) -> Result<String, Fault> {
+    let mut row = table.row(alloc, place)?;
+    Ok(told_of_row(alloc, &mut row)?)
 }
 
-fn shelf_of(alloc: Global, row: &Row) -> Result<MemShelf> {
+fn told_of_row(alloc: Global, row: &mut Row) -> Result<String, AllocError> {
+    let mut stage = stage_of(alloc, row)?;
+    let status = status_of(alloc, &row.given.words, &mut stage);
+    told_of_run(alloc, status, &stage, &row.wanted)
+}
+
+fn status_of(alloc: Global, words: &[String], stage: &mut Stage) -> u8 {
+    crell_with_shipped_rules(
+        alloc,
+        words,
+        &mut stage.shelf,
+        &mut stage.out,
+        &mut stage.err,
+    )
+}
+
+fn stage_of(alloc: Global, row: &mut Row) -> Result<Stage, AllocError> {
+    let out = sink_of(alloc, &mut row.out)?;
+    let err = sink_of(alloc, &mut row.err)?;
+    let shelf = shelf_of(alloc, &mut row.given)?;
+    Ok(Stage { shelf, out, err })
+}
+
+fn sink_of(alloc: Global, plan: &mut Plan) -> Result<MemSink, AllocError> {
+    let failing = mem::replace(&mut plan.failing, Vec::new(alloc));
+    new_sink(alloc, plan.room, plan.most, failing)
+}
+
+fn new_sink(alloc: Global, room: u64, most: u64, failing: Vec<u64>) -> Result<MemSink, AllocError> {
+    MemSink::new(alloc, room as usize, at_least_one(most), failing)
+}
+
+/// The number itself: a plan in which `most` is 0 isn't read.
+fn at_least_one(most: u64) -> usize
+    ensures { 1 ≤ result }
+{
+    if most == 0 { 1 } else { most as usize }
+}
+
+fn shelf_of(alloc: Global, given: &mut Given) -> Result<MemShelf, AllocError> {
+    let files = mem::replace(&mut given.files, Vec::new(alloc));
+    let entries = entries_of(alloc, files)?;
+    let failing = mem::replace(&mut given.failing_gets, Vec::new(alloc));
+    Ok(MemShelf::new(entries, failing))
+}
+
+fn entries_of(alloc: Global, files: Vec<File>) -> Result<Vec<Entry>, AllocError> {
     let mut entries = Vec::new(alloc);
-    for (name, value) in row.files.iter() {
-        entries.push(Entry {
-            name: name.clone()?,
-            bytes: bytes_of(alloc, value)?,
-        })?;
+    for file in files {
+        entries.push(entry_of(file))?;
     }
-    Ok(MemShelf::new(entries, row.failing_gets.clone()?))
+    Ok(entries)
 }
 
-fn sink_of(alloc: Global, plan: &Option<Plan>) -> Result<MemSink> {
-    let Some(plan) = plan else {
-        return Ok(MemSink::new(alloc, ROOM as usize, ROOM as usize, Vec::new(alloc))?);
-    };
-    let most = plan.most.unwrap_or(ROOM);
-    if most == 0 {
-        bail!("a sink takes at least a byte a call");
+fn entry_of(file: File) -> Entry {
+    Entry {
+        name: file.name,
+        bytes: file.bytes,
     }
-    let room = plan.room.unwrap_or(ROOM);
-    Ok(MemSink::new(alloc, room as usize, most as usize, plan.failing.clone()?)?)
-}
-
-fn words_of(alloc: Global, words: &Option<Vec<String>>) -> Result<Vec<String>, AllocError> {
-    if let Some(words) = words {
-        return words.clone();
-    }
-    let mut words = Vec::new(alloc);
-    for word in CHECK {
-        words.push(String::from_str(alloc, word)?)?;
-    }
-    Ok(words)
 }

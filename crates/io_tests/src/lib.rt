@@ -1,7 +1,5 @@
-//! Tests of the shelf and the sinks, for what no contract and no row shows. Nothing else stands here.
+//! Tests of the shelf and the sink of the system, for what no contract and no row shows. Nothing else stands here.
 #![tactic(auto)]
 
-#[cfg(test)]
-mod memory;
 #[cfg(test)]
 mod system;

@@ -1,12 +1,12 @@
 ghost use Rattle.std.specs.Prelude.{◌≤◌, IfOk};
 
 use crell_io::{HostShelf, HostSink, Shelf, ShelfEnd, Sink, SinkFault};
-use std::alloc::{AllocError, Allocator, Global};
+use std::alloc::{Allocator, Global};
 use std::fs::{Metadata, OpenFile, OpenOptions};
+use std::io;
 use std::io::{ErrorKind, Read, Seek, SeekFrom, Write};
 use std::rt::Files;
 use std::test::Fail;
-use std::{env, fs, io};
 
 // A file that holds so many bytes, zeros, and takes as many. So many calls are interrupted first, then so many are
 // answered, with at most that many bytes each, and then every call fails.
@@ -132,41 +132,53 @@ impl Files for OneFile {
     }
 }
 
-// How many bytes a shelf over the one file gives.
-fn given(alloc: Global, file: Fake, limit: u32) -> Result<usize, ShelfEnd> {
-    let bytes = HostShelf::new(OneFile { file }).get(alloc, "name", limit as u64)?;
-    Ok(bytes.len())
+// Whether a shelf over the one file gives so many bytes, or ends so.
+fn gives(alloc: Global, file: Fake, limit: u32, wanted: Result<usize, ShelfEnd>) -> bool {
+    match HostShelf::new(OneFile { file }).get(alloc, "name", limit as u64) {
+        Ok(bytes) => wanted == Ok(bytes.len()),
+        Err(end) => wanted == Err(end),
+    }
 }
 
 #[test]
 fn a_file_is_given_whole_or_not_at_all(rt: HostRuntime) -> Result<(), Fail> {
-    for (interrupted, answered, most, limit, wanted) in [
-        (0, 9, 3, 10, Ok(10)),
-        (0, 9, 99, 99, Ok(10)),
-        (1, 9, 9, 10, Ok(10)),
-        (63, 9, 9, 10, Ok(10)),
-        (64, 9, 9, 10, Err(ShelfEnd::Failed)),
-        (0, 9, 3, 9, Err(ShelfEnd::TooLong)),
-        (0, 0, 9, 10, Err(ShelfEnd::Failed)),
-        (0, 2, 3, 10, Err(ShelfEnd::Failed)),
-        (0, 2, 9, 10, Err(ShelfEnd::Failed)),
-        (0, 9, 9, 9, Err(ShelfEnd::TooLong)),
-        (0, 9, 0, 10, Ok(0)),
+    for (interrupted, answered, most, holds, limit, wanted) in [
+        (0, 9, 3, 10, 10, Ok(10)),
+        (0, 9, 99, 10, 99, Ok(10)),
+        (1, 9, 9, 10, 10, Ok(10)),
+        (63, 9, 9, 10, 10, Ok(10)),
+        (64, 9, 9, 10, 10, Err(ShelfEnd::Failed)),
+        (0, 9, 3, 10, 9, Err(ShelfEnd::TooLong)),
+        (0, 0, 9, 10, 10, Err(ShelfEnd::Failed)),
+        (0, 2, 3, 10, 10, Err(ShelfEnd::Failed)),
+        (0, 2, 9, 10, 10, Err(ShelfEnd::Failed)),
+        (0, 9, 9, 10, 9, Err(ShelfEnd::TooLong)),
+        (0, 9, 0, 10, 10, Ok(0)),
+        (0, 9, 200_000, 65535, 65535, Ok(65535)),
+        (0, 9, 200_000, 65536, 65536, Ok(65536)),
+        (0, 9, 200_000, 65537, 65537, Ok(65537)),
+        (0, 9, 200_000, 200_000, 200_000, Ok(200_000)),
+        (0, 9, 200_000, 200_000, 199_999, Err(ShelfEnd::TooLong)),
     ] {
         let file = Fake {
             interrupted,
             answered,
             most,
-            holds: 10,
+            holds,
         };
-        assert_eq!(rt; given(rt.alloc(), file, limit), wanted);
+        assert!(rt; gives(rt.alloc(), file, limit, wanted));
     }
     Ok(())
 }
 
+// Whether a sink over the writer takes so many of three bytes, or fails.
+fn takes(writer: Fake, wanted: Result<usize, SinkFault>) -> bool {
+    HostSink::new(writer).put(b"abc") == wanted
+}
+
 #[test]
 fn a_writer_takes_a_part_or_fails(rt: HostRuntime) -> Result<(), Fail> {
-    for (interrupted, answered, most, put) in [
+    for (interrupted, answered, most, wanted) in [
         (0, 1, 2, Ok(2)),
         (0, 1, 9, Ok(3)),
         (63, 1, 9, Ok(3)),
@@ -174,77 +186,13 @@ fn a_writer_takes_a_part_or_fails(rt: HostRuntime) -> Result<(), Fail> {
         (0, 0, 9, Err(SinkFault::Failed)),
         (0, 1, 0, Err(SinkFault::Failed)),
     ] {
-        let mut sink = HostSink::new(Fake {
+        let writer = Fake {
             interrupted,
             answered,
             most,
             holds: 99,
-        });
-        assert_eq!(rt; sink.put(b"abc"), put);
-    }
-    Ok(())
-}
-
-#[test]
-fn a_stream_takes_an_empty_piece(rt: HostRuntime) -> Result<(), Fail> {
-    assert_eq!(rt; HostSink::new(rt.stdout()).put(b""), Ok(0));
-    assert_eq!(rt; HostSink::new(rt.stderr()).put(b""), Ok(0));
-    Ok(())
-}
-
-// Bytes of which few that are near one another are alike.
-fn many_bytes(alloc: Global, count: u32) -> Result<Vec<u8>, AllocError> {
-    let mut bytes = Vec::new(alloc);
-    for at in 0..count {
-        bytes.push((at % 251) as u8)?;
-    }
-    Ok(bytes)
-}
-
-fn is_written<R: Files>(host: &R, name: &str, bytes: &[u8]) -> io::Result<bool> {
-    let mut sink = HostSink::new(fs::create(host, name)?);
-    Ok(sink.put(bytes) == Ok(bytes.len()))
-}
-
-// Whether a file of so many bytes is written, and read whole, and not read where one byte less is allowed.
-fn is_kept(alloc: Global, host: &HostRuntime, name: &str, count: u32) -> Result<bool, Fail>
-    requires { 1 ≤ count }
-{
-    let bytes = many_bytes(alloc, count)?;
-    let mut shelf = HostShelf::new(host);
-    Ok(
-        is_written(host, name, bytes.as_slice())?
-            && shelf.get(alloc, name, count as u64)?.as_slice() == bytes.as_slice()
-            && shelf.get(alloc, name, count as u64 - 1) == Err(ShelfEnd::TooLong),
-    )
-}
-
-fn end_of(alloc: Global, host: &HostRuntime, name: &str, limit: u32) -> Option<ShelfEnd> {
-    HostShelf::new(host).get(alloc, name, limit as u64).err()
-}
-
-#[test]
-fn a_file_is_written_and_read(rt: HostRuntime) -> Result<(), Fail> {
-    let mut path = env::temp_dir(&rt)?;
-    path.push("crell_io_a_file_is_written_and_read")?;
-    let name = path.to_str().unwrap_or("");
-    for count in [9, 65535, 65536, 65537, 200_000] {
-        assert!(rt; is_kept(rt.alloc(), &rt, name, count)?, "{count}");
-    }
-    fs::remove_file(&rt, name)?;
-    assert_eq!(rt; end_of(rt.alloc(), &rt, name, 9), Some(ShelfEnd::Failed));
-    Ok(())
-}
-
-#[test]
-fn what_is_no_file_of_bytes(rt: HostRuntime) -> Result<(), Fail> {
-    for (name, limit, end) in [
-        ("/", 9, Some(ShelfEnd::Failed)),
-        ("", 9, Some(ShelfEnd::Failed)),
-        ("/dev/null", 0, None),
-        ("/dev/zero", 200_000, Some(ShelfEnd::TooLong)),
-    ] {
-        assert_eq!(rt; end_of(rt.alloc(), &rt, name, limit), end, "{name}");
+        };
+        assert!(rt; takes(writer, wanted));
     }
     Ok(())
 }

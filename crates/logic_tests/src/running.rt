@@ -6,8 +6,8 @@ ghost use Rattle.ir_machine.specs.Places.{state_of};
 
 use contents::Seq;
 use ir_core::{
-    Atom, BinOp, Binary, Block, Const, Flags, Function, Instr, Module, Name, Operand, Param, Term,
-    Ty,
+    Atom, BinOp, Binary, Block, Calm, Const, Expr, Flags, Function, Instr, Module, Name, Operand,
+    Param, Term, Ty,
 };
 use ir_machine::{
     Choice, Chooser, Input, Item, Progress, RunState, Shown, StartEnd, StepEnd, start, step,
@@ -52,18 +52,22 @@ fn returned(value: Returns) -> Atom<Name> {
 
 /// `%1: %2 = add FLAGS i8 %0, 200  ret i8 VALUE`, with numbers for names.
 fn sample_block(alloc: Global, flags: Flags, value: Returns) -> Result<Block, AllocError> {
-    let line = Binary {
-        name: Name::Number(2),
+    let sum = Binary {
         op: BinOp::Add,
         flags,
         ty: Ty::Int(8),
         left: Atom::Register(Name::Number(0)),
         right: Atom::Constant(Const::Number(200)),
     };
+    let line = Calm {
+        name: Name::Number(2),
+        right: Expr::Binary(sum),
+    };
+    let body = one(alloc, Instr::Calm(line))?;
     Ok(Block {
         name: Name::Number(1),
         phis: Seq::new(alloc),
-        body: one(alloc, Instr::Binary(line))?,
+        body,
         term: Term::Ret(Operand {
             ty: Ty::Int(8),
             atom: returned(value),
@@ -133,30 +137,33 @@ fn step_end(end: StepEnd) -> Seen {
     }
 }
 
-/// How a run of that function starts on these numbers.
-fn start_seen(alloc: Global, module: &Module, entry: &Name, numbers: &[u64]) -> Seen
+/// How a run of that function starts on that input.
+fn start_seen(alloc: Global, module: &Module, entry: &Name, input: &Input) -> Seen
     requires { IfSome (machine.function_named entry.now «module».now.functions) (λ f. f.blocks ≢ []) }
 {
-    let Ok(input) = input_of(alloc, numbers) else {
-        return Seen::Memory;
-    };
-    match start(alloc, module, entry, &input) {
+    match start(alloc, module, entry, input) {
         Ok(_) => Seen::Started,
         Err(end) => start_end(end),
     }
 }
 
 fn sample_starts(alloc: Global, numbers: &[u64]) -> Seen {
-    match sample(alloc, PLAIN, Returns::Undef) {
-        Ok(module) => start_seen(alloc, &module, &Name::Number(0), numbers),
-        Err(_) => Seen::Memory,
+    match (
+        sample(alloc, PLAIN, Returns::Undef),
+        input_of(alloc, numbers),
+    ) {
+        (Ok(module), Ok(input)) => start_seen(alloc, &module, &Name::Number(0), &input),
+        _ => Seen::Memory,
     }
 }
 
 fn absent_function_starts(alloc: Global, numbers: &[u64]) -> Seen {
-    match sample(alloc, PLAIN, Returns::Undef) {
-        Ok(module) => start_seen(alloc, &module, &Name::Number(1), numbers),
-        Err(_) => Seen::Memory,
+    match (
+        sample(alloc, PLAIN, Returns::Undef),
+        input_of(alloc, numbers),
+    ) {
+        (Ok(module), Ok(input)) => start_seen(alloc, &module, &Name::Number(1), &input),
+        _ => Seen::Memory,
     }
 }
 
@@ -168,19 +175,26 @@ fn items_seen(items: &[Item]) -> Seen {
     }
 }
 
-/// What the next two steps show, or the next one where it ends the run.
-fn next_items(
-    alloc: Global,
-    module: &Module,
-    state: &mut RunState,
-    chooser: &mut Once,
-) -> Result<Seq<Item>, StepEnd>
+/// What the next step shows.
+fn last_step(alloc: Global, module: &Module, state: &mut RunState, chooser: &mut Once) -> Seen
     requires { state_of «module».now state.old ≢ Over }
 {
-    let first = step(alloc, module, state, chooser)?;
-    match first.progress {
-        Progress::Goes => Ok(step(alloc, module, state, chooser)?.items),
-        Progress::Ended | Progress::IsWrong => Ok(first.items),
+    match step(alloc, module, state, chooser) {
+        Ok(stepped) => items_seen(stepped.items.as_slice()),
+        Err(end) => step_end(end),
+    }
+}
+
+/// What the step behind the next one shows, or the next one where it ends the run.
+fn two_steps(alloc: Global, module: &Module, state: &mut RunState, chooser: &mut Once) -> Seen
+    requires { state_of «module».now state.old ≢ Over }
+{
+    match step(alloc, module, state, chooser) {
+        Ok(first) => match first.progress {
+            Progress::Goes => last_step(alloc, module, state, chooser),
+            Progress::Ended | Progress::IsWrong => items_seen(first.items.as_slice()),
+        },
+        Err(end) => step_end(end),
     }
 }
 
@@ -191,24 +205,16 @@ fn pick(number: Option<u64>) -> Option<Choice> {
     }
 }
 
-/// What `@0` shows in two steps, on one argument.
-fn shown_by(
-    alloc: Global,
-    module: &Module,
-    argument: u64,
-    number: Option<u64>,
-) -> Result<Seq<Item>, StepEnd>
+/// What `@0` shows in two steps.
+fn shown_by(alloc: Global, module: &Module, input: &Input, number: Option<u64>) -> Seen
     requires { IfSome (machine.function_named (Name.Number 0) «module».now.functions) (λ f. f.blocks ≢ []) }
 {
-    let input = input_of(alloc, [argument].as_slice())?;
-    match start(alloc, module, &Name::Number(0), &input) {
-        Ok(mut state) => {
-            let mut chooser = Once {
-                choice: pick(number),
-            };
-            next_items(alloc, module, &mut state, &mut chooser)
-        }
-        Err(_) => Err(StepEnd::Memory),
+    let mut chooser = Once {
+        choice: pick(number),
+    };
+    match start(alloc, module, &Name::Number(0), input) {
+        Ok(mut state) => two_steps(alloc, module, &mut state, &mut chooser),
+        Err(end) => start_end(end),
     }
 }
 
@@ -219,12 +225,9 @@ fn sample_shows(
     argument: u64,
     number: Option<u64>,
 ) -> Seen {
-    let Ok(module) = sample(alloc, flags, value) else {
-        return Seen::Memory;
-    };
-    match shown_by(alloc, &module, argument, number) {
-        Ok(items) => items_seen(items.as_slice()),
-        Err(end) => step_end(end),
+    match (sample(alloc, flags, value), input_of(alloc, &[argument])) {
+        (Ok(module), Ok(input)) => shown_by(alloc, &module, &input, number),
+        _ => Seen::Memory,
     }
 }
 

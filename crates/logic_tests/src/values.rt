@@ -32,54 +32,67 @@ fn gives(op: BinOp, flags: Flags, width: u32, a: &Value, b: &Value, want: &Value
     }
 }
 
+const fn flags(nuw: bool, nsw: bool) -> Flags {
+    Flags { nuw, nsw }
+}
+
 #[test]
 fn sums_and_differences(rt: HostRuntime) {
-    let (none, both) = ((false, false), (true, true));
-    let (nuw, nsw) = ((true, false), (false, true));
-    let rows = [
-        (BinOp::Add, none, 8, Num(100), Num(200), Num(44)),
-        (BinOp::Sub, none, 8, Num(100), Num(200), Num(156)),
-        (BinOp::Add, nuw, 8, Num(100), Num(200), Poison),
-        (BinOp::Add, nsw, 8, Num(100), Num(200), Num(44)),
-        (BinOp::Add, nsw, 8, Num(100), Num(100), Poison),
-        (BinOp::Sub, nsw, 8, Num(100), Num(200), Poison),
-        (BinOp::Add, nsw, 64, Num(u64::MAX), Num(2), Num(1)),
-        (BinOp::Add, both, 64, Num(u64::MAX), Num(2), Poison),
-        (BinOp::Add, nsw, 32, Num(2_147_483_647), Num(1), Poison),
+    let (add, sub) = (BinOp::Add, BinOp::Sub);
+    let (none, both) = (flags(false, false), flags(true, true));
+    let (nuw, nsw) = (flags(true, false), flags(false, true));
+    for (op, flags, width, a, b, want) in [
+        (add, none, 8, Num(100), Num(200), Num(44)),
+        (sub, none, 8, Num(100), Num(200), Num(156)),
+        (add, nuw, 8, Num(100), Num(200), Poison),
+        (add, nsw, 8, Num(100), Num(200), Num(44)),
+        (add, nsw, 8, Num(100), Num(100), Poison),
+        (sub, nsw, 8, Num(100), Num(200), Poison),
+        (add, nsw, 64, Num(u64::MAX), Num(2), Num(1)),
+        (add, both, 64, Num(u64::MAX), Num(2), Poison),
+        (add, nsw, 32, Num(2_147_483_647), Num(1), Poison),
         (
-            BinOp::Add,
+            add,
             none,
             32,
             Num(2_147_483_647),
             Num(1),
             Num(2_147_483_648),
         ),
-        (BinOp::Add, none, 32, Undef, Poison, Poison),
-        (BinOp::Add, none, 32, Undef, Num(0), Undef),
-        (BinOp::Add, nuw, 32, Undef, Num(0), Poison),
-        (BinOp::Add, nsw, 1, Num(1), Num(1), Poison),
-        (BinOp::Sub, nsw, 1, Num(0), Num(1), Poison),
-        (BinOp::Sub, nuw, 1, Num(1), Num(1), Num(0)),
-    ];
-    for (row, (op, (nuw, nsw), width, a, b, want)) in rows.iter().enumerate() {
-        let flags = Flags {
-            nuw: *nuw,
-            nsw: *nsw,
-        };
-        assert!(rt; gives(*op, flags, *width, a, b, want), "row {row}");
+        (add, none, 32, Undef, Poison, Poison),
+        (add, none, 32, Undef, Num(0), Undef),
+        (add, nuw, 32, Undef, Num(0), Poison),
+        (add, nsw, 1, Num(1), Num(1), Poison),
+        (sub, nsw, 1, Num(0), Num(1), Poison),
+        (sub, nuw, 1, Num(1), Num(1), Num(0)),
+    ] {
+        assert!(rt; gives(op, flags, width, &a, &b, &want));
     }
 }
 
 #[test]
 fn more_defined_values_refine(rt: HostRuntime) {
-    let rows = [
+    for (source, target, want) in [
         (Undef, Num(3), true),
         (Num(3), Undef, false),
         (Undef, Poison, false),
         (Poison, Undef, true),
         (Num(3), Num(4), false),
-    ];
-    for (row, (source, target, want)) in rows.iter().enumerate() {
-        assert!(rt; refines(source, target) == *want, "row {row}");
+    ] {
+        assert!(rt; refines(&source, &target) == want);
+    }
+}
+
+#[test]
+fn integers_have_one_to_64_bits(rt: HostRuntime) {
+    for (width, want) in [(0, false), (1, true), (64, true), (65, false)] {
+        assert!(rt; is_width(width) == want, "{width}");
+    }
+    for (number, width, want) in [
+        (4294967295, 32, true),
+        (4294967296, 32, false),
+        (u64::MAX, 64, true),
+    ] {
+        assert!(rt; fits(number, width) == want, "{number}");
     }
 }

@@ -4,12 +4,6 @@
 #[cfg(test)]
 mod copies;
 #[cfg(test)]
-mod equality;
-#[cfg(test)]
-mod hints;
-#[cfg(test)]
 mod printing;
-#[cfg(test)]
-mod reading;
 #[cfg(test)]
 mod tokens;

@@ -1,0 +1,62 @@
+// What came is compared with what a row wants.
+use crate::running::Stage;
+use row_table::Wanted;
+use std::alloc::{AllocError, Global};
+use std::str;
+
+/// What came otherwise than is wanted; nothing where all came so.
+pub fn told_of_run(
+    alloc: Global,
+    status: u8,
+    stage: &Stage,
+    wanted: &Wanted,
+) -> Result<String, AllocError> {
+    let mut told = String::new(alloc);
+    push_texts(&mut told, stage, wanted)?;
+    push_counts(&mut told, status, stage, wanted)?;
+    Ok(told)
+}
+
+fn push_texts(told: &mut String, stage: &Stage, wanted: &Wanted) -> Result<(), AllocError> {
+    push_text(told, "out", stage.out.bytes(), wanted.stdout.as_str())?;
+    push_text(told, "err", stage.err.bytes(), wanted.stderr.as_str())
+}
+
+fn push_counts(
+    told: &mut String,
+    status: u8,
+    stage: &Stage,
+    wanted: &Wanted,
+) -> Result<(), AllocError> {
+    let faults = stage.shelf.faults();
+    let taken = stage.shelf.taken();
+    push_count(told, "status", u64::from(status), u64::from(wanted.status))?;
+    push_count(told, "faults", faults, wanted.faults.unwrap_or(faults))?;
+    push_count(told, "bytes taken", taken, wanted.taken.unwrap_or(taken))
+}
+
+fn push_text(told: &mut String, what: &str, came: &[u8], wanted: &str) -> Result<(), AllocError> {
+    if came == wanted.as_bytes() {
+        return Ok(());
+    }
+    push_difference(told, what, came, wanted)
+}
+
+fn push_difference(
+    told: &mut String,
+    what: &str,
+    came: &[u8],
+    wanted: &str,
+) -> Result<(), AllocError> {
+    match str::from_utf8(came) {
+        Ok(text) => write!(told, " {what} {text:?} and not {wanted:?}"),
+        Err(_) => write!(told, " {what} isn't UTF-8 and not {wanted:?}"),
+    }
+}
+
+fn push_count(told: &mut String, what: &str, came: u64, wanted: u64) -> Result<(), AllocError> {
+    if came == wanted {
+        return Ok(());
+    }
+    write!(told, " {what} {came} and not {wanted}")
+}

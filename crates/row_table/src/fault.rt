@@ -1,0 +1,31 @@
+// Why a table or a row can't be read.
+use std::alloc::{AllocError, AllocFailed};
+
+/// Memory was refused; or the table or the row isn't as it must be.
+#[derive(Clone, Copy)]
+pub enum Fault {
+    Memory,
+    Unlike(&'static str),
+}
+
+impl Fault {
+    /// What is told of it; never nothing.
+    pub fn told(self) -> &'static str {
+        match self {
+            Fault::Memory => "memory was refused",
+            Fault::Unlike(what) => what,
+        }
+    }
+}
+
+impl From<AllocError> for Fault {
+    fn from(_: AllocError) -> Fault {
+        Fault::Memory
+    }
+}
+
+impl<T: Drop> From<AllocFailed<T>> for Fault {
+    fn from(_: AllocFailed<T>) -> Fault {
+        Fault::Memory
+    }
+}
