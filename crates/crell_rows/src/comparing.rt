@@ -5,7 +5,7 @@ use std::alloc::{AllocError, Global};
 use std::str;
 
 /// What came otherwise than is wanted; nothing where all came so.
-pub fn told_of_run(
+pub(crate) fn told_of_run(
     alloc: Global,
     status: u8,
     stage: &Stage,

@@ -9,7 +9,7 @@ use std::alloc::{AllocError, Global};
 use std::mem;
 
 /// The shelf and the sinks that a row is run over.
-pub struct Stage {
+pub(crate) struct Stage {
     pub shelf: MemShelf,
     pub out: MemSink,
     pub err: MemSink,
@@ -26,7 +26,7 @@ impl Drop for Stage {
 }
 
 /// What came otherwise than the row at that place wants; nothing where it passes.
-pub fn told_of(alloc: Global, table: &Table, place: usize) -> Result<String, Fault> {
+pub(crate) fn told_of(alloc: Global, table: &Table, place: usize) -> Result<String, Fault> {
     let mut row = table.row(alloc, place)?;
     Ok(told_of_row(alloc, &mut row)?)
 }

@@ -1,4 +1,7 @@
 // Why a table or a row can't be read.
+ghost use Rattle.std.specs.Prelude.{◌≡◌, codes};
+ghost use Rattle.row_table.specs.declared.fault.Fault.TheVariants.{Memory, Unlike};
+
 use std::alloc::{AllocError, AllocFailed};
 
 /// Memory was refused; or the table or the row isn't as it must be.
@@ -10,7 +13,10 @@ pub enum Fault {
 
 impl Fault {
     /// What is told of it; never nothing.
-    pub fn told(self) -> &'static str {
+    pub fn told(self) -> &'static str
+        ensures memory { self ≡ Memory → result.now ≡ codes "memory was refused" }
+        ensures unlike { (what : _) → self ≡ Unlike what → result ≡ what }
+    {
         match self {
             Fault::Memory => "memory was refused",
             Fault::Unlike(what) => what,
