@@ -1,2 +1,3 @@
 pub mod SameLaws
 pub mod Widths
+pub mod WellFormed

@@ -1,6 +1,6 @@
 -- Expressions, over whatever registers they name: a line's right side names registers of the function, and an expression of
 -- the logic a register as it is now, as it was, or of the proof alone.
-use Rattle.std.specs.Prelude.{Bool, false, ◌||◌}
+use Rattle.std.specs.Prelude.{Bool, false, ◌||◌, List, [], ◌∷◌}
 use Rattle.ir_core.specs.declared.operands.Ty.{Ty}
 use Rattle.ir_core.specs.declared.operands.Atom.{Atom}
 use Rattle.ir_core.specs.declared.operands.Atom.TheVariants.{Constant, Register}
@@ -18,6 +18,11 @@ Expr0 = Expr Reg
 abbrev pub type_of : {R : Type 0} → Expr R → Ty
 type_of (expr.Plain o) = o.ty
 type_of (expr.Binary b) = b.ty
+
+-- its operands, each with the type that is stated for it, in the order of the text
+abbrev pub operands_in : {R : Type 0} → Expr R → List (Operand R)
+operands_in (expr.Plain o) = o ∷ []
+operands_in (expr.Binary b) = record { ty = b.ty; atom = b.left } ∷ record { ty = b.ty; atom = b.right } ∷ []
 
 -- the same over other registers
 abbrev pub map_atom : {R S : Type 0} → (R → S) → Atom R → Atom S

@@ -7,3 +7,9 @@ pub mod Words
 pub mod Modules
 pub mod NameLaws
 pub mod Hashed
+pub mod Functions
+pub mod Order
+pub mod Ranges
+pub mod WellFormed
+pub mod Examples
+pub mod Laws

@@ -14,3 +14,12 @@ abbrev pub limit_number : Limit → ℕ
 limit_number Text = 2 ^ 24
 limit_number Json = 2 ^ 26
 limit_number Lines = 2 ^ 20
+
+abbrev pub text_limit : ℕ
+text_limit = limit_number Text
+
+abbrev pub json_limit : ℕ
+json_limit = limit_number Json
+
+abbrev pub line_limit : ℕ
+line_limit = limit_number Lines

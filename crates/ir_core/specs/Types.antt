@@ -1,5 +1,7 @@
 -- Which types there are, and which have values (LangRef 3.7, Type System).
-use Rattle.std.specs.Prelude.{ℕ, ◌&&◌, ◌^◌, Bool, cond, nat_le, nat_lt, Option, None, Some}
+use Rattle.std.specs.Prelude.{ℕ, ◌&&◌, ◌^◌, Bool, false, true, cond, nat_le, nat_lt, Option, None, Some}
+use Rattle.ir_core.specs.declared.operands.Const.{Const}
+use Rattle.ir_core.specs.declared.operands.Const.TheVariants as constant
 use Rattle.ir_core.specs.declared.operands.Ty.{Ty}
 use Rattle.ir_core.specs.declared.operands.Ty.TheVariants as ty
 use Rattle.ir_core.specs.declared.values.Kind.{Kind}
@@ -12,6 +14,12 @@ is_width width = nat_le 1 width && nat_le width 64
 -- the number is one of that many bits
 abbrev pub fits : ℕ → ℕ → Bool
 fits number width = nat_lt number (2 ^ width)
+
+-- the constant is one of the type's values, or undef
+abbrev pub constant_fits : Ty → Const → Bool
+constant_fits (ty.Int width) (constant.Number n) = fits n width
+constant_fits (ty.Int width) constant.Undef = true
+constant_fits ty.Void c = false
 
 -- integers of 1 to 64 bits have a kind; other types have no values
 abbrev pub kind_of : Ty → Option Kind

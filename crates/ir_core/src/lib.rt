@@ -4,8 +4,10 @@
 //! A value of these types is plain data to a contract: two are equal exactly where `Exact::is` says so.
 #![tactic(auto)]
 
+mod bits;
 mod expressions;
 mod functions;
+mod laws;
 mod limits;
 mod names;
 mod operands;
@@ -14,8 +16,10 @@ mod types;
 mod values;
 mod words;
 
+pub use bits::Bits;
 pub use expressions::{Binary, Expr, Expr0, Reg};
 pub use functions::{Block, Calm, Entry, Function, Instr, Module, Param, Phi, Term};
+pub use laws::examples_of_well_formedness;
 pub use limits::Limit;
 pub use names::{Name, Sigil};
 pub use operands::{Atom, BinOp, Const, Flags, Operand, Ty};

@@ -1,7 +1,7 @@
 ghost use Rattle.std.specs.Prelude.{◌≡◌};
 ghost use Rattle.ir_core.specs.Same as same;
 
-use crate::Name;
+use crate::{Bits, Name};
 use contents::Exact;
 use std::alloc::{AllocError, Global};
 
@@ -24,7 +24,7 @@ impl Drop for Ty {
 /// A constant (LangRef 3.7, Constants). What it is worth depends on the type that stands beside it.
 pub enum Const {
     /// A number of `iN`, kept as it is modulo 2 to the N.
-    Number(u64),
+    Number(Bits),
     Undef,
 }
 

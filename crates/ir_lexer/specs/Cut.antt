@@ -1,5 +1,6 @@
 -- The tokens of a text, or its first fault.
-use Rattle.std.specs.Prelude.{ℕ, suc, zero, ◌+◌, ◌-◌, ◌^◌, ◌<◌, ◌≤◌, ◌≡◌, List, [], ◌∷◌, ◌++◌, length, Result, Ok, Err, nat_lt, if◌then◌else◌}
+use Rattle.std.specs.Prelude.{ℕ, suc, zero, ◌+◌, ◌-◌, ◌<◌, ◌≤◌, ◌≡◌, List, [], ◌∷◌, ◌++◌, length, Result, Ok, Err, nat_lt, if◌then◌else◌}
+use Rattle.ir_core.specs.Limits.{text_limit}
 use Rattle.ir_lexer.specs.declared.pieces.Piece.{Piece}
 use Rattle.ir_lexer.specs.declared.pieces.Piece.TheVariants as piece
 use Rattle.ir_lexer.specs.declared.token.LexFault.{LexFault}
@@ -36,9 +37,9 @@ cut (suc skip) place (b ∷ rest) = cut skip (place + 1) rest
 cut zero place (b ∷ rest) =
     joined place (piece (b ∷ rest)) (cut (piece_len (piece (b ∷ rest)) - 1) (place + 1) rest)
 
--- A text has tokens only up to 2 to the 24 bytes.
+-- A text has tokens only up to the limit of its length.
 abbrev pub lexed : List ℕ → Cut
-lexed text = if nat_lt (2 ^ 24) (length text) then Err Limit else cut 0 0 text
+lexed text = if nat_lt text_limit (length text) then Err Limit else cut 0 0 text
 
 -- each token has bytes of its own, begins where the one in front of it ends or behind that, and all stand from `from` up to `to`
 abbrev pub AreInOrder : ℕ → ℕ → List Token → Type 0

@@ -13,7 +13,7 @@ use Rattle.ir_lexer.specs.declared.token.TokenKind.TheVariants as kind
 use Rattle.ir_lexer.specs.Bytes.{is_blank, is_mark, begins_word, are_digits, begins_with_colon}
 use Rattle.ir_lexer.specs.Names.{name_at}
 use Rattle.ir_lexer.specs.Numbers.{value_of, if_below}
-use Rattle.ir_lexer.specs.Runs.{run_at, digits_at, line_at, quoted_at}
+use Rattle.ir_lexer.specs.Runs.{run_at, digits_at, rest_of_line, quoted_at}
 use Rattle.ir_lexer.specs.Strings.{unescaped}
 
 -- `%` or `@` and a name. A string that is no name is a fault at its quote.
@@ -77,7 +77,7 @@ unfoldable pub piece : List ℕ → Piece
 piece [] = End
 piece (b ∷ rest) =
     if is_blank b then Gap 1
-    else (if b == 59 then Gap (length (line_at rest) + 1)
+    else (if b == 59 then Gap (length (rest_of_line rest) + 1)
     else (if b == 37 then named kind.Local (name_at rest)
     else (if b == 64 then named kind.Global (name_at rest)
     else (if b == 35 then attribute (digits_at rest)

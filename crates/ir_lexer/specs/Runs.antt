@@ -29,8 +29,8 @@ unfoldable pub digits_at : List ℕ → List ℕ
 digits_at text = take_while is_ascii_digit text
 
 -- the rest of the line
-unfoldable pub line_at : List ℕ → List ℕ
-line_at text = take_while is_in_line text
+unfoldable pub rest_of_line : List ℕ → List ℕ
+rest_of_line text = take_while is_in_line text
 
 -- what stands before the next quote, if there is one
 unfoldable pub quoted_at : List ℕ → Option (List ℕ)

@@ -1,4 +1,5 @@
-ghost use Rattle.std.specs.Prelude.{◌≡◌, ◌^◌, ◌<◌, ◌↔◌, length, IfOk, IfErr, IsErrAnd, Ok};
+ghost use Rattle.std.specs.Prelude.{◌≡◌, ◌<◌, ◌↔◌, length, IfOk, IfErr, IsErrAnd, Ok};
+ghost use Rattle.ir_core.specs.Limits.{text_limit};
 ghost use Rattle.ir_lexer.specs.Cut.{lexed, cut, AreInOrder, IsFaultOf};
 
 use crate::pieces::{self, Piece};
@@ -14,7 +15,7 @@ pub fn lex(alloc: Global, text: &[u8]) -> Result<Vec<Token>, LexFault>
     ensures order { IfOk result (λ tokens. AreInOrder 0 (length text.now) tokens.items) }
     ensures fault { IfErr result (λ fault. IsFaultOf fault (lexed text.now)) }
     // The length is tested before all else.
-    ensures limit { IsErrAnd result (λ fault. fault ≡ LexFault.Limit) ↔ (2 ^ 24 < length text.now) }
+    ensures limit { IsErrAnd result (λ fault. fault ≡ LexFault.Limit) ↔ (text_limit < length text.now) }
 {
     if text.len() > TEXT_LIMIT {
         Err(LexFault::Limit)

@@ -3,7 +3,7 @@ ghost use Rattle.std.specs.Str.{bytes_eq};
 ghost use Rattle.ir_lexer.specs.Pieces.{attribute, closed, IsWithin, label, metadata, named, number, numbered_block, piece, plain, quoted, run};
 ghost use Rattle.ir_lexer.specs.Names.{name_at};
 ghost use Rattle.ir_lexer.specs.Numbers.{value_of, if_below};
-ghost use Rattle.ir_lexer.specs.Runs.{run_at, digits_at, line_at, quoted_at};
+ghost use Rattle.ir_lexer.specs.Runs.{run_at, digits_at, rest_of_line, quoted_at};
 ghost use Rattle.ir_lexer.specs.Strings.{unescaped};
 
 use crate::names::NameAt;
@@ -225,7 +225,7 @@ pub fn piece_at(alloc: Global, text: &[u8]) -> Result<Piece, AllocError>
     if bytes::is_blank(first) {
         Ok(Piece::Gap(1))
     } else if first == b';' {
-        Ok(Piece::Gap(runs::line_at(rest).len() + 1))
+        Ok(Piece::Gap(runs::rest_of_line(rest).len() + 1))
     } else if first == b'%' {
         local(alloc, rest)
     } else if first == b'@' {

@@ -1,6 +1,6 @@
 ghost use Rattle.std.specs.Prelude.{◌≡◌, [], ◌∷◌, length, ◌<◌, ◌≤◌, MatchOption, IfSome, option_map};
 ghost use Rattle.std.specs.List.{prefix_len};
-ghost use Rattle.ir_lexer.specs.Runs.{belongs, run_at, digits_at, line_at, quoted_at};
+ghost use Rattle.ir_lexer.specs.Runs.{belongs, run_at, digits_at, rest_of_line, quoted_at};
 
 use crate::bytes;
 
@@ -65,9 +65,9 @@ pub fn digits_at(text: &[u8]) -> &[u8]
 }
 
 /// The rest of the line, without its end.
-#[tactic(auto, using(crate::proofs::Fronts::fronts), unfolding(crate::specs::Runs::line_at))]
-pub fn line_at(text: &[u8]) -> &[u8]
-    ensures front { result.now ≡ line_at text.now }
+#[tactic(auto, using(crate::proofs::Fronts::fronts), unfolding(crate::specs::Runs::rest_of_line))]
+pub fn rest_of_line(text: &[u8]) -> &[u8]
+    ensures front { result.now ≡ rest_of_line text.now }
     ensures within { length result.now ≤ length text.now }
 {
     &text[..front_len(Front::Line, text)]

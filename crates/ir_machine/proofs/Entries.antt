@@ -13,7 +13,7 @@ use Rattle.ir_values.specs.Values.{IsInKindOf}
 use Rattle.ir_machine.specs.declared.registers.Assigned.{Assigned}
 use Rattle.ir_machine.specs.Registers.{Held, Registers, no_registers, holding, AreInKind}
 use Rattle.ir_machine.specs.Registers as meaning
-use Rattle.ir_machine.specs.Kept.{held_of, registers_of, put}
+use Rattle.ir_machine.specs.Kept.{held_of, kept_registers, put}
 use Rattle.ir_machine.proofs.Runs.{set_in_kind}
 
 pub registers_equal : (a b : Registers) → ((y : Name) → a y ≡ b y) → a ≡ b
@@ -23,17 +23,17 @@ abbrev setting : Registers → Name → Option Held → Registers
 setting registers x held = λ y. cond (same_name x y) held (registers y)
 
 put_here : (e : Assigned) (es : List Assigned) (x y : Name) (held : Option (Kind × Value)) → e.name ≡ x
-    → registers_of (record e { held = held } ∷ es) y ≡ setting (registers_of (e ∷ es)) x (held_of held) y
-put_here e es x y held same = rw same (twice (same_name x y) (held_of held) (held_of e.held) (registers_of es y))
+    → kept_registers (record e { held = held } ∷ es) y ≡ setting (kept_registers (e ∷ es)) x (held_of held) y
+put_here e es x y held same = rw same (twice (same_name x y) (held_of held) (held_of e.held) (kept_registers es y))
   where
     twice : (b : Bool) (p q r : Option Held) → cond b p r ≡ cond b p (cond b q r)
     twice true p q r = refl
     twice false p q r = refl
 
 put_later : (e : Assigned) (rest : Option Held) (es : List Assigned) (x y : Name) (held : Option (Kind × Value)) → same_name e.name x ≡ false
-    → rest ≡ setting (registers_of es) x (held_of held) y
-    → cond (same_name e.name y) (held_of e.held) rest ≡ setting (registers_of (e ∷ es)) x (held_of held) y
-put_later e rest es x y held other h = rw h (apart (same_name e.name y) (same_name x y) (held_of e.held) (held_of held) (registers_of es y)
+    → rest ≡ setting (kept_registers es) x (held_of held) y
+    → cond (same_name e.name y) (held_of e.held) rest ≡ setting (kept_registers (e ∷ es)) x (held_of held) y
+put_later e rest es x y held other h = rw h (apart (same_name e.name y) (same_name x y) (held_of e.held) (held_of held) (kept_registers es y)
     (λ p q. let one : e.name ≡ x = same_name_true e.name y p ∙ sym (same_name_true x y q) in cc (other, same_name_refl x, ap (λ (n : Name). same_name n x) one)))
   where
     apart : (b c : Bool) (p q r : Option Held) → (b ≡ true → c ≡ true → ⊥) → cond b p (cond c q r) ≡ cond c q (cond b p r)
@@ -42,24 +42,24 @@ put_later e rest es x y held other h = rw h (apart (same_name e.name y) (same_na
     apart false c p q r h = refl
 
 put_at_cases : (e : Assigned) (es : List Assigned) (x y : Name) (held : Option (Kind × Value)) (b : Bool) → same_name e.name x ≡ b
-    → registers_of (put x held es) y ≡ setting (registers_of es) x (held_of held) y
-    → registers_of (cond b (record e { held = held } ∷ es) (e ∷ put x held es)) y ≡ setting (registers_of (e ∷ es)) x (held_of held) y
+    → kept_registers (put x held es) y ≡ setting (kept_registers es) x (held_of held) y
+    → kept_registers (cond b (record e { held = held } ∷ es) (e ∷ put x held es)) y ≡ setting (kept_registers (e ∷ es)) x (held_of held) y
 put_at_cases e es x y held true same later = put_here e es x y held (same_name_true e.name x same)
-put_at_cases e es x y held false other later = put_later e (registers_of (put x held es) y) es x y held other later
+put_at_cases e es x y held false other later = put_later e (kept_registers (put x held es) y) es x y held other later
 
-put_at : (x y : Name) (held : Option (Kind × Value)) (es : List Assigned) → registers_of (put x held es) y ≡ setting (registers_of es) x (held_of held) y
+put_at : (x y : Name) (held : Option (Kind × Value)) (es : List Assigned) → kept_registers (put x held es) y ≡ setting (kept_registers es) x (held_of held) y
 put_at x y held [] = refl
 put_at x y held (e ∷ es) = put_at_cases e es x y held (same_name e.name x) refl (put_at x y held es)
 
 -- to put a name's entry is to set its register
 pub put_sets : (es : List Assigned) (x : Name) (held : Option (Kind × Value)) (k : Option Kind) (v : Value) → held_of held ≡ holding k v
-    → registers_of (put x held es) ≡ meaning.set (registers_of es) x k v
-put_sets es x held k v e = registers_equal (registers_of (put x held es)) (setting (registers_of es) x (held_of held)) (λ y. put_at x y held es)
-    ∙ ap (λ (h : Option Held). setting (registers_of es) x h) e
+    → kept_registers (put x held es) ≡ meaning.set (kept_registers es) x k v
+put_sets es x held k v e = registers_equal (kept_registers (put x held es)) (setting (kept_registers es) x (held_of held)) (λ y. put_at x y held es)
+    ∙ ap (λ (h : Option Held). setting (kept_registers es) x h) e
 
 pub put_in_kind : (es : List Assigned) (x : Name) (held : Option (Kind × Value)) (k : Option Kind) (v : Value) → held_of held ≡ holding k v
-    → AreInKind (registers_of es) → IsInKindOf k v → AreInKind (registers_of (put x held es))
-put_in_kind es x held k v e h p = subst (λ (r : Registers). AreInKind r) (sym (put_sets es x held k v e)) (set_in_kind (registers_of es) x k v h p)
+    → AreInKind (kept_registers es) → IsInKindOf k v → AreInKind (kept_registers (put x held es))
+put_in_kind es x held k v e h p = subst (λ (r : Registers). AreInKind r) (sym (put_sets es x held k v e)) (set_in_kind (kept_registers es) x k v h p)
 
 put_first : (es : List Assigned) (e : Assigned) (x : Name) (held : Option (Kind × Value)) → same_name e.name x ≡ true → put x held (e ∷ es) ≡ record e { held = held } ∷ es
 put_first es e x held same = rw same refl
@@ -99,7 +99,7 @@ put_last es i x held h =
 -- an attempt to put leaves every register in kind
 pub tried_in_kind : {T E : Type 0} (r : Result T E) (before after : List Assigned) (x : Name) (held : Option (Kind × Value)) (k : Option Kind) (v : Value)
     → OnOk r (after ≡ put x held before) → OnErr r (after ≡ before) → held_of held ≡ holding k v
-    → AreInKind (registers_of before) → IsInKindOf k v → AreInKind (registers_of after)
+    → AreInKind (kept_registers before) → IsInKindOf k v → AreInKind (kept_registers after)
 tried_in_kind (Ok t) before after x held k v done same e h p =
-    subst (λ (es : List Assigned). AreInKind (registers_of es)) (sym done) (put_in_kind before x held k v e h p)
-tried_in_kind (Err t) before after x held k v done same e h p = subst (λ (es : List Assigned). AreInKind (registers_of es)) (sym same) h
+    subst (λ (es : List Assigned). AreInKind (kept_registers es)) (sym done) (put_in_kind before x held k v e h p)
+tried_in_kind (Err t) before after x held k v done same e h p = subst (λ (es : List Assigned). AreInKind (kept_registers es)) (sym same) h

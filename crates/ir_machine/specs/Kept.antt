@@ -17,9 +17,9 @@ held_of None = None
 held_of (Some p) = Some (record { kind = p.0; value = p.1 })
 
 -- each register holds what its first entry says
-abbrev pub registers_of : List Assigned → Registers
-registers_of [] = no_registers
-registers_of (e ∷ es) = λ x. cond (same_name e.name x) (held_of e.held) (registers_of es x)
+abbrev pub kept_registers : List Assigned → Registers
+kept_registers [] = no_registers
+kept_registers (e ∷ es) = λ x. cond (same_name e.name x) (held_of e.held) (kept_registers es x)
 
 -- the first entry of that name holds something else, or there is one more entry
 abbrev pub put : Name → Option (Kind × Value) → List Assigned → List Assigned

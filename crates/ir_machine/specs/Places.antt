@@ -12,7 +12,7 @@ use Rattle.ir_machine.specs.declared.machine.Progress.TheVariants as progress
 use Rattle.ir_machine.specs.declared.registers.RegisterFile.{RegisterFile}
 use Rattle.ir_machine.specs.Registers.{Registers}
 use Rattle.ir_machine.specs.State.{no_world, State, Running, Over}
-use Rattle.ir_machine.specs.Kept.{registers_of}
+use Rattle.ir_machine.specs.Kept.{kept_registers}
 
 abbrev pub in_block : Function → Option Block → ℕ → Registers → State
 in_block f (Some b) line registers =
@@ -32,7 +32,7 @@ abbrev pub next_line : Place → Place
 next_line p = record { function = p.function; block = p.block; line = p.line + 1 }
 
 abbrev pub registers_in : RegisterFile → Registers
-registers_in file = registers_of file.entries.items
+registers_in file = kept_registers file.entries.items
 
 -- THE state that the code keeps
 abbrev pub state_of : Module → RunState → State

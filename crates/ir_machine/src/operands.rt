@@ -25,9 +25,10 @@ fn constant_value(kind: &Kind, constant: &Const) -> Value
 {
     let Kind::Int(width) = kind;
     match constant {
-        Const::Number(n) => {
-            if fits(*n, *width) {
-                Value::Num(*n)
+        Const::Number(bits) => {
+            let n = bits.get();
+            if fits(n, *width) {
+                Value::Num(n)
             } else {
                 Value::Poison
             }
@@ -55,6 +56,20 @@ pub(crate) fn operand_value(registers: &RegisterFile, operand: &Operand<Name>) -
     atom_value(registers, kind_of(&operand.ty), &operand.atom)
 }
 
+/// What a binary operator leads to on values of a kind.
+fn binary_at(binary: &Binary<Name>, kind: Option<Kind>, left: &Value, right: &Value) -> Outcome
+    requires kind { kind ≡ types.kind_of binary.now.ty }
+    requires left { IsInKindOf kind left.now }
+    requires right { IsInKindOf kind right.now }
+    ensures value { result ≡ meaning.binary_at binary.now.op binary.now.flags kind left.now right.now }
+    ensures in_kind { GivesInKind kind result }
+{
+    match kind {
+        Some(Kind::Int(width)) => eval_binary(binary.op, binary.flags, width, left, right),
+        None => Outcome::Gives(Value::Poison),
+    }
+}
+
 fn binary_outcome(registers: &RegisterFile, binary: &Binary<Name>) -> Outcome
     ensures value { result ≡ meaning.outcome (meaning.read (registers_in registers.now)) (expr.Binary binary.now) }
     ensures in_kind { GivesInKind (types.kind_of binary.now.ty) result }
@@ -62,10 +77,7 @@ fn binary_outcome(registers: &RegisterFile, binary: &Binary<Name>) -> Outcome
     let kind = kind_of(&binary.ty);
     let left = atom_value(registers, kind, &binary.left);
     let right = atom_value(registers, kind, &binary.right);
-    match kind {
-        Some(Kind::Int(width)) => eval_binary(binary.op, binary.flags, width, &left, &right),
-        None => Outcome::Gives(Value::Poison),
-    }
+    binary_at(binary, kind, &left, &right)
 }
 
 /// What an expression of a line leads to.

@@ -1,5 +1,5 @@
 ghost use Rattle.ir_machine.specs.Registers.{AreInKind};
-ghost use Rattle.ir_machine.specs.Kept.{registers_of, AreInKind-prop};
+ghost use Rattle.ir_machine.specs.Kept.{kept_registers, AreInKind-prop};
 
 use ir_core::{Kind, Name, Value};
 
@@ -15,5 +15,5 @@ pub struct Assigned {
 #[derive(Drop)]
 pub struct RegisterFile {
     pub(crate) entries: Vec<Assigned>,
-    ghost in_kind: { AreInKind (registers_of entries.items) } by { AreInKind-prop (registers_of entries.items) },
+    ghost in_kind: { AreInKind (kept_registers entries.items) } by { AreInKind-prop (kept_registers entries.items) },
 }

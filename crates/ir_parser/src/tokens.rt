@@ -1,4 +1,5 @@
-ghost use Rattle.std.specs.Prelude.{◌≡◌, ◌^◌, ◌<◌, length, IfOk, Err, map};
+ghost use Rattle.std.specs.Prelude.{◌≡◌, ◌<◌, length, IfOk, Err, map};
+ghost use Rattle.ir_core.specs.Limits.{text_limit};
 ghost use Rattle.ir_lexer.specs.declared.token.Token.{Token};
 ghost use Rattle.ir_spelling.specs.Reading.{Reads, kinds_of};
 
@@ -20,7 +21,7 @@ fn kinds(alloc: Global, tokens: Vec<Token>) -> Result<Vec<TokenKind>, AllocError
 pub fn kinds_of(alloc: Global, text: &[u8]) -> Result<Vec<TokenKind>, TextFault>
     ensures reads { Reads (λ kinds. kinds.items) result (kinds_of text.now) }
     // A text of more than 2 to the 24 bytes is refused before anything grows.
-    ensures long { 2 ^ 24 < length text.now → result ≡ Err TextFault.NotOfTheFirstForm }
+    ensures long { text_limit < length text.now → result ≡ Err TextFault.NotOfTheFirstForm }
 {
     match lex(alloc, text) {
         Ok(tokens) => Ok(kinds(alloc, tokens)?),

@@ -30,7 +30,7 @@ pub(crate) fn push_constant(text: &mut Vec<u8>, ty: &Ty, constant: &Const) -> Re
     ensures { OnOk result (text.new.items ≡ text.old.items ++ printed_constant ty.now constant.now) }
 {
     match constant {
-        Const::Number(number) => push_number(text, ty, *number),
+        Const::Number(number) => push_number(text, ty, number.get()),
         Const::Undef => text.extend_from_slice(b"undef"),
     }
 }

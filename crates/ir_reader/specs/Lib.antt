@@ -4,11 +4,9 @@ pub use Rattle.ir_spelling.specs.Grammar
 pub use Rattle.ir_spelling.specs.Modules
 pub use Rattle.ir_spelling.specs.Names
 pub use Rattle.ir_spelling.specs.Operations
-pub use Rattle.ir_spelling.specs.Order
 pub use Rattle.ir_spelling.specs.Ordered
 pub use Rattle.ir_spelling.specs.Reading
-pub use Rattle.ir_spelling.specs.Scopes
+pub use Rattle.ir_spelling.specs.SoFar
 pub use Rattle.ir_spelling.specs.Spells
 pub use Rattle.ir_spelling.specs.Terminals
 pub use Rattle.ir_spelling.specs.Values
-pub use Rattle.ir_spelling.specs.WellFormed

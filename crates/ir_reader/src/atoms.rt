@@ -8,7 +8,7 @@ ghost use Rattle.ir_spelling.specs.Values.{atom_of, number_atom};
 use crate::TextFault;
 use crate::flags::flags_of;
 use crate::numbers::kept;
-use ir_core::{Atom, Binary, Const, Expr, Name, Ty};
+use ir_core::{Atom, Binary, Bits, Const, Expr, Name, Ty};
 use ir_spelling::{OperationText, ValueText};
 use std::alloc::Global;
 
@@ -25,7 +25,7 @@ fn number_atom<R: Drop>(number: Option<u64>) -> Result<Atom<R>, TextFault>
     ensures { Reads (λ atom. atom) result (number_atom number) }
 {
     match number {
-        Some(number) => Ok(Atom::Constant(Const::Number(number))),
+        Some(number) => Ok(Atom::Constant(Const::Number(Bits::new(number)))),
         None => Err(TextFault::NotOfTheFirstForm),
     }
 }

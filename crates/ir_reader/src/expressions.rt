@@ -1,5 +1,6 @@
-ghost use Rattle.std.specs.Prelude.{◌≡◌, ◌<◌, ◌≤◌, ◌^◌, length, IfOk, IfErr, Some, None, Err};
+ghost use Rattle.std.specs.Prelude.{◌≡◌, ◌<◌, ◌≤◌, length, IfOk, IfErr, Some, None, Err};
 ghost use Rattle.ir_core.specs.Expressions.{Expr0};
+ghost use Rattle.ir_core.specs.Limits.{text_limit};
 ghost use Rattle.ir_spelling.specs.Expressions.{plain, binary, expression, expression_of, SpellsExpression};
 ghost use Rattle.ir_spelling.specs.Reading.{Reads};
 
@@ -64,7 +65,7 @@ fn expression(alloc: Global, kinds: &[TokenKind]) -> Result<Expr0, TextFault>
 /// The expression that is read from the text, from the left.
 fn expression_in(alloc: Global, text: &[u8]) -> Result<Expr0, TextFault>
     ensures reads { Reads (λ e. e) result (expression_of text.now) }
-    ensures long { 2 ^ 24 < length text.now → result ≡ Err TextFault.NotOfTheFirstForm }
+    ensures long { text_limit < length text.now → result ≡ Err TextFault.NotOfTheFirstForm }
 {
     let kinds = kinds_of(alloc, text)?;
     expression(alloc, kinds.as_slice())
@@ -76,11 +77,11 @@ pub fn read_expr(alloc: Global, text: &[u8]) -> Result<Expr0, TextFault>
     // The text spells no other expression.
     ensures only { IfOk result (λ e. (other : Expr0) → SpellsExpression text.now other → other ≡ e) }
     // Only texts of at most 2 to the 24 bytes are read.
-    ensures short { IfOk result (λ e. length text.now ≤ 2 ^ 24) }
+    ensures short { IfOk result (λ e. length text.now ≤ text_limit) }
     ensures none { IfErr result (λ fault. fault ≡ TextFault.NotOfTheFirstForm
-        → length text.now ≤ 2 ^ 24 → (e : Expr0) → SpellsExpression text.now e → ⊥) }
+        → length text.now ≤ text_limit → (e : Expr0) → SpellsExpression text.now e → ⊥) }
     // A text of more than 2 to the 24 bytes is refused before anything grows.
-    ensures long { 2 ^ 24 < length text.now → result ≡ Err TextFault.NotOfTheFirstForm }
+    ensures long { text_limit < length text.now → result ≡ Err TextFault.NotOfTheFirstForm }
     // The same, said of what is read from the left.
     ensures read { IfOk result (λ e. expression_of text.now ≡ Some e) }
     ensures not_read { IfErr result (λ fault. fault ≡ TextFault.NotOfTheFirstForm → expression_of text.now ≡ None) }

@@ -12,7 +12,7 @@ mod modules;
 mod names;
 mod naming;
 mod numbers;
-mod scopes;
+mod so_far;
 
 pub use expressions::read_expr;
 pub use ir_spelling::TextFault;

@@ -1,5 +1,6 @@
-ghost use Rattle.std.specs.Prelude.{◌≡◌, ◌<◌, ◌≤◌, ◌^◌, length, IfOk, IfErr, Some, None, Err};
+ghost use Rattle.std.specs.Prelude.{◌≡◌, ◌<◌, ◌≤◌, length, IfOk, IfErr, Some, None, Err};
 ghost use Rattle.ir_core.specs.declared.names.Name.{Name};
+ghost use Rattle.ir_core.specs.Limits.{text_limit};
 ghost use Rattle.ir_spelling.specs.Names.{name_in, only_name, name_of, SpellsName};
 ghost use Rattle.ir_spelling.specs.Reading.{Reads};
 
@@ -39,7 +40,7 @@ fn only_name(alloc: Global, sigil: Sigil, kinds: &[TokenKind]) -> Result<Name, T
 /// The name that is read from the text.
 fn name_of(alloc: Global, sigil: Sigil, text: &[u8]) -> Result<Name, TextFault>
     ensures reads { Reads (λ name. name) result (name_of sigil text.now) }
-    ensures long { 2 ^ 24 < length text.now → result ≡ Err TextFault.NotOfTheFirstForm }
+    ensures long { text_limit < length text.now → result ≡ Err TextFault.NotOfTheFirstForm }
 {
     let kinds = kinds_of(alloc, text)?;
     only_name(alloc, sigil, kinds.as_slice())
@@ -51,11 +52,11 @@ pub fn read_name(alloc: Global, sigil: Sigil, text: &[u8]) -> Result<Name, TextF
     // The text spells no other name.
     ensures only { IfOk result (λ name. (other : Name) → SpellsName sigil text.now other → other ≡ name) }
     // Only texts of at most 2 to the 24 bytes are read.
-    ensures short { IfOk result (λ name. length text.now ≤ 2 ^ 24) }
+    ensures short { IfOk result (λ name. length text.now ≤ text_limit) }
     ensures none { IfErr result (λ fault. fault ≡ TextFault.NotOfTheFirstForm
-        → length text.now ≤ 2 ^ 24 → (name : Name) → SpellsName sigil text.now name → ⊥) }
+        → length text.now ≤ text_limit → (name : Name) → SpellsName sigil text.now name → ⊥) }
     // A text of more than 2 to the 24 bytes is refused before anything grows.
-    ensures long { 2 ^ 24 < length text.now → result ≡ Err TextFault.NotOfTheFirstForm }
+    ensures long { text_limit < length text.now → result ≡ Err TextFault.NotOfTheFirstForm }
     // The same, said of what is read from the left.
     ensures read { IfOk result (λ name. name_of sigil text.now ≡ Some name) }
     ensures not_read { IfErr result (λ fault. fault ≡ TextFault.NotOfTheFirstForm → name_of sigil text.now ≡ None) }

@@ -1,25 +1,25 @@
 ghost use Rattle.std.specs.Prelude.{◌≡◌, [], ◌∷◌, IfOk, codes, nat_eq};
 ghost use Rattle.std.specs.List.{starts_with};
+ghost use Rattle.ir_core.specs.Functions.{is_debug};
 ghost use Rattle.ir_spelling.specs.Modules.{param_in, function_name, module_from};
 ghost use Rattle.ir_spelling.specs.Ordered.{ordered_line, ordered_name, ordered_module};
 ghost use Rattle.ir_spelling.specs.Reading.{Reads};
-ghost use Rattle.ir_spelling.specs.Scopes.{each_in};
-ghost use Rattle.ir_spelling.specs.WellFormed.{is_debug};
+ghost use Rattle.ir_spelling.specs.SoFar.{each_in};
 
 use crate::TextFault;
 use crate::atoms::{Means, atom_of, operation_of};
-use crate::scopes::{start, with_block, with_register};
+use crate::so_far::{none_so_far, with_block, with_register};
 use contents::{Exact, Seq};
 use ir_core::{Atom, Block, Calm, Function, Instr, Module, Name, Operand, Param, Term, Ty};
 use ir_parser::split;
-use ir_spelling::{DefinitionText, LineText, ParamText, Scope};
+use ir_spelling::{DefinitionText, LineText, NamesSoFar, ParamText};
 use std::alloc::{AllocError, Global};
 
 /// The most lines of a function, `ret` among them.
 const LINE_LIMIT: usize = 1_048_576;
 
 /// The names that are defined.
-impl Means<Name> for Scope {
+impl Means<Name> for NamesSoFar {
     ghost use Rattle.ir_spelling.specs.Modules.{known};
 
     ghost meaning = { known };
@@ -34,59 +34,67 @@ impl Means<Name> for Scope {
 }
 
 #[tactic(auto, unfolding(ir_spelling::specs::Modules::param_in))]
-fn param_in(alloc: Global, scope: Scope, param: &ParamText) -> Result<(Param, Scope), TextFault>
-    ensures { Reads (λ parts. parts) result (param_in scope param.now) }
+fn param_in(
+    alloc: Global,
+    so_far: NamesSoFar,
+    param: &ParamText,
+) -> Result<(Param, NamesSoFar), TextFault>
+    ensures { Reads (λ parts. parts) result (param_in so_far param.now) }
 {
-    let (name, scope) = with_register(alloc, scope, &param.name)?;
+    let (name, so_far) = with_register(alloc, so_far, &param.name)?;
     let ty = Ty::Int(32);
-    Ok((Param { name, ty }, scope))
+    Ok((Param { name, ty }, so_far))
 }
 
 #[tactic(auto, unfolding(ir_spelling::specs::Ordered::ordered_line))]
-fn ordered_line(alloc: Global, scope: Scope, line: &LineText) -> Result<(Instr, Scope), TextFault>
-    ensures { Reads (λ parts. parts) result (ordered_line scope line.now) }
+fn ordered_line(
+    alloc: Global,
+    so_far: NamesSoFar,
+    line: &LineText,
+) -> Result<(Instr, NamesSoFar), TextFault>
+    ensures { Reads (λ parts. parts) result (ordered_line so_far line.now) }
 {
-    let right = operation_of(alloc, &scope, &line.operation)?;
-    let (name, scope) = with_register(alloc, scope, &line.register)?;
-    Ok((Instr::Calm(Calm { name, right }), scope))
+    let right = operation_of(alloc, &so_far, &line.operation)?;
+    let (name, so_far) = with_register(alloc, so_far, &line.register)?;
+    Ok((Instr::Calm(Calm { name, right }), so_far))
 }
 
 fn params_in(
     alloc: Global,
-    scope: Scope,
+    so_far: NamesSoFar,
     params: &[ParamText],
-) -> Result<(Vec<Param>, Scope), TextFault>
-    ensures { Reads (λ parts. (parts.0.items, parts.1)) result (each_in param_in scope params.now) }
+) -> Result<(Vec<Param>, NamesSoFar), TextFault>
+    ensures { Reads (λ parts. (parts.0.items, parts.1)) result (each_in param_in so_far params.now) }
 {
     let mut done = Vec::new(alloc);
-    let mut scope = scope;
+    let mut so_far = so_far;
     let mut rest = params;
     while let Some((text, behind)) = split(rest) {
-        let (param, next) = param_in(alloc, scope, text)?;
+        let (param, next) = param_in(alloc, so_far, text)?;
         done.push(param)?;
-        scope = next;
+        so_far = next;
         rest = behind;
     }
-    Ok((done, scope))
+    Ok((done, so_far))
 }
 
 fn ordered_lines(
     alloc: Global,
-    scope: Scope,
+    so_far: NamesSoFar,
     lines: &[LineText],
-) -> Result<(Vec<Instr>, Scope), TextFault>
-    ensures { Reads (λ parts. (parts.0.items, parts.1)) result (each_in ordered_line scope lines.now) }
+) -> Result<(Vec<Instr>, NamesSoFar), TextFault>
+    ensures { Reads (λ parts. (parts.0.items, parts.1)) result (each_in ordered_line so_far lines.now) }
 {
     let mut done = Vec::new(alloc);
-    let mut scope = scope;
+    let mut so_far = so_far;
     let mut rest = lines;
     while let Some((text, behind)) = split(rest) {
-        let (instr, next) = ordered_line(alloc, scope, text)?;
+        let (instr, next) = ordered_line(alloc, so_far, text)?;
         done.push(instr)?;
-        scope = next;
+        so_far = next;
         rest = behind;
     }
-    Ok((done, scope))
+    Ok((done, so_far))
 }
 
 fn begins_debug(bytes: &[u8]) -> bool
@@ -180,9 +188,9 @@ pub fn ordered_module(alloc: Global, definition: &DefinitionText) -> Result<Modu
         return Err(TextFault::NotOfTheFirstForm);
     }
     let name = ordered_name(alloc, &definition.name)?;
-    let (params, scope) = params_in(alloc, start(alloc), definition.params.as_slice())?;
-    let (block, scope) = with_block(alloc, scope, &definition.label)?;
-    let (body, scope) = ordered_lines(alloc, scope, definition.lines.as_slice())?;
-    let value = atom_of(alloc, &scope, &definition.result)?;
+    let (params, so_far) = params_in(alloc, none_so_far(alloc), definition.params.as_slice())?;
+    let (block, so_far) = with_block(alloc, so_far, &definition.label)?;
+    let (body, so_far) = ordered_lines(alloc, so_far, definition.lines.as_slice())?;
+    let value = atom_of(alloc, &so_far, &definition.result)?;
     Ok(module_from(alloc, name, params, block, body, value)?)
 }

@@ -16,7 +16,7 @@ use Rattle.ir_spelling.specs.declared.texts.ParamText.{ParamText}
 use Rattle.ir_spelling.specs.declared.texts.ValueText.{ValueText}
 use Rattle.ir_spelling.specs.declared.texts.ValueText.TheVariants as text
 use Rattle.ir_spelling.specs.Definitions.{definition_at, ending_at, first_param_at, global_at, head_at, label_at, line_at, lines_at, local_at, next_line_at, next_param_at, param_at, params_at, repeated}
-use Rattle.ir_spelling.specs.Grammar.{comma, ending, flag, i32_word, label, line, local, next_param, operation, operator, param, params, register, value, written}
+use Rattle.ir_spelling.specs.Grammar.{comma, ending, flag, i32_token, label, line, local, next_param, operation, operator, param, params, register, value, written}
 use Rattle.ir_spelling.specs.Operations.{flag_of, flags_at, operation_at, operator_at, operator_of, values_at}
 use Rattle.ir_spelling.specs.Terminals.{end_at, is_word, mark_at, word_at}
 use Rattle.ir_spelling.specs.Values.{value_at, value_of}
@@ -38,7 +38,7 @@ flags_again [] rest none = none
 flags_again (Nuw ∷ fs) rest none = ap (λ more. Nuw ∷ more) (flags_again fs rest none)
 flags_again (Nsw ∷ fs) rest none = ap (λ more. Nsw ∷ more) (flags_again fs rest none)
 
-no_flags : (rest : List TokenKind) → flags_at (i32_word ∷ rest) ≡ []
+no_flags : (rest : List TokenKind) → flags_at (i32_token ∷ rest) ≡ []
 unfolding flags_at flag_of
 no_flags rest = refl
 
@@ -46,7 +46,7 @@ drop_flags : (fs : List FlagWord) (rest : List TokenKind) → drop (length fs) (
 drop_flags [] rest = refl
 drop_flags (f ∷ fs) rest = drop_flags fs rest
 
-word_again : (rest : List TokenKind) → word_at words.i32_word (i32_word ∷ rest) ≡ Some rest
+word_again : (rest : List TokenKind) → word_at words.i32_word (i32_token ∷ rest) ≡ Some rest
 unfolding word_at
 word_again rest = refl
 
@@ -54,19 +54,19 @@ comma_again : (rest : List TokenKind) → mark_at 44 (comma ∷ rest) ≡ Some r
 unfolding mark_at
 comma_again rest = refl
 
-values_again : (l r : ValueText) (rest : List TokenKind) → values_at (i32_word ∷ value l ∷ comma ∷ value r ∷ rest) ≡ Some (l, r, rest)
+values_again : (l r : ValueText) (rest : List TokenKind) → values_at (i32_token ∷ value l ∷ comma ∷ value r ∷ rest) ≡ Some (l, r, rest)
 unfolding values_at
 values_again l r rest =
     rw (word_again (value l ∷ comma ∷ value r ∷ rest), value_again l (comma ∷ value r ∷ rest), comma_again (value r ∷ rest), value_again r rest) refl
 
-operation_read : (op : BinOp) (fs : List FlagWord) (l r : ValueText) (rest : List TokenKind) → operation_at (operator op ∷ (map flag fs ++ (i32_word ∷ value l ∷ comma ∷ value r ∷ rest))) ≡ Some (record { op = op; flags = fs; left = l; right = r }, rest)
+operation_read : (op : BinOp) (fs : List FlagWord) (l r : ValueText) (rest : List TokenKind) → operation_at (operator op ∷ (map flag fs ++ (i32_token ∷ value l ∷ comma ∷ value r ∷ rest))) ≡ Some (record { op = op; flags = fs; left = l; right = r }, rest)
 unfolding operation_at
 operation_read op fs l r rest =
-    rw (operator_again op (map flag fs ++ (i32_word ∷ value l ∷ comma ∷ value r ∷ rest)), flags_again fs (i32_word ∷ value l ∷ comma ∷ value r ∷ rest) (no_flags _), drop_flags fs (i32_word ∷ value l ∷ comma ∷ value r ∷ rest), values_again l r rest) refl
+    rw (operator_again op (map flag fs ++ (i32_token ∷ value l ∷ comma ∷ value r ∷ rest)), flags_again fs (i32_token ∷ value l ∷ comma ∷ value r ∷ rest) (no_flags _), drop_flags fs (i32_token ∷ value l ∷ comma ∷ value r ∷ rest), values_again l r rest) refl
 
 pub operation_again : (o : OperationText) (rest : List TokenKind) → operation_at (operation o ++ rest) ≡ Some (o, rest)
 operation_again o rest =
-    ap (λ kinds. operation_at (operator o.op ∷ kinds)) (append_assoc (map flag o.flags) (i32_word ∷ value o.left ∷ comma ∷ value o.right ∷ []) rest)
+    ap (λ kinds. operation_at (operator o.op ∷ kinds)) (append_assoc (map flag o.flags) (i32_token ∷ value o.left ∷ comma ∷ value o.right ∷ []) rest)
     ∙ operation_read o.op o.flags o.left o.right rest
 
 line_from : (r : Option Name) (o : OperationText) (more : List TokenKind) → line_at ((register r ++ operation o) ++ more) ≡ Some (record { register = r; operation = o }, more)
@@ -110,14 +110,14 @@ line_has_token : (r : Option Name) (o : OperationText) → 1 ≤ length (registe
 line_has_token None o = omega arith
 line_has_token (Some name) o = omega arith
 
-lines_again : (ls : List LineText) (result : ValueText) → lines_at (flat_map line ls ++ ending result) ≡ Some (ls, i32_word ∷ value result ∷ kind.Mark 125 ∷ [])
+lines_again : (ls : List LineText) (result : ValueText) → lines_at (flat_map line ls ++ ending result) ≡ Some (ls, i32_token ∷ value result ∷ kind.Mark 125 ∷ [])
 unfolding next_line_at
 lines_again ls result =
-    repeated_again next_line_at line (ending result) (i32_word ∷ value result ∷ kind.Mark 125 ∷ [])
+    repeated_again next_line_at line (ending result) (i32_token ∷ value result ∷ kind.Mark 125 ∷ [])
     (λ l more. next_line_from l.register l.operation (flat_map line more ++ ending result)) refl
-    (length (flat_map line ls ++ ending result)) ls (fuel line ls (kind.Word words.ret_word) (i32_word ∷ value result ∷ kind.Mark 125 ∷ []) (λ l. line_has_token l.register l.operation))
+    (length (flat_map line ls ++ ending result)) ls (fuel line ls (kind.Word words.ret_word) (i32_token ∷ value result ∷ kind.Mark 125 ∷ []) (λ l. line_has_token l.register l.operation))
 
-ending_again : (result : ValueText) → ending_at (i32_word ∷ value result ∷ kind.Mark 125 ∷ []) ≡ Some result
+ending_again : (result : ValueText) → ending_at (i32_token ∷ value result ∷ kind.Mark 125 ∷ []) ≡ Some result
 unfolding ending_at word_at mark_at end_at
 ending_again result = rw (value_again result (kind.Mark 125 ∷ [])) refl
 
@@ -176,7 +176,7 @@ unfolding label_at
 label_again None more none = none
 label_again (Some name) more none = refl
 
-head_again : (name : Name) (rest : List TokenKind) → head_at (kind.Word words.define_word ∷ i32_word ∷ kind.Global name ∷ kind.Mark 40 ∷ rest) ≡ Some (name, rest)
+head_again : (name : Name) (rest : List TokenKind) → head_at (kind.Word words.define_word ∷ i32_token ∷ kind.Global name ∷ kind.Mark 40 ∷ rest) ≡ Some (name, rest)
 unfolding head_at word_at global_at mark_at
 head_again name rest = refl
 

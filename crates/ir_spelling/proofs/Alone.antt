@@ -20,7 +20,7 @@ use Rattle.ir_lexer.specs.declared.token.TokenKind.TheVariants as kind
 use Rattle.ir_spelling.specs.declared.texts.OperationText.{OperationText}
 use Rattle.ir_spelling.specs.declared.texts.ValueText.{ValueText}
 use Rattle.ir_spelling.specs.Expressions.{IsExpression, IsNow, MeansNow, SpellsExpression, binary, expression, expression_of, now, now_atom, plain}
-use Rattle.ir_spelling.specs.Grammar.{i32_word, operation, operator, value}
+use Rattle.ir_spelling.specs.Grammar.{i32_token, operation, operator, value}
 use Rattle.ir_spelling.specs.Grammar as grammar
 use Rattle.ir_spelling.specs.Names.{SpellsName, name_in, name_of, only_name}
 use Rattle.ir_spelling.specs.Operations.{IsOperation, operation_at, operation_of}
@@ -47,16 +47,16 @@ is_operation : (kinds : List TokenKind) (e : Expr0) (o : OperationText) → kind
 is_operation kinds (expr.Plain operand) o all is = absurd is
 is_operation kinds (expr.Binary b) o all is = (o, all, is)
 
-plain_takes : (k : TokenKind) (rest : List TokenKind) (e : Expr0) → k ≡ i32_word → plain rest ≡ Some e → IsExpression (k ∷ rest) e
+plain_takes : (k : TokenKind) (rest : List TokenKind) (e : Expr0) → k ≡ i32_token → plain rest ≡ Some e → IsExpression (k ∷ rest) e
 unfolding plain
 plain_takes k rest e typed read =
     let value_read = bind_ok (value_at rest) _ e read in
     let end = bind_ok (end_at value_read.0.1) _ e value_read.2 in
     let atom = bind_ok (now_atom value_read.0.0) _ e end.2 in
-    let kinds : k ∷ rest ≡ i32_word ∷ value value_read.0.0 ∷ [] =
+    let kinds : k ∷ rest ≡ i32_token ∷ value value_read.0.0 ∷ [] =
     ap (λ front. front ∷ rest) typed
-    ∙ ap (λ more. i32_word ∷ more) (value_takes rest value_read.0.0 value_read.0.1 value_read.1)
-    ∙ ap (λ more. i32_word ∷ value value_read.0.0 ∷ more) (end_takes value_read.0.1 end.0 end.1) in
+    ∙ ap (λ more. i32_token ∷ more) (value_takes rest value_read.0.0 value_read.0.1 value_read.1)
+    ∙ ap (λ more. i32_token ∷ value value_read.0.0 ∷ more) (end_takes value_read.0.1 end.0 end.1) in
     subst (IsExpression (k ∷ rest)) (some_is (expr.Plain (record { ty = i32; atom = atom.0 })) e atom.2)
     (value_read.0.0, kinds, refl, now_is value_read.0.0 atom.0 atom.1)
 
@@ -83,7 +83,7 @@ expression_takes (k ∷ rest) e read =
 
 -- ---- an expression is read
 
-plain_again : (v : ValueText) (operand : Operand Reg) → operand.ty ≡ i32 → IsNow v operand.atom → expression (i32_word ∷ value v ∷ []) ≡ Some (expr.Plain operand)
+plain_again : (v : ValueText) (operand : Operand Reg) → operand.ty ≡ i32 → IsNow v operand.atom → expression (i32_token ∷ value v ∷ []) ≡ Some (expr.Plain operand)
 unfolding expression plain end_at
 plain_again v operand typed is =
     let of : Ty → Operand Reg = λ ty. record { ty = ty; atom = operand.atom } in

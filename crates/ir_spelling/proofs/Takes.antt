@@ -18,7 +18,7 @@ use Rattle.ir_spelling.specs.declared.texts.ParamText.{ParamText}
 use Rattle.ir_spelling.specs.declared.texts.ValueText.{ValueText}
 use Rattle.ir_spelling.specs.declared.texts.ValueText.TheVariants as text
 use Rattle.ir_spelling.specs.Definitions.{added, behind, definition_at, ending_at, first_param_at, global_at, global_of, head_at, if_there, label_at, label_of, line_at, lines_at, local_at, local_of, named_by, next_line_at, next_param_at, one_more, param_at, params_at, repeated}
-use Rattle.ir_spelling.specs.Grammar.{comma, flag, i32_word, label, line, local, next_param, operation, operator, param, params, register, value, written}
+use Rattle.ir_spelling.specs.Grammar.{comma, flag, i32_token, label, line, local, next_param, operation, operator, param, params, register, value, written}
 use Rattle.ir_spelling.specs.Operations.{flag_of, flags_at, in_front, operation_at, operator_at, operator_of, values_at}
 use Rattle.ir_spelling.specs.Reading.{◌>>=◌}
 use Rattle.ir_spelling.specs.Terminals.{end_at, is_mark, is_word, mark_at, word_at}
@@ -112,26 +112,26 @@ unfolding flags_at
 flags_take [] = refl
 flags_take (k ∷ tail) = flags_from k tail (flag_of k) refl (flags_take tail)
 
-operation_joins : (kinds a b rest : List TokenKind) (op : BinOp) (fs : List FlagWord) (l r : ValueText) → kinds ≡ operator op ∷ a → a ≡ map flag fs ++ b → b ≡ i32_word ∷ value l ∷ comma ∷ value r ∷ rest → kinds ≡ operation (record { op = op; flags = fs; left = l; right = r }) ++ rest
+operation_joins : (kinds a b rest : List TokenKind) (op : BinOp) (fs : List FlagWord) (l r : ValueText) → kinds ≡ operator op ∷ a → a ≡ map flag fs ++ b → b ≡ i32_token ∷ value l ∷ comma ∷ value r ∷ rest → kinds ≡ operation (record { op = op; flags = fs; left = l; right = r }) ++ rest
 operation_joins kinds a b rest op fs l r k1 a1 b1 =
     k1
     ∙ ap (λ x. operator op ∷ x) (a1 ∙ ap (λ x. map flag fs ++ x) b1)
-    ∙ ap (λ x. operator op ∷ x) (sym (append_assoc (map flag fs) (i32_word ∷ value l ∷ comma ∷ value r ∷ []) rest))
+    ∙ ap (λ x. operator op ∷ x) (sym (append_assoc (map flag fs) (i32_token ∷ value l ∷ comma ∷ value r ∷ []) rest))
 
 -- what is read is written as it is answered
 last : {X : Type 0} (w : X → List TokenKind) (kinds : List TokenKind) (x y : X) → Some x ≡ Some y → kinds ≡ w x → kinds ≡ w y
 last w kinds x y same e = e ∙ ap w (some_is x y same)
 
-values_take : (kinds : List TokenKind) (l r : ValueText) (rest : List TokenKind) → values_at kinds ≡ Some (l, r, rest) → kinds ≡ i32_word ∷ value l ∷ comma ∷ value r ∷ rest
+values_take : (kinds : List TokenKind) (l r : ValueText) (rest : List TokenKind) → values_at kinds ≡ Some (l, r, rest) → kinds ≡ i32_token ∷ value l ∷ comma ∷ value r ∷ rest
 unfolding values_at
 values_take kinds l r rest e =
     let typed = bind_ok (word_at words.i32_word kinds) _ (l, r, rest) e in
     let left = bind_ok (value_at typed.0) _ (l, r, rest) typed.2 in
     let behind = bind_ok (mark_at 44 left.0.1) _ (l, r, rest) left.2 in
     let right = bind_ok (value_at behind.0) _ (l, r, rest) behind.2 in
-    last (λ parts. i32_word ∷ value parts.0 ∷ comma ∷ value parts.1 ∷ parts.2) kinds _ (l, r, rest) right.2
+    last (λ parts. i32_token ∷ value parts.0 ∷ comma ∷ value parts.1 ∷ parts.2) kinds _ (l, r, rest) right.2
     (word_takes words.i32_word kinds typed.0 typed.1
-    ∙ ap (λ x. i32_word ∷ x) (value_takes typed.0 left.0.0 left.0.1 left.1
+    ∙ ap (λ x. i32_token ∷ x) (value_takes typed.0 left.0.0 left.0.1 left.1
     ∙ ap (λ x. value left.0.0 ∷ x) (mark_takes 44 left.0.1 behind.0 behind.1
     ∙ ap (λ x. comma ∷ x) (value_takes behind.0 right.0.0 right.0.1 right.1))))
 
@@ -253,7 +253,7 @@ unfolding param_at
 param_takes kinds p rest e =
     let typed = bind_ok (word_at words.i32_word kinds) _ (p, rest) e in
     word_takes words.i32_word kinds typed.0 typed.1
-    ∙ ap (λ behind. i32_word ∷ behind) (local_takes typed.0)
+    ∙ ap (λ behind. i32_token ∷ behind) (local_takes typed.0)
     ∙ ap (λ parts. param parts.0 ++ parts.1) (some_is (record { name = (local_at typed.0).0 }, (local_at typed.0).1) (p, rest) typed.2)
 
 first_param_ends : (kinds rest : List TokenKind) → first_param_at kinds ≡ Some (None, rest) → kinds ≡ kind.Mark 41 ∷ rest
@@ -312,7 +312,7 @@ params_take kinds ps rest e =
     params_from kinds first.0.0 first.0.1 (repeated next_param_at (length first.0.1) first.0.1) ps rest first.1 first.2
     (λ qs r. repeated_takes next_param_at next_param (kind.Mark 41) next_param_ends next_param_takes (length first.0.1) first.0.1 qs r)
 
-head_takes : (kinds : List TokenKind) (name : Name) (rest : List TokenKind) → head_at kinds ≡ Some (name, rest) → kinds ≡ kind.Word words.define_word ∷ i32_word ∷ kind.Global name ∷ kind.Mark 40 ∷ rest
+head_takes : (kinds : List TokenKind) (name : Name) (rest : List TokenKind) → head_at kinds ≡ Some (name, rest) → kinds ≡ kind.Word words.define_word ∷ i32_token ∷ kind.Global name ∷ kind.Mark 40 ∷ rest
 unfolding head_at
 head_takes kinds name rest e =
     let defined = bind_ok (word_at words.define_word kinds) _ (name, rest) e in
@@ -321,11 +321,11 @@ head_takes kinds name rest e =
     let opened = bind_ok (mark_at 40 named.0.1) _ (name, rest) named.2 in
     word_takes words.define_word kinds defined.0 defined.1
     ∙ ap (λ behind. kind.Word words.define_word ∷ behind) (word_takes words.i32_word defined.0 typed.0 typed.1
-    ∙ ap (λ behind. i32_word ∷ behind) (global_takes typed.0 named.0.0 named.0.1 named.1
+    ∙ ap (λ behind. i32_token ∷ behind) (global_takes typed.0 named.0.0 named.0.1 named.1
     ∙ ap (λ behind. kind.Global named.0.0 ∷ behind) (mark_takes 40 named.0.1 opened.0 opened.1)))
-    ∙ ap (λ parts. kind.Word words.define_word ∷ i32_word ∷ kind.Global parts.0 ∷ kind.Mark 40 ∷ parts.1) (some_is (named.0.0, opened.0) (name, rest) opened.2)
+    ∙ ap (λ parts. kind.Word words.define_word ∷ i32_token ∷ kind.Global parts.0 ∷ kind.Mark 40 ∷ parts.1) (some_is (named.0.0, opened.0) (name, rest) opened.2)
 
-ending_takes : (kinds : List TokenKind) (result : ValueText) → ending_at kinds ≡ Some result → kinds ≡ i32_word ∷ value result ∷ kind.Mark 125 ∷ []
+ending_takes : (kinds : List TokenKind) (result : ValueText) → ending_at kinds ≡ Some result → kinds ≡ i32_token ∷ value result ∷ kind.Mark 125 ∷ []
 unfolding ending_at
 ending_takes kinds result e =
     let typed = bind_ok (word_at words.i32_word kinds) _ result e in
@@ -333,10 +333,10 @@ ending_takes kinds result e =
     let closed = bind_ok (mark_at 125 read.0.1) _ result read.2 in
     let end = bind_ok (end_at closed.0) _ result closed.2 in
     word_takes words.i32_word kinds typed.0 typed.1
-    ∙ ap (λ behind. i32_word ∷ behind) (value_takes typed.0 read.0.0 read.0.1 read.1
+    ∙ ap (λ behind. i32_token ∷ behind) (value_takes typed.0 read.0.0 read.0.1 read.1
     ∙ ap (λ behind. value read.0.0 ∷ behind) (mark_takes 125 read.0.1 closed.0 closed.1
     ∙ ap (λ behind. kind.Mark 125 ∷ behind) (end_takes closed.0 end.0 end.1)))
-    ∙ ap (λ v. i32_word ∷ value v ∷ kind.Mark 125 ∷ []) (some_is read.0.0 result end.2)
+    ∙ ap (λ v. i32_token ∷ value v ∷ kind.Mark 125 ∷ []) (some_is read.0.0 result end.2)
 
 pub definition_takes : (kinds : List TokenKind) (d : DefinitionText) → definition_at kinds ≡ Some d → kinds ≡ written d
 unfolding definition_at
@@ -347,7 +347,7 @@ definition_takes kinds d e =
     let ls = bind_ok (lines_at (label_at opened.0).1) _ d opened.2 in
     let result = bind_ok (ending_at ls.0.1) _ d ls.2 in
     head_takes kinds head.0.0 head.0.1 head.1
-    ∙ ap (λ x. kind.Word words.define_word ∷ i32_word ∷ kind.Global head.0.0 ∷ kind.Mark 40 ∷ x) (params_take head.0.1 ps.0.0 ps.0.1 ps.1
+    ∙ ap (λ x. kind.Word words.define_word ∷ i32_token ∷ kind.Global head.0.0 ∷ kind.Mark 40 ∷ x) (params_take head.0.1 ps.0.0 ps.0.1 ps.1
     ∙ ap (λ x. params ps.0.0 ++ (kind.Mark 41 ∷ x)) (mark_takes 123 ps.0.1 opened.0 opened.1
     ∙ ap (λ x. kind.Mark 123 ∷ x) (label_takes opened.0
     ∙ ap (λ x. label (label_at opened.0).0 ++ x) (lines_take (label_at opened.0).1 ls.0.0 ls.0.1 ls.1

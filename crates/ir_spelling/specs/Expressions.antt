@@ -11,7 +11,7 @@ use Rattle.ir_core.specs.Words as words
 use Rattle.ir_lexer.specs.declared.token.TokenKind.{TokenKind}
 use Rattle.ir_spelling.specs.declared.texts.OperationText.{OperationText}
 use Rattle.ir_spelling.specs.declared.texts.ValueText.{ValueText}
-use Rattle.ir_spelling.specs.Grammar.{i32_word, operation, value}
+use Rattle.ir_spelling.specs.Grammar.{i32_token, operation, value}
 use Rattle.ir_spelling.specs.Operations.{IsOperation, operation_at, operation_of}
 use Rattle.ir_spelling.specs.Reading.{◌>>=◌, kinds_of, tokens_of}
 use Rattle.ir_spelling.specs.Terminals.{is_word, end_at}
@@ -28,7 +28,7 @@ IsNow = IsAtom MeansNow
 -- These tokens are the expression, all of them: `i32 V`, or `op flags i32 V, V`.
 abbrev pub IsExpression : List TokenKind → Expr0 → Type 0
 IsExpression kinds (expr.Plain operand) =
-    (v : ValueText) × (kinds ≡ i32_word ∷ value v ∷ []) × (operand.ty ≡ i32) × IsNow v operand.atom
+    (v : ValueText) × (kinds ≡ i32_token ∷ value v ∷ []) × (operand.ty ≡ i32) × IsNow v operand.atom
 IsExpression kinds (expr.Binary b) = (o : OperationText) × (kinds ≡ operation o) × IsOperation IsNow o (expr.Binary b)
 
 -- What expression a text spells, however long the text is: `sub nsw i32 %x, -1` spells `sub nsw` of i32, of the register

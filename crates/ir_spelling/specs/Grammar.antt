@@ -17,8 +17,8 @@ use Rattle.ir_spelling.specs.declared.texts.ParamText.{ParamText}
 use Rattle.ir_spelling.specs.declared.texts.ValueText.{ValueText}
 use Rattle.ir_spelling.specs.declared.texts.ValueText.TheVariants as text
 
-abbrev pub i32_word : TokenKind
-i32_word = kind.Word words.i32_word
+abbrev pub i32_token : TokenKind
+i32_token = kind.Word words.i32_word
 
 abbrev pub comma : TokenKind
 comma = kind.Mark 44
@@ -57,7 +57,7 @@ name sigil.Global n = kind.Global n
 
 -- op {nuw|nsw} i32 V, V
 abbrev pub operation : OperationText → List TokenKind
-operation o = operator o.op ∷ (map flag o.flags ++ (i32_word ∷ value o.left ∷ comma ∷ value o.right ∷ []))
+operation o = operator o.op ∷ (map flag o.flags ++ (i32_token ∷ value o.left ∷ comma ∷ value o.right ∷ []))
 
 -- [LOCAL =]
 abbrev pub register : Option Name → List TokenKind
@@ -74,7 +74,7 @@ local (Some name) = kind.Local name ∷ []
 
 -- i32 [LOCAL]
 abbrev pub param : ParamText → List TokenKind
-param p = i32_word ∷ local p.name
+param p = i32_token ∷ local p.name
 
 abbrev pub next_param : ParamText → List TokenKind
 next_param p = comma ∷ param p
@@ -91,10 +91,10 @@ label (Some name) = kind.Label name ∷ []
 
 -- ret i32 V }
 abbrev pub ending : ValueText → List TokenKind
-ending result = kind.Word words.ret_word ∷ i32_word ∷ value result ∷ close_brace ∷ []
+ending result = kind.Word words.ret_word ∷ i32_token ∷ value result ∷ close_brace ∷ []
 
 -- define i32 GLOBAL ( params ) { [LABEL] {line} ret i32 V }
 abbrev pub written : DefinitionText → List TokenKind
 written d =
-    kind.Word words.define_word ∷ i32_word ∷ kind.Global d.name ∷ open_paren ∷ (params d.params
+    kind.Word words.define_word ∷ i32_token ∷ kind.Global d.name ∷ open_paren ∷ (params d.params
     ++ (close_paren ∷ open_brace ∷ (label d.label ++ (flat_map line d.lines ++ ending d.result))))

@@ -5,11 +5,9 @@ pub mod Laws
 pub mod Modules
 pub mod Names
 pub mod Operations
-pub mod Order
 pub mod Ordered
 pub mod Reading
-pub mod Scopes
+pub mod SoFar
 pub mod Spells
 pub mod Terminals
 pub mod Values
-pub mod WellFormed

@@ -1,5 +1,5 @@
 -- Words of private functions. The parts of a definition as they are read from the left, each with the names that are defined
--- before it. What module a definition names is `Names`, in Spells.
+-- before it. What module a definition names is `NamesModule`, in Spells.
 use Rattle.std.specs.Prelude.{◌==◌, List, [], ◌∷◌, Option, Some, None, if◌then◌else◌}
 use Rattle.ir_core.specs.declared.functions.Instr.{Instr}
 use Rattle.ir_core.specs.declared.functions.Module.{Module}
@@ -8,23 +8,23 @@ use Rattle.ir_core.specs.declared.functions.Term.TheVariants.{Ret}
 use Rattle.ir_core.specs.declared.names.Name.{Name}
 use Rattle.ir_core.specs.declared.names.Name.TheVariants.{Text, Number}
 use Rattle.ir_core.specs.declared.operands.Atom.{Atom}
-use Rattle.ir_spelling.specs.declared.scopes.Scope.{Scope}
+use Rattle.ir_spelling.specs.declared.so_far.NamesSoFar.{NamesSoFar}
 use Rattle.ir_spelling.specs.declared.texts.ParamText.{ParamText}
 use Rattle.ir_spelling.specs.declared.texts.ValueText.{ValueText}
 use Rattle.ir_spelling.specs.Reading.{◌>>=◌}
-use Rattle.ir_spelling.specs.Scopes.{is_among, with_register}
+use Rattle.ir_spelling.specs.SoFar.{is_among, with_register}
 use Rattle.ir_spelling.specs.Values.{atom_of, i32}
 
 -- A register that is used is one of those that are known.
-abbrev pub known : Scope → Name → Option Name
-known scope name = if is_among name scope.registers then Some name else None
+abbrev pub known : NamesSoFar → Name → Option Name
+known so_far name = if is_among name so_far.registers then Some name else None
 
-abbrev pub value_in : Scope → ValueText → Option (Atom Name)
-value_in scope = atom_of (known scope)
+abbrev pub value_in : NamesSoFar → ValueText → Option (Atom Name)
+value_in so_far = atom_of (known so_far)
 
-unfoldable pub param_in : Scope → ParamText → Option (Param × Scope)
-param_in scope p = do
-  named ← with_register scope p.name
+unfoldable pub param_in : NamesSoFar → ParamText → Option (Param × NamesSoFar)
+param_in so_far p = do
+  named ← with_register so_far p.name
   Some (record { name = named.0; ty = i32 }, named.1)
 
 -- The one function has the number 0, where it has one.

@@ -1,5 +1,5 @@
 -- What module a text spells, however long the text is.
-use Rattle.std.specs.Prelude.{◌≡◌, ℕ, ◌+◌, ◌^◌, ◌<◌, ◌≤◌, List, [], ◌∷◌, ◌++◌, length, Option, Some, None}
+use Rattle.std.specs.Prelude.{◌≡◌, ℕ, ◌≤◌, List, [], ◌∷◌, Option, Some, None}
 use Rattle.std.specs.List.{AllZip, Contains}
 use Rattle.ir_core.specs.declared.functions.Block.{Block}
 use Rattle.ir_core.specs.declared.functions.Function.{Function}
@@ -12,62 +12,68 @@ use Rattle.ir_core.specs.declared.functions.Term.TheVariants.{Ret}
 use Rattle.ir_core.specs.declared.names.Name.{Name}
 use Rattle.ir_core.specs.declared.names.Name.TheVariants.{Text, Number}
 use Rattle.ir_core.specs.declared.operands.Atom.{Atom}
+use Rattle.ir_core.specs.declared.operands.Ty.{Ty}
+use Rattle.ir_core.specs.Functions.{function_names, line_count, names_of, typed_of}
+use Rattle.ir_core.specs.Limits.{line_limit}
+use Rattle.ir_core.specs.Order.{AreInOrder}
+use Rattle.ir_core.specs.Ranges.{IsNameInRange}
+use Rattle.ir_core.specs.WellFormed.{IsWellFormed}
 use Rattle.ir_spelling.specs.declared.texts.DefinitionText.{DefinitionText}
 use Rattle.ir_spelling.specs.declared.texts.LineText.{LineText}
 use Rattle.ir_spelling.specs.declared.texts.ParamText.{ParamText}
 use Rattle.ir_spelling.specs.declared.texts.ValueText.{ValueText}
 use Rattle.ir_spelling.specs.Grammar.{written}
 use Rattle.ir_spelling.specs.Operations.{IsOperation}
-use Rattle.ir_spelling.specs.Order.{AreCounted, AreNew, params_of, registers_of}
 use Rattle.ir_spelling.specs.Reading.{tokens_of}
 use Rattle.ir_spelling.specs.Values.{IsAtom, i32}
-use Rattle.ir_spelling.specs.WellFormed.{IsWellFormed}
 
 -- A thing has the name that is written. Where none is, its name is a number; the count says which one.
 abbrev pub IsNamed : Option Name → Name → Type 0
-IsNamed None (Number n) = n < 2 ^ 32
+IsNamed None (Number n) = IsNameInRange (Number n)
 IsNamed None (Text bytes) = ⊥
 IsNamed (Some written) name = name ≡ written
 
--- a register is one of those that the function has
-abbrev pub MeansOne : List Name → Name → Name → Type 0
-MeansOne registers name register = Contains registers name × (register ≡ name)
+-- a register is one of i32 that the function has
+abbrev pub MeansOne : List (Name × Ty) → Name → Name → Type 0
+MeansOne registers name register = Contains registers (name, i32) × (register ≡ name)
 
 -- what a written value is, where the function has these registers
-abbrev pub IsValue : List Name → ValueText → Atom Name → Type 0
+abbrev pub IsValue : List (Name × Ty) → ValueText → Atom Name → Type 0
 IsValue registers = IsAtom (MeansOne registers)
 
 abbrev pub IsParam : ParamText → Param → Type 0
 IsParam w p = IsNamed w.name p.name × (p.ty ≡ i32)
 
-abbrev pub IsLine : List Name → LineText → Instr → Type 0
+abbrev pub IsLine : List (Name × Ty) → LineText → Instr → Type 0
 IsLine registers w (instr.Calm c) = IsNamed w.register c.name × IsOperation (IsValue registers) w.operation c.right
 
-abbrev pub IsReturn : List Name → ValueText → Term → Type 0
+abbrev pub IsReturn : List (Name × Ty) → ValueText → Term → Type 0
 IsReturn registers w (Ret operand) = (operand.ty ≡ i32) × IsValue registers w operand.atom
 
--- A definition names a module: its one function of one block is what is written, item by item. Parameters, block and
--- registers share one name space and one count of what has no name. A register may be used before the line that defines it,
--- which is for `IsWellFormed` to say. `ret` counts as a line.
-pub record Names (d : DefinitionText) (m : Module) : Type 0 where
-  pub function : Function
+-- A block is what is written of it, item by item: its label, its lines and what it returns. A register may be used before the line
+-- that sets it, which is for `IsWellFormed` to say.
+pub record NamesBlock (registers : List (Name × Ty)) (w : DefinitionText) (b : Block) : Type 0 where
+  pub no_phis : b.phis ≡ []
+  pub label : IsNamed w.label b.name
+  pub lines : AllZip (IsLine registers) w.lines b.body
+  pub returns : IsReturn registers w.result b.term
+
+-- A function of one block, of i32. Parameters, block and registers share one name space and one count of what has no name. `ret` is
+-- one of the lines.
+pub record NamesFunction (w : DefinitionText) (f : Function) : Type 0 where
+  pub name : f.name ≡ w.name
+  pub result : f.result ≡ i32
+  pub params : AllZip IsParam w.params f.params
   pub block : Block
-  pub one_function : m.functions ≡ function ∷ []
-  pub one_block : function.blocks ≡ block ∷ []
-  pub no_phis : block.phis ≡ []
-  -- functions have a count of their own, so a number is 0
-  pub name : function.name ≡ d.name
-  pub function_count : ℕ
-  pub function_number : AreCounted 0 (function.name ∷ []) function_count
-  pub result : function.result ≡ i32
-  pub params : AllZip IsParam d.params function.params
-  pub label : IsNamed d.label block.name
-  pub lines : AllZip (IsLine (params_of function ++ registers_of block)) d.lines block.body
-  pub returns : IsReturn (params_of function ++ registers_of block) d.result block.term
-  pub names : AreNew [] (params_of function ++ (block.name ∷ registers_of block))
-  pub count : ℕ
-  pub numbers : AreCounted 0 (params_of function ++ (block.name ∷ registers_of block)) count
-  pub few : length d.lines + 1 ≤ 2 ^ 20
+  pub one_block : f.blocks ≡ block ∷ []
+  pub body : NamesBlock (typed_of f) w block
+  pub order : AreInOrder (names_of f)
+  pub few : line_count f ≤ line_limit
+
+-- Definitions name the functions of a module, which have a count of their own.
+pub record NamesModule (ws : List DefinitionText) (m : Module) : Type 0 where
+  pub functions : AllZip NamesFunction ws m.functions
+  pub order : AreInOrder (function_names m)
 
 -- The tokens of the text are those of a definition, and the module is what it names.
 --
@@ -77,7 +83,7 @@ pub record Names (d : DefinitionText) (m : Module) : Type 0 where
 pub record Spells (bytes : List ℕ) (m : Module) : Type 0 where
   pub definition : DefinitionText
   pub tokens : tokens_of bytes ≡ Some (written definition)
-  pub names : Names definition m
+  pub names : NamesModule (definition ∷ []) m
 
 -- A text has the first form of a module where it spells the module, and that is well-formed.
 abbrev pub HasFirstForm : List ℕ → Module → Type 0

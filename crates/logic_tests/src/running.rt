@@ -6,8 +6,8 @@ ghost use Rattle.ir_machine.specs.Places.{state_of};
 
 use contents::Seq;
 use ir_core::{
-    Atom, BinOp, Binary, Block, Calm, Const, Expr, Flags, Function, Instr, Module, Name, Operand,
-    Param, Term, Ty,
+    Atom, BinOp, Binary, Bits, Block, Calm, Const, Expr, Flags, Function, Instr, Module, Name,
+    Operand, Param, Term, Ty,
 };
 use ir_machine::{
     Choice, Chooser, Input, Item, Progress, RunState, Shown, StartEnd, StepEnd, start, step,
@@ -57,7 +57,7 @@ fn sample_block(alloc: Global, flags: Flags, value: Returns) -> Result<Block, Al
         flags,
         ty: Ty::Int(8),
         left: Atom::Register(Name::Number(0)),
-        right: Atom::Constant(Const::Number(200)),
+        right: Atom::Constant(Const::Number(Bits::new(200))),
     };
     let line = Calm {
         name: Name::Number(2),

@@ -1,4 +1,4 @@
-use ir_core::{Atom, BinOp, Binary, Const, Expr, Flags, Name, Reg, Ty};
+use ir_core::{Atom, BinOp, Binary, Bits, Const, Expr, Flags, Name, Reg, Ty};
 use ir_printer::{print_expr, print_register, print_type, print_value};
 use std::alloc::{AllocError, Global};
 use std::test::*;
@@ -11,7 +11,7 @@ fn is(text: Result<Vec<u8>, AllocError>, wanted: &str) -> bool {
 }
 
 fn is_number(alloc: Global, width: u32, number: u64, wanted: &str) -> bool {
-    let value = Atom::Constant(Const::Number(number));
+    let value = Atom::Constant(Const::Number(Bits::new(number)));
     is(print_value(alloc, &Ty::Int(width), &value), wanted)
 }
 
@@ -32,7 +32,7 @@ fn is_sum(alloc: Global, left: Reg, wanted: &str) -> bool {
         },
         ty: Ty::Int(32),
         left: Atom::Register(left),
-        right: Atom::Constant(Const::Number(0)),
+        right: Atom::Constant(Const::Number(Bits::new(0))),
     });
     is(print_expr(alloc, &sum), wanted)
 }

@@ -1,7 +1,7 @@
 -- Each turn names one item.
 use Rattle.std.proofs.lemmas.Result.{err_from_is_err_and}
 use Rattle.ir_spelling.specs.Modules.{param_in}
-use Rattle.ir_spelling.specs.Scopes.{each_in}
+use Rattle.ir_spelling.specs.SoFar.{each_in}
 use Rattle.ir_spelling.proofs.Eaches.{all_named, one_fails, one_named}
 use Rattle.ir_spelling.proofs.Repeats.{misses_on}
 use Rattle.ir_reader.proofs.naming.params_in.Goals as goal
@@ -9,11 +9,11 @@ use Rattle.ir_reader.proofs.naming.params_in.Goals as goal
 pub returns-in_err-param : goal.returns-in_err-param
 returns-in_err-param c =
     let p = err_from_is_err_and c.from_residual.result c.from_residual.ensures.1 in
-    rw (p.1, p.2) (misses_on c.in_err-param.field-0.0 (param_in c.loop-text.scope c.in-Some.text.now) (each_in param_in c.args.scope c.args.params.now) c.in_err-param.ensures (one_fails param_in c.loop-text.done.items c.loop-text.scope c.loop-text.rest.now (each_in param_in c.args.scope c.args.params.now) c.loop-text.invariant c.in-Some.text.now c.in-Some.behind.now c.in-Some.ensures))
+    rw (p.1, p.2) (misses_on c.in_err-param.field-0.0 (param_in c.loop-text.so_far c.in-Some.text.now) (each_in param_in c.args.so_far c.args.params.now) c.in_err-param.ensures (one_fails param_in c.loop-text.done.items c.loop-text.so_far c.loop-text.rest.now (each_in param_in c.args.so_far c.args.params.now) c.loop-text.invariant c.in-Some.text.now c.in-Some.behind.now c.in-Some.ensures))
 
 pub loop-text-preserved : goal.loop-text-preserved
 loop-text-preserved c =
-    one_named param_in c.loop-text.done.items c.loop-text.scope c.loop-text.rest.now (each_in param_in c.args.scope c.args.params.now) c.loop-text.invariant c.in-Some.text.now c.in-Some.behind.now c.in_ok-param.param c.in_ok-param.next _ c.in-Some.ensures c.in_ok-param.ensures c.in_ok-push.ensures.items
+    one_named param_in c.loop-text.done.items c.loop-text.so_far c.loop-text.rest.now (each_in param_in c.args.so_far c.args.params.now) c.loop-text.invariant c.in-Some.text.now c.in-Some.behind.now c.in_ok-param.param c.in_ok-param.next _ c.in-Some.ensures c.in_ok-param.ensures c.in_ok-push.ensures.items
 
 pub returns : goal.returns
-returns c = all_named param_in c.loop-text.done.items c.loop-text.scope c.loop-text.rest.now (each_in param_in c.args.scope c.args.params.now) c.loop-text.invariant c.in_default.ensures
+returns c = all_named param_in c.loop-text.done.items c.loop-text.so_far c.loop-text.rest.now (each_in param_in c.args.so_far c.args.params.now) c.loop-text.invariant c.in_default.ensures

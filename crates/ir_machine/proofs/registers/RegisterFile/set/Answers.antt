@@ -1,5 +1,5 @@
 use Rattle.std.proofs.Common.{ap, ◌∙◌}
-use Rattle.ir_machine.specs.Kept.{registers_of}
+use Rattle.ir_machine.specs.Kept.{kept_registers}
 use Rattle.ir_machine.proofs.Entries.{put_sets, tried_in_kind}
 use Rattle.ir_machine.proofs.registers.RegisterFile.set.Goals as goal
 
@@ -10,4 +10,4 @@ invariant_of-self c = record {
 }
 
 pub returns-clause-ok : goal.returns-clause-ok
-returns-clause-ok c = ap registers_of c.in_ok-put.ensures.ok ∙ put_sets c.args.self.now.entries.items c.args.name.now c.holding.result c.args.kind c.args.value c.holding.ensures
+returns-clause-ok c = ap kept_registers c.in_ok-put.ensures.ok ∙ put_sets c.args.self.now.entries.items c.args.name.now c.holding.result c.args.kind c.args.value c.holding.ensures

@@ -1,19 +1,19 @@
 ghost use Rattle.std.specs.Prelude.{◌≡◌};
 ghost use Rattle.ir_spelling.specs.Reading.{Reads};
-ghost use Rattle.ir_spelling.specs.Scopes.{is_block, is_taken, start, with_name, with_block_name, counted, as_due, due, with_register, with_block};
+ghost use Rattle.ir_spelling.specs.SoFar.{is_block, is_taken, none_so_far, with_name, with_block_name, counted, as_due, due, with_register, with_block};
 
 use contents::Exact;
 use ir_core::{Name, same_name};
-use ir_spelling::{Registers, Scope, TextFault};
+use ir_spelling::{NameIndex, NamesSoFar, TextFault};
 use std::alloc::Global;
 
 /// No name is defined.
-pub fn start(alloc: Global) -> Scope
-    ensures { result ≡ start }
+pub fn none_so_far(alloc: Global) -> NamesSoFar
+    ensures { result ≡ none_so_far }
 {
-    Scope {
+    NamesSoFar {
         next: 0,
-        registers: Registers::new(alloc),
+        registers: NameIndex::new(alloc),
         block: None,
     }
 }
@@ -50,7 +50,7 @@ fn as_due(next: u64, number: u32) -> Result<(Name, u64), TextFault>
 }
 
 /// The name of what is defined, and the number that is due behind it.
-#[tactic(auto, unfolding(ir_spelling::specs::Scopes::due))]
+#[tactic(auto, unfolding(ir_spelling::specs::SoFar::due))]
 fn due(alloc: Global, next: u64, written: &Option<Name>) -> Result<(Name, u64), TextFault>
     ensures { Reads (λ name. name) result (due next written.now) }
 {
@@ -62,61 +62,71 @@ fn due(alloc: Global, next: u64, written: &Option<Name>) -> Result<(Name, u64), 
 }
 
 /// Defines a parameter or a register of this name, if nothing of the function has it.
-fn with_name(alloc: Global, scope: Scope, name: &Name, next: u64) -> Result<Scope, TextFault>
-    ensures { Reads (λ it. it) result (with_name scope name.now next) }
+fn with_name(
+    alloc: Global,
+    so_far: NamesSoFar,
+    name: &Name,
+    next: u64,
+) -> Result<NamesSoFar, TextFault>
+    ensures { Reads (λ it. it) result (with_name so_far name.now next) }
 {
-    let mut scope = scope;
-    if is_block(name, &scope.block) || !scope.registers.add(alloc, name)? {
+    let mut so_far = so_far;
+    if is_block(name, &so_far.block) || !so_far.registers.add(alloc, name)? {
         return Err(TextFault::NotOfTheFirstForm);
     }
-    scope.next = next;
-    Ok(scope)
+    so_far.next = next;
+    Ok(so_far)
 }
 
 /// Defines a parameter or a register.
-#[tactic(auto, unfolding(ir_spelling::specs::Scopes::with_register))]
+#[tactic(auto, unfolding(ir_spelling::specs::SoFar::with_register))]
 pub fn with_register(
     alloc: Global,
-    scope: Scope,
+    so_far: NamesSoFar,
     written: &Option<Name>,
-) -> Result<(Name, Scope), TextFault>
-    ensures { Reads (λ parts. parts) result (with_register scope written.now) }
+) -> Result<(Name, NamesSoFar), TextFault>
+    ensures { Reads (λ parts. parts) result (with_register so_far written.now) }
 {
-    let (name, next) = due(alloc, scope.next, written)?;
-    let scope = with_name(alloc, scope, &name, next)?;
-    Ok((name, scope))
+    let (name, next) = due(alloc, so_far.next, written)?;
+    let so_far = with_name(alloc, so_far, &name, next)?;
+    Ok((name, so_far))
 }
 
 /// Whether something of the function has the name already.
-fn is_taken(scope: &Scope, name: &Name) -> bool
-    ensures { result ≡ is_taken scope.now name.now }
+fn is_taken(so_far: &NamesSoFar, name: &Name) -> bool
+    ensures { result ≡ is_taken so_far.now name.now }
 {
-    scope.registers.has(name) || is_block(name, &scope.block)
+    so_far.registers.has(name) || is_block(name, &so_far.block)
 }
 
 /// Defines the block by this name, if nothing of the function has it.
-fn with_block_name(alloc: Global, scope: Scope, name: &Name, next: u64) -> Result<Scope, TextFault>
-    ensures { Reads (λ it. it) result (with_block_name scope name.now next) }
+fn with_block_name(
+    alloc: Global,
+    so_far: NamesSoFar,
+    name: &Name,
+    next: u64,
+) -> Result<NamesSoFar, TextFault>
+    ensures { Reads (λ it. it) result (with_block_name so_far name.now next) }
 {
-    if is_taken(&scope, name) {
+    if is_taken(&so_far, name) {
         return Err(TextFault::NotOfTheFirstForm);
     }
-    let mut scope = scope;
-    scope.block = Some(name.copy(alloc)?);
-    scope.next = next;
-    Ok(scope)
+    let mut so_far = so_far;
+    so_far.block = Some(name.copy(alloc)?);
+    so_far.next = next;
+    Ok(so_far)
 }
 
 /// Defines the block.
-#[tactic(auto, unfolding(ir_spelling::specs::Scopes::with_block))]
+#[tactic(auto, unfolding(ir_spelling::specs::SoFar::with_block))]
 pub fn with_block(
     alloc: Global,
-    scope: Scope,
+    so_far: NamesSoFar,
     written: &Option<Name>,
-) -> Result<(Name, Scope), TextFault>
-    ensures { Reads (λ parts. parts) result (with_block scope written.now) }
+) -> Result<(Name, NamesSoFar), TextFault>
+    ensures { Reads (λ parts. parts) result (with_block so_far written.now) }
 {
-    let (name, next) = due(alloc, scope.next, written)?;
-    let scope = with_block_name(alloc, scope, &name, next)?;
-    Ok((name, scope))
+    let (name, next) = due(alloc, so_far.next, written)?;
+    let so_far = with_block_name(alloc, so_far, &name, next)?;
+    Ok((name, so_far))
 }

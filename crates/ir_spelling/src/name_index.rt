@@ -7,17 +7,17 @@ use std::alloc::{AllocError, Global};
 use std::marker::Model;
 
 /// Names in the order of their definitions, each found without a walk through the others.
-pub struct Registers {
+pub struct NameIndex {
     names: IndexSet<Name>,
 }
 
-impl Drop for Registers {
+impl Drop for NameIndex {
     fn drop(self) {
-        let Registers { names: _ } = self;
+        let NameIndex { names: _ } = self;
     }
 }
 
-impl Model for Registers {
+impl Model for NameIndex {
     ghost use Rattle.std.specs.Prelude.{List};
     ghost use Rattle.ir_core.specs.declared.names.Name.{Name};
 
@@ -26,15 +26,15 @@ impl Model for Registers {
     ghost view = { λ it. it.names.keys };
 }
 
-impl Registers {
+impl NameIndex {
     ghost use Rattle.std.specs.Prelude.{[], ◌∷◌, ◌++◌, IfOk, not, true, false};
-    ghost use Rattle.ir_spelling.specs.Scopes.{is_among};
+    ghost use Rattle.ir_spelling.specs.SoFar.{is_among};
 
     /// No name is defined.
-    pub fn new(alloc: Global) -> Registers
+    pub fn new(alloc: Global) -> NameIndex
         ensures { result ≡ [] }
     {
-        Registers {
+        NameIndex {
             names: IndexSet::new(alloc),
         }
     }

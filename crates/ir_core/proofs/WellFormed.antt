@@ -1,0 +1,165 @@
+-- Modules of blocks that return: which parts of well-formedness they have.
+use Rattle.std.proofs.Common.{◌≡◌, suc, zero, true, false, List, [], ◌∷◌, refl, ap, subst, arith}
+use Rattle.std.specs.List.{Contains}
+use Rattle.ir_core.specs.declared.functions.Block.{Block}
+use Rattle.ir_core.specs.declared.functions.Function.{Function}
+use Rattle.ir_core.specs.declared.functions.Term.{Term}
+use Rattle.ir_core.specs.declared.functions.Term.TheVariants.{Ret}
+use Rattle.ir_core.specs.declared.names.Name.{Name}
+use Rattle.ir_core.specs.declared.names.Name.TheVariants.{Text}
+use Rattle.ir_core.specs.declared.operands.Atom.TheVariants.{Register}
+use Rattle.ir_core.specs.declared.operands.Ty.TheVariants.{Int}
+use Rattle.ir_core.specs.Examples.{add, block, f, function, number, x, y}
+use Rattle.ir_core.specs.Functions.{names_in, params_of, successors_of}
+use Rattle.ir_core.specs.Laws.{EarlyUsesAreNot, EmptyNamesAreNot, TwoBlocksAreWellFormed, WideNumbersAreNot}
+use Rattle.ir_core.specs.Ranges.{IsNameInRange}
+use Rattle.ir_core.specs.Same.{same_name}
+use Rattle.ir_core.specs.WellFormed.{BlockUsesDefined, IsFunctionDefined}
+
+in_none : (name : Name) → Contains [] name → ⊥
+in_none name there = absurd (omega (arith, there.1))
+
+no_successors : (t : Term) → successors_of t ≡ []
+no_successors (Ret operand) = refl
+
+in_one : (a b : Name) → same_name a b ≡ false → same_name a a ≡ true → Contains (a ∷ []) b → ⊥
+in_one a b other same (zero, inside, is) =
+    let both : same_name a a ≡ same_name a b = ap (same_name a) is in cc
+in_one a b other same (suc k, inside, is) = absurd (omega (arith, inside))
+
+in_two : (a b c : Name) → same_name a c ≡ false → same_name a a ≡ true → same_name b c ≡ false → same_name b b ≡ true → Contains (a ∷ b ∷ []) c → ⊥
+in_two a b c other same further also (zero, inside, is) =
+    let both : same_name a a ≡ same_name a c = ap (same_name a) is in cc
+in_two a b c other same further also (suc k, inside, is) = in_one b c further also (k, omega (arith, inside), is)
+
+-- where the first block uses what is defined, each path does: it goes no further
+defined : (g : Function) (b : Block) (more : List Block) → g.blocks ≡ b ∷ more → BlockUsesDefined (names_in (params_of g)) b → IsFunctionDefined g
+defined g b more are uses first further [] blocks path =
+    let same : b ≡ first = cc (are, blocks) in
+    subst (BlockUsesDefined (names_in (params_of g))) same uses
+defined g b more are uses first further (c ∷ path) blocks goes =
+    let there = subst (λ names. Contains names c.name) (no_successors first.term) goes.1 in
+    absurd (in_none c.name there)
+
+name_f : IsNameInRange f
+name_f = (omega arith, (omega arith, tt))
+
+name_x : IsNameInRange x
+name_x = (omega arith, (omega arith, tt))
+
+name_y : IsNameInRange y
+name_y = (omega arith, (omega arith, tt))
+
+pub two_blocks_are_well_formed : TwoBlocksAreWellFormed
+two_blocks_are_well_formed = record {
+  shape = record {
+    functions = (
+      record {
+        first = block x [] (Int 32) (number 0);
+        further = block y [] (Int 32) (number 0) ∷ [];
+        blocks = refl;
+        not_entered = refl;
+        name = refl;
+        names = (in_none x, (in_one x y refl refl, tt));
+        registers = tt;
+        operands = (tt, (tt, tt));
+        each = (record { phis = tt; operators = tt; labels = tt; returns = refl }, (record { phis = tt; operators = tt; labels = tt; returns = refl }, tt));
+      },
+      tt,
+    );
+    names = (in_none f, tt);
+  };
+  defined = (defined (function (Int 32) f (block x [] (Int 32) (number 0) ∷ block y [] (Int 32) (number 0) ∷ [])) (block x [] (Int 32) (number 0)) (block y [] (Int 32) (number 0) ∷ []) refl (tt, tt), tt);
+  range = (
+    record {
+      name = name_f;
+      names = (name_x, (name_y, tt));
+      result = refl;
+      registers = tt;
+      operands = ((refl, refl), ((refl, refl), tt));
+      lines = omega arith;
+    },
+    tt,
+  );
+}
+
+pub empty_names_are_not : EmptyNamesAreNot
+empty_names_are_not = (
+  record {
+    functions = (
+      record {
+        first = block x [] (Int 32) (number 0);
+        further = [];
+        blocks = refl;
+        not_entered = refl;
+        name = refl;
+        names = (in_none x, tt);
+        registers = tt;
+        operands = (tt, tt);
+        each = (record { phis = tt; operators = tt; labels = tt; returns = refl }, tt);
+      },
+      tt,
+    );
+    names = (in_none _, tt);
+  },
+  (defined (function (Int 32) (Text []) (block x [] (Int 32) (number 0) ∷ [])) (block x [] (Int 32) (number 0)) [] refl (tt, tt), tt),
+  λ range. absurd (omega (arith, range.0.name.0)),
+)
+
+pub early_uses_are_not : EarlyUsesAreNot
+early_uses_are_not = (
+  record {
+    functions = (
+      record {
+        first = block f (add x (Register y) (number 0) ∷ add y (number 1) (number 2) ∷ []) (Int 32) (Register x);
+        further = [];
+        blocks = refl;
+        not_entered = refl;
+        name = refl;
+        names = (in_none f, (in_one f x refl refl, (in_two f x y refl refl refl refl, tt)));
+        registers = (tt, (tt, tt));
+        operands = ((1, omega arith, refl), (tt, (tt, (tt, ((0, omega arith, refl), tt)))));
+        each = (record { phis = tt; operators = (tt, (tt, tt)); labels = tt; returns = refl }, tt);
+      },
+      tt,
+    );
+    names = (in_none f, tt);
+  },
+  λ defined.
+      let uses = defined.0 (block f (add x (Register y) (number 0) ∷ add y (number 1) (number 2) ∷ []) (Int 32) (Register x)) [] [] refl tt in
+      in_none y uses.0.0,
+  (
+    record {
+      name = name_f;
+      names = (name_f, (name_x, (name_y, tt)));
+      result = refl;
+      registers = (refl, (refl, tt));
+      operands = ((refl, tt), ((refl, refl), ((refl, refl), ((refl, refl), ((refl, tt), tt)))));
+      lines = omega arith;
+    },
+    tt,
+  ),
+)
+
+pub wide_numbers_are_not : WideNumbersAreNot
+wide_numbers_are_not = (
+  record {
+    functions = (
+      record {
+        first = block x [] (Int 8) (number 256);
+        further = [];
+        blocks = refl;
+        not_entered = refl;
+        name = refl;
+        names = (in_none x, tt);
+        registers = tt;
+        operands = (tt, tt);
+        each = (record { phis = tt; operators = tt; labels = tt; returns = refl }, tt);
+      },
+      tt,
+    );
+    names = (in_none f, tt);
+  },
+  (defined (function (Int 8) f (block x [] (Int 8) (number 256) ∷ [])) (block x [] (Int 8) (number 256)) [] refl (tt, tt), tt),
+  λ range. let wide = range.0.operands.0.1 in cc,
+)

@@ -1,0 +1,95 @@
+-- What functions define, use and lead to: the names and types of registers, the operands of lines, the successors of blocks.
+use Rattle.std.specs.Prelude.{◌+◌, ℕ, Bool, false, List, [], ◌∷◌, ◌++◌, length, map, nat_eq, codes, Option, Some}
+use Rattle.std.specs.List.{filter, filter_map, flat_map, starts_with, sum_by}
+use Rattle.ir_core.specs.declared.functions.Block.{Block}
+use Rattle.ir_core.specs.declared.functions.Entry.{Entry}
+use Rattle.ir_core.specs.declared.functions.Function.{Function}
+use Rattle.ir_core.specs.declared.functions.Instr.{Instr}
+use Rattle.ir_core.specs.declared.functions.Instr.TheVariants as instr
+use Rattle.ir_core.specs.declared.functions.Module.{Module}
+use Rattle.ir_core.specs.declared.functions.Param.{Param}
+use Rattle.ir_core.specs.declared.functions.Phi.{Phi}
+use Rattle.ir_core.specs.declared.functions.Term.{Term}
+use Rattle.ir_core.specs.declared.functions.Term.TheVariants as term
+use Rattle.ir_core.specs.declared.names.Name.{Name}
+use Rattle.ir_core.specs.declared.names.Name.TheVariants.{Text, Number}
+use Rattle.ir_core.specs.declared.operands.Operand.{Operand}
+use Rattle.ir_core.specs.declared.operands.Ty.{Ty}
+use Rattle.ir_core.specs.Expressions.{operands_in, type_of}
+use Rattle.ir_core.specs.Same.{same_name}
+
+-- ---- registers
+
+-- the register that a line sets, with its type, if it sets one
+abbrev pub register_of : Instr → Option (Name × Ty)
+register_of (instr.Calm c) = Some (c.name, type_of c.right)
+
+abbrev pub set_by : List Instr → List (Name × Ty)
+set_by = filter_map register_of
+
+abbrev pub phi_registers : List Phi → List (Name × Ty)
+phi_registers = map (λ (p : Phi). (p.name, p.ty))
+
+-- the registers that a block sets, with their types: by its phis, and then by its lines
+abbrev pub registers_of : Block → List (Name × Ty)
+registers_of b = phi_registers b.phis ++ set_by b.body
+
+abbrev pub params_of : Function → List (Name × Ty)
+params_of f = map (λ (p : Param). (p.name, p.ty)) f.params
+
+-- all registers of a function with their types: its parameters, and what each block sets
+abbrev pub typed_of : Function → List (Name × Ty)
+typed_of f = params_of f ++ flat_map registers_of f.blocks
+
+-- ---- names
+
+-- the names of registers
+abbrev pub names_in : List (Name × Ty) → List Name
+names_in = map (λ register. register.0)
+
+-- a block's own name, and those of its registers
+abbrev pub block_names : Block → List Name
+block_names b = b.name ∷ names_in (registers_of b)
+
+-- All names of a function in order of appearance. In `define i32 @f(i32) { %x = add i32 %0, 7 ret i32 %x }` they are the parameter's
+-- 0, the block's 1 and `x`.
+abbrev pub names_of : Function → List Name
+names_of f = names_in (params_of f) ++ flat_map block_names f.blocks
+
+abbrev pub function_names : Module → List Name
+function_names m = map (λ (f : Function). f.name) m.functions
+
+-- a name that begins with `llvm.dbg.`, which is not for functions that are defined
+abbrev pub is_debug : Name → Bool
+is_debug (Text bytes) = starts_with nat_eq bytes (codes "llvm.dbg.")
+is_debug (Number n) = false
+
+-- ---- operands, in the order of the text
+
+abbrev pub operands_of : Instr → List (Operand Name)
+operands_of (instr.Calm c) = operands_in c.right
+
+abbrev pub operands_at_end : Term → List (Operand Name)
+operands_at_end (term.Ret operand) = operand ∷ []
+
+abbrev pub operands_of_phi : Phi → List (Operand Name)
+operands_of_phi p = map (λ (e : Entry). record { ty = p.ty; atom = e.value }) p.entries
+
+abbrev pub operands_in_block : Block → List (Operand Name)
+operands_in_block b = flat_map operands_of_phi b.phis ++ (flat_map operands_of b.body ++ operands_at_end b.term)
+
+-- ---- blocks
+
+-- the blocks to which a terminator leads, by their names, once for each edge
+abbrev pub successors_of : Term → List Name
+successors_of (term.Ret operand) = []
+
+-- the blocks from which an edge enters the one of this name, once for each edge
+abbrev pub edges_into : Function → Name → List Name
+edges_into f name = flat_map (λ (b : Block). map (λ _. b.name) (filter (same_name name) (successors_of b.term))) f.blocks
+
+-- ---- lines
+
+-- how many lines a function has: phis, lines and terminators
+abbrev pub line_count : Function → ℕ
+line_count f = sum_by (λ (b : Block). length b.phis + length b.body + 1) f.blocks

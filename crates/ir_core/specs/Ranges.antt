@@ -1,0 +1,47 @@
+-- The ranges of names, types, constants and lines within which text can write them; the types of the syntax tree hold more.
+use Rattle.std.specs.Prelude.{◌≡◌, ℕ, ◌<◌, ◌≤◌, ◌^◌, true, List, length}
+use Rattle.std.specs.List.{AllByRecursion, flat_map}
+use Rattle.ir_core.specs.declared.functions.Function.{Function}
+use Rattle.ir_core.specs.declared.functions.Module.{Module}
+use Rattle.ir_core.specs.declared.names.Name.{Name}
+use Rattle.ir_core.specs.declared.names.Name.TheVariants.{Text, Number}
+use Rattle.ir_core.specs.declared.operands.Atom.{Atom}
+use Rattle.ir_core.specs.declared.operands.Atom.TheVariants.{Constant, Register}
+use Rattle.ir_core.specs.declared.operands.Operand.{Operand}
+use Rattle.ir_core.specs.declared.operands.Ty.{Ty}
+use Rattle.ir_core.specs.declared.operands.Ty.TheVariants as ty
+use Rattle.ir_core.specs.Functions.{line_count, names_of, operands_in_block, typed_of}
+use Rattle.ir_core.specs.Limits.{line_limit}
+use Rattle.ir_core.specs.Types.{constant_fits, is_width}
+
+abbrev pub AreBytes : List ℕ → Type 0
+AreBytes = AllByRecursion (λ b. b < 2 ^ 8)
+
+-- A name is a text of at least one byte, or a number below 2 to the 32.
+abbrev pub IsNameInRange : Name → Type 0
+IsNameInRange (Text bytes) = (0 < length bytes) × AreBytes bytes
+IsNameInRange (Number n) = n < 2 ^ 32
+
+-- an integer has 1 to 64 bits
+abbrev pub IsTypeInRange : Ty → Type 0
+IsTypeInRange (ty.Int width) = is_width width ≡ true
+IsTypeInRange ty.Void = Unit {0}
+
+-- A number has no more bits than its type: 255 is one of `i8`, 256 is none.
+abbrev pub IsAtomInRange : {R : Type 0} → Ty → Atom R → Type 0
+IsAtomInRange t (Constant c) = constant_fits t c ≡ true
+IsAtomInRange t (Register r) = Unit {0}
+
+abbrev pub IsOperandInRange : {R : Type 0} → Operand R → Type 0
+IsOperandInRange o = IsTypeInRange o.ty × IsAtomInRange o.ty o.atom
+
+pub record IsFunctionInRange (f : Function) : Type 0 where
+  pub name : IsNameInRange f.name
+  pub names : AllByRecursion IsNameInRange (names_of f)
+  pub result : IsTypeInRange f.result
+  pub registers : AllByRecursion (λ register. IsTypeInRange register.1) (typed_of f)
+  pub operands : AllByRecursion IsOperandInRange (flat_map operands_in_block f.blocks)
+  pub lines : line_count f ≤ line_limit
+
+abbrev pub IsInRange : Module → Type 0
+IsInRange m = AllByRecursion IsFunctionInRange m.functions
