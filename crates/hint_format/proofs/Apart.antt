@@ -10,7 +10,7 @@ use Rattle.ir_core.specs.declared.names.Name.{Name}
 use Rattle.ir_core.specs.Same.{same_name}
 use Rattle.ir_core.specs.NameLaws.{name_equivalence}
 use Rattle.erhl_assert.specs.declared.hints.HintBlock.{HintBlock}
-use Rattle.hint_format.specs.Form.{are_apart}
+use Rattle.hint_format.specs.Reading.{are_apart}
 
 -- one of the blocks has that name
 abbrev pub is_among : Name → List HintBlock → Bool

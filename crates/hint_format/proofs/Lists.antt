@@ -4,7 +4,9 @@ use Rattle.serde_json.specs.Data.{Data}
 use Rattle.serde_json.specs.View.{view, items_view, members_view}
 use Rattle.serde_json.specs.declared.value.Value.{Value}
 use Rattle.serde_json.proofs.Views.{Entry}
-use Rattle.hint_format.specs.Parts.{items_list, members_list, all_of}
+use Rattle.hint_format.specs.declared.fault.HintFault.TheVariants.{NotOfTheFirstForm, Memory}
+use Rattle.hint_format.specs.Parts.{items_list, members_list}
+use Rattle.hint_format.specs.Reading.{all_of}
 
 pub item_count : (vs : List Value) → length (items_list (items_view vs)) ≡ length vs
 item_count [] = refl
@@ -35,3 +37,6 @@ item_read read found items i v a all inside at is before =
     sym (onto_more read found (view v) (items_list (items_view (drop (i + 1) items))) a is)
     ∙ ap (λ vs. onto found (all_of read (items_list (items_view vs)))) (sym (off_rest items i v inside at))
     ∙ before
+
+pub memory_isnt : Memory ≡ NotOfTheFirstForm → ⊥
+memory_isnt e = cc

@@ -1,20 +1,18 @@
 -- The form of a hint file, as far as it is read: an object with `"format": 1` and, in `functions`, for each function the hints of its
 -- blocks. Each object has exactly the members that are named here.
-use Rattle.std.specs.Prelude.{◌≡◌, ℕ, ◌+◌, ◌==◌, ◌&&◌, Bool, true, false, not, if◌then◌else◌, List, [], ◌∷◌, codes, Option, Some, None, option_map, option_and_then, is_some, IsUtf8}
-use Rattle.std.specs.List.{list_any}
-use Rattle.std.specs.Option.{option_map_or}
-use Rattle.std.specs.Str.{bytes_eq}
-use Rattle.serde_json.specs.Data.{Data, string, array, no_items, item}
-use Rattle.serde_json.specs.Find.{get, as_str, as_number, as_object, as_u64}
+use Rattle.std.specs.Prelude.{◌≡◌, ◌≢◌, ◌≤◌, ℕ, ◌+◌, List, [], ◌∷◌, length, codes, Option, Some, None, IsUtf8}
+use Rattle.std.specs.List.{AllByRecursion, AllZip}
+use Rattle.serde_json.specs.Data.{Data, number, unsigned, string, array, object, Members, no_items, item}
 use Rattle.serde_json.specs.Read.{read}
 use Rattle.serde_json.specs.Written.{compact_text}
+use Rattle.ir_core.specs.declared.limits.Limit.TheVariants as limit
 use Rattle.ir_core.specs.declared.names.Name.{Name}
 use Rattle.ir_core.specs.declared.names.Sigil.{Sigil}
 use Rattle.ir_core.specs.declared.names.Sigil.TheVariants.{Local, Global}
 use Rattle.ir_core.specs.Expressions.{Expr0}
-use Rattle.ir_core.specs.Same.{same_name}
-use Rattle.ir_reader.specs.Expressions.{expression_of}
-use Rattle.ir_reader.specs.Names.{name_of}
+use Rattle.ir_core.specs.Limits.{limit_number}
+use Rattle.ir_spelling.specs.Expressions.{SpellsExpression}
+use Rattle.ir_spelling.specs.Names.{SpellsName}
 use Rattle.ir_printer.specs.Printed.{printed_name, printed_expr, printed_register}
 use Rattle.erhl_assert.specs.declared.facts.Fact.{Fact}
 use Rattle.erhl_assert.specs.declared.facts.Fact.TheVariants.{LessDef}
@@ -24,124 +22,123 @@ use Rattle.erhl_assert.specs.declared.facts.Side.TheVariants.{Src, Tgt}
 use Rattle.erhl_assert.specs.declared.hints.Letter.{Letter}
 use Rattle.erhl_assert.specs.declared.hints.Letter.TheVariants.{Both, Source, Target}
 use Rattle.erhl_assert.specs.declared.hints.RuleStep.{RuleStep}
+use Rattle.erhl_assert.specs.declared.hints.HintStep.{HintStep}
 use Rattle.erhl_assert.specs.declared.hints.HintStep.TheVariants.{Rule}
 use Rattle.erhl_assert.specs.declared.hints.PlacedStep.{PlacedStep}
 use Rattle.erhl_assert.specs.declared.hints.HintBlock.{HintBlock}
 use Rattle.erhl_assert.specs.declared.hints.FunctionHint.{FunctionHint}
 use Rattle.erhl_assert.specs.declared.hints.Hints.{Hints}
-use Rattle.hint_format.specs.Parts.{members_list, all_of, has_items, has_members, item_of, member_of, optional, list_of}
+use Rattle.hint_format.specs.Parts.{members_list, presence, IsObjectOf, Has, MayHave, IsListOf}
 
 -- ---- texts and numbers
 
+abbrev pub IsText : Data → List ℕ → Type 0
+IsText d text = d ≡ string text
+
 -- an integer of 64 bits without sign
-abbrev pub number_of : Data → Option ℕ
-number_of d = option_and_then as_u64 (as_number d)
+abbrev pub IsNumber : Data → ℕ → Type 0
+IsNumber d n = d ≡ number (unsigned n)
 
--- the text of an expression of the logic
-abbrev pub expression_in : Data → Option Expr0
-expression_in d = option_and_then expression_of (as_str d)
+-- within the limit on the bytes of a text
+abbrev pub IsShort : List ℕ → Type 0
+IsShort text = length text ≤ limit_number limit.Text
 
--- A name is its printed text, exactly.
-abbrev pub exact_name : Sigil → List ℕ → Option Name
-exact_name sigil text = option_and_then (λ name. if bytes_eq (printed_name sigil name) text then Some name else None) (name_of sigil text)
+abbrev pub IsExpressionText : List ℕ → Expr0 → Type 0
+IsExpressionText text e = IsShort text × SpellsExpression text e
+
+-- a text that spells the expression
+abbrev pub IsExpression : Data → Expr0 → Type 0
+IsExpression d e = (text : List ℕ) × (d ≡ string text) × IsExpressionText text e
+
+-- The text spells the name, and is just what the name is printed as.
+abbrev pub IsNameText : Sigil → List ℕ → Name → Type 0
+IsNameText sigil text name = IsShort text × SpellsName sigil text name × (text ≡ printed_name sigil name)
+
+abbrev pub IsName : Sigil → Data → Name → Type 0
+IsName sigil d name = (text : List ℕ) × (d ≡ string text) × IsNameText sigil text name
 
 -- ---- facts and steps
 
-abbrev pub is_ge : Data → Bool
-is_ge d = option_map_or (λ word. bytes_eq word (codes "ge")) (item_of 0 as_str d) false
-
 -- `["ge", E, E]`
-abbrev pub fact_of : Data → Option Fact
-fact_of d = if has_items 3 d && is_ge d
-    then option_and_then (λ a. option_map (λ b. LessDef a b) (item_of 2 expression_in d)) (item_of 1 expression_in d)
-    else None
+abbrev pub IsFact : Data → Fact → Type 0
+IsFact d (LessDef a b) =
+    (x : Data) × (y : Data) × (d ≡ array (item (string (codes "ge")) (item x (item y no_items)))) × IsExpression x a × IsExpression y b
 
-abbrev pub side_named : List ℕ → Option Side
-side_named word = if bytes_eq word (codes "src") then Some Src else (if bytes_eq word (codes "tgt") then Some Tgt else None)
+abbrev pub side_word : Side → List ℕ
+side_word Src = codes "src"
+side_word Tgt = codes "tgt"
 
--- `"src"` or `"tgt"`
-abbrev pub side_of : Data → Option Side
-side_of d = option_and_then side_named (as_str d)
+abbrev pub IsSide : Data → Side → Type 0
+IsSide d side = d ≡ string (side_word side)
 
-abbrev pub schema_of : Data → Option Schema
-schema_of d = option_and_then (λ premises. option_map (λ conclusion. record { from = premises; to = conclusion }) (member_of (codes "to") fact_of d))
-    (member_of (codes "from") (list_of fact_of) d)
+abbrev pub IsSchema : Data → Schema → Type 0
+IsSchema d s = Has (codes "from") (IsListOf IsFact) d s.from × Has (codes "to") IsFact d s.to
 
-abbrev pub rule_step_of : Data → Option RuleStep
-rule_step_of d = option_and_then (λ rule. option_and_then (λ side. option_map (λ schema. record { rule = rule; side = side; schema = schema })
-    (schema_of d)) (member_of (codes "side") side_of d)) (member_of (codes "rule") as_str d)
+abbrev pub IsRuleStep : Data → RuleStep → Type 0
+IsRuleStep d s = Has (codes "rule") IsText d s.rule × Has (codes "side") IsSide d s.side × IsSchema d s.schema
+
+abbrev pub IsHintStep : Data → HintStep → Type 0
+IsHintStep d (Rule s) = IsRuleStep d s
 
 -- an object with the members `at`, `rule`, `side`, `from` and `to`
-abbrev pub step_of : Data → Option PlacedStep
-step_of d = if has_members 5 d
-    then option_and_then (λ place. option_map (λ step. record { at = place; step = Rule step }) (rule_step_of d)) (member_of (codes "at") number_of d)
-    else None
+abbrev pub IsStep : Data → PlacedStep → Type 0
+IsStep d s = IsObjectOf 5 d × Has (codes "at") IsNumber d s.at × IsHintStep d s.step
 
 -- ---- blocks
 
-abbrev pub letter_of : ℕ → Option Letter
-letter_of b = if b == 98 then Some Both else (if b == 115 then Some Source else (if b == 116 then Some Target else None))
+abbrev pub letter_byte : Letter → ℕ
+letter_byte Both = 98
+letter_byte Source = 115
+letter_byte Target = 116
+
+abbrev pub IsLetter : ℕ → Letter → Type 0
+IsLetter b letter = b ≡ letter_byte letter
 
 -- a text of the letters `b`, `s` and `t`
-abbrev pub letters_of : Data → Option (List Letter)
-letters_of d = option_and_then (all_of letter_of) (as_str d)
+abbrev pub AreLetters : Data → List Letter → Type 0
+AreLetters d letters = (text : List ℕ) × (d ≡ string text) × AllZip IsLetter text letters
 
--- 1 where the object has a member of that key
-abbrev pub presence : List ℕ → Data → ℕ
-presence key d = if is_some (get key d) then 1 else 0
-
-abbrev pub lines_of : Data → Option (Option (List Letter))
-lines_of d = optional None (λ lines. option_map Some (letters_of lines)) (get (codes "lines") d)
-
-abbrev pub steps_of : Data → Option (List PlacedStep)
-steps_of d = optional [] (list_of step_of) (get (codes "steps") d)
-
-abbrev pub block_name_of : Data → Option Name
-block_name_of d = option_and_then (exact_name Local) (as_str d)
+abbrev pub AreLines : Data → Option (List Letter) → Type 0
+AreLines d None = ⊥
+AreLines d (Some letters) = AreLetters d letters
 
 abbrev pub hint_block : Name → Option (List Letter) → List PlacedStep → HintBlock
 hint_block name lines steps = record { at = name; lines = lines; entry = record { src = []; tgt = []; diff = [] }; steps = steps }
 
--- an object with the member `at` and, where they are there, `lines` and `steps`
-abbrev pub block_of : Data → Option HintBlock
-block_of d = if has_members (1 + presence (codes "lines") d + presence (codes "steps") d) d
-    then option_and_then (λ name. option_and_then (λ lines. option_map (λ steps. hint_block name lines steps)
-    (steps_of d)) (lines_of d)) (member_of (codes "at") block_name_of d)
-    else None
+-- an object with the member `at` and, where they are there, `lines` and `steps`; nothing is claimed at the block's start
+abbrev pub IsBlock : Data → HintBlock → Type 0
+IsBlock d b =
+    IsObjectOf (1 + presence (codes "lines") d + presence (codes "steps") d) d
+    × Has (codes "at") (IsName Local) d b.at
+    × MayHave (codes "lines") None AreLines d b.lines
+    × MayHave (codes "steps") [] (IsListOf IsStep) d b.steps
+    × (b ≡ hint_block b.at b.lines b.steps)
 
 -- no two blocks have one name
-abbrev pub are_apart : List HintBlock → Bool
-are_apart [] = true
-are_apart (b ∷ bs) = not (list_any (λ c. same_name b.at c.at) bs) && are_apart bs
+abbrev pub AreApart : List HintBlock → Type 0
+AreApart [] = Unit {0}
+AreApart (b ∷ bs) = AllByRecursion (λ (c : HintBlock). b.at ≢ c.at) bs × AreApart bs
 
 -- ---- functions and files
 
 -- an object with the member `blocks`, none of which stands twice
-abbrev pub blocks_of : Data → Option (List HintBlock)
-blocks_of d = if has_members 1 d
-    then option_and_then (λ blocks. if are_apart blocks then Some blocks else None) (member_of (codes "blocks") (list_of block_of) d)
-    else None
+abbrev pub AreBlocks : Data → List HintBlock → Type 0
+AreBlocks d bs = IsObjectOf 1 d × Has (codes "blocks") (IsListOf IsBlock) d bs × AreApart bs
 
 -- a member of `functions`, whose key is the function's name
-abbrev pub function_of : List ℕ × Data → Option FunctionHint
-function_of m = option_and_then (λ name. option_map (λ blocks. record { function = name; hint = record { blocks = blocks } })
-    (blocks_of m.1)) (exact_name Global m.0)
+abbrev pub IsFunction : List ℕ × Data → FunctionHint → Type 0
+IsFunction m f = IsNameText Global m.0 f.function × AreBlocks m.1 f.hint.blocks
 
-abbrev pub functions_of : Data → Option (List FunctionHint)
-functions_of d = option_and_then (λ ms. all_of function_of (members_list ms)) (as_object d)
+abbrev pub AreFunctions : Data → List FunctionHint → Type 0
+AreFunctions d fs = (ms : Members) × (d ≡ object ms) × AllZip IsFunction (members_list ms) fs
 
-abbrev pub is_first_format : Data → Bool
-is_first_format d = option_map_or (λ n. n == 1) (member_of (codes "format") number_of d) false
-
--- an object with the members `format` and `functions`
-abbrev pub hints_of : Data → Option Hints
-hints_of d = if has_members 2 d && is_first_format d
-    then option_map (λ functions. record { functions = functions }) (member_of (codes "functions") functions_of d)
-    else None
+-- an object with the members `format`, which is 1, and `functions`
+abbrev pub IsHints : Data → Hints → Type 0
+IsHints d h = IsObjectOf 2 d × Has (codes "format") IsNumber d 1 × Has (codes "functions") AreFunctions d h.functions
 
 -- The bytes are the text of such a file, and these are its hints.
 abbrev pub HintsOf : List ℕ → Hints → Type 0
-HintsOf bytes hints = IsUtf8 bytes × (option_and_then hints_of (read bytes) ≡ Some hints)
+HintsOf bytes hints = IsUtf8 bytes × ((d : Data) × (read bytes ≡ Some d) × IsHints d hints)
 
 -- ---- printing
 

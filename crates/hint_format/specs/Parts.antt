@@ -1,8 +1,8 @@
--- Parts of a JSON value, and what they are read as.
-use Rattle.std.specs.Prelude.{ℕ, ◌==◌, Bool, false, List, [], ◌∷◌, length, Option, Some, None, option_map, option_and_then}
-use Rattle.std.specs.Option.{option_map_or}
-use Rattle.serde_json.specs.Data.{Data, Items, no_items, item, Members, no_members, member}
-use Rattle.serde_json.specs.Find.{get, at, as_array, as_object}
+-- Parts of a JSON value: a relation of a value and what it stands for goes over to members and lists.
+use Rattle.std.specs.Prelude.{◌≡◌, ◌⊎◌, ℕ, List, [], ◌∷◌, length, Option, Some, None, is_some, if◌then◌else◌}
+use Rattle.std.specs.List.{AllZip}
+use Rattle.serde_json.specs.Data.{Data, array, object, Items, no_items, item, Members, no_members, member}
+use Rattle.serde_json.specs.Find.{get}
 
 abbrev pub items_list : Items → List Data
 items_list no_items = []
@@ -13,31 +13,22 @@ abbrev pub members_list : Members → List (List ℕ × Data)
 members_list no_members = []
 members_list (member key d ms) = (key, d) ∷ members_list ms
 
--- what each of a list is read as, where all of them can be read
-abbrev pub all_of : {X A : Type 0} → (X → Option A) → List X → Option (List A)
-all_of read [] = Some []
-all_of read (x ∷ xs) = option_and_then (λ a. option_map (λ more. a ∷ more) (all_of read xs)) (read x)
-
--- an array of that many items
-abbrev pub has_items : ℕ → Data → Bool
-has_items count d = option_map_or (λ ds. length (items_list ds) == count) (as_array d) false
-
 -- an object of that many members, no two of which have one key
-abbrev pub has_members : ℕ → Data → Bool
-has_members count d = option_map_or (λ ms. length (members_list ms) == count) (as_object d) false
+abbrev pub IsObjectOf : ℕ → Data → Type 0
+IsObjectOf count d = (ms : Members) × (d ≡ object ms) × (length (members_list ms) ≡ count)
 
--- what the item at an index is read as
-abbrev pub item_of : {A : Type 0} → ℕ → (Data → Option A) → Data → Option A
-item_of i read d = option_and_then read (at i d)
+-- 1 where the object has a member of that key
+abbrev pub presence : List ℕ → Data → ℕ
+presence key d = if is_some (get key d) then 1 else 0
 
--- what the member of that key is read as
-abbrev pub member_of : {A : Type 0} → List ℕ → (Data → Option A) → Data → Option A
-member_of key read d = option_and_then read (get key d)
+-- the object has a member of that key, which is such
+abbrev pub Has : {A : Type 0} → List ℕ → (Data → A → Type 0) → Data → A → Type 0
+Has key Is d a = (value : Data) × (get key d ≡ Some value) × Is value a
 
--- the same, of a member that need not be there
-abbrev pub optional : {A : Type 0} → A → (Data → Option A) → Option Data → Option A
-optional absent read None = Some absent
-optional absent read (Some d) = read d
+-- the same of a member that need not be there, in whose absence this stands for it
+abbrev pub MayHave : {A : Type 0} → List ℕ → A → (Data → A → Type 0) → Data → A → Type 0
+MayHave key absent Is d a = ((get key d ≡ None) × (a ≡ absent)) ⊎ Has key Is d a
 
-abbrev pub list_of : {A : Type 0} → (Data → Option A) → Data → Option (List A)
-list_of read d = option_and_then (λ ds. all_of read (items_list ds)) (as_array d)
+-- an array whose items are such, one by one
+abbrev pub IsListOf : {A : Type 0} → (Data → A → Type 0) → Data → List A → Type 0
+IsListOf Is d found = (ds : Items) × (d ≡ array ds) × AllZip Is (items_list ds) found

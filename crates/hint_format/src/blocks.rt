@@ -2,8 +2,8 @@ ghost use Rattle.std.specs.Prelude.{◌≡◌, codes, IfOk};
 ghost use Rattle.serde_json.specs.View.{view};
 ghost use Rattle.ir_reader.specs.Names.{name_of};
 ghost use Rattle.hint_format.specs.Answers.{Answers};
-ghost use Rattle.hint_format.specs.Parts.{member_of};
-ghost use Rattle.hint_format.specs.Form.{exact_name, letter_of, letters_of, presence, lines_of, steps_of, block_name_of, block_of, are_apart};
+ghost use Rattle.hint_format.specs.Parts.{presence};
+ghost use Rattle.hint_format.specs.Reading.{member_of, exact_name, letter_of, letters_of, lines_of, steps_of, block_name_of, block_of, are_apart};
 
 use crate::HintFault;
 use crate::parts::{FromJson, is_object_of, member, text};
@@ -46,10 +46,7 @@ impl FromJson for HintBlock {
 fn count_of(value: &Value, key: &str) -> usize
     ensures { result ≡ presence key.now (view value.now) }
 {
-    match value.get(key) {
-        Some(_) => 1,
-        None => 0,
-    }
+    usize::from(value.get(key).is_some())
 }
 
 fn block_name(alloc: Global, value: &Value) -> Result<Name, HintFault>

@@ -3,8 +3,9 @@ ghost use Rattle.serde_json.specs.Read.{read};
 ghost use Rattle.serde_json.specs.View.{view, members_view};
 ghost use Rattle.erhl_assert.specs.declared.hints.Hints.{Hints};
 ghost use Rattle.hint_format.specs.Answers.{Answers};
-ghost use Rattle.hint_format.specs.Form.{blocks_of, function_of, functions_of, is_first_format, hints_of, HintsOf};
-ghost use Rattle.hint_format.specs.Parts.{all_of, members_list, member_of};
+ghost use Rattle.hint_format.specs.Form.{HintsOf};
+ghost use Rattle.hint_format.specs.Parts.{members_list};
+ghost use Rattle.hint_format.specs.Reading.{all_of, member_of, blocks_of, function_of, functions_of, is_first_format, hints_of};
 
 use crate::HintFault;
 use crate::blocks::{exact, stand_apart};
@@ -18,6 +19,8 @@ use std::alloc::Global;
 /// The hints of a text that has the form that is read.
 pub fn read_hints(alloc: Global, text: &[u8]) -> Result<Hints, HintFault>
     ensures ok { IfOk result (HintsOf text.now) }
+    // The text has no other hints.
+    ensures only { IfOk result (λ hints. (other : Hints) → HintsOf text.now other → other ≡ hints) }
     ensures refused { result ≡ Err HintFault.NotOfTheFirstForm → (hints : Hints) → ¬ HintsOf text.now hints }
 {
     let value = parse(alloc, text)?;

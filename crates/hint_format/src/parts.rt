@@ -4,8 +4,8 @@ ghost use Rattle.serde_json.specs.Data.{Data};
 ghost use Rattle.serde_json.specs.Find.{as_str};
 ghost use Rattle.serde_json.specs.View.{view, items_view};
 ghost use Rattle.hint_format.specs.Answers.{Answers};
-ghost use Rattle.hint_format.specs.Form.{number_of};
-ghost use Rattle.hint_format.specs.Parts.{all_of, items_list, has_items, has_members, item_of, member_of, list_of};
+ghost use Rattle.hint_format.specs.Parts.{items_list};
+ghost use Rattle.hint_format.specs.Reading.{number_of, all_of, has_items, has_members, item_of, member_of, list_of};
 
 use crate::HintFault;
 use contents::Seq;

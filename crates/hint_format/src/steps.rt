@@ -2,8 +2,7 @@ ghost use Rattle.std.specs.Prelude.{◌≡◌, codes, Some, None};
 ghost use Rattle.serde_json.specs.Find.{as_str};
 ghost use Rattle.serde_json.specs.View.{view};
 ghost use Rattle.hint_format.specs.Answers.{Answers};
-ghost use Rattle.hint_format.specs.Form.{expression_in, is_ge, fact_of, side_named, side_of, schema_of, rule_step_of, step_of};
-ghost use Rattle.hint_format.specs.Parts.{member_of};
+ghost use Rattle.hint_format.specs.Reading.{member_of, expression_in, is_ge, fact_of, side_named, side_of, schema_of, rule_step_of, step_of};
 
 use crate::HintFault;
 use crate::parts::{FromJson, is_array_of, is_object_of, item, member, text};

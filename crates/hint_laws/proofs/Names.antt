@@ -14,7 +14,7 @@ use Rattle.ir_lexer.specs.Numbers.{value_of, if_below}
 use Rattle.ir_lexer.specs.Runs.{run_at, digits_at, quoted_at, is_no_quote}
 use Rattle.ir_lexer.specs.Strings.{unescaped}
 use Rattle.ir_printer.specs.Printed.{escaped, quoted, name_text}
-use Rattle.hint_laws.specs.Laws.{IsWritable}
+use Rattle.ir_core.specs.Ranges.{IsNameInRange}
 use Rattle.hint_laws.proofs.Decimals.{IsDecimal, decimal_means}
 use Rattle.hint_laws.proofs.Lexed.{stops, taken}
 use Rattle.hint_laws.proofs.Quoted.{means_the_bytes, has_no_quote, is_not_empty}
@@ -77,7 +77,7 @@ in_quotes bytes rest some small =
     ∙ ap (λ text. Found (Text text) (length raw + 2)) (means_the_bytes bytes small)
     ∙ ap (λ len. Found (Text bytes) len) long
 
-pub name_found : (name : Name) (rest : List ℕ) → IsWritable name → stops is_name_byte rest ≡ true → name_at (name_text name ++ rest) ≡ Found name (length (name_text name))
+pub name_found : (name : Name) (rest : List ℕ) → IsNameInRange name → stops is_name_byte rest ≡ true → name_at (name_text name ++ rest) ≡ Found name (length (name_text name))
 name_found (Text bytes) rest writable stop =
     cond_both (is_plain bytes) bytes (quoted bytes) (λ text. name_at (text ++ rest) ≡ Found (Text bytes) (length text))
     (λ is. plain bytes rest is stop)

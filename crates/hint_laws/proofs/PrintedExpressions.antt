@@ -2,7 +2,7 @@
 use Rattle.std.proofs.Common.{◌≡◌, ℕ, ◌-◌, ◌%◌, ◌^◌, ◌<◌, ◌≤◌, Bool, true, false, List, [], ◌∷◌, ◌++◌, map, codes, Some, arith, refl, ap, sym, ◌∙◌, subst}
 use Rattle.std.specs.Prelude.{nat_le, nat_lt, if◌then◌else◌}
 use Rattle.std.specs.Fmt.{decimal, digits}
-use Rattle.std.proofs.lemmas.Bool.{and_parts, cond_both, cond-true, leb-true, le-leb, lt-ltb}
+use Rattle.std.proofs.lemmas.Bool.{and_parts, cond_both, cond-true, leb-true, le-leb, lt-ltb, ltb-true}
 use Rattle.std.proofs.lemmas.List.{append-nil}
 use Rattle.ir_core.specs.declared.expressions.Binary.{Binary}
 use Rattle.ir_core.specs.declared.expressions.Expr.TheVariants as expr
@@ -45,11 +45,11 @@ i32_text : decimal 32 ≡ 51 ∷ 50 ∷ []
 unfolding digits
 i32_text = refl
 
-i32_first : (rest : List ℕ) (kinds : List TokenKind) → Lexes rest kinds → Lexes (printed_type i32 ++ 32 ∷ rest) (grammar.i32_word ∷ kinds)
+i32_first : (rest : List ℕ) (kinds : List TokenKind) → Lexes rest kinds → Lexes (printed_type i32 ++ 32 ∷ rest) (grammar.i32_token ∷ kinds)
 unfolding plain
 i32_first rest kinds lexes =
-    subst (λ (digits : List ℕ). Lexes (105 ∷ (digits ++ 32 ∷ rest)) (grammar.i32_word ∷ kinds)) (sym i32_text)
-    (one_run 105 (51 ∷ 50 ∷ []) (32 ∷ rest) grammar.i32_word kinds refl refl refl (lexed.spaced rest kinds lexes))
+    subst (λ (digits : List ℕ). Lexes (105 ∷ (digits ++ 32 ∷ rest)) (grammar.i32_token ∷ kinds)) (sym i32_text)
+    (one_run 105 (51 ∷ 50 ∷ []) (32 ∷ rest) grammar.i32_token kinds refl refl refl (lexed.spaced rest kinds lexes))
 
 op_first : (op : BinOp) (rest : List ℕ) (kinds : List TokenKind) → Lexes rest kinds → Lexes (printed_op op ++ rest) (grammar.operator op ∷ kinds)
 unfolding plain
@@ -131,7 +131,7 @@ number_first n rest kinds small stop lexes =
 
 value_first : (atom : Atom Reg) (rest : List ℕ) (kinds : List TokenKind) → IsWritableAtom atom → stops goes_on rest ≡ true → Lexes rest kinds → Read atom rest kinds
 value_first (Constant (const.Number n)) rest kinds small stop lexes =
-    let is = number_first n rest kinds small stop lexes in
+    let is = number_first n rest kinds (ltb-true n (2 ^ 32) small) stop lexes in
     record { value = text.Number is.token; now = (n, is.is_kept, refl); lexes = is.lexes }
 value_first (Constant const.Undef) rest kinds small stop lexes =
     record { value = text.Undef; now = refl; lexes = undef_first rest kinds stop lexes }
@@ -155,15 +155,15 @@ last_lexes atom r = subst (λ bytes. Lexes bytes (grammar.value r.value ∷ []))
 
 plain_read : (operand : Operand Reg) → IsWritableExpression (expr.Plain operand) → SpellsExpression (printed_expr printed_register (expr.Plain operand)) (expr.Plain operand)
 plain_read operand writable =
-    let r = value_last operand.atom writable.1 in
+    let r = value_last operand.atom writable.1.0 in
     let text : printed_operand printed_register operand ≡ printed_type i32 ++ 32 ∷ printed_atom printed_register i32 operand.atom =
     ap (λ ty. printed_type ty ++ 32 ∷ printed_atom printed_register ty operand.atom) writable.0 in
     let lexes = i32_first (printed_atom printed_register i32 operand.atom) (grammar.value r.value ∷ []) (last_lexes operand.atom r) in
-    (grammar.i32_word ∷ grammar.value r.value ∷ [], ap tokens_of text ∙ lexes.at 0, (r.value, refl, writable.0, r.now))
+    (grammar.i32_token ∷ grammar.value r.value ∷ [], ap tokens_of text ∙ lexes.at 0, (r.value, refl, writable.0, r.now))
 
 binary_read : (b : Binary Reg) → IsWritableExpression (expr.Binary b) → SpellsExpression (printed_expr printed_register (expr.Binary b)) (expr.Binary b)
 binary_read b writable =
-    let right = value_last b.right writable.1.1 in
+    let right = value_last b.right writable.1.1.0 in
     let behind_left = codes ", " ++ printed_atom printed_register i32 b.right in
     let comma_first = lexed.comma (32 ∷ printed_atom printed_register i32 b.right) (grammar.value right.value ∷ [])
     (lexed.spaced (printed_atom printed_register i32 b.right) (grammar.value right.value ∷ []) (last_lexes b.right right)) in
@@ -171,9 +171,9 @@ binary_read b writable =
     let values = grammar.value left.value ∷ grammar.comma ∷ grammar.value right.value ∷ [] in
     let operands = printed_type i32 ++ (32 ∷ (printed_atom printed_register i32 b.left ++ behind_left)) in
     let operands_lex = i32_first (printed_atom printed_register i32 b.left ++ behind_left) values left.lexes in
-    let flags_lex = flags_first b.flags.nuw b.flags.nsw operands (grammar.i32_word ∷ values) operands_lex in
+    let flags_lex = flags_first b.flags.nuw b.flags.nsw operands (grammar.i32_token ∷ values) operands_lex in
     let o : OperationText = record { op = b.op; flags = flag_words b.flags.nuw b.flags.nsw; left = left.value; right = right.value } in
-    let lexes = op_first b.op (printed_flags b.flags ++ operands) (map grammar.flag o.flags ++ (grammar.i32_word ∷ values)) flags_lex in
+    let lexes = op_first b.op (printed_flags b.flags ++ operands) (map grammar.flag o.flags ++ (grammar.i32_token ∷ values)) flags_lex in
     let text : printed_binary printed_register b ≡ printed_op b.op ++ (printed_flags b.flags ++ operands) =
     ap (λ ty. printed_op b.op ++ (printed_flags b.flags ++ (printed_type ty ++ (32 ∷ (printed_atom printed_register ty b.left ++ (codes ", " ++ printed_atom printed_register ty b.right)))))) writable.0 in
     (grammar.operation o, ap tokens_of text ∙ lexes.at 0, (o, refl, (refl, flag_words_mean b.flags.nuw b.flags.nsw, writable.0, left.now, right.now)))

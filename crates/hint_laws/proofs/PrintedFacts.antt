@@ -1,6 +1,6 @@
 -- A printed fact is read as that fact.
-use Rattle.std.proofs.Common.{◌≡◌, ℕ, ◌≤◌, ◌^◌, List, [], length, codes, Option, Some, arith, ap, sym, ◌∙◌}
-use Rattle.std.specs.Prelude.{option_map, option_and_then}
+use Rattle.std.proofs.Common.{◌≡◌, ℕ, List, [], codes, Option, Some, arith, refl, ap, sym, ◌∙◌}
+use Rattle.std.specs.Prelude.{option_and_then}
 use Rattle.json.specs.Json as json
 use Rattle.json.specs.Print.{ArePrintable}
 use Rattle.json.specs.Tree.{json_tokens}
@@ -13,13 +13,9 @@ use Rattle.serde_json.specs.Data.{Data, string, array, no_items, item}
 use Rattle.serde_json.specs.Read.{max_depth, of_json, read}
 use Rattle.serde_json.specs.Written.{compact_text, outline}
 use Rattle.serde_json.proofs.Texts.{print-outline}
-use Rattle.ir_core.specs.Expressions.{Expr0}
-use Rattle.ir_spelling.specs.Expressions.{expression_of}
-use Rattle.ir_spelling.proofs.Alone.{expressions}
 use Rattle.ir_printer.specs.Printed.{printed_expr, printed_register}
 use Rattle.erhl_assert.specs.declared.facts.Fact.TheVariants.{LessDef}
-use Rattle.hint_format.specs.Form.{expression_in, fact_of}
-use Rattle.hint_laws.specs.Laws.{IsWritableExpression, PrintedFactsAreRead}
+use Rattle.hint_laws.specs.Laws.{PrintedFactsAreRead}
 use Rattle.hint_laws.proofs.PrintedExpressions.{printed_expressions_are_read}
 
 -- an array of three texts
@@ -50,16 +46,17 @@ three_read a b c =
     ap tokens (sym (print-outline (three a b c))) ∙ tokens-print written (three_printable a b c) in
     ap of_tokens cut ∙ three_tokens a b c
 
-expression_short : (e : Expr0) → IsWritableExpression e → length (printed_expr printed_register e) ≤ 2 ^ 24 → expression_of (printed_expr printed_register e) ≡ Some e
-expression_short e writable short = (expressions (printed_expr printed_register e)).again e short (printed_expressions_are_read e writable)
-
-fact_read : (a b : List ℕ) (x y : Expr0) → expression_of a ≡ Some x → expression_of b ≡ Some y → fact_of (three (codes "ge") a b) ≡ Some (LessDef x y)
-fact_read a b x y left right =
-    ap (λ read. option_and_then (λ l. option_map (λ r. LessDef l r) (expression_in (string b))) read) left
-    ∙ ap (λ read. option_map (λ r. LessDef x r) read) right
-
 pub printed_facts_are_read : PrintedFactsAreRead
 printed_facts_are_read (LessDef a b) writable =
-    ap (option_and_then fact_of) (three_read (codes "ge") (printed_expr printed_register a) (printed_expr printed_register b))
-    ∙ fact_read (printed_expr printed_register a) (printed_expr printed_register b) a b
-    (expression_short a writable.0.0 writable.0.1) (expression_short b writable.1.0 writable.1.1)
+    let left = printed_expr printed_register a in
+    let right = printed_expr printed_register b in (
+      three (codes "ge") left right,
+      three_read (codes "ge") left right,
+      (
+        string left,
+        string right,
+        refl,
+        (left, refl, (writable.0.1, printed_expressions_are_read a writable.0.0)),
+        (right, refl, (writable.1.1, printed_expressions_are_read b writable.1.0)),
+      ),
+    )

@@ -1,14 +1,10 @@
 -- A printed name is read as that name.
-use Rattle.std.proofs.Common.{[], ◌∷◌, Some, refl, ap, sym, ◌∙◌, subst}
-use Rattle.std.specs.Prelude.{if◌then◌else◌, None, option_and_then}
-use Rattle.std.specs.Str.{bytes_eq}
-use Rattle.std.proofs.lemmas.Bool.{cond-true}
-use Rattle.std.proofs.lemmas.Slice.Eq.{bytes_eq-Decides}
+use Rattle.std.proofs.Common.{[], ◌∷◌, refl, ap, sym, ◌∙◌, subst}
 use Rattle.std.proofs.lemmas.List.{append-nil}
 use Rattle.ir_spelling.specs.Names.{SpellsName}
 use Rattle.ir_spelling.specs.Reading.{tokens_of}
 use Rattle.ir_printer.specs.Printed.{name_text, sigil_byte, printed_name}
-use Rattle.ir_spelling.proofs.Alone.{name_once, names}
+use Rattle.ir_spelling.proofs.Alone.{name_once}
 use Rattle.hint_laws.specs.Laws.{PrintedNamesAreRead, PrintedNamesAreApart, PrintedNamesAreKeys}
 use Rattle.hint_laws.proofs.Lexed as lexed
 use Rattle.hint_laws.proofs.Names.{name_found}
@@ -25,7 +21,4 @@ printed_names_are_apart sigil a b a_writable b_writable same =
     (printed_names_are_read sigil b b_writable)
 
 pub printed_names_are_keys : PrintedNamesAreKeys
-printed_names_are_keys sigil name writable short =
-    ap (option_and_then (λ n. if bytes_eq (printed_name sigil n) (printed_name sigil name) then Some n else None))
-    ((names sigil (printed_name sigil name)).again name short (printed_names_are_read sigil name writable))
-    ∙ cond-true _ _ _ ((bytes_eq-Decides (printed_name sigil name) (printed_name sigil name)).1 refl)
+printed_names_are_keys sigil name writable short = (short, printed_names_are_read sigil name writable, refl)

@@ -1,6 +1,6 @@
 use Rattle.std.proofs.Common.{◌≡◌, drop}
-use Rattle.hint_format.specs.Form.{letter_of}
-use Rattle.hint_format.specs.Parts.{all_of}
+use Rattle.hint_format.specs.Reading.{letter_of}
+use Rattle.hint_format.specs.Reading.{all_of}
 use Rattle.hint_format.proofs.Lists.{onto}
 use Rattle.hint_format.proofs.blocks.letters.Given as goal
 

@@ -1,6 +1,6 @@
 -- No two of the blocks so far have one name, and the set holds the names of these.
 use Rattle.std.proofs.Common.{◌≡◌, true, take}
-use Rattle.hint_format.specs.Form.{are_apart}
+use Rattle.hint_format.specs.Reading.{are_apart}
 use Rattle.hint_format.proofs.Apart.{AreNamesOf}
 use Rattle.hint_format.proofs.blocks.stand_apart.Given as goal
 

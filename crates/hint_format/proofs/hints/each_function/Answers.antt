@@ -1,6 +1,6 @@
 use Rattle.std.proofs.Common.{sym, ◌∙◌, string_bytes}
 use Rattle.serde_json.specs.View.{view, members_view}
-use Rattle.hint_format.specs.Form.{function_of}
+use Rattle.hint_format.specs.Reading.{function_of}
 use Rattle.hint_format.specs.Parts.{members_list}
 use Rattle.hint_format.proofs.Lists.{onto_more}
 use Rattle.hint_format.proofs.hints.each_function.Goals as goal

@@ -1,7 +1,8 @@
 use Rattle.std.proofs.Common.{◌≡◌}
 use Rattle.serde_json.specs.View.{members_view}
-use Rattle.hint_format.specs.Form.{function_of}
-use Rattle.hint_format.specs.Parts.{members_list, all_of}
+use Rattle.hint_format.specs.Reading.{function_of}
+use Rattle.hint_format.specs.Parts.{members_list}
+use Rattle.hint_format.specs.Reading.{all_of}
 use Rattle.hint_format.proofs.Lists.{onto}
 use Rattle.hint_format.proofs.hints.each_function.Given as goal
 

@@ -1,6 +1,7 @@
 use Rattle.std.proofs.Common.{◌≡◌, drop}
 use Rattle.serde_json.specs.View.{items_view}
-use Rattle.hint_format.specs.Parts.{items_list, all_of}
+use Rattle.hint_format.specs.Parts.{items_list}
+use Rattle.hint_format.specs.Reading.{all_of}
 use Rattle.hint_format.proofs.Lists.{onto}
 use Rattle.hint_format.proofs.parts.each_item.Given as goal
 

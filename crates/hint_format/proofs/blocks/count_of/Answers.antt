@@ -1,7 +1,0 @@
-use Rattle.hint_format.proofs.blocks.count_of.Goals as goal
-
-pub returns-in-Some : goal.returns-in-Some
-returns-in-Some c = rw (← c.in-Some.ensures)
-
-pub returns-in-None : goal.returns-in-None
-returns-in-None c = rw (← c.in-None.ensures)
