@@ -1,14 +1,2 @@
 -- The test of two facts is true exactly of equal ones.
-use Rattle.std.proofs.Common.{◌≡◌, true, ap₂}
-use Rattle.ir_core.specs.Same.{same_reg, same_expr}
-use Rattle.ir_core.proofs.SameLaws.{left_true, right_true, all_true, same_reg_expr_true, same_reg_expr_refl}
-use Rattle.erhl_assert.specs.declared.facts.Fact.{Fact}
-use Rattle.erhl_assert.specs.declared.facts.Fact.TheVariants.{LessDef}
-use Rattle.erhl_assert.specs.Facts.{same_fact}
-
-pub same_fact_true : (a b : Fact) → same_fact a b ≡ true → a ≡ b
-same_fact_true (LessDef a b) (LessDef c d) h =
-    ap₂ LessDef (same_reg_expr_true a c (left_true (same_expr same_reg a c) (same_expr same_reg b d) h)) (same_reg_expr_true b d (right_true (same_expr same_reg a c) (same_expr same_reg b d) h))
-
-pub same_fact_refl : (a : Fact) → same_fact a a ≡ true
-same_fact_refl (LessDef a b) = all_true (same_reg_expr_refl a) (same_reg_expr_refl b)
+pub use Rattle.erhl_assert.specs.FactLaws.{same_fact_true, same_fact_refl}

@@ -1,5 +1,5 @@
 -- What the checker says of two functions, and of two modules: the first test that fails decides.
-use Rattle.std.specs.Prelude.{◌≡◌, ℕ, ◌+◌, Bool, true, ◌&&◌, cond, List, [], ◌∷◌, map, Option, None, Some, find}
+use Rattle.std.specs.Prelude.{◌≡◌, ℕ, ◌+◌, Bool, true, ◌&&◌, cond, List, [], ◌∷◌, ◌++◌, map, Option, None, Some, find}
 use Rattle.ir_core.specs.declared.names.Name.{Name}
 use Rattle.ir_core.specs.declared.functions.Term.{Term}
 use Rattle.ir_core.specs.declared.functions.Term.TheVariants.{Ret}
@@ -14,6 +14,7 @@ use Rattle.erhl_assert.specs.declared.hints.HintBlock.{HintBlock}
 use Rattle.erhl_assert.specs.declared.hints.Hint.{Hint}
 use Rattle.erhl_assert.specs.declared.hints.FunctionHint.{FunctionHint}
 use Rattle.erhl_assert.specs.declared.hints.Hints.{Hints}
+use Rattle.erhl_assert.specs.declared.verdict.Reason.{Reason}
 use Rattle.erhl_assert.specs.declared.verdict.Reason.TheVariants.{AlignmentDiffers, Unmatched, MissingFact}
 use Rattle.erhl_assert.specs.declared.verdict.Spot.TheVariants as spot
 use Rattle.erhl_assert.specs.declared.verdict.Verdict.{Verdict}
@@ -23,50 +24,56 @@ use Rattle.erhl_assert.specs.declared.verdict.ModuleVerdict.{ModuleVerdict}
 use Rattle.erhl_assert.specs.declared.verdict.ModuleVerdict.TheVariants as modules
 use Rattle.erhl_assert.specs.Matched.{matched}
 use Rattle.erhl_assert.specs.Alignment.{Line, AlignedBlock, Alignment, Aligned, Differs, block_hint, alignment}
-use Rattle.erhl_assert.specs.Postcondition.{after_line}
-use Rattle.erhl_assert.specs.Steps.{Rules, Beside, beside, Stepped, Refuses, Knows, after_steps, steps_at}
+use Rattle.erhl_assert.specs.Course.{and_then, tested, Judged, Good, Bad, placed, verdict_of, IsGood}
+use Rattle.erhl_assert.specs.Growth.{over_line}
+use Rattle.erhl_assert.specs.Steps.{Rules, Beside, beside, after_steps, steps_at}
 
--- both return, of operands that are matched
-abbrev pub term_verdict : Name → ℕ → Term → Term → Assertion → Verdict
-term_verdict block k (Ret a) (Ret b) known =
-    cond (matched known a b) verdict.Valid (verdict.Refused block (spot.Line k) (Unmatched a b))
+-- both return, so their operands must be matched
+abbrev pub term_fault : Assertion → Term → Term → Option Reason
+term_fault known (Ret a) (Ret b) = cond (matched known a b) None (Some (Unmatched a b))
 
--- where the steps before line k succeed, what follows them decides
-abbrev pub after_steps_at : Name → ℕ → Stepped → (Assertion → Verdict) → Verdict
-after_steps_at block k (Refuses r) next = verdict.Refused block (spot.Line k) r
-after_steps_at block k (Knows known) next = next known
+abbrev pub term_judged : Name → ℕ → Term → Term → Assertion → Judged
+term_judged block k s t known = placed block (spot.Line k) (tested (term_fault known s t) known) (λ done. Good [])
 
 -- Along a block from line k on: the steps before the line, then the line; at the end the steps before the terminator, then
 -- the terminator.
-abbrev pub lines_verdict : Beside → Name → List PlacedStep → ℕ → List Line → Term → Term → Assertion → Verdict
-lines_verdict w block steps k [] s t known =
-    after_steps_at block k (after_steps w (steps_at k steps) known) (term_verdict block k s t)
-lines_verdict w block steps k (l ∷ ls) s t known =
-    after_steps_at block k (after_steps w (steps_at k steps) known)
-    (λ after. lines_verdict w block steps (k + 1) ls s t (after_line after l))
+abbrev pub lines_judged : Beside → Name → List PlacedStep → ℕ → List Line → Term → Term → Assertion → Judged
+lines_judged w block steps k [] s t known =
+    placed block (spot.Line k) (after_steps w (steps_at k steps) known) (term_judged block k s t)
+lines_judged w block steps k (l ∷ ls) s t known =
+    placed block (spot.Line k) (and_then (after_steps w (steps_at k steps) known) (over_line l)) (lines_judged w block steps (k + 1) ls s t)
 
--- nothing is known of registers on entry, so the entry's facts must be none
-abbrev pub from_entry : Beside → HintBlock → AlignedBlock → List Fact → List Fact → Verdict
-from_entry w h b (f ∷ fs) gs = verdict.Refused b.name spot.Start (MissingFact f)
-from_entry w h b [] (g ∷ gs) = verdict.Refused b.name spot.Start (MissingFact g)
-from_entry w h b [] [] = lines_verdict w b.name h.steps 0 b.lines b.source b.target h.entry
+abbrev pub first_missing_of : List Fact → Option Reason
+first_missing_of [] = None
+first_missing_of (f ∷ fs) = Some (MissingFact f)
+
+-- nothing is known of registers on entry, so the entry may claim no fact: the first of the source's, else of the target's
+abbrev pub entry_fault : Assertion → Option Reason
+entry_fault known = first_missing_of (known.src ++ known.tgt)
+
+abbrev pub entry_judged : Beside → HintBlock → AlignedBlock → Judged
+entry_judged w h b = placed b.name spot.Start (tested (entry_fault h.entry) h.entry) (lines_judged w b.name h.steps 0 b.lines b.source b.target)
 
 -- No terminator leads to another block yet, so the first alone is reached.
-abbrev pub reached_verdict : Beside → Hint → List AlignedBlock → Verdict
-reached_verdict w hint [] = verdict.Valid
-reached_verdict w hint (b ∷ bs) = let h = block_hint hint b.name in from_entry w h b h.entry.src h.entry.tgt
+abbrev pub reached_judged : Beside → Hint → List AlignedBlock → Judged
+reached_judged w hint [] = Good []
+reached_judged w hint (b ∷ bs) = entry_judged w (block_hint hint b.name) b
 
-abbrev pub aligned_verdict : Beside → Hint → Alignment → Verdict
-aligned_verdict w hint (Differs block) = verdict.Refused block spot.Start AlignmentDiffers
-aligned_verdict w hint (Aligned blocks) = reached_verdict w hint blocks
+abbrev pub aligned_judged : Beside → Hint → Alignment → Judged
+aligned_judged w hint (Differs block) = Bad [] block spot.Start AlignmentDiffers
+aligned_judged w hint (Aligned blocks) = reached_judged w hint blocks
 
--- THE verdict on a function pair: the alignment of all blocks, then the blocks that are reached
+-- THE check of a function pair: the alignment of all blocks, then the blocks that are reached
+abbrev pub function_judged : Beside → Function → Function → Hint → Judged
+function_judged w f g hint = aligned_judged w hint (alignment hint f g)
+
+-- and the verdict on it
 abbrev pub function_verdict : Beside → Function → Function → Hint → Verdict
-function_verdict w f g hint = aligned_verdict w hint (alignment hint f g)
+function_verdict w f g hint = verdict_of (function_judged w f g hint)
 
--- the pair is accepted
+-- The pair is accepted: all tests are passed.
 abbrev pub Accepts : Beside → Function → Function → Hint → Type 0
-Accepts w f g hint = function_verdict w f g hint ≡ verdict.Valid
+Accepts w f g hint = IsGood (function_judged w f g hint)
 
 -- the function's hint: the first of its name, or an empty one
 abbrev pub hint_or_empty : Option FunctionHint → Hint

@@ -4,8 +4,6 @@ use Rattle.std.specs.List.{list_any, AllByRecursion}
 use Rattle.ir_core.specs.declared.values.Kind.{Kind}
 use Rattle.ir_core.specs.declared.operands.Ty.{Ty}
 use Rattle.ir_core.specs.declared.operands.Ty.TheVariants as ty
-use Rattle.ir_core.specs.declared.operands.Const.{Const}
-use Rattle.ir_core.specs.declared.operands.Const.TheVariants as constant
 use Rattle.ir_core.specs.declared.operands.Atom.{Atom}
 use Rattle.ir_core.specs.declared.operands.Atom.TheVariants as atom
 use Rattle.ir_core.specs.declared.expressions.Reg.{Reg}
@@ -14,11 +12,16 @@ use Rattle.ir_core.specs.Same.{same_reg, same_expr}
 use Rattle.ir_core.specs.Expressions.{Expr0, type_of, expr_has}
 use Rattle.ir_core.specs.Modules.{Scope}
 use Rattle.ir_values.specs.Operations.{IsOutcomeLessDefined}
-use Rattle.ir_core.specs.Types.{is_width, fits, kind_of}
+use Rattle.ir_core.specs.Types.{is_width, kind_of}
+pub use Rattle.ir_core.specs.Types.{constant_fits}
 use Rattle.erhl_assert.specs.declared.facts.Fact.{Fact}
 use Rattle.erhl_assert.specs.declared.facts.Fact.TheVariants.{LessDef}
 use Rattle.erhl_assert.specs.declared.facts.Assertion.{Assertion}
 use Rattle.erhl_assert.specs.declared.facts.Schema.{Schema}
+use Rattle.erhl_assert.specs.declared.facts.Side.{Side}
+use Rattle.erhl_assert.specs.declared.facts.Side.TheVariants.{Src, Tgt}
+use Rattle.erhl_assert.specs.declared.fact_set.Kill.{Kill}
+use Rattle.erhl_assert.specs.declared.fact_set.Kill.TheVariants.{Naming}
 use Rattle.erhl_assert.specs.Sides.{SideState, IsSideInKind, worth, AreRelated}
 
 abbrev pub kind_of_expr : Expr0 → Option Kind
@@ -34,12 +37,7 @@ abbrev pub has_type : Expr0 → Bool
 has_type (Plain o) = has_values o.ty
 has_type (Binary b) = has_values b.ty
 
--- a number lies among those of its stated type; undef lies in each type of numbers
-abbrev pub constant_fits : Ty → Const → Bool
-constant_fits (ty.Int width) (constant.Number n) = fits n width
-constant_fits (ty.Int width) constant.Undef = true
-constant_fits ty.Void c = false
-
+-- a number lies among those of its stated type
 abbrev pub atom_fits : Ty → Atom Reg → Bool
 atom_fits t (atom.Constant c) = constant_fits t c
 atom_fits t (atom.Register r) = true
@@ -76,6 +74,15 @@ has_fact f fs = list_any (same_fact f) fs
 abbrev pub with_fact : Fact → List Fact → List Fact
 with_fact f fs = cond (has_fact f fs) fs (fs ++ f ∷ [])
 
+-- the list with each of these in turn at its end, where it isn't there yet
+abbrev pub with_facts : List Fact → List Fact → List Fact
+with_facts [] fs = fs
+with_facts (g ∷ gs) fs = with_facts gs (with_fact g fs)
+
+-- the same assertion, with each fact of a side once, where it first stands
+abbrev pub each_once : Assertion → Assertion
+each_once known = record known { src = with_facts known.src []; tgt = with_facts known.tgt [] }
+
 -- the expression names the register
 abbrev pub expr_names : Reg → Expr0 → Bool
 expr_names r e = expr_has (same_reg r) e
@@ -86,3 +93,12 @@ fact_names r (LessDef a b) = expr_names r a || expr_names r b
 -- the facts that don't name the register
 abbrev pub without_naming : Reg → List Fact → List Fact
 without_naming r fs = filter (λ f. not (fact_names r f)) fs
+
+-- the facts that a kill leaves
+abbrev pub killed : Kill → List Fact → List Fact
+killed (Naming r) fs = without_naming r fs
+
+-- the same assertion, with the facts of one side changed
+abbrev pub on_side : Side → (List Fact → List Fact) → Assertion → Assertion
+on_side Src change known = record known { src = change known.src }
+on_side Tgt change known = record known { tgt = change known.tgt }

@@ -1,7 +1,12 @@
 pub mod Acceptance
 pub mod Alignment
+pub mod Course
+pub mod FactLaws
 pub mod Facts
+pub mod Growth
+pub mod Hashed
 pub mod Matched
+pub mod Named
 pub mod Postcondition
 pub mod Sides
 pub mod Steps

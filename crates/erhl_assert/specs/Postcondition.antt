@@ -25,15 +25,15 @@ abbrev pub right_side : Calm → Expr0
 right_side l = map_expr Now l.right
 
 -- the register of a line, as an expression
-abbrev pub register_of : Calm → Expr0
-register_of l = expr.Plain (record { ty = type_of l.right; atom = atom.Register (Now l.name) })
+abbrev pub left_side : Calm → Expr0
+left_side l = expr.Plain (record { ty = type_of l.right; atom = atom.Register (Now l.name) })
 
 -- For x = e: first the facts that name x go; then x and e are less defined than each other, where x isn't in e.
 abbrev pub facts_after_line : Calm → List Fact → List Fact
 facts_after_line l fs =
     let kept = without_naming (Now l.name) fs in
     cond (expr_names (Now l.name) (right_side l)) kept
-    (with_fact (LessDef (right_side l) (register_of l)) (with_fact (LessDef (register_of l) (right_side l)) kept))
+    (with_fact (LessDef (right_side l) (left_side l)) (with_fact (LessDef (left_side l) (right_side l)) kept))
 
 abbrev pub facts_after : Option Instr → List Fact → List Fact
 facts_after None fs = fs

@@ -6,15 +6,14 @@ use Rattle.ir_core.specs.Modules.{Scope, scope_of}
 use Rattle.erhl_assert.specs.declared.facts.Fact.{Fact}
 use Rattle.erhl_assert.specs.declared.facts.Assertion.{Assertion}
 use Rattle.erhl_assert.specs.declared.facts.Schema.{Schema}
-use Rattle.erhl_assert.specs.declared.facts.Side.{Side}
-use Rattle.erhl_assert.specs.declared.facts.Side.TheVariants.{Src, Tgt}
 use Rattle.erhl_assert.specs.declared.hints.RuleStep.{RuleStep}
 use Rattle.erhl_assert.specs.declared.hints.HintStep.{HintStep}
 use Rattle.erhl_assert.specs.declared.hints.HintStep.TheVariants.{Rule}
 use Rattle.erhl_assert.specs.declared.hints.PlacedStep.{PlacedStep}
-use Rattle.erhl_assert.specs.declared.verdict.Reason.{Reason}
 use Rattle.erhl_assert.specs.declared.verdict.Reason.TheVariants.{UnknownRule, RuleUnfit, MissingPremise}
-use Rattle.erhl_assert.specs.Facts.{IsSound, has_fact, with_fact}
+use Rattle.erhl_assert.specs.Facts.{IsSound, has_fact}
+use Rattle.erhl_assert.specs.Course.{Course, gives, refuses, and_then}
+use Rattle.erhl_assert.specs.Growth.{facts_of, adds}
 
 -- a rule: its name, and which schemas it takes beside a module's types and globals
 pub record Meaning : Type 0 where
@@ -45,43 +44,26 @@ abbrev pub AreSound : Rules → Type 0
 AreSound rules = (name : List ℕ) (scope : Scope) (schema : Schema)
     → rule_takes (rule_named rules name) scope schema ≡ true → IsSound scope schema
 
-abbrev pub facts_of : Side → Assertion → List Fact
-facts_of Src known = known.src
-facts_of Tgt known = known.tgt
-
 -- the first premise that isn't there
 abbrev pub first_missing : List Fact → List Fact → Option Fact
 first_missing fs premises = find (λ p. not (has_fact p fs)) premises
 
-abbrev pub with_conclusion : Side → Fact → Assertion → Assertion
-with_conclusion Src f known = record known { src = with_fact f known.src }
-with_conclusion Tgt f known = record known { tgt = with_fact f known.tgt }
-
--- what a step leads to: a refusal, or what is known after it
-pub data Stepped : Type 0 where
-  Refuses : Reason → Stepped
-  Knows : Assertion → Stepped
-
-abbrev pub concluded : Option Fact → RuleStep → Assertion → Stepped
-concluded (Some f) step known = Refuses (MissingPremise f)
-concluded None step known = Knows (with_conclusion step.side step.schema.to known)
+abbrev pub concluded : Option Fact → RuleStep → Assertion → Course Assertion
+concluded (Some f) step known = refuses (MissingPremise f)
+concluded None step known = adds step.side step.schema.to known
 
 -- The rule is in the book, it takes the step, and each premise is there, tested in this order; then the conclusion is added.
-abbrev pub after_rule : Option Meaning → Scope → RuleStep → Assertion → Stepped
-after_rule None scope step known = Refuses (UnknownRule step.rule)
+abbrev pub after_rule : Option Meaning → Scope → RuleStep → Assertion → Course Assertion
+after_rule None scope step known = refuses (UnknownRule step.rule)
 after_rule (Some r) scope step known =
-    cond (r.takes scope step.schema) (concluded (first_missing (facts_of step.side known) step.schema.from) step known) (Refuses (RuleUnfit step.rule))
+    cond (r.takes scope step.schema) (concluded (first_missing (facts_of step.side known) step.schema.from) step known) (refuses (RuleUnfit step.rule))
 
-abbrev pub after_step : Beside → HintStep → Assertion → Stepped
+abbrev pub after_step : Beside → HintStep → Assertion → Course Assertion
 after_step w (Rule step) known = after_rule (rule_named w.rules step.rule) w.scope step known
 
-abbrev pub and_then : Stepped → (Assertion → Stepped) → Stepped
-and_then (Refuses r) next = Refuses r
-and_then (Knows known) next = next known
-
 -- the steps in their order
-abbrev pub after_steps : Beside → List PlacedStep → Assertion → Stepped
-after_steps w [] known = Knows known
+abbrev pub after_steps : Beside → List PlacedStep → Assertion → Course Assertion
+after_steps w [] known = gives known
 after_steps w (s ∷ ss) known = and_then (after_step w s.step known) (after_steps w ss)
 
 -- the steps that stand before the aligned line of that number

@@ -2,10 +2,13 @@
 //! two sides, the hints that steps are read from, and the verdict.
 #![tactic(auto)]
 
+mod fact_set;
 mod facts;
+mod hashing;
 mod hints;
 mod verdict;
 
+pub use fact_set::{FactSet, Kill, bare_name, fact_names};
 pub use facts::{Assertion, Expr, Fact, Schema, Side, same_fact, same_fact_is_equality};
 pub use hints::{
     FunctionHint, FunctionLoops, Hint, HintBlock, HintStep, Hints, Letter, Loop, LoopHints,

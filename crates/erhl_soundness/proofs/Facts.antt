@@ -17,7 +17,7 @@ use Rattle.erhl_assert.specs.declared.facts.Fact.{Fact}
 use Rattle.erhl_assert.specs.declared.facts.Fact.TheVariants.{LessDef}
 use Rattle.erhl_assert.specs.Sides.{SideState}
 use Rattle.erhl_assert.specs.Facts.{Holds, kind_of_expr, same_fact, has_fact, with_fact, expr_names, fact_names, without_naming}
-use Rattle.erhl_assert.specs.Postcondition.{right_side, register_of, facts_after_line}
+use Rattle.erhl_assert.specs.Postcondition.{right_side, left_side, facts_after_line}
 use Rattle.erhl_assert.proofs.SameFact.{same_fact_true}
 use Rattle.erhl_soundness.proofs.Readings.{type_mapped}
 use Rattle.erhl_soundness.proofs.Lines.{set_now, side_after, worth_kept, register_gives, right_side_gives}
@@ -53,16 +53,16 @@ module _ (side : SideState) (x : Name) (o : Option Kind) (v : Value) where
 
 -- after a line x = e that gave a value, where e doesn't name x, both are worth that value
 module _ (side : SideState) (l : Calm) (v : Value) (gives : outcome (read side.now) l.right ≡ Gives v) where
-  one_kind : kind_of_expr (right_side l) ≡ kind_of_expr (register_of l)
+  one_kind : kind_of_expr (right_side l) ≡ kind_of_expr (left_side l)
   one_kind = ap kind_of (type_mapped reg.Now l.right)
 
-  right_below : expr_names (reg.Now l.name) (right_side l) ≡ false → Holds (side_after side l v) (LessDef (right_side l) (register_of l))
+  right_below : expr_names (reg.Now l.name) (right_side l) ≡ false → Holds (side_after side l v) (LessDef (right_side l) (left_side l))
   right_below apart = (
     one_kind,
     subst₂ IsOutcomeLessDefined (sym (right_side_gives side l v gives apart)) (sym (register_gives side l v gives)) (less_defined_refl v),
   )
 
-  right_above : expr_names (reg.Now l.name) (right_side l) ≡ false → Holds (side_after side l v) (LessDef (register_of l) (right_side l))
+  right_above : expr_names (reg.Now l.name) (right_side l) ≡ false → Holds (side_after side l v) (LessDef (left_side l) (right_side l))
   right_above apart = (
     sym one_kind,
     subst₂ IsOutcomeLessDefined (sym (register_gives side l v gives)) (sym (right_side_gives side l v gives apart)) (less_defined_refl v),
@@ -73,8 +73,8 @@ module _ (side : SideState) (l : Calm) (v : Value) (gives : outcome (read side.n
   facts_after_hold fs all =
       let after = side_after side l v in
       let kept = without_naming (reg.Now l.name) fs in
-      let below = LessDef (right_side l) (register_of l) in
-      let above = LessDef (register_of l) (right_side l) in
+      let below = LessDef (right_side l) (left_side l) in
+      let above = LessDef (left_side l) (right_side l) in
       let hold = facts_kept side l.name (kind_of (type_of l.right)) v fs all in
       cond_both (expr_names (reg.Now l.name) (right_side l)) kept (with_fact below (with_fact above kept)) (AllByRecursion (Holds after))
       (λ e. hold)

@@ -1,3 +1,5 @@
+mod Bounding
+mod Counting
 mod Readings
 mod Lines
 mod Facts

@@ -16,7 +16,7 @@ use Rattle.ir_machine.specs.Registers.{read, set, atom_value, outcome}
 use Rattle.ir_machine.proofs.Runs.{read_set_same, read_set_other}
 use Rattle.erhl_assert.specs.Sides.{SideState, read_reg, worth}
 use Rattle.erhl_assert.specs.Facts.{expr_names}
-use Rattle.erhl_assert.specs.Postcondition.{right_side, register_of}
+use Rattle.erhl_assert.specs.Postcondition.{right_side, left_side}
 use Rattle.erhl_soundness.proofs.Readings.{outcome_same, outcome_mapped, poison_without_kind}
 
 -- a side of which a register is set: old and ghost registers stay
@@ -50,7 +50,7 @@ module _ (side : SideState) (l : Calm) (v : Value) (gives : outcome (read side.n
   reads_back (Some k) h = read_set_same side.now l.name k v
 
   -- the register of the line holds that value
-  pub register_gives : worth (side_after side l v) (register_of l) ≡ Gives v
+  pub register_gives : worth (side_after side l v) (left_side l) ≡ Gives v
   register_gives = ap Gives (reads_back (kind_of (type_of l.right)) poison_of_none)
 
   -- and its right side is worth it, where the register isn't in it

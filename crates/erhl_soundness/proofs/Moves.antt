@@ -1,6 +1,5 @@
 -- Related states make related moves.
-use Rattle.std.proofs.Common.{◌≡◌, ◌⊎◌, ℕ, suc, ◌+◌, true, List, [], ◌∷◌, Option, None, Some, refl, sym, ap, ◌∙◌, subst, subst₂, inl, inr, ⊎_elim}
-use Rattle.std.proofs.lemmas.Bool.{cond-false, cases_Bool}
+use Rattle.std.proofs.Common.{◌≡◌, ◌⊎◌, ℕ, suc, ◌+◌, Bool, true, false, cond, List, [], ◌∷◌, Option, None, Some, refl, sym, ap, subst, subst₂, inl, inr, ⊎_elim}
 use Rattle.ir_core.specs.declared.names.Name.{Name}
 use Rattle.ir_core.specs.declared.operands.Operand.{Operand}
 use Rattle.ir_core.specs.declared.functions.Instr.{Instr}
@@ -18,27 +17,23 @@ use Rattle.erhl_assert.specs.declared.facts.Assertion.{Assertion}
 use Rattle.erhl_assert.specs.declared.hints.PlacedStep.{PlacedStep}
 use Rattle.erhl_assert.specs.declared.verdict.Reason.{Reason}
 use Rattle.erhl_assert.specs.declared.verdict.Reason.TheVariants.{Unmatched}
-use Rattle.erhl_assert.specs.declared.verdict.Spot.{Spot}
 use Rattle.erhl_assert.specs.declared.verdict.Spot.TheVariants as spot
-use Rattle.erhl_assert.specs.declared.verdict.Verdict.{Verdict}
-use Rattle.erhl_assert.specs.declared.verdict.Verdict.TheVariants as verdict
-use Rattle.erhl_assert.specs.Sides.{SideState, IsSideInKind, side_of}
-use Rattle.erhl_assert.specs.Facts.{AssertionHolds}
+use Rattle.erhl_assert.specs.Sides.{IsSideInKind, side_of}
 use Rattle.erhl_assert.specs.Matched.{matched}
 use Rattle.erhl_assert.specs.Alignment.{Line}
 use Rattle.erhl_assert.specs.Postcondition.{after_line}
-use Rattle.erhl_assert.specs.Steps.{Rules, beside, AreSound, Stepped, Refuses, Knows, after_steps, steps_at}
-use Rattle.erhl_assert.specs.Acceptance.{term_verdict, after_steps_at, lines_verdict}
-use Rattle.erhl_soundness.specs.Laws.{goes_on, Leads, Keeps}
+use Rattle.erhl_assert.specs.Course.{Gives, Course, and_then, tested, Good, IsGood}
+use Rattle.erhl_assert.specs.Growth.{over_line}
+use Rattle.erhl_assert.specs.Steps.{Rules, beside, AreSound, after_steps, steps_at}
+use Rattle.erhl_assert.specs.Acceptance.{term_fault, term_judged, lines_judged}
+use Rattle.erhl_assert.proofs.Courses.{good_parts, gives_parts, no_fault, line_gives}
+use Rattle.erhl_soundness.specs.Laws.{goes_on, LineLeads, Keeps}
 use Rattle.erhl_soundness.proofs.Matched.{matched_related, matched_type}
 use Rattle.erhl_soundness.proofs.Related.{line_keeps}
-use Rattle.erhl_soundness.proofs.Steps.{SteppedHolds, steps_hold}
+use Rattle.erhl_soundness.proofs.Steps.{EndHolds, steps_hold}
 use Rattle.erhl_soundness.proofs.Simulation.{Stays, Matches, GoesWrong, Moves}
 use Rattle.erhl_soundness.proofs.Returning.{DoesAs, wrong_made, result_is_last, result_does_as}
 use Rattle.erhl_soundness.proofs.States.{with_line, source_lines, target_lines, own_before, own_lines, running, HoldsOf, AreStatesRelated}
-
-pub refused_not_valid : (block : Name) (where_ : Spot) (why : Reason) → verdict.Refused block where_ why ≡ verdict.Valid → ⊥
-refused_not_valid block where_ why h = cc
 
 -- between edges a side of registers in kind is in kind: its old and ghost registers aren't set
 side_in_kind : (scope : Scope) (registers : Registers) → AreInKind registers → IsSideInKind (side_of scope registers)
@@ -48,18 +43,16 @@ side_in_kind scope registers h = record { now = h; old = no_registers_in_kind; g
 scopes_are_one : (m n : Module) → scope_of n ≡ scope_of m
 scopes_are_one m n = refl
 
--- where steps and what follows them are valid, the steps lead to an assertion of which that is true
-after_steps_valid : (s t : SideState) (block : Name) (k : ℕ) (st : Stepped) (next : Assertion → Verdict)
-    → SteppedHolds s t st → after_steps_at block k st next ≡ verdict.Valid
-    → (known : Assertion) × AssertionHolds known s t × (next known ≡ verdict.Valid)
-after_steps_valid s t block k (Refuses why) next holds h = absurd (refused_not_valid block (spot.Line k) why h)
-after_steps_valid s t block k (Knows known) next holds h = (known, holds, h)
+-- a test of a Bool that finds no fault is passed
+passed : (b : Bool) (r : Reason) → cond b None (Some r) ≡ None → b ≡ true
+passed true r h = refl
+passed false r h = absurd (cc)
 
 -- the step over a line
 abbrev made_to : State → Made
 made_to after = record { told = []; items = []; after = after }
 
-step_on_line : (m : Module) (frame : Frame) (i : Instr) (left : List Instr) (registers : Registers) (o : Option Registers) → Leads (Some i) registers o
+step_on_line : (m : Module) (frame : Frame) (i : Instr) (left : List Instr) (registers : Registers) (o : Option Registers) → LineLeads (Some i) registers o
     → asks m (running frame (i ∷ left) registers) ≡ goes_on o (record frame { lines = left }) [] no_world
 step_on_line m frame i left registers o leads = leads (record frame { lines = left }) [] no_world
 
@@ -106,25 +99,24 @@ module _ (rules : Rules) (source target : Module) (sound : AreSound rules) where
       does
 
   terms_move : (x y : Frame) (block : Name) (k : ℕ) (p q : Term) (known : Assertion) (rs rt : Registers) → HoldsOf source target known rs rt
-      → AreInKind rt → term_verdict block k p q known ≡ verdict.Valid → Moves source target R 0 (ending x p rs) (ending y q rt)
-  terms_move x y block k (Ret a) (Ret b) known rs rt holds kind valid = ⊎_elim
-      (λ same. inr (λ made follows. inr (returns_move x y a b rs rt known holds kind same made follows)))
-      (λ e.
-      absurd (refused_not_valid block (spot.Line k) (Unmatched a b)
-      (sym (cond-false (matched known a b) verdict.Valid (verdict.Refused block (spot.Line k) (Unmatched a b)) e) ∙ valid)))
-      (cases_Bool (matched known a b))
+      → AreInKind rt → IsGood (term_judged block k p q known) → Moves source target R 0 (ending x p rs) (ending y q rt)
+  terms_move x y block k (Ret a) (Ret b) known rs rt holds kind good =
+      let fault = term_fault known (Ret a) (Ret b) in
+      let parts = good_parts block (spot.Line k) (tested fault known) (λ done. Good []) good in
+      let same = passed (matched known a b) (Unmatched a b) (no_fault fault known parts.0 parts.1).0 in
+      inr (λ made follows. inr (returns_move x y a b rs rt known holds kind same made follows))
 
   -- two frames within aligned blocks
   module _ (x y : Frame) (block : Name) (steps : List PlacedStep) where
-    abbrev IsValid : ℕ → List Line → Assertion → Type 0
-    IsValid k ls known = lines_verdict (beside rules source) block steps k ls x.term y.term known ≡ verdict.Valid
+    abbrev IsGoodFrom : ℕ → List Line → Assertion → Type 0
+    IsGoodFrom k ls known = IsGood (lines_judged (beside rules source) block steps k ls x.term y.term known)
 
     abbrev BlocksMove : List Line → Registers → Registers → Type 0
     BlocksMove ls rs rt = Moves source target R (own_lines ls) (running x (source_lines ls) rs) (running y (target_lines ls) rt)
 
     related_at : (k : ℕ) (ls : List Line) (known : Assertion) (rs rt : Registers) → HoldsOf source target known rs rt → AreInKind rs → AreInKind rt
-        → IsValid k ls known → R (own_lines ls) (running x (source_lines ls) rs) (running y (target_lines ls) rt)
-    related_at k ls known rs rt holds source_kind target_kind valid = inl (record {
+        → IsGoodFrom k ls known → R (own_lines ls) (running x (source_lines ls) rs) (running y (target_lines ls) rt)
+    related_at k ls known rs rt holds source_kind target_kind good = inl (record {
       source_frame = x;
       target_frame = y;
       source_registers = rs;
@@ -140,14 +132,14 @@ module _ (rules : Rules) (source target : Module) (sound : AreSound rules) where
       holds = holds;
       source_in_kind = source_kind;
       target_in_kind = target_kind;
-      valid = valid;
+      good = good;
     })
 
-    module _ (k : ℕ) (ls : List Line) (known : Assertion) (valid : IsValid k ls known) (rs rt : Registers) (source_kind : AreInKind rs) (target_kind : AreInKind rt) where
+    module _ (k : ℕ) (ls : List Line) (known : Assertion) (good : IsGoodFrom k ls known) (rs rt : Registers) (source_kind : AreInKind rs) (target_kind : AreInKind rt) where
       abbrev KeepsHere : Option Registers → Option Registers → Type 0
       KeepsHere a b = Keeps known (side_of (scope_of source) rs) (side_of (scope_of target) rt) a b
 
-      source_moves : (i : Instr) (a : Option Registers) → Leads (Some i) rs a → KeepsHere a (Some rt)
+      source_moves : (i : Instr) (a : Option Registers) → LineLeads (Some i) rs a → KeepsHere a (Some rt)
           → Moves source target R (suc (own_lines ls)) (running x (i ∷ source_lines ls) rs) (running y (target_lines ls) rt)
       source_moves i None leads keeps =
           inr (λ made follows. inr (inr (goes_wrong (running x (i ∷ source_lines ls) rs) (step_on_line source x i (source_lines ls) rs None leads) made)))
@@ -158,10 +150,10 @@ module _ (rules : Rules) (source target : Module) (sound : AreSound rules) where
             made_to to,
             may_make source (running x (i ∷ source_lines ls) rs) to step,
             refl,
-            related_at k ls known after rt keeps (after_in_kind source x (i ∷ source_lines ls) (source_lines ls) rs after step source_kind) target_kind valid,
+            related_at k ls known after rt keeps (after_in_kind source x (i ∷ source_lines ls) (source_lines ls) rs after step source_kind) target_kind good,
           )
 
-      target_moves : (j : Instr) (b : Option Registers) → Leads (Some j) rt b → KeepsHere (Some rs) b
+      target_moves : (j : Instr) (b : Option Registers) → LineLeads (Some j) rt b → KeepsHere (Some rs) b
           → Moves source target R 0 (running x (source_lines ls) rs) (running y (j ∷ target_lines ls) rt)
       target_moves j None leads keeps = absurd keeps
       target_moves j (Some after) leads keeps =
@@ -173,10 +165,10 @@ module _ (rules : Rules) (source target : Module) (sound : AreSound rules) where
           inl (subst (Stays source target R at) (sym (only_makes target from to step made follows)) (
             own_lines ls,
             refl,
-            related_at k ls known rs after keeps source_kind (after_in_kind target y (j ∷ target_lines ls) (target_lines ls) rt after step target_kind) valid,
+            related_at k ls known rs after keeps source_kind (after_in_kind target y (j ∷ target_lines ls) (target_lines ls) rt after step target_kind) good,
           )))
 
-      both_move : (i j : Instr) (a b : Option Registers) → Leads (Some i) rs a → Leads (Some j) rt b → KeepsHere a b
+      both_move : (i j : Instr) (a b : Option Registers) → LineLeads (Some i) rs a → LineLeads (Some j) rt b → KeepsHere a b
           → Moves source target R 0 (running x (i ∷ source_lines ls) rs) (running y (j ∷ target_lines ls) rt)
       both_move i j None b leads leads' keeps =
           inr (λ made follows. inr (inr (goes_wrong (running x (i ∷ source_lines ls) rs) (step_on_line source x i (source_lines ls) rs None leads) made)))
@@ -195,10 +187,10 @@ module _ (rules : Rules) (source target : Module) (sound : AreSound rules) where
             may_make source at to step,
             refl,
             related_at k ls known after after' keeps (after_in_kind source x (i ∷ source_lines ls) (source_lines ls) rs after step source_kind)
-                (after_in_kind target y (j ∷ target_lines ls) (target_lines ls) rt after' step' target_kind) valid,
+                (after_in_kind target y (j ∷ target_lines ls) (target_lines ls) rt after' step' target_kind) good,
           ))))
 
-      line_moves : (i j : Option Instr) (a b : Option Registers) → Leads i rs a → Leads j rt b → KeepsHere a b
+      line_moves : (i j : Option Instr) (a b : Option Registers) → LineLeads i rs a → LineLeads j rt b → KeepsHere a b
           → (HoldsOf source target known rs rt → BlocksMove ls rs rt)
           → Moves source target R (own_before i j (own_lines ls)) (running x (with_line i (source_lines ls)) rs) (running y (with_line j (target_lines ls)) rt)
       line_moves None None a b leads leads' keeps on = on (subst₂ KeepsHere leads leads' keeps)
@@ -206,34 +198,44 @@ module _ (rules : Rules) (source target : Module) (sound : AreSound rules) where
       line_moves None (Some j) a b leads leads' keeps on = target_moves j b leads' (subst (λ o. KeepsHere o b) leads keeps)
       line_moves (Some i) (Some j) a b leads leads' keeps on = both_move i j a b leads leads' keeps
 
-    -- what is known after the steps that a verdict allows
-    stepped : (k : ℕ) (known : Assertion) (next : Assertion → Verdict) (rs rt : Registers) → HoldsOf source target known rs rt → AreInKind rs → AreInKind rt
-        → after_steps_at block k (after_steps (beside rules source) (steps_at k steps) known) next ≡ verdict.Valid
-        → (known' : Assertion) × HoldsOf source target known' rs rt × (next known' ≡ verdict.Valid)
-    stepped k known next rs rt holds source_kind target_kind valid =
+    abbrev steps_before : ℕ → Assertion → Course Assertion
+    steps_before k known = after_steps (beside rules source) (steps_at k steps) known
+
+    -- what is known after the steps before a line holds
+    steps_lead : (k : ℕ) (known after : Assertion) (rs rt : Registers) → HoldsOf source target known rs rt → AreInKind rs → AreInKind rt
+        → (steps_before k known).ends ≡ Gives after → HoldsOf source target after rs rt
+    steps_lead k known after rs rt holds source_kind target_kind ends =
         let s = side_of (scope_of source) rs in
         let t = side_of (scope_of target) rt in
-        after_steps_valid s t block k (after_steps (beside rules source) (steps_at k steps) known) next
+        subst (EndHolds s t) ends
         (steps_hold (beside rules source) sound s t refl (scopes_are_one source target) (side_in_kind (scope_of source) rs source_kind)
         (side_in_kind (scope_of target) rt target_kind) (steps_at k steps) known holds)
-        valid
+
+    -- where the check from a line on is good, the steps before it lead on, and the check after it is good
+    line_good : (k : ℕ) (l : Line) (ls : List Line) (known : Assertion) → IsGoodFrom k (l ∷ ls) known
+        → (after : Assertion) × ((steps_before k known).ends ≡ Gives after) × IsGoodFrom (k + 1) ls (after_line after l)
+    line_good k l ls known good =
+        let next = lines_judged (beside rules source) block steps (k + 1) ls x.term y.term in
+        let parts = good_parts block (spot.Line k) (and_then (steps_before k known) (over_line l)) next good in
+        let both = gives_parts (steps_before k known) (over_line l) parts.0 parts.1 in
+        (both.0, both.1, subst (λ after. IsGood (next after)) (line_gives l both.0 parts.0 both.2) parts.2)
 
     pub blocks_move : (ls : List Line) (k : ℕ) (known : Assertion) (rs rt : Registers) → HoldsOf source target known rs rt → AreInKind rs → AreInKind rt
-        → IsValid k ls known → BlocksMove ls rs rt
-    blocks_move [] k known rs rt holds source_kind target_kind valid =
-        let after = stepped k known (term_verdict block k x.term y.term) rs rt holds source_kind target_kind valid in
-        terms_move x y block k x.term y.term after.0 rs rt after.1 target_kind after.2
-    blocks_move (l ∷ ls) k known rs rt holds source_kind target_kind valid =
-        let after = stepped k known (λ known'. lines_verdict (beside rules source) block steps (k + 1) ls x.term y.term (after_line known' l)) rs rt
-        holds source_kind target_kind valid in
-        let keeps = line_keeps after.0 l (side_of (scope_of source) rs) (side_of (scope_of target) rt) after.1 in
-        line_moves (k + 1) ls (after_line after.0 l) after.2 rs rt source_kind target_kind l.source l.target keeps.0 keeps.1 keeps.2 keeps.3 keeps.4
-        (λ holds'. blocks_move ls (k + 1) (after_line after.0 l) rs rt holds' source_kind target_kind after.2)
+        → IsGoodFrom k ls known → BlocksMove ls rs rt
+    blocks_move [] k known rs rt holds source_kind target_kind good =
+        let parts = good_parts block (spot.Line k) (steps_before k known) (term_judged block k x.term y.term) good in
+        terms_move x y block k x.term y.term parts.0 rs rt (steps_lead k known parts.0 rs rt holds source_kind target_kind parts.1) target_kind parts.2
+    blocks_move (l ∷ ls) k known rs rt holds source_kind target_kind good =
+        let parts = line_good k l ls known good in
+        let lead = steps_lead k known parts.0 rs rt holds source_kind target_kind parts.1 in
+        let keeps = line_keeps parts.0 l (side_of (scope_of source) rs) (side_of (scope_of target) rt) lead in
+        line_moves (k + 1) ls (after_line parts.0 l) parts.2 rs rt source_kind target_kind l.source l.target keeps.0 keeps.1 keeps.2 keeps.3 keeps.4
+        (λ holds'. blocks_move ls (k + 1) (after_line parts.0 l) rs rt holds' source_kind target_kind parts.2)
 
   pub moves : (k : ℕ) (s t : State) → R k s t → Moves source target R k s t
   moves k s t (inl r) =
       subst (λ n. Moves source target R n s t) (sym r.own)
       (subst₂ (Moves source target R (own_lines r.lines)) (sym r.is_source) (sym r.is_target)
       (blocks_move r.source_frame r.target_frame r.block r.steps r.lines r.at r.known r.source_registers r.target_registers r.holds r.source_in_kind
-      r.target_in_kind r.valid))
+      r.target_in_kind r.good))
   moves k s t (inr over) = inr (λ made follows. absurd (subst (λ z. Follows (asks target z) made) over.1 follows))

@@ -36,7 +36,7 @@ use Rattle.erhl_assert.specs.Facts.{AssertionHolds}
 use Rattle.erhl_assert.specs.Matched.{atoms_matched}
 use Rattle.erhl_assert.specs.Postcondition.{rights_agree, lines_agree, without_reg, with_reg, diff_after, after_line}
 use Rattle.ir_values.proofs.OperationLaws.{binary_monotone}
-use Rattle.erhl_soundness.specs.Laws.{goes_on, Leads, Keeps, ALineKeepsWhatHolds, MatchedOperandsAreRelated}
+use Rattle.erhl_soundness.specs.Laws.{goes_on, LineLeads, Keeps, ALineKeepsWhatHolds, MatchedOperandsAreRelated}
 use Rattle.erhl_soundness.proofs.Readings.{no_trap}
 use Rattle.erhl_soundness.proofs.Lines.{set_now, read_reg_other, side_after}
 use Rattle.erhl_soundness.proofs.Facts.{facts_after_hold}
@@ -199,7 +199,7 @@ outcome_leads : (k : Option Kind) (x : Name) (o : Outcome) (registers : Register
 outcome_leads k x (Gives v) registers frame rest world = refl
 outcome_leads k x Trap registers frame rest world = refl
 
-leads_so : (i : Option Instr) (registers : Registers) → Leads i registers (registers_after i registers)
+leads_so : (i : Option Instr) (registers : Registers) → LineLeads i registers (registers_after i registers)
 leads_so None registers = refl
 leads_so (Some (line.Calm l)) registers =
     λ frame rest world. outcome_leads (kind_of (type_of l.right)) l.name (outcome (read registers) l.right) registers frame rest world

@@ -8,12 +8,12 @@ use Rattle.ir_machine.specs.Registers.{Registers, AreInKind}
 use Rattle.ir_machine.specs.State.{Frame, no_world, State, Running, Over}
 use Rattle.erhl_assert.specs.declared.facts.Assertion.{Assertion}
 use Rattle.erhl_assert.specs.declared.hints.PlacedStep.{PlacedStep}
-use Rattle.erhl_assert.specs.declared.verdict.Verdict.TheVariants as verdict
 use Rattle.erhl_assert.specs.Sides.{side_of}
 use Rattle.erhl_assert.specs.Facts.{AssertionHolds}
 use Rattle.erhl_assert.specs.Alignment.{Line}
 use Rattle.erhl_assert.specs.Steps.{Rules, beside}
-use Rattle.erhl_assert.specs.Acceptance.{lines_verdict}
+use Rattle.erhl_assert.specs.Course.{IsGood}
+use Rattle.erhl_assert.specs.Acceptance.{lines_judged}
 
 -- the lines with one before them, or with a no-op
 abbrev pub with_line : Option Instr → List Instr → List Instr
@@ -49,7 +49,7 @@ abbrev pub HoldsOf : Module → Module → Assertion → Registers → Registers
 HoldsOf source target known s t = AssertionHolds known (side_of (scope_of source) s) (side_of (scope_of target) t)
 
 module _ (rules : Rules) (source target : Module) where
-  -- the two run within aligned blocks, where what is known holds and the verdict on what is left is valid
+  -- the two run within aligned blocks, where what is known holds and the check of what is left is good
   pub record AreInBlock (k : ℕ) (s t : State) : Type 0 where
     pub source_frame : Frame
     pub target_frame : Frame
@@ -66,7 +66,7 @@ module _ (rules : Rules) (source target : Module) where
     pub holds : HoldsOf source target known source_registers target_registers
     pub source_in_kind : AreInKind source_registers
     pub target_in_kind : AreInKind target_registers
-    pub valid : lines_verdict (beside rules source) block steps at lines source_frame.term target_frame.term known ≡ verdict.Valid
+    pub good : IsGood (lines_judged (beside rules source) block steps at lines source_frame.term target_frame.term known)
 
   abbrev pub AreStatesRelated : ℕ → State → State → Type 0
   AreStatesRelated k s t = AreInBlock k s t ⊎ ((s ≡ Over) × (t ≡ Over))

@@ -1,5 +1,5 @@
 -- The steps of a hint add only what holds, where the rules are sound.
-use Rattle.std.proofs.Common.{◌≡◌, true, not, List, [], ◌∷◌, Option, None, Some, refl, sym, ◌∙◌, ⊎_elim}
+use Rattle.std.proofs.Common.{◌≡◌, ℕ, true, not, List, [], ◌∷◌, Option, None, Some, refl, sym, ◌∙◌, ⊎_elim}
 use Rattle.std.specs.List.{AllByRecursion}
 use Rattle.std.proofs.lemmas.Bool.{cond_both, cases_Bool, not_from_true, not_from_false, cond-true, cond-false}
 use Rattle.erhl_assert.specs.declared.facts.Fact.{Fact}
@@ -13,7 +13,9 @@ use Rattle.erhl_assert.specs.declared.hints.PlacedStep.{PlacedStep}
 use Rattle.erhl_assert.specs.declared.verdict.Reason.TheVariants.{RuleUnfit}
 use Rattle.erhl_assert.specs.Sides.{SideState, IsSideInKind}
 use Rattle.erhl_assert.specs.Facts.{Holds, AssertionHolds, IsSound, has_fact}
-use Rattle.erhl_assert.specs.Steps.{Meaning, Beside, rule_named, rule_takes, AreSound, facts_of, first_missing, with_conclusion, Stepped, Refuses, Knows, concluded, after_rule, after_step, and_then, after_steps}
+use Rattle.erhl_assert.specs.Course.{Ends, Refuses, Gives, Course, refuses, after_ends}
+use Rattle.erhl_assert.specs.Growth.{facts_of, with_conclusion}
+use Rattle.erhl_assert.specs.Steps.{Meaning, Beside, rule_named, rule_takes, AreSound, first_missing, concluded, after_rule, after_step, after_steps}
 use Rattle.erhl_soundness.proofs.Facts.{has_fact_holds, with_fact_holds}
 
 -- where no premise is missing, all premises hold
@@ -29,10 +31,10 @@ premises_hold side fs (p ∷ ps) all h = ⊎_elim
     absurd (cc))
     (cases_Bool (has_fact p fs))
 
--- what a step leads to, if it isn't a refusal, holds
-abbrev pub SteppedHolds : SideState → SideState → Stepped → Type 0
-SteppedHolds source target (Refuses r) = Unit {0}
-SteppedHolds source target (Knows known) = AssertionHolds known source target
+-- what a course ends with, if it isn't a refusal, holds
+abbrev pub EndHolds : SideState → SideState → Ends Assertion → Type 0
+EndHolds source target (Refuses r) = Unit {0}
+EndHolds source target (Gives known) = AssertionHolds known source target
 
 module _ (w : Beside) (rules_sound : AreSound w.rules) (source target : SideState) (source_scope : source.scope ≡ w.scope) (target_scope : target.scope ≡ w.scope)
     (source_in_kind : IsSideInKind source) (target_in_kind : IsSideInKind target) where
@@ -53,28 +55,30 @@ module _ (w : Beside) (rules_sound : AreSound w.rules) (source target : SideStat
   }
 
   concluded_holds : (step : RuleStep) (known : Assertion) → AssertionHolds known source target → IsSound w.scope step.schema
-      → (o : Option Fact) → first_missing (facts_of step.side known) step.schema.from ≡ o → SteppedHolds source target (concluded o step known)
+      → (o : Option Fact) → first_missing (facts_of step.side known) step.schema.from ≡ o → EndHolds source target (concluded o step known).ends
   concluded_holds step known holds sound (Some f) h = tt
   concluded_holds step known holds sound None h = conclusion_holds step.side step.schema.from step.schema.to known holds sound h
 
   rule_holds : (step : RuleStep) (known : Assertion) → AssertionHolds known source target → (o : Option Meaning)
-      → (rule_takes o w.scope step.schema ≡ true → IsSound w.scope step.schema) → SteppedHolds source target (after_rule o w.scope step known)
+      → (rule_takes o w.scope step.schema ≡ true → IsSound w.scope step.schema) → EndHolds source target (after_rule o w.scope step known).ends
   rule_holds step known holds None sound = tt
   rule_holds step known holds (Some r) sound =
-      cond_both (r.takes w.scope step.schema) (concluded (first_missing (facts_of step.side known) step.schema.from) step known) (Refuses (RuleUnfit step.rule))
-      (SteppedHolds source target)
+      cond_both (r.takes w.scope step.schema) (concluded (first_missing (facts_of step.side known) step.schema.from) step known) (refuses (RuleUnfit step.rule))
+      (λ (c : Course Assertion). EndHolds source target c.ends)
       (λ e. concluded_holds step known holds (sound e) (first_missing (facts_of step.side known) step.schema.from) refl)
       (λ e. tt)
 
-  and_then_holds : (st : Stepped) (next : Assertion → Stepped) → SteppedHolds source target st → ((known : Assertion) → AssertionHolds known source target → SteppedHolds source target (next known))
-      → SteppedHolds source target (and_then st next)
-  and_then_holds (Refuses r) next h on = tt
-  and_then_holds (Knows known) next h on = on known h
+  after_ends_hold : (sizes : List ℕ) (e : Ends Assertion) (next : Assertion → Course Assertion) → EndHolds source target e
+      → ((known : Assertion) → AssertionHolds known source target → EndHolds source target (next known).ends)
+      → EndHolds source target (after_ends sizes e next).ends
+  after_ends_hold sizes (Refuses r) next h on = tt
+  after_ends_hold sizes (Gives known) next h on = on known h
 
-  step_holds : (step : HintStep) (known : Assertion) → AssertionHolds known source target → SteppedHolds source target (after_step w step known)
+  step_holds : (step : HintStep) (known : Assertion) → AssertionHolds known source target → EndHolds source target (after_step w step known).ends
   step_holds (Rule step) known holds = rule_holds step known holds (rule_named w.rules step.rule) (rules_sound step.rule w.scope step.schema)
 
-  pub steps_hold : (steps : List PlacedStep) (known : Assertion) → AssertionHolds known source target → SteppedHolds source target (after_steps w steps known)
+  pub steps_hold : (steps : List PlacedStep) (known : Assertion) → AssertionHolds known source target → EndHolds source target (after_steps w steps known).ends
   steps_hold [] known holds = holds
   steps_hold (s ∷ ss) known holds =
-      and_then_holds (after_step w s.step known) (after_steps w ss) (step_holds s.step known holds) (λ known' holds'. steps_hold ss known' holds')
+      let step = after_step w s.step known in
+      after_ends_hold step.sizes step.ends (after_steps w ss) (step_holds s.step known holds) (λ known' holds'. steps_hold ss known' holds')

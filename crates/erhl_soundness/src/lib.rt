@@ -6,7 +6,23 @@
 //! in place of proving the optimiser, is credible compilation (Rinard).
 #![tactic(auto)]
 
-ghost use Rattle.erhl_soundness.specs.Laws.{ALineKeepsWhatHolds, MatchedOperandsAreRelated, AcceptedModulesRefine};
+ghost use Rattle.erhl_soundness.specs.Laws.{ALineComesToWhatIsKnown, SizesBoundWhatIsKnown, FactsAreCounted, ALineKeepsWhatHolds, MatchedOperandsAreRelated, AcceptedModulesRefine};
+
+/// Over an aligned line, fact by fact, a check comes to what the postcondition gives.
+pub fn a_line_comes_to_what_is_known()
+    ensures { ALineComesToWhatIsKnown }
+{}
+
+/// Sizes tell of every assertion that a check comes to: none has more facts than the greatest size before it, or than were known
+/// at the start.
+pub fn sizes_bound_what_is_known()
+    ensures { SizesBoundWhatIsKnown }
+{}
+
+/// How many facts are known in the course of a check, in checks that are written out.
+pub fn facts_are_counted()
+    ensures { FactsAreCounted }
+{}
 
 /// Two sides of which an assertion holds come, by an aligned line, to two sides of which holds what the postcondition gives,
 /// unless the source's line is undefined behaviour; whatever their old and ghost registers are.

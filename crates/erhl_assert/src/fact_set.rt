@@ -1,0 +1,93 @@
+//! Sets of facts, each a list without repeats, and what takes facts out of them.
+ghost use Rattle.std.specs.Prelude.{◌≡◌, [], length, slice_get, OnOk};
+ghost use Rattle.std.specs.Option.{option_copied};
+ghost use Rattle.ir_core.specs.Same.{same_reg};
+ghost use Rattle.ir_core.specs.Expressions.{atom_has};
+ghost use Rattle.erhl_assert.specs.Named.{name_of};
+ghost use Rattle.erhl_assert.specs.Facts.{has_fact, with_fact, expr_names, fact_names, killed};
+
+use crate::Fact;
+use ir_core::{Atom, Expr, Expr0, Name, Reg, same_reg};
+use std::alloc::{AllocError, Global};
+
+/// What takes facts out of a set.
+pub enum Kill {
+    /// Those that name the register.
+    Naming(Reg),
+}
+
+impl Drop for Kill {
+    fn drop(self) {
+        match self {
+            Kill::Naming(_) => {}
+        }
+    }
+}
+
+/// A set of facts in the order in which they were added.
+pub trait FactSet: Drop {
+    ghost use Rattle.std.specs.Prelude.{List};
+    ghost use Rattle.erhl_assert.specs.declared.facts.Fact.{Fact};
+
+    /// The facts that it has.
+    ghost contents: { Self → List Fact };
+
+    fn empty(alloc: Global) -> Self
+        ensures { contents result ≡ [] };
+
+    fn len(&self) -> usize
+        ensures { result ≡ length (contents self.now) };
+
+    /// The fact of that number.
+    fn at(&self, k: usize) -> Option<&Fact>
+        ensures { option_copied result ≡ slice_get (contents self.now) k };
+
+    fn has(&self, fact: &Fact) -> bool
+        ensures { result ≡ has_fact fact.now (contents self.now) };
+
+    /// Puts the fact at the end, where it isn't there yet.
+    fn add(&mut self, fact: Fact) -> Result<(), AllocError>
+        ensures { OnOk result (contents self.new ≡ with_fact fact (contents self.old)) };
+
+    /// Takes out what the kill takes. No memory is taken.
+    fn kill(&mut self, kill: &Kill)
+        ensures { contents self.new ≡ killed kill.now (contents self.old) };
+}
+
+fn atom_names(register: &Reg, atom: &Atom<Reg>) -> bool
+    ensures { result ≡ atom_has (same_reg register.now) atom.now }
+{
+    match atom {
+        Atom::Constant(_) => false,
+        Atom::Register(other) => same_reg(register, other),
+    }
+}
+
+fn expr_names(register: &Reg, expr: &Expr0) -> bool
+    ensures { result ≡ expr_names register.now expr.now }
+{
+    match expr {
+        Expr::Plain(operand) => atom_names(register, &operand.atom),
+        Expr::Binary(binary) => {
+            atom_names(register, &binary.left) || atom_names(register, &binary.right)
+        }
+    }
+}
+
+/// Whether the fact names the register.
+pub fn fact_names(register: &Reg, fact: &Fact) -> bool
+    ensures { result ≡ fact_names register.now fact.now }
+{
+    match fact {
+        Fact::LessDef(a, b) => expr_names(register, a) || expr_names(register, b),
+    }
+}
+
+/// A register's name, whatever the register is of.
+pub fn bare_name(register: &Reg) -> &Name
+    ensures { result.now ≡ name_of register.now }
+{
+    match register {
+        Reg::Now(name) | Reg::Old(name) | Reg::Ghost(name) => name,
+    }
+}

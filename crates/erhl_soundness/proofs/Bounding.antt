@@ -1,0 +1,129 @@
+-- What a course comes to has no more facts than the greatest of its sizes, or than were known before.
+use Rattle.std.proofs.Common.{ℕ, suc, ◌+◌, ◌≤◌, Bool, true, false, not, cond, filter, List, [], ◌∷◌, ◌++◌, length, Option, None, Some, subst, arith}
+use Rattle.std.specs.List.{AllByRecursion}
+use Rattle.std.proofs.lemmas.Bool.{cond_both}
+use Rattle.ir_core.specs.declared.functions.Calm.{Calm}
+use Rattle.ir_core.specs.declared.functions.Instr.{Instr}
+use Rattle.ir_core.specs.declared.functions.Instr.TheVariants as line
+use Rattle.ir_core.specs.declared.expressions.Reg.{Reg}
+use Rattle.ir_core.specs.declared.expressions.Reg.TheVariants.{Now}
+use Rattle.erhl_assert.specs.declared.facts.Fact.{Fact}
+use Rattle.erhl_assert.specs.declared.facts.Fact.TheVariants.{LessDef}
+use Rattle.erhl_assert.specs.declared.facts.Assertion.{Assertion}
+use Rattle.erhl_assert.specs.declared.facts.Side.{Side}
+use Rattle.erhl_assert.specs.declared.facts.Side.TheVariants.{Src, Tgt}
+use Rattle.erhl_assert.specs.declared.hints.RuleStep.{RuleStep}
+use Rattle.erhl_assert.specs.declared.hints.HintStep.{HintStep}
+use Rattle.erhl_assert.specs.declared.hints.HintStep.TheVariants.{Rule}
+use Rattle.erhl_assert.specs.declared.hints.PlacedStep.{PlacedStep}
+use Rattle.erhl_assert.specs.declared.verdict.Reason.TheVariants.{RuleUnfit}
+use Rattle.erhl_assert.specs.Facts.{has_fact, expr_names, fact_names}
+use Rattle.erhl_assert.specs.Alignment.{Line}
+use Rattle.erhl_assert.specs.Postcondition.{right_side, left_side, diff_after}
+use Rattle.erhl_assert.specs.Course.{Ends, Refuses, Gives, Course, gives, refuses, after_ends, and_then}
+use Rattle.erhl_assert.specs.Growth.{size, facts_of, adds, forgetting, over_calm, over_side, over_line}
+use Rattle.erhl_assert.specs.Steps.{Meaning, Beside, rule_named, first_missing, concluded, after_rule, after_step, after_steps}
+use Rattle.erhl_soundness.specs.Laws.{SizesBoundWhatIsKnown}
+
+all_first : (P : ℕ → Type 0) (xs ys : List ℕ) → AllByRecursion P (xs ++ ys) → AllByRecursion P xs
+all_first P [] ys all = tt
+all_first P (x ∷ xs) ys all = (all.0, all_first P xs ys all.1)
+
+all_second : (P : ℕ → Type 0) (xs ys : List ℕ) → AllByRecursion P (xs ++ ys) → AllByRecursion P ys
+all_second P [] ys all = all
+all_second P (x ∷ xs) ys all = all_second P xs ys all.1
+
+filter_shorter : (p : Fact → Bool) (fs : List Fact) → length (filter p fs) ≤ length fs
+filter_shorter p [] = omega arith
+filter_shorter p (f ∷ fs) =
+    let rest : length (filter p fs) ≤ length fs = filter_shorter p fs in
+    cond_both (p f) (f ∷ filter p fs) (filter p fs) (λ (gs : List Fact). length gs ≤ suc (length fs)) (λ e. omega arith) (λ e. omega arith)
+
+module _ (n : ℕ) where
+  abbrev AtMost : List ℕ → Type 0
+  AtMost sizes = AllByRecursion (λ s. s ≤ n) sizes
+
+  abbrev EndAtMost : Ends Assertion → Type 0
+  EndAtMost (Refuses r) = Unit {0}
+  EndAtMost (Gives known) = size known ≤ n
+
+  abbrev IsBounded : Course Assertion → Type 0
+  IsBounded c = AtMost c.sizes → EndAtMost c.ends
+
+  first_sizes : (sizes : List ℕ) (e : Ends Assertion) (next : Assertion → Course Assertion) → AtMost (after_ends sizes e next).sizes → AtMost sizes
+  first_sizes sizes (Refuses r) next all = all
+  first_sizes sizes (Gives known) next all = all_first (λ s. s ≤ n) sizes (next known).sizes all
+
+  after_ends_bounded : (sizes : List ℕ) (e : Ends Assertion) (next : Assertion → Course Assertion) → EndAtMost e
+      → ((known : Assertion) → size known ≤ n → IsBounded (next known)) → IsBounded (after_ends sizes e next)
+  after_ends_bounded sizes (Refuses r) next h on all = tt
+  after_ends_bounded sizes (Gives known) next h on all = on known h (all_second (λ s. s ≤ n) sizes (next known).sizes all)
+
+  and_then_bounded : (c : Course Assertion) (next : Assertion → Course Assertion) → IsBounded c
+      → ((known : Assertion) → size known ≤ n → IsBounded (next known)) → IsBounded (and_then c next)
+  and_then_bounded c next h on all = after_ends_bounded c.sizes c.ends next (h (first_sizes c.sizes c.ends next all)) on all
+
+  adds_bounded : (side : Side) (f : Fact) (known : Assertion) → size known ≤ n → IsBounded (adds side f known)
+  adds_bounded Src f known h =
+      elim (has_fact f known.src) as (λ (b : Bool).
+      AtMost (cond b [] ((length (cond b known.src (known.src ++ f ∷ [])) + length known.tgt) ∷ []))
+      → length (cond b known.src (known.src ++ f ∷ [])) + length known.tgt ≤ n) [ true ↦ λ all. h | false ↦ λ all. all.0 ]
+  adds_bounded Tgt f known h =
+      elim (has_fact f known.tgt) as (λ (b : Bool).
+      AtMost (cond b [] ((length known.src + length (cond b known.tgt (known.tgt ++ f ∷ []))) ∷ []))
+      → length known.src + length (cond b known.tgt (known.tgt ++ f ∷ [])) ≤ n) [ true ↦ λ all. h | false ↦ λ all. all.0 ]
+
+  forgetting_bounded : (side : Side) (r : Reg) (known : Assertion) → size known ≤ n → size (forgetting side r known) ≤ n
+  forgetting_bounded Src r known h =
+      let fewer : length (filter (λ f. not (fact_names r f)) known.src) ≤ length known.src = filter_shorter (λ f. not (fact_names r f)) known.src in
+      let had : length known.src + length known.tgt ≤ n = h in
+      omega arith
+  forgetting_bounded Tgt r known h =
+      let fewer : length (filter (λ f. not (fact_names r f)) known.tgt) ≤ length known.tgt = filter_shorter (λ f. not (fact_names r f)) known.tgt in
+      let had : length known.src + length known.tgt ≤ n = h in
+      omega arith
+
+  calm_bounded : (side : Side) (l : Calm) (known : Assertion) → size known ≤ n → IsBounded (over_calm side l known)
+  calm_bounded side l known h =
+      let kept = forgetting side (Now l.name) known in
+      let less = forgetting_bounded side (Now l.name) known h in
+      let above = adds side (LessDef (left_side l) (right_side l)) kept in
+      let below = adds side (LessDef (right_side l) (left_side l)) in
+      cond_both (expr_names (Now l.name) (right_side l)) (gives kept) (and_then above below) IsBounded
+      (λ e all. less)
+      (λ e. and_then_bounded above below (adds_bounded side (LessDef (left_side l) (right_side l)) kept less)
+      (λ known' less'. adds_bounded side (LessDef (right_side l) (left_side l)) known' less'))
+
+  side_bounded : (side : Side) (o : Option Instr) (known : Assertion) → size known ≤ n → IsBounded (over_side side o known)
+  side_bounded side None known h = λ all. h
+  side_bounded side (Some (line.Calm l)) known h = calm_bounded side l known h
+
+  line_bounded : (l : Line) (known : Assertion) → size known ≤ n → IsBounded (over_line l known)
+  line_bounded l known h =
+      let last : Assertion → Course Assertion = λ after. gives (record after { diff = diff_after known l.source l.target }) in
+      and_then_bounded (over_side Src l.source known) (λ half. and_then (over_side Tgt l.target half) last) (side_bounded Src l.source known h)
+      (λ half less. and_then_bounded (over_side Tgt l.target half) last (side_bounded Tgt l.target half less) (λ after less' all. less'))
+
+  concluded_bounded : (o : Option Fact) (step : RuleStep) (known : Assertion) → size known ≤ n → IsBounded (concluded o step known)
+  concluded_bounded (Some f) step known h = λ all. tt
+  concluded_bounded None step known h = adds_bounded step.side step.schema.to known h
+
+  rule_bounded : (w : Beside) (o : Option Meaning) (step : RuleStep) (known : Assertion) → size known ≤ n → IsBounded (after_rule o w.scope step known)
+  rule_bounded w None step known h = λ all. tt
+  rule_bounded w (Some r) step known h =
+      cond_both (r.takes w.scope step.schema) (concluded (first_missing (facts_of step.side known) step.schema.from) step known) (refuses (RuleUnfit step.rule)) IsBounded
+      (λ e. concluded_bounded (first_missing (facts_of step.side known) step.schema.from) step known h)
+      (λ e all. tt)
+
+  step_bounded : (w : Beside) (step : HintStep) (known : Assertion) → size known ≤ n → IsBounded (after_step w step known)
+  step_bounded w (Rule step) known h = rule_bounded w (rule_named w.rules step.rule) step known h
+
+  steps_bounded : (w : Beside) (steps : List PlacedStep) (known : Assertion) → size known ≤ n → IsBounded (after_steps w steps known)
+  steps_bounded w [] known h = λ all. h
+  steps_bounded w (s ∷ ss) known h = and_then_bounded (after_step w s.step known) (after_steps w ss) (step_bounded w s.step known h) (steps_bounded w ss)
+
+pub sizes_bound : SizesBoundWhatIsKnown
+sizes_bound = record {
+  over_steps = λ n w steps known h after all ends. subst (EndAtMost n) ends (steps_bounded n w steps known h all);
+  over_a_line = λ n l known h after all ends. subst (EndAtMost n) ends (line_bounded n l known h all);
+}

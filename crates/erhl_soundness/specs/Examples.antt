@@ -1,0 +1,59 @@
+-- Functions, rules and hints written out, for the law that says how facts are counted.
+use Rattle.std.specs.Prelude.{ℕ, true, false, List, [], ◌∷◌, Some}
+use Rattle.ir_core.specs.declared.names.Name.TheVariants.{Number}
+use Rattle.ir_core.specs.declared.operands.Ty.TheVariants.{Int}
+use Rattle.ir_core.specs.declared.operands.Const.TheVariants as constant
+use Rattle.ir_core.specs.declared.operands.Atom.TheVariants.{Constant, Register}
+use Rattle.ir_core.specs.declared.operands.BinOp.TheVariants.{Add}
+use Rattle.ir_core.specs.declared.expressions.Expr.TheVariants as expr
+use Rattle.ir_core.specs.declared.functions.Instr.{Instr}
+use Rattle.ir_core.specs.declared.functions.Instr.TheVariants as line
+use Rattle.ir_core.specs.declared.functions.Term.TheVariants.{Ret}
+use Rattle.ir_core.specs.declared.functions.Function.{Function}
+use Rattle.erhl_assert.specs.declared.facts.Side.{Side}
+use Rattle.erhl_assert.specs.declared.facts.Fact.{Fact}
+use Rattle.erhl_assert.specs.declared.facts.Fact.TheVariants.{LessDef}
+use Rattle.erhl_assert.specs.declared.hints.Letter.{Letter}
+use Rattle.erhl_assert.specs.declared.hints.HintStep.TheVariants.{Rule}
+use Rattle.erhl_assert.specs.declared.hints.PlacedStep.{PlacedStep}
+use Rattle.erhl_assert.specs.declared.hints.Hint.{Hint}
+use Rattle.erhl_assert.specs.Alignment.{no_facts}
+use Rattle.erhl_assert.specs.Steps.{Beside}
+
+-- %x = add i32 %y, 0
+abbrev pub adds_zero : ℕ → ℕ → Instr
+adds_zero x y = line.Calm (record {
+  name = Number x;
+  right = expr.Binary (record {
+    op = Add;
+    flags = record { nuw = false; nsw = false };
+    ty = Int 32;
+    left = Register (Number y);
+    right = Constant (constant.Number 0);
+  });
+})
+
+-- define i32 @0(i32 %0) { 1: LINES  ret i32 %RESULT }
+abbrev pub defining : List Instr → ℕ → Function
+defining lines result = record {
+  name = Number 0;
+  result = Int 32;
+  params = record { name = Number 0; ty = Int 32 } ∷ [];
+  blocks = record { name = Number 1; phis = []; body = lines; term = Ret (record { ty = Int 32; atom = Register (Number result) }) } ∷ [];
+}
+
+-- one rule, whose name is of no letters, and which takes whatever it is given
+abbrev pub taking_all : Beside
+taking_all = record { rules = record { name = []; takes = λ scope schema. true } ∷ []; scope = tt }
+
+-- undef >= undef
+abbrev pub claim : Fact
+claim =
+    let undef = expr.Plain (record { ty = Int 32; atom = Constant constant.Undef }) in LessDef undef undef
+
+-- a step before line k, by the rule of that name, to the claim
+abbrev pub concluding : ℕ → List ℕ → Side → PlacedStep
+concluding k name side = record { at = k; step = Rule (record { rule = name; side = side; schema = record { from = []; to = claim } }) }
+
+abbrev pub hinting : List Letter → List PlacedStep → Hint
+hinting letters steps = record { blocks = record { at = Number 1; lines = Some letters; entry = no_facts; steps = steps } ∷ [] }
