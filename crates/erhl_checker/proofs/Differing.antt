@@ -17,7 +17,8 @@ use Rattle.erhl_assert.specs.declared.verdict.Difference.TheVariants as differen
 use Rattle.erhl_assert.specs.declared.verdict.ModuleVerdict.{ModuleVerdict}
 use Rattle.erhl_assert.specs.declared.verdict.ModuleVerdict.TheVariants as modules
 use Rattle.erhl_assert.specs.Steps.{Rules, Beside, beside}
-use Rattle.erhl_assert.specs.Acceptance.{function_verdict, hint_for, of_function, functions_verdict, module_verdict, same_signature, Accepts, AreAcceptedUnder, AreAccepted}
+use Rattle.erhl_assert.specs.Acceptance.{function_judged, function_verdict, hint_for, of_function, functions_verdict, module_verdict, same_signature, AreAcceptedUnder, AreAccepted}
+use Rattle.erhl_assert.proofs.Courses.{good_is_valid, valid_is_good}
 
 -- parameters are compared by their types
 pub same_types : (ps qs : List Param) → same_list (λ p q. same_ty p.ty q.ty) ps qs ≡ same_list same_ty (map (λ p. p.ty) ps) (map (λ p. p.ty) qs)
@@ -62,7 +63,7 @@ module _ (w : Beside) (hints : Hints) where
   valid_are_accepted (f ∷ fs) (g ∷ gs) same valid =
       let pair = of_function_valid f.name (function_verdict w f g (hint_for hints f.name)) (functions_verdict w hints fs gs) valid in (
         left_true (same_signature f g) (same_list same_signature fs gs) same,
-        pair.0,
+        valid_is_good (function_judged w f g (hint_for hints f.name)) pair.0,
         valid_are_accepted fs gs (right_true (same_signature f g) (same_list same_signature fs gs) same) pair.1,
       )
 
@@ -77,7 +78,8 @@ module _ (w : Beside) (hints : Hints) where
   accepted_are_valid [] (g ∷ gs) h = absurd h
   accepted_are_valid (f ∷ fs) [] h = absurd h
   accepted_are_valid (f ∷ fs) (g ∷ gs) h =
-      ap (λ v. of_function f.name v (functions_verdict w hints fs gs)) h.1 ∙ accepted_are_valid fs gs h.2
+      ap (λ v. of_function f.name v (functions_verdict w hints fs gs)) (good_is_valid (function_judged w f g (hint_for hints f.name)) h.1)
+      ∙ accepted_are_valid fs gs h.2
 
 -- what the hints accept is accepted under some hint
 pub accepted_under_some : (w : Beside) (hints : Hints) (fs gs : List Function) → AreAcceptedUnder hints w fs gs → AreAccepted w fs gs

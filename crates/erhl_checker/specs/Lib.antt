@@ -1,4 +1,1 @@
-pub mod Cursor
-pub mod Lent
-pub mod Placed
 pub mod Progress

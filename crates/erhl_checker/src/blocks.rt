@@ -1,22 +1,24 @@
 //! Along two blocks, line by line.
-ghost use Rattle.std.specs.Prelude.{◌≡◌, IfOk, map};
+ghost use Rattle.std.specs.Prelude.{◌≡◌, IfOk, OnOk, map};
 ghost use Rattle.std.specs.Option.{option_copied};
 ghost use Rattle.ir_core.specs.declared.functions.Term.TheVariants.{Ret};
-ghost use Rattle.erhl_assert.specs.Alignment.{no_facts, block_hint};
+ghost use Rattle.erhl_assert.specs.Alignment.{block_hint};
 ghost use Rattle.erhl_assert.specs.Steps.{beside, after_steps};
-ghost use Rattle.erhl_assert.specs.Acceptance.{term_verdict, after_steps_at, lines_verdict, from_entry};
-ghost use Rattle.erhl_checker.specs.Cursor.{line_at};
-ghost use Rattle.erhl_checker.specs.Lent.{lent_block};
-ghost use Rattle.erhl_checker.specs.Progress.{stepped, past_line, first_claim};
+ghost use Rattle.erhl_assert.specs.Postcondition.{after_line};
+ghost use Rattle.erhl_assert.specs.Course.{verdict_of};
+ghost use Rattle.erhl_assert.specs.Acceptance.{entry_judged};
+ghost use Rattle.line_align.specs.Cursor.{aligned_line};
+ghost use Rattle.line_align.specs.Lent.{lent_block};
+ghost use Rattle.erhl_checker.specs.Progress.{ended, past_line, verdict_at, term_verdict, lines_verdict, first_claim};
 
-use crate::alignment::{AlignedBlock, hint_of};
-use crate::cursor::{left, on_source, on_target, taken};
-use crate::placed::StepsByLine;
-use crate::steps::{Progress, after_steps};
-use contents::{Exact, Seq};
+use crate::steps::after_steps;
+use contents::Exact;
 use erhl_assert::{Assertion, Fact, Hint, HintBlock, Letter, PlacedStep, Reason, Spot, Verdict};
+use erhl_sides::{Sides, matched};
+use fact_sets::IndexedSet;
 use ir_core::{Block, Instr, Module, Name, Operand, Term};
-use postcondition::{after_line, matched};
+use line_align::{AlignedBlock, StepsByLine, hint_of, left, on_source, on_target, taken};
+use postcondition::{Line, LineEnd, after_line};
 use rule_base::RuleSet;
 use std::alloc::{AllocError, Global};
 
@@ -43,13 +45,13 @@ fn at_terms(
     k: u64,
     source: &Term,
     target: &Term,
-    known: &Assertion,
+    known: &Sides<IndexedSet>,
 ) -> Result<Verdict, AllocError>
     ensures { IfOk result (λ v. v ≡ term_verdict block.now k source.now target.now known.now) }
 {
     let a = returned(source);
     let b = returned(target);
-    if matched(known, a, b) {
+    if matched(a, b, known) {
         return Ok(Verdict::Valid);
     }
     let a = a.copy(alloc)?;
@@ -66,25 +68,37 @@ fn at_end<B: RuleSet>(
     k: u64,
     source: &Block,
     target: &Block,
-    known: Assertion,
+    known: &mut Sides<IndexedSet>,
 ) -> Result<Verdict, AllocError>
     ensures { IfOk result
         (λ v. v
-        ≡ after_steps_at source.now.name k
-        (after_steps
-        (beside (B.rules book.now) «module».now) (map (λ s. s.now) steps.now) known)
+        ≡ verdict_at source.now.name (Spot.Line k)
+        (after_steps (beside (B.rules book.now) «module».now) (map (λ s. s.now) steps.now) known.old).ends
         (term_verdict source.now.name k source.now.term target.now.term)) }
 {
     match after_steps(alloc, module, book, steps, known)? {
-        Progress::Known(after) => at_terms(
-            alloc,
-            &source.name,
-            k,
-            &source.term,
-            &target.term,
-            &after,
-        ),
-        Progress::Refused(reason) => refused(alloc, &source.name, Spot::Line(k), reason),
+        None => at_terms(alloc, &source.name, k, &source.term, &target.term, known),
+        Some(reason) => refused(alloc, &source.name, Spot::Line(k), reason),
+    }
+}
+
+fn over_line(
+    alloc: Global,
+    module: &Module,
+    letter: Letter,
+    xs: &[Instr],
+    ys: &[Instr],
+    known: &mut Sides<IndexedSet>,
+) -> Result<(), AllocError>
+    ensures { OnOk result (known.new ≡ after_line known.old (aligned_line letter xs.now ys.now)) }
+{
+    let line = Line {
+        source: taken(on_source(letter), xs),
+        target: taken(on_target(letter), ys),
+    };
+    match after_line(alloc, module, known, &line) {
+        Ok(()) => Ok(()),
+        Err(LineEnd::Memory) => Err(AllocError),
     }
 }
 
@@ -97,32 +111,30 @@ fn past_line<B: RuleSet>(
     letter: Letter,
     xs: &[Instr],
     ys: &[Instr],
-    known: Assertion,
-) -> Result<Progress, AllocError>
+    known: &mut Sides<IndexedSet>,
+) -> Result<Option<Reason>, AllocError>
     ensures { IfOk result
-        (λ progress. stepped progress
+        (λ refusal. ended refusal known.new
         ≡ past_line
-        (beside (B.rules book.now) «module».now) (map (λ s. s.now) steps.now) (line_at letter xs.now ys.now) known) }
+        (beside (B.rules book.now) «module».now) (map (λ s. s.now) steps.now) (aligned_line letter xs.now ys.now) known.old) }
 {
     match after_steps(alloc, module, book, steps, known)? {
-        Progress::Known(after) => {
-            let source = taken(on_source(letter), xs);
-            let target = taken(on_target(letter), ys);
-            Ok(Progress::Known(after_line(alloc, after, source, target)?))
+        None => {
+            over_line(alloc, module, letter, xs, ys, known)?;
+            Ok(None)
         }
-        Progress::Refused(reason) => Ok(Progress::Refused(reason)),
+        Some(reason) => Ok(Some(reason)),
     }
 }
 
 /// Along the aligned lines of two blocks.
-#[tactic(auto, using(crate::proofs::Progressing::lines_more, crate::proofs::Progressing::lines_refused))]
 fn along<B: RuleSet>(
     alloc: Global,
     module: &Module,
     book: &B,
     steps: &[PlacedStep],
     block: &AlignedBlock<'_>,
-    entry: Assertion,
+    entry: Sides<IndexedSet>,
 ) -> Result<Verdict, AllocError>
     ensures { IfOk result
         (λ v. v
@@ -136,20 +148,10 @@ fn along<B: RuleSet>(
     let mut ys = block.target.body.as_slice();
     for i in 0..letters.len() {
         let letter = letters[i];
-        match past_line(
-            alloc,
-            module,
-            book,
-            by_line.before(i).as_slice(),
-            letter,
-            xs,
-            ys,
-            known,
-        )? {
-            Progress::Known(after) => known = after,
-            Progress::Refused(reason) => {
-                return refused(alloc, &block.source.name, Spot::Line(i as u64), reason);
-            }
+        let steps = by_line.before(i).as_slice();
+        match past_line(alloc, module, book, steps, letter, xs, ys, &mut known)? {
+            None => {}
+            Some(reason) => return refused(alloc, &block.source.name, Spot::Line(i as u64), reason),
         }
         xs = left(on_source(letter), xs);
         ys = left(on_target(letter), ys);
@@ -162,7 +164,7 @@ fn along<B: RuleSet>(
         letters.len() as u64,
         block.source,
         block.target,
-        known,
+        &mut known,
     )
 }
 
@@ -174,16 +176,6 @@ fn first_claim(entry: &Assertion) -> Option<&Fact>
         Some(fact) => Some(fact),
         None => entry.tgt.as_slice().first(),
     }
-}
-
-fn copy_of(alloc: Global, known: &Assertion) -> Result<Assertion, AllocError>
-    ensures { IfOk result (λ copy. copy ≡ known.now) }
-{
-    Ok(Assertion {
-        src: known.src.copy(alloc)?,
-        tgt: known.tgt.copy(alloc)?,
-        diff: known.diff.copy(alloc)?,
-    })
 }
 
 /// At a block's start a fact is wanted that isn't there.
@@ -199,7 +191,6 @@ fn missing(alloc: Global, block: &Name, fact: &Fact) -> Result<Verdict, AllocErr
 }
 
 /// Two entry blocks with the hint that is given for them. Nothing is known of registers on entry, so the hint may want no fact.
-#[tactic(auto, using(crate::proofs::Progressing::claim_refused, crate::proofs::Progressing::nothing_claimed))]
 fn hinted<B: RuleSet>(
     alloc: Global,
     module: &Module,
@@ -209,25 +200,14 @@ fn hinted<B: RuleSet>(
 ) -> Result<Verdict, AllocError>
     ensures { IfOk result
         (λ v. v
-        ≡ from_entry (beside (B.rules book.now) «module».now) hint.now (lent_block block.now) hint.now.entry.src
-        hint.now.entry.tgt) }
+        ≡ verdict_of (entry_judged (beside (B.rules book.now) «module».now) hint.now (lent_block block.now))) }
 {
     match first_claim(&hint.entry) {
         Some(fact) => missing(alloc, &block.source.name, fact),
         None => {
-            let entry = copy_of(alloc, &hint.entry)?;
+            let entry = Sides::of(alloc, &hint.entry)?;
             along(alloc, module, book, hint.steps.as_slice(), block, entry)
         }
-    }
-}
-
-fn no_facts(alloc: Global) -> Assertion
-    ensures { result ≡ no_facts }
-{
-    Assertion {
-        src: Seq::new(alloc),
-        tgt: Seq::new(alloc),
-        diff: Seq::new(alloc),
     }
 }
 
@@ -241,12 +221,15 @@ pub(crate) fn entry_verdict<B: RuleSet>(
 ) -> Result<Verdict, AllocError>
     ensures { IfOk result
         (λ v. v
-        ≡ from_entry (beside (B.rules book.now) «module».now)
-        (block_hint hint.now block.now.source.now.name) (lent_block block.now)
-        (block_hint hint.now block.now.source.now.name).entry.src (block_hint hint.now block.now.source.now.name).entry.tgt) }
+        ≡ verdict_of
+        (entry_judged (beside (B.rules book.now) «module».now)
+        (block_hint hint.now block.now.source.now.name) (lent_block block.now))) }
 {
     match hint_of(hint, &block.source.name) {
         Some(entry) => hinted(alloc, module, book, entry, block),
-        None => along(alloc, module, book, &[], block, no_facts(alloc)),
+        None => {
+            let entry = Sides::empty(alloc)?;
+            along(alloc, module, book, &[], block, entry)
+        }
     }
 }

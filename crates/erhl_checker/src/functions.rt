@@ -1,15 +1,16 @@
 //! The verdict on two functions.
 ghost use Rattle.std.specs.Prelude.{◌≡◌, IfOk, map};
-ghost use Rattle.erhl_assert.specs.Acceptance.{function_verdict, reached_verdict};
+ghost use Rattle.erhl_assert.specs.Course.{verdict_of};
+ghost use Rattle.erhl_assert.specs.Acceptance.{function_verdict, reached_judged};
 ghost use Rattle.erhl_assert.specs.Steps.{beside};
 ghost use Rattle.rule_base.specs.Book.{meanings_of};
-ghost use Rattle.erhl_checker.specs.Lent.{lent_block};
+ghost use Rattle.line_align.specs.Lent.{lent_block};
 
 use crate::CheckEnd;
-use crate::alignment::{AlignedBlock, Alignment, align};
 use crate::blocks::entry_verdict;
 use erhl_assert::{Hint, Reason, Spot, Verdict};
 use ir_core::{Function, Module};
+use line_align::{AlignEnd, AlignedBlock, align};
 use rule_base::{InferRule, LentBook, RuleBook, RuleSet};
 use std::alloc::{AllocError, Global};
 use std::marker::PhantomData;
@@ -24,8 +25,7 @@ fn reached_verdict<B: RuleSet>(
 ) -> Result<Verdict, AllocError>
     ensures { IfOk result
         (λ v. v
-        ≡ reached_verdict
-        (beside (B.rules book.now) «module».now) hint.now (map lent_block blocks.now)) }
+        ≡ verdict_of (reached_judged (beside (B.rules book.now) «module».now) hint.now (map lent_block blocks.now))) }
 {
     match blocks.first() {
         Some(block) => entry_verdict(alloc, module, book, hint, block),
@@ -46,13 +46,14 @@ pub(crate) fn function_verdict<B: RuleSet>(
         ≡ function_verdict
         (beside (B.rules book.now) «module».now) source.now target.now hint.now) }
 {
-    match align(alloc, hint, source, target)? {
-        Alignment::Aligned(blocks) => reached_verdict(alloc, module, book, hint, blocks.as_slice()),
-        Alignment::Differs(block) => Ok(Verdict::Refused {
+    match align(alloc, source, target, hint) {
+        Ok(blocks) => reached_verdict(alloc, module, book, hint, blocks.as_slice()),
+        Err(AlignEnd::Differs(block)) => Ok(Verdict::Refused {
             block,
             spot: Spot::Start,
             reason: Reason::AlignmentDiffers,
         }),
+        Err(AlignEnd::Memory) => Err(AllocError),
     }
 }
 

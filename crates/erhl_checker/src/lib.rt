@@ -2,21 +2,16 @@
 //! first place and the first reason.
 #![tactic(auto)]
 
-mod alignment;
-mod alike;
 mod blocks;
-mod cursor;
 mod functions;
 mod modules;
-mod named;
-mod placed;
 mod steps;
 
 pub use functions::check_function;
 pub use modules::{check_module, check_module_under};
 
 /// Why a check ended without a verdict.
-#[derive(Debug, Drop, Clone, Copy)]
+#[derive(Drop, Clone, Copy)]
 pub enum CheckEnd {
     /// No memory is left.
     Memory,

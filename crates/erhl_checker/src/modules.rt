@@ -9,13 +9,12 @@ ghost use Rattle.erhl_assert.specs.Steps.{beside};
 ghost use Rattle.rule_base.specs.Book.{meanings_of};
 
 use crate::CheckEnd;
-use crate::alike::{Likeness, all_alike};
 use crate::functions::function_verdict;
-use crate::named::first_named;
 use contents::{Exact, Seq};
 use erhl_assert::{Difference, FunctionHint, Hint, Hints, ModuleVerdict, Verdict};
 use erhl_soundness::accepted_modules_refine;
 use ir_core::{Function, Module, Name, Param, same_name, same_ty};
+use line_align::{Likeness, all_alike, first_named};
 use rule_base::{InferRule, LentBook, RuleBook, RuleSet};
 use std::alloc::{AllocError, Global};
 use std::marker::PhantomData;

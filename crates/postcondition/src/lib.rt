@@ -1,11 +1,8 @@
-//! What is known after an aligned line, and when operands of the source and the target are known to be related.
+//! What is known after an aligned line.
 #![tactic(auto)]
 
-mod facts;
+mod ends;
 mod lines;
-mod matching;
-mod registers;
 
-pub use facts::{has_fact, with_fact};
-pub use lines::after_line;
-pub use matching::matched;
+pub use ends::LineEnd;
+pub use lines::{Line, after_line};

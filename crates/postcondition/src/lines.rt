@@ -1,5 +1,5 @@
 //! What is known after an aligned line.
-ghost use Rattle.std.specs.Prelude.{◌≡◌, ◌++◌, [], ◌∷◌, IfOk, None, Some, cond};
+ghost use Rattle.std.specs.Prelude.{◌≡◌, IfOk, OnOk, None, Some, cond};
 ghost use Rattle.std.specs.Option.{option_copied};
 ghost use Rattle.ir_core.specs.declared.expressions.Reg.TheVariants.{Now};
 ghost use Rattle.ir_core.specs.declared.expressions.Expr.TheVariants as expr;
@@ -8,16 +8,18 @@ ghost use Rattle.ir_core.specs.Same.{same_reg};
 ghost use Rattle.ir_core.specs.Expressions.{map_atom, map_operand, map_binary, map_expr, atom_has};
 ghost use Rattle.ir_values.specs.Laws.{flags_among};
 ghost use Rattle.erhl_assert.specs.declared.facts.Fact.TheVariants.{LessDef};
-ghost use Rattle.erhl_assert.specs.Facts.{expr_names, without_naming};
-ghost use Rattle.erhl_assert.specs.Postcondition.{right_side, register_of, facts_after_line, rights_agree, lines_agree, without_reg, with_reg, after_line};
+ghost use Rattle.erhl_assert.specs.declared.fact_set.Kill.TheVariants.{Naming};
+ghost use Rattle.erhl_assert.specs.Facts.{expr_names, killed, on_side};
+ghost use Rattle.erhl_assert.specs.Growth.{with_conclusion};
+ghost use Rattle.erhl_assert.specs.Postcondition.{right_side, left_side, facts_after_line, rights_agree, lines_agree, without_reg, with_reg, after_line};
 
-use crate::facts::without_naming;
-use crate::matching::{atoms_matched, matched};
-use crate::registers::{with_reg, without_reg};
-use contents::{Exact, Seq};
-use erhl_assert::{Assertion, Fact};
+use crate::LineEnd;
+use contents::Exact;
+use erhl_assert::{Fact, FactSet, Kill, Side};
+use erhl_sides::{Sides, atoms_matched, matched};
 use ir_core::{
-    Atom, Binary, Calm, Expr, Expr0, Flags, Instr, Name, Operand, Reg, same_name, same_op, same_ty,
+    Atom, Binary, Calm, Expr, Expr0, Flags, Instr, Module, Name, Operand, Reg, same_name, same_op,
+    same_ty,
 };
 use std::alloc::{AllocError, Global};
 
@@ -62,8 +64,8 @@ fn now_expr(alloc: Global, expr: &Expr<Name>) -> Result<Expr0, AllocError>
 }
 
 /// The register of a line, as an expression.
-fn register_of(alloc: Global, line: &Calm) -> Result<Expr0, AllocError>
-    ensures { IfOk result (λ register. register ≡ register_of line.now) }
+fn left_side(alloc: Global, line: &Calm) -> Result<Expr0, AllocError>
+    ensures { IfOk result (λ register. register ≡ left_side line.now) }
 {
     Ok(Expr::Plain(Operand {
         ty: line.right.ty().copy(alloc)?,
@@ -78,31 +80,36 @@ fn less_def(alloc: Global, a: &Expr0, b: &Expr0) -> Result<Fact, AllocError>
     Ok(Fact::LessDef(a, b.copy(alloc)?))
 }
 
-fn with_both(mut facts: Seq<Fact>, there: Fact, back: Fact) -> Result<Seq<Fact>, AllocError>
-    ensures { IfOk result (λ after. after ≡ (facts ++ there ∷ []) ++ back ∷ []) }
-{
-    facts.push(there)?;
-    facts.push(back)?;
-    Ok(facts)
-}
-
-/// The facts, and then that the two expressions are less defined than each other.
-fn with_equal(alloc: Global, facts: Seq<Fact>, a: Expr0, b: Expr0) -> Result<Seq<Fact>, AllocError>
-    ensures { IfOk result (λ after. after ≡ (facts ++ LessDef a b ∷ []) ++ LessDef b a ∷ []) }
+/// Adds that the two expressions are less defined than each other.
+fn add_equal<S: FactSet>(
+    alloc: Global,
+    side: Side,
+    a: Expr0,
+    b: Expr0,
+    sides: &mut Sides<S>,
+) -> Result<(), AllocError>
+    ensures { OnOk result
+        (sides.new ≡ with_conclusion side (LessDef b a) (with_conclusion side (LessDef a b) sides.old)) }
 {
     let back = less_def(alloc, &b, &a)?;
-    with_both(facts, Fact::LessDef(a, b), back)
+    sides.add_fact(side, Fact::LessDef(a, b))?;
+    sides.add_fact(side, back)
 }
 
-/// The facts, and then that the register and the right side are less defined than each other.
-fn with_line(alloc: Global, facts: Seq<Fact>, line: &Calm) -> Result<Seq<Fact>, AllocError>
-    ensures { IfOk result
-        (λ after. after
-        ≡ (facts ++ LessDef (register_of line.now) (right_side line.now) ∷ [])
-        ++ LessDef (right_side line.now) (register_of line.now) ∷ []) }
+/// Adds that the register of the line and its right side are less defined than each other.
+fn add_line<S: FactSet>(
+    alloc: Global,
+    side: Side,
+    line: &Calm,
+    sides: &mut Sides<S>,
+) -> Result<(), AllocError>
+    ensures { OnOk result
+        (sides.new
+        ≡ with_conclusion side (LessDef (right_side line.now) (left_side line.now))
+        (with_conclusion side (LessDef (left_side line.now) (right_side line.now)) sides.old)) }
 {
-    let register = register_of(alloc, line)?;
-    with_equal(alloc, facts, register, now_expr(alloc, &line.right)?)
+    let register = left_side(alloc, line)?;
+    add_equal(alloc, side, register, now_expr(alloc, &line.right)?, sides)
 }
 
 fn is_named(name: &Name, atom: &Atom<Name>) -> bool
@@ -124,23 +131,33 @@ fn names(name: &Name, expr: &Expr<Name>) -> bool
     }
 }
 
-fn without_name(alloc: Global, name: &Name, facts: Seq<Fact>) -> Result<Seq<Fact>, AllocError>
-    ensures { IfOk result (λ kept. kept ≡ without_naming (Now name.now) facts) }
+fn forget<S: FactSet>(
+    alloc: Global,
+    side: Side,
+    name: &Name,
+    sides: &mut Sides<S>,
+) -> Result<(), AllocError>
+    ensures { OnOk result (sides.new ≡ on_side side (killed (Naming (Now name.now))) sides.old) }
 {
-    Ok(without_naming(&Reg::Now(name.copy(alloc)?), facts))
+    sides.kill(side, &Kill::Naming(Reg::Now(name.copy(alloc)?)));
+    Ok(())
 }
 
 /// What is known of a side after its line.
-#[tactic(auto, using(crate::proofs::Fresh::facts_added))]
-fn facts_after(alloc: Global, line: &Calm, facts: Seq<Fact>) -> Result<Seq<Fact>, AllocError>
-    ensures { IfOk result (λ after. after ≡ facts_after_line line.now facts) }
+#[tactic(auto, using(crate::proofs::LineFacts::line_added, crate::proofs::LineFacts::line_not_added))]
+fn facts_after<S: FactSet>(
+    alloc: Global,
+    side: Side,
+    line: &Calm,
+    sides: &mut Sides<S>,
+) -> Result<(), AllocError>
+    ensures { OnOk result (sides.new ≡ on_side side (facts_after_line line.now) sides.old) }
 {
-    let kept = without_name(alloc, &line.name, facts)?;
+    forget(alloc, side, &line.name, sides)?;
     if names(&line.name, &line.right) {
-        Ok(kept)
+        Ok(())
     } else {
-        // No fact that is left names the register, so neither of these is there yet.
-        with_line(alloc, kept, line)
+        add_line(alloc, side, line, sides)
     }
 }
 
@@ -152,100 +169,100 @@ fn flags_among(few: &Flags, many: &Flags) -> bool
 }
 
 /// Whether the operators are one, and the operands are matched.
-fn binaries_agree(known: &Assertion, s: &Binary<Name>, t: &Binary<Name>) -> bool
+fn binaries_agree<S: FactSet>(known: &Sides<S>, s: &Binary<Name>, t: &Binary<Name>) -> bool
     ensures { result ≡ rights_agree known.now (expr.Binary s.now) (expr.Binary t.now) }
 {
     same_op(&s.op, &t.op)
         && same_ty(&s.ty, &t.ty)
         && flags_among(&t.flags, &s.flags)
-        && atoms_matched(known, &s.ty, &s.left, &t.ty, &t.left)
-        && atoms_matched(known, &s.ty, &s.right, &t.ty, &t.right)
+        && atoms_matched(&s.ty, &s.left, &t.ty, &t.left, known)
+        && atoms_matched(&s.ty, &s.right, &t.ty, &t.right, known)
 }
 
-fn rights_agree(known: &Assertion, s: &Expr<Name>, t: &Expr<Name>) -> bool
+fn rights_agree<S: FactSet>(known: &Sides<S>, s: &Expr<Name>, t: &Expr<Name>) -> bool
     ensures { result ≡ rights_agree known.now s.now t.now }
 {
     match (s, t) {
-        (Expr::Plain(a), Expr::Plain(b)) => matched(known, a, b),
+        (Expr::Plain(a), Expr::Plain(b)) => matched(a, b, known),
         (Expr::Binary(a), Expr::Binary(b)) => binaries_agree(known, a, b),
         _ => false,
     }
 }
 
 /// Whether the lines define one register, and agree.
-fn lines_agree(known: &Assertion, s: &Calm, t: &Calm) -> bool
+fn lines_agree<S: FactSet>(known: &Sides<S>, s: &Calm, t: &Calm) -> bool
     ensures { result ≡ lines_agree known.now s.now t.now }
 {
     same_name(&s.name, &t.name) && rights_agree(known, &s.right, &t.right)
 }
 
-fn differing(alloc: Global, name: &Name, diff: Seq<Reg>) -> Result<Seq<Reg>, AllocError>
-    ensures { IfOk result (λ after. after ≡ with_reg (Now name.now) diff) }
+fn differ<S: FactSet>(alloc: Global, name: &Name, sides: &mut Sides<S>) -> Result<(), AllocError>
+    ensures { OnOk result
+        (sides.new ≡ record sides.old { diff = with_reg (Now name.now) sides.old.diff }) }
 {
-    with_reg(Reg::Now(name.copy(alloc)?), diff)
+    sides.add_differing(alloc, Reg::Now(name.copy(alloc)?))
 }
 
-fn agreeing(alloc: Global, name: &Name, diff: Seq<Reg>) -> Result<Seq<Reg>, AllocError>
-    ensures { IfOk result (λ after. after ≡ without_reg (Now name.now) diff) }
+fn agree<S: FactSet>(alloc: Global, name: &Name, sides: &mut Sides<S>) -> Result<(), AllocError>
+    ensures { OnOk result
+        (sides.new ≡ record sides.old { diff = without_reg (Now name.now) sides.old.diff }) }
 {
-    Ok(without_reg(&Reg::Now(name.copy(alloc)?), diff))
+    sides.remove_differing(&Reg::Now(name.copy(alloc)?));
+    Ok(())
 }
 
 /// The registers that may differ after a line of both sides.
-fn diff_after_both(
+fn diff_after_both<S: FactSet>(
     alloc: Global,
-    agree: bool,
+    agreed: bool,
     s: &Name,
     t: &Name,
-    diff: Seq<Reg>,
-) -> Result<Seq<Reg>, AllocError>
-    ensures { IfOk result
-        (λ after. after
-        ≡ cond agree (without_reg (Now s.now) diff) (with_reg (Now t.now) (with_reg (Now s.now) diff))) }
+    sides: &mut Sides<S>,
+) -> Result<(), AllocError>
+    ensures { OnOk result
+        (sides.new
+        ≡ record sides.old {
+          diff = cond agreed (without_reg (Now s.now) sides.old.diff) (with_reg (Now t.now) (with_reg (Now s.now) sides.old.diff));
+        }) }
 {
-    if agree {
-        agreeing(alloc, s, diff)
+    if agreed {
+        agree(alloc, s, sides)
     } else {
-        differing(alloc, t, differing(alloc, s, diff)?)
+        differ(alloc, s, sides)?;
+        differ(alloc, t, sides)
     }
 }
 
-fn after_both(alloc: Global, known: Assertion, s: &Calm, t: &Calm) -> Result<Assertion, AllocError>
-    ensures { IfOk result
-        (λ after. after
-        ≡ after_line known (record { source = Some (line.Calm s.now); target = Some (line.Calm t.now) })) }
+fn after_both<S: FactSet>(
+    alloc: Global,
+    s: &Calm,
+    t: &Calm,
+    sides: &mut Sides<S>,
+) -> Result<(), AllocError>
+    ensures { OnOk result
+        (sides.new
+        ≡ after_line sides.old (record { source = Some (line.Calm s.now); target = Some (line.Calm t.now) })) }
 {
-    let agree = lines_agree(&known, s, t);
-    let Assertion { src, tgt, diff } = known;
-    Ok(Assertion {
-        src: facts_after(alloc, s, src)?,
-        tgt: facts_after(alloc, t, tgt)?,
-        diff: diff_after_both(alloc, agree, &s.name, &t.name, diff)?,
-    })
+    let agreed = lines_agree(sides, s, t);
+    facts_after(alloc, Side::Src, s, sides)?;
+    facts_after(alloc, Side::Tgt, t, sides)?;
+    diff_after_both(alloc, agreed, &s.name, &t.name, sides)
 }
 
-fn after_source(alloc: Global, known: Assertion, s: &Calm) -> Result<Assertion, AllocError>
-    ensures { IfOk result
-        (λ after. after ≡ after_line known (record { source = Some (line.Calm s.now); target = None })) }
+fn after_source<S: FactSet>(alloc: Global, s: &Calm, sides: &mut Sides<S>) -> Result<(), AllocError>
+    ensures { OnOk result
+        (sides.new ≡ after_line sides.old (record { source = Some (line.Calm s.now); target = None })) }
 {
-    let Assertion { src, tgt, diff } = known;
-    Ok(Assertion {
-        src: facts_after(alloc, s, src)?,
-        tgt,
-        diff: differing(alloc, &s.name, diff)?,
-    })
+    facts_after(alloc, Side::Src, s, sides)?;
+    differ(alloc, &s.name, sides)
 }
 
-fn after_target(alloc: Global, known: Assertion, t: &Calm) -> Result<Assertion, AllocError>
-    ensures { IfOk result
-        (λ after. after ≡ after_line known (record { source = None; target = Some (line.Calm t.now) })) }
+fn after_target<S: FactSet>(alloc: Global, t: &Calm, sides: &mut Sides<S>) -> Result<(), AllocError>
+    ensures { OnOk result
+        (sides.new ≡ after_line sides.old (record { source = None; target = Some (line.Calm t.now) })) }
 {
-    let Assertion { src, tgt, diff } = known;
-    Ok(Assertion {
-        src,
-        tgt: facts_after(alloc, t, tgt)?,
-        diff: differing(alloc, &t.name, diff)?,
-    })
+    facts_after(alloc, Side::Tgt, t, sides)?;
+    differ(alloc, &t.name, sides)
 }
 
 fn calm_of(instr: &Instr) -> &Calm
@@ -255,25 +272,50 @@ fn calm_of(instr: &Instr) -> &Calm
     calm
 }
 
-/// What is known after a line of the source and a line of the target, of which one may be absent.
-pub fn after_line(
+/// A line of the source and a line of the target, of which one may be absent.
+#[derive(Drop, Clone, Copy)]
+pub struct Line<'a> {
+    pub source: Option<&'a Instr>,
+    pub target: Option<&'a Instr>,
+}
+
+fn past<S: FactSet>(
     alloc: Global,
-    known: Assertion,
+    sides: &mut Sides<S>,
     source: Option<&Instr>,
     target: Option<&Instr>,
-) -> Result<Assertion, AllocError>
-    ensures { IfOk result
-        (λ after. after
-        ≡ after_line known (record { source = option_copied source.entry; target = option_copied target.entry })) }
+) -> Result<(), AllocError>
+    ensures { OnOk result
+        (sides.new
+        ≡ after_line sides.old (record { source = option_copied source.entry; target = option_copied target.entry })) }
 {
     match source {
         Some(s) => match target {
-            Some(t) => after_both(alloc, known, calm_of(s), calm_of(t)),
-            None => after_source(alloc, known, calm_of(s)),
+            Some(t) => after_both(alloc, calm_of(s), calm_of(t), sides),
+            None => after_source(alloc, calm_of(s), sides),
         },
         None => match target {
-            Some(t) => after_target(alloc, known, calm_of(t)),
-            None => Ok(known),
+            Some(t) => after_target(alloc, calm_of(t), sides),
+            None => Ok(()),
         },
     }
+}
+
+/// What is known after a line, of what was known before it. No line of today asks the module. After an error nothing is said
+/// of the sides, which are to be given up.
+pub fn after_line<S: FactSet>(
+    alloc: Global,
+    _module: &Module,
+    sides: &mut Sides<S>,
+    line: &Line<'_>,
+) -> Result<(), LineEnd>
+    ensures { OnOk result
+        (sides.new
+        ≡ after_line sides.old (record {
+          source = option_copied line.now.source;
+          target = option_copied line.now.target;
+        })) }
+{
+    past(alloc, sides, line.source, line.target)?;
+    Ok(())
 }

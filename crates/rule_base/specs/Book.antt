@@ -3,14 +3,14 @@ use Rattle.std.specs.Prelude.{ℕ, Bool, cond, List, map, Option, None, Some}
 use Rattle.ir_core.specs.Modules.{Scope}
 use Rattle.erhl_assert.specs.declared.facts.Schema.{Schema}
 use Rattle.erhl_assert.specs.Steps.{Meaning, Rules}
-use Rattle.rule_base.specs.declared.rule_book.Answer.{Answer}
-use Rattle.rule_base.specs.declared.rule_book.Answer.TheVariants.{Unknown, Unfit, Fits}
+use Rattle.rule_base.specs.declared.rule_book.Fitness.{Fitness}
+use Rattle.rule_base.specs.declared.rule_book.Fitness.TheVariants.{Unknown, Unfit, Fits}
 
 -- the meanings of boxes, by what a box is called and what it takes
 abbrev pub meanings_of : {B : Type 0} → (B → List ℕ) → (B → Scope → Schema → Bool) → List B → Rules
 meanings_of called takes boxes = map (λ b. record { name = called b; takes = takes b }) boxes
 
 -- what a book says of a schema, by the rule that it has of the name
-abbrev pub answer_of : Option Meaning → Scope → Schema → Answer
+abbrev pub answer_of : Option Meaning → Scope → Schema → Fitness
 answer_of None scope schema = Unknown
 answer_of (Some r) scope schema = cond (r.takes scope schema) Fits Unfit

@@ -62,10 +62,10 @@ is_zero_right [] (LessDef (Binary e) (Binary f)) = false
 is_zero_right [] (LessDef (Plain a) b) = false
 is_zero_right (x ∷ more) to = false
 
-abbrev pub name_of : Rule → List ℕ
-name_of Trans = codes "trans"
-name_of UndefConst = codes "undef_const"
-name_of ZeroRight = codes "zero_right"
+abbrev pub rule_name : Rule → List ℕ
+rule_name Trans = codes "trans"
+rule_name UndefConst = codes "undef_const"
+rule_name ZeroRight = codes "zero_right"
 
 -- no name stands twice
 abbrev pub stand_apart : List (List ℕ) → Bool
@@ -80,7 +80,7 @@ takes_row ZeroRight scope schema = is_zero_right schema.from schema.to
 
 -- a shipped rule: its name, and what it takes
 abbrev pub meaning_of : Rule → Meaning
-meaning_of rule = record { name = name_of rule; takes = takes_row rule }
+meaning_of rule = record { name = rule_name rule; takes = takes_row rule }
 
 -- the rules that are shipped, in the order of the table
 abbrev pub shipped_rules : Rules

@@ -10,6 +10,6 @@ mod shipped;
 
 pub use infer::InferRule;
 pub use passes::Pass;
-pub use rule_book::{Answer, RuleBook, book_is_sound};
+pub use rule_book::{Fitness, RuleBook, book_is_sound};
 pub use rule_set::{LentBook, RuleSet, ShippedRules};
 pub use shipped::{Rule, rules_stand_in_the_table};

@@ -17,7 +17,7 @@ pub struct RuleBook {
 
 /// What a book says of a schema under a rule's name.
 #[derive(Drop, Clone, Copy)]
-pub enum Answer {
+pub enum Fitness {
     /// The book has no rule of that name.
     Unknown,
     /// The rule of that name doesn't take the schema.
@@ -44,15 +44,15 @@ fn takes(rule: &Box<dyn InferRule>, module: &Module, schema: &Schema) -> bool
     rule.fits(module, schema)
 }
 
-fn answer_by(rule: &Box<dyn InferRule>, module: &Module, schema: &Schema) -> Answer
+fn answer_by(rule: &Box<dyn InferRule>, module: &Module, schema: &Schema) -> Fitness
     ensures { result ≡ cond
         ((⟦<dyn InferRule as InferRule>⟧ rule.now.vtable).takes rule.now.value (scope_of «module».now) schema.now)
-        Answer.Fits Answer.Unfit }
+        Fitness.Fits Fitness.Unfit }
 {
     if takes(rule, module, schema) {
-        Answer::Fits
+        Fitness::Fits
     } else {
-        Answer::Unfit
+        Fitness::Unfit
     }
 }
 
@@ -64,7 +64,7 @@ impl RuleBook {
     }
 
     /// Whether the rule of that name takes the schema beside the module.
-    pub fn ask(&self, name: &Seq<u8>, module: &Module, schema: &Schema) -> Answer
+    pub fn ask(&self, name: &Seq<u8>, module: &Module, schema: &Schema) -> Fitness
         ensures { result ≡ answer_of
             (rule_named
             (meanings_of
@@ -79,7 +79,7 @@ impl RuleBook {
                 return answer_by(rule, module, schema);
             }
         }
-        Answer::Unknown
+        Fitness::Unknown
     }
 }
 

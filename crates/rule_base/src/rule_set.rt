@@ -4,9 +4,9 @@ ghost use Rattle.ir_core.specs.Modules.{scope_of};
 ghost use Rattle.erhl_assert.specs.Steps.{Rules, AreSound, rule_named};
 ghost use Rattle.std.specs.Option.{option_map};
 ghost use Rattle.rule_base.specs.Book.{answer_of};
-ghost use Rattle.rule_base.specs.Rows.{meaning_of, name_of, shipped_rules};
+ghost use Rattle.rule_base.specs.Rows.{meaning_of, rule_name, shipped_rules};
 
-use crate::{Answer, InferRule, Rule, RuleBook, book_is_sound};
+use crate::{Fitness, InferRule, Rule, RuleBook, book_is_sound};
 use contents::Seq;
 use erhl_assert::Schema;
 use ir_core::Module;
@@ -22,7 +22,7 @@ pub trait RuleSet {
         ensures { AreSound (rules self.now) };
 
     /// Whether the rule of that name takes the schema beside the module.
-    fn ask(&self, name: &Seq<u8>, module: &Module, schema: &Schema) -> Answer
+    fn ask(&self, name: &Seq<u8>, module: &Module, schema: &Schema) -> Fitness
         ensures { result ≡ answer_of (rule_named (rules self.now) name.now) (scope_of «module».now) schema.now };
 }
 
@@ -57,7 +57,7 @@ impl RuleSet for LentBook<'_> {
         book_is_sound(self.book);
     }
 
-    fn ask(&self, name: &Seq<u8>, module: &Module, schema: &Schema) -> Answer {
+    fn ask(&self, name: &Seq<u8>, module: &Module, schema: &Schema) -> Fitness {
         self.book.ask(name, module, schema)
     }
 }
@@ -73,22 +73,22 @@ impl RuleSet for ShippedRules {
 
     fn are_sound(&self) {}
 
-    fn ask(&self, name: &Seq<u8>, module: &Module, schema: &Schema) -> Answer {
+    fn ask(&self, name: &Seq<u8>, module: &Module, schema: &Schema) -> Fitness {
         match named(name.as_slice()) {
             Some(rule) => {
                 if rule.fits(module, schema) {
-                    Answer::Fits
+                    Fitness::Fits
                 } else {
-                    Answer::Unfit
+                    Fitness::Unfit
                 }
             }
-            None => Answer::Unknown,
+            None => Fitness::Unknown,
         }
     }
 }
 
 fn is_called(rule: Rule, name: &[u8]) -> bool
-    ensures { result ≡ same_list nat_eq (name_of rule) name.now }
+    ensures { result ≡ same_list nat_eq (rule_name rule) name.now }
 {
     rule.name().as_bytes() == name
 }

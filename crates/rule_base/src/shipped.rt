@@ -1,7 +1,7 @@
 ghost use Rattle.std.specs.Prelude.{◌≡◌, true, [], ◌∷◌, map, Contains};
 ghost use Rattle.erhl_assert.specs.Facts.{has_values, has_type, constant_fits, atom_fits, fits_constants};
 ghost use Rattle.rule_base.specs.declared.shipped.Rule.{Rule};
-ghost use Rattle.rule_base.specs.Rows.{name_of, stand_apart, is_typed, have_one_type, is_trans, is_undef_const, is_zero_right, is_undef, is_constant, is_zero};
+ghost use Rattle.rule_base.specs.Rows.{rule_name, stand_apart, is_typed, have_one_type, is_trans, is_undef_const, is_zero_right, is_undef, is_constant, is_zero};
 
 use crate::InferRule;
 use erhl_assert::{Fact, Schema};
@@ -25,10 +25,10 @@ impl Rule {
 }
 
 impl InferRule for Rule {
-    ghost use Rattle.rule_base.specs.Rows.{name_of, takes_row};
+    ghost use Rattle.rule_base.specs.Rows.{rule_name, takes_row};
     ghost use Rattle.rule_base.specs.RowLaws.{row_is_sound};
 
-    ghost called = { name_of };
+    ghost called = { rule_name };
 
     ghost takes = { takes_row };
 
@@ -55,7 +55,7 @@ impl InferRule for Rule {
 pub fn rules_stand_in_the_table()
     ensures table { Rule.ALL ≡ Rule.Trans ∷ Rule.UndefConst ∷ Rule.ZeroRight ∷ [] }
     ensures whole { (rule : Rule) → Contains Rule.ALL rule }
-    ensures named_apart { stand_apart (map name_of Rule.ALL) ≡ true }
+    ensures named_apart { stand_apart (map rule_name Rule.ALL) ≡ true }
 {}
 
 fn has_values(ty: &Ty) -> bool
@@ -80,7 +80,7 @@ fn constant_fits(ty: &Ty, constant: &Const) -> bool
     ensures { result ≡ constant_fits ty.now constant.now }
 {
     match (ty, constant) {
-        (Ty::Int(width), Const::Number(number)) => fits(*number, *width),
+        (Ty::Int(width), Const::Number(number)) => fits(number.get(), *width),
         (Ty::Int(_), Const::Undef) => true,
         (Ty::Void, _) => false,
     }
@@ -146,7 +146,10 @@ fn is_constant(atom: &Atom<Reg>) -> bool
 fn is_zero(atom: &Atom<Reg>) -> bool
     ensures { result ≡ is_zero atom.now }
 {
-    matches!(atom, Atom::Constant(Const::Number(0)))
+    match atom {
+        Atom::Constant(Const::Number(number)) => number.get() == 0,
+        _ => false,
+    }
 }
 
 fn is_undef_const(from: &[Fact], to: &Fact) -> bool

@@ -1,7 +1,7 @@
 use Rattle.std.proofs.Common.{◌≡◌, drop}
-use Rattle.erhl_assert.specs.Acceptance.{lines_verdict}
 use Rattle.erhl_assert.specs.Steps.{beside}
-use Rattle.erhl_checker.specs.Lent.{lines_under}
+use Rattle.line_align.specs.Lent.{lines_under}
+use Rattle.erhl_checker.specs.Progress.{lines_verdict}
 use Rattle.erhl_checker.proofs.blocks.along.Given as goal
 
 -- the verdict on what is left is the verdict on all

@@ -1,4 +1,3 @@
-use Rattle.std.proofs.Common.{sym, ◌∙◌}
 use Rattle.erhl_checker.proofs.Differing.{accepted_where, differs_where, accepted_under_some}
 use Rattle.erhl_checker.proofs.modules.check_module_under.Goals as goal
 

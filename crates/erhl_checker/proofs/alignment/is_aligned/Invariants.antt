@@ -1,7 +1,0 @@
-use Rattle.std.proofs.Common.{◌≡◌, drop}
-use Rattle.erhl_assert.specs.Alignment.{aligned}
-use Rattle.erhl_checker.specs.Cursor.{is_aligned}
-use Rattle.erhl_checker.proofs.alignment.is_aligned.Given as goal
-
-abbrev pub invariant-loop-letter : goal.invariant-loop-letter
-invariant-loop-letter l = is_aligned (aligned (drop l.letter-index l.letters) l.xs l.ys) ≡ is_aligned (aligned l.letters l.source l.target)

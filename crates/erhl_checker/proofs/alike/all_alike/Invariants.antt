@@ -1,6 +1,0 @@
-use Rattle.std.proofs.Common.{◌≡◌, drop}
-use Rattle.ir_core.specs.Same.{same_list}
-use Rattle.erhl_checker.proofs.alike.all_alike.Given as goal
-
-abbrev pub invariant-loop-a : goal.invariant-loop-a
-invariant-loop-a g l = same_list g.L.Likeness.like (drop l.a-index l.source) l.rest ≡ same_list g.L.Likeness.like l.source l.target

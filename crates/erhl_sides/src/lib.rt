@@ -1,0 +1,10 @@
+//! What is known at a place, in a form in which it is found without walks, and when operands of the source and the target
+//! are known to be related.
+#![tactic(auto)]
+
+mod in_logic;
+mod matching;
+mod sides;
+
+pub use matching::{atoms_matched, matched};
+pub use sides::Sides;

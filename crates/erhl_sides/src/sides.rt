@@ -1,0 +1,139 @@
+ghost use Rattle.std.specs.Prelude.{◌≡◌, [], IfOk, OnOk};
+ghost use Rattle.erhl_assert.specs.Sides.{has_reg};
+ghost use Rattle.erhl_assert.specs.Alignment.{no_facts};
+ghost use Rattle.erhl_assert.specs.Facts.{has_fact, with_facts, each_once, killed, on_side};
+ghost use Rattle.erhl_assert.specs.Postcondition.{with_reg, without_reg};
+ghost use Rattle.erhl_assert.specs.Growth.{facts_of, with_conclusion};
+
+use contents::{Exact, Seq};
+use erhl_assert::{Assertion, Fact, FactSet, Kill, Side};
+use fact_sets::RegisterSet;
+use ir_core::Reg;
+use std::alloc::{AllocError, Global};
+use std::marker::Model;
+
+/// What is known at a place, in a form in which facts and registers are found without a walk over all of them. Contracts
+/// see the assertion that it stands for.
+pub struct Sides<S: FactSet> {
+    pub(crate) src: S,
+    pub(crate) tgt: S,
+    pub(crate) diff: RegisterSet,
+}
+
+impl<S: FactSet> Model for Sides<S> {
+    ghost use Rattle.erhl_assert.specs.declared.facts.Assertion.{Assertion};
+
+    ghost Value = { Assertion };
+
+    ghost view = { λ it. record { src = S.contents it.src; tgt = S.contents it.tgt; diff = it.diff } };
+}
+
+impl<S: FactSet> Drop for Sides<S> {
+    fn drop(self) {
+        let Sides {
+            src: _,
+            tgt: _,
+            diff: _,
+        } = self;
+    }
+}
+
+/// The facts, each once.
+fn set_of<S: FactSet>(alloc: Global, facts: &[Fact]) -> Result<S, AllocError>
+    ensures { IfOk result (λ set. S.contents set ≡ with_facts facts.now []) }
+{
+    let mut set = S::empty(alloc);
+    for fact in facts {
+        set.add(fact.copy(alloc)?)?;
+    }
+    Ok(set)
+}
+
+impl<S: FactSet> Sides<S> {
+    /// Nothing is known, and no register may differ.
+    pub fn empty(alloc: Global) -> Result<Sides<S>, AllocError>
+        ensures { IfOk result (λ sides. sides ≡ no_facts) }
+    {
+        Ok(Sides {
+            src: S::empty(alloc),
+            tgt: S::empty(alloc),
+            diff: RegisterSet::of(alloc, Seq::new(alloc))?,
+        })
+    }
+
+    /// What the assertion says. A fact that stands twice in it is there once.
+    pub fn of(alloc: Global, known: &Assertion) -> Result<Sides<S>, AllocError>
+        ensures { IfOk result (λ sides. sides ≡ each_once known.now) }
+    {
+        let diff = known.diff.copy(alloc)?;
+        Ok(Sides {
+            src: set_of(alloc, known.src.as_slice())?,
+            tgt: set_of(alloc, known.tgt.as_slice())?,
+            diff: RegisterSet::of(alloc, diff)?,
+        })
+    }
+
+    /// The facts of the side.
+    pub fn facts(&self, side: Side) -> &S
+        ensures { S.contents result.now ≡ facts_of side self.now }
+    {
+        match side {
+            Side::Src => &self.src,
+            Side::Tgt => &self.tgt,
+        }
+    }
+
+    pub(crate) fn diff(&self) -> &RegisterSet
+        ensures { result.now ≡ self.now.diff }
+    {
+        &self.diff
+    }
+
+    /// The registers that may differ.
+    pub fn differing(&self) -> &[Reg]
+        ensures { result.now ≡ self.now.diff }
+    {
+        self.diff.as_slice()
+    }
+
+    /// Whether the fact is known on the side.
+    pub fn has_fact(&self, side: Side, fact: &Fact) -> bool
+        ensures { result ≡ has_fact fact.now (facts_of side self.now) }
+    {
+        self.facts(side).has(fact)
+    }
+
+    /// Puts the fact at the end of the side's, where it isn't there yet.
+    pub fn add_fact(&mut self, side: Side, fact: Fact) -> Result<(), AllocError>
+        ensures { OnOk result (self.new ≡ with_conclusion side fact self.old) }
+    {
+        match side {
+            Side::Src => self.src.add(fact),
+            Side::Tgt => self.tgt.add(fact),
+        }
+    }
+
+    /// Takes facts out of the side.
+    pub fn kill(&mut self, side: Side, kill: &Kill)
+        ensures { self.new ≡ on_side side (killed kill.now) self.old }
+    {
+        match side {
+            Side::Src => self.src.kill(kill),
+            Side::Tgt => self.tgt.kill(kill),
+        }
+    }
+
+    /// Puts the register among those that may differ.
+    pub fn add_differing(&mut self, alloc: Global, register: Reg) -> Result<(), AllocError>
+        ensures { OnOk result (self.new ≡ record self.old { diff = with_reg register self.old.diff }) }
+    {
+        self.diff.add(alloc, register)
+    }
+
+    /// Takes the register out of those that may differ.
+    pub fn remove_differing(&mut self, register: &Reg)
+        ensures { self.new ≡ record self.old { diff = without_reg register.now self.old.diff } }
+    {
+        self.diff.remove(register);
+    }
+}

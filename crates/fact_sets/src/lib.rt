@@ -1,0 +1,10 @@
+//! Sets of facts and of registers in which one is found without a walk, and which are walked only where a register that
+//! leaves them may be in them.
+#![tactic(auto)]
+
+mod indexed_set;
+mod naming;
+mod register_set;
+
+pub use indexed_set::IndexedSet;
+pub use register_set::RegisterSet;

@@ -1,0 +1,64 @@
+//! The names of the registers that facts speak of.
+ghost use Rattle.std.specs.Prelude.{◌≡◌, OnOk};
+ghost use Rattle.ir_core.specs.Same.{same_name};
+ghost use Rattle.indexmap.specs.IndexSet.{insert_key};
+ghost use Rattle.fact_sets.specs.Names.{with_atom, with_expr, with_named, IsKept};
+
+use contents::Exact;
+use erhl_assert::{Fact, bare_name};
+use indexmap::IndexSet;
+use ir_core::{Atom, Expr, Expr0, Name, Reg};
+use std::alloc::{AllocError, Global};
+
+#[tactic(auto, using(crate::proofs::Names::kept_same, crate::proofs::Names::kept_insert))]
+fn add_name(alloc: Global, name: &Name, names: &mut IndexSet<Name>) -> Result<(), AllocError>
+    ensures ok { OnOk result (names.new.keys ≡ insert_key same_name names.old.keys name.now) }
+    ensures kept { IsKept names.old.keys names.new.keys }
+{
+    if names.contains(name) {
+        return Ok(());
+    }
+    let name = name.copy(alloc)?;
+    names.insert(name)?;
+    Ok(())
+}
+
+#[tactic(auto, using(crate::proofs::Names::kept_same))]
+fn add_atom(alloc: Global, atom: &Atom<Reg>, names: &mut IndexSet<Name>) -> Result<(), AllocError>
+    ensures ok { OnOk result (names.new.keys ≡ with_atom atom.now names.old.keys) }
+    ensures kept { IsKept names.old.keys names.new.keys }
+{
+    match atom {
+        Atom::Constant(_) => Ok(()),
+        Atom::Register(register) => add_name(alloc, bare_name(register), names),
+    }
+}
+
+#[tactic(auto, using(crate::proofs::Names::kept_then))]
+fn add_expr(alloc: Global, expr: &Expr0, names: &mut IndexSet<Name>) -> Result<(), AllocError>
+    ensures ok { OnOk result (names.new.keys ≡ with_expr expr.now names.old.keys) }
+    ensures kept { IsKept names.old.keys names.new.keys }
+{
+    match expr {
+        Expr::Plain(operand) => add_atom(alloc, &operand.atom, names),
+        Expr::Binary(binary) => {
+            add_atom(alloc, &binary.left, names)?;
+            add_atom(alloc, &binary.right, names)
+        }
+    }
+}
+
+/// Adds the names of the registers that the fact names. Names that are there stay, also where memory runs out.
+#[tactic(auto, using(crate::proofs::Names::kept_then), unfolding(crate::specs::Names::with_named))]
+pub(crate) fn add_named(
+    alloc: Global,
+    fact: &Fact,
+    names: &mut IndexSet<Name>,
+) -> Result<(), AllocError>
+    ensures ok { OnOk result (names.new.keys ≡ with_named fact.now names.old.keys) }
+    ensures kept { IsKept names.old.keys names.new.keys }
+{
+    let Fact::LessDef(a, b) = fact;
+    add_expr(alloc, a, names)?;
+    add_expr(alloc, b, names)
+}

@@ -1,0 +1,3 @@
+pub mod Alignments
+pub mod Keeping
+pub mod Lending

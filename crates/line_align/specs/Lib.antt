@@ -1,0 +1,4 @@
+pub mod Cursor
+pub mod Lent
+pub mod Places
+pub mod Placed

@@ -1,0 +1,32 @@
+//! Lists of things that are alike in pairs.
+ghost use Rattle.std.specs.Prelude.{◌≡◌};
+ghost use Rattle.ir_core.specs.Same.{same_list};
+
+/// A way in which two things are alike.
+pub trait Likeness<T> {
+    ghost use Rattle.std.specs.Prelude.{Bool};
+
+    ghost like: { T → T → Bool };
+
+    fn are_alike(&self, a: &T, b: &T) -> bool
+        ensures { result ≡ like a.now b.now };
+}
+
+/// Whether the lists are equally long, and alike in pairs.
+pub fn all_alike<T, L: Likeness<T>>(likeness: &L, source: &[T], target: &[T]) -> bool
+    ensures { result ≡ same_list L.like source.now target.now }
+{
+    let mut rest = target;
+    for a in source {
+        match rest.split_first() {
+            Some((b, after)) => {
+                if !likeness.are_alike(a, b) {
+                    return false;
+                }
+                rest = after;
+            }
+            None => return false,
+        }
+    }
+    rest.is_empty()
+}

@@ -1,5 +1,0 @@
-use Rattle.std.proofs.Common.{rules}
-use Rattle.postcondition.proofs.facts.fact_names.Goals as goal
-
-pub returns-else-expr_names : goal.returns-else-expr_names
-returns-else-expr_names c = search rules
