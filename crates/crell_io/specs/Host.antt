@@ -1,9 +1,14 @@
--- Words of private functions. What reading a file takes from it, and how it ends.
+-- The sinks of the system; and words of private functions: what reading a file takes from it, and how it ends.
 use Rattle.std.specs.Prelude.{◌≡◌, ℕ, List, ◌++◌, length, Option, Result, Ok, Err}
 use Rattle.std.specs.Io.KnownBytes.{Consumes}
 use Rattle.crell_io.specs.Count.{raised_by}
 use Rattle.crell_io.specs.declared.shelf.ShelfEnd.{ShelfEnd}
 use Rattle.crell_io.specs.declared.shelf.ShelfEnd.TheVariants.{Failed, Absent, TooLong, Memory}
+
+-- the bytes that a sink's writer holds, where it tells them, and the sink's count of faults
+pub record HostSinkState : Type 0 where
+  pub held : Option (List ℕ)
+  pub faults : ℕ
 
 -- a first part of what remained, where that is known, was taken, and stands after the bytes before
 abbrev pub AppendsTaken : Option (List ℕ) → Option (List ℕ) → List ℕ → List ℕ → Type 0

@@ -1,5 +1,5 @@
 -- A sink in memory.
-use Rattle.std.specs.Prelude.{ℕ, List, [], Bool, ◌≡◌, ◌≢◌, ◌-◌, ◌⊎◌, IsTrue, length, min}
+use Rattle.std.specs.Prelude.{ℕ, List, [], ◌∷◌, Bool, ◌≡◌, ◌≢◌, ◌-◌, ◌⊎◌, IsTrue, length, min}
 use Rattle.crell_io.specs.Count.{is_to_fail}
 
 -- the bytes written, how many there is room for, how many a call takes at most, the numbers of the calls
@@ -23,3 +23,12 @@ Refuses sink piece = IsTrue (sink_fails sink) ⊎ ((piece ≢ []) × (length sin
 -- how many first bytes of a piece the next call takes, if it takes any
 abbrev pub share : SinkState → List ℕ → ℕ
 share sink piece = min (length piece) (min sink.most (sink.room - length sink.written))
+
+-- how many bytes of room are left, where no call is to fail
+abbrev pub room_unless : List ℕ → ℕ → ℕ
+room_unless [] room = room
+room_unless (call ∷ calls) room = 0
+
+-- how many bytes the sink is sure to take
+abbrev pub sure_room : SinkState → ℕ
+sure_room sink = room_unless sink.failing (sink.room - length sink.written)

@@ -10,6 +10,7 @@ ghost use Rattle.crell_io.specs.Host.{AppendsTaken, TakesFirst, IsReadFault, rai
 use crate::{Shelf, ShelfEnd, Sink, SinkFault};
 use std::alloc::{AllocError, Global};
 use std::io::{ErrorKind, Read, Write};
+use std::marker::Model;
 use std::rt::Files;
 use std::{fs, io};
 
@@ -210,6 +211,8 @@ impl<R: Files + Drop> Shelf for HostShelf<R> {
 
     ghost taken = { λ shelf. shelf.taken };
 
+    ghost fails_nowhere = { λ _. ⊥ };
+
     /// Reads a file. One that can't be opened or read is a fault.
     fn get(&mut self, alloc: Global, name: &str, limit: u64) -> Result<Vec<u8>, ShelfEnd> {
         match fs::open(&self.host, name) {
@@ -252,9 +255,17 @@ pub struct HostSink<W: Write + Drop> {
     faults: u64,
 }
 
+impl<W: Write + Drop> Model for HostSink<W> {
+    ghost use Rattle.crell_io.specs.Host.{HostSinkState};
+
+    ghost Value = { HostSinkState };
+
+    ghost view = { λ s. record { held = W.contents s.writer; faults = s.faults } };
+}
+
 impl<W: Write + Drop> HostSink<W> {
     pub fn new(writer: W) -> HostSink<W>
-        ensures { ⟦<HostSink<W> as Sink>⟧.faults result ≡ 0 }
+        ensures { result ≡ record { held = W.contents writer; faults = 0 } }
     {
         HostSink { writer, faults: 0 }
     }
@@ -264,6 +275,8 @@ impl<W: Write + Drop> Sink for HostSink<W> {
     ghost written = { λ _. None };
 
     ghost faults = { λ sink. sink.faults };
+
+    ghost room_left = { λ _. 0 };
 
     /// It fails exactly where its writer takes nothing of a piece that isn't empty, and only there its count rises.
     fn put(&mut self, piece: &[u8]) -> Result<usize, SinkFault>
@@ -275,8 +288,7 @@ impl<W: Write + Drop> Sink for HostSink<W> {
             (if is_err result then raised_by 1 self.old.faults else self.old.faults) }
 
         // What the writer holds, where it tells it, grows by what is taken.
-        ensures held { WriteAppends
-            (W.contents self.old.writer) (W.contents self.new.writer) result piece.now }
+        ensures held { WriteAppends self.old.held self.new.held result piece.now }
     {
         let put = write_some(&mut self.writer, piece);
         if put.is_err() {

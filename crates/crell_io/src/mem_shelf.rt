@@ -156,6 +156,8 @@ impl Shelf for MemShelf {
 
     ghost taken = { λ shelf. shelf.taken };
 
+    ghost fails_nowhere = { λ shelf. shelf.failing ≡ [] };
+
     /// It fails exactly in the calls that are to fail, and only there its count of faults rises.
     fn get(&mut self, alloc: Global, name: &str, limit: u64) -> Result<Vec<u8>, ShelfEnd>
         requires { limit < 2 ^ 64 - 1 }

@@ -1,7 +1,7 @@
 // A sink in memory, which tells what was written.
 ghost use Rattle.std.specs.Prelude.{◌≡◌, ◌≢◌, ◌≤◌, ◌+◌, ◌↔◌, ◌++◌, [], length, take, vec_len, vec_capacity, is_err, IsTrue, IsErr, IfOk, OnErr, if◌then◌else◌, Some};
 ghost use Rattle.crell_io.specs.Count.{raised_by};
-ghost use Rattle.crell_io.specs.MemSink.{Refuses, share};
+ghost use Rattle.crell_io.specs.MemSink.{Refuses, share, sure_room};
 
 use crate::count::is_in;
 use crate::{Sink, SinkFault};
@@ -110,6 +110,8 @@ impl Sink for MemSink {
     ghost written = { λ sink. Some sink.written };
 
     ghost faults = { λ sink. sink.faults };
+
+    ghost room_left = { sure_room };
 
     /// It fails exactly in the calls that are to fail and where a piece that isn't empty meets a full
     /// room, and only there its count rises.

@@ -1,7 +1,7 @@
 // What texts are read from.
 ghost use Rattle.std.specs.Prelude.{◌≡◌, ◌^◌, ◌-◌, ◌<◌, ◌≤◌, ℕ, List, length, vec_len, IfOk, IsErrOf};
 ghost use Rattle.crell_io.specs.Count.{HasRisen, HasRisenAbove};
-ghost use Rattle.crell_io.specs.Shelf.{Told, IfTold};
+ghost use Rattle.crell_io.specs.Shelf.{Told, IfTold, StaysWell};
 ghost use Rattle.crell_io.specs.Shelf.Told.{NoSuch};
 ghost use Rattle.crell_io.specs.declared.shelf.ShelfEnd.TheVariants.{Memory};
 
@@ -39,6 +39,9 @@ pub trait Shelf {
     /// How many bytes were taken from what it holds, counted in the same way.
     ghost taken: { Self → ℕ };
 
+    /// No call fails from now on.
+    ghost fails_nowhere: { Self → Type 0 };
+
     /// Gives the bytes under a name, if they are at most `limit` many. That it answers `Memory` only
     /// where there was none is not said.
     fn get(&mut self, alloc: Global, name: &str, limit: u64) -> Result<Vec<u8>, ShelfEnd>
@@ -48,6 +51,9 @@ pub trait Shelf {
         ensures told { told self.new ≡ told self.old }
         ensures faults { faults self.old ≤ faults self.new }
         ensures taken { taken self.old ≤ taken self.new }
+
+        // Where no call fails, no fault is counted.
+        ensures well { StaysWell fails_nowhere faults self.old self.new }
 
         ensures within { IfOk result (λ bytes. vec_len bytes ≤ limit) }
         ensures whole { IfOk result

@@ -46,7 +46,7 @@ appended_nothing None = refl
 appended_nothing (Some bytes) = ap (λ (b : List ℕ). Some b) (append-nil bytes)
 
 nothing_of : (sink : SinkSeen) → GotAll sink [] → GotNothing sink
-nothing_of sink got = got ∙ appended_nothing sink.before
+nothing_of sink got = got.0 ∙ appended_nothing sink.before
 
 part_isnt_empty : (part rest : List ℕ) → rest ≢ [] → [] ≡ part ++ rest → ⊥
 part_isnt_empty [] rest some e = some (sym e)
@@ -54,7 +54,7 @@ part_isnt_empty (x ∷ part) rest some e = cc
 
 -- no first part is written of a text that is empty
 part_of_nothing : (sink : SinkSeen) → GotPart sink [] → ⊥
-part_of_nothing sink part = part_isnt_empty part.1.0 part.1.1 part.1.2 part.1.3
+part_of_nothing sink part = part_isnt_empty part.2.0 part.2.1 part.2.2 part.2.3
 
 -- a run whose words are a command's
 abbrev command_run : Rules → ShelfSeen → SinkSeen → SinkSeen → Command → Run
@@ -126,10 +126,10 @@ module _ (rules : Rules) (shelf : ShelfSeen) (out err : SinkSeen) (names : Check
         present,
         (
           if_told _ source (IsFit ModuleText) told.0 (s, sp.0),
-          (if_told _ target (IsFit ModuleText) told.1.0 (t, tp.0), (if_told _ hints (IsFit HintFile) told.1.1.0 (h, hp), tt)),
+          (if_told _ target (IsFit ModuleText) told.1.0 (t, tp.0), (if_told _ hints (IsFit HintFile) told.1.1.0 (h, hp.0), tt)),
         ),
         if_all_told shelf.told (files_of (Check names)) (source ∷ target ∷ hints ∷ [])
-            (AreJudged rules (λ v. v ≢ modules.Valid) (Check names)) told (s, t, h, sp.0, tp.0, hp, other),
+            (AreJudged rules (λ v. v ≢ modules.Valid) (Check names)) told (s, t, h, sp.0, tp.0, hp.0, other),
       )))
 
 says_texts : (rules : Rules) (shelf : ShelfSeen) (out err : SinkSeen) (command : Command) (answer : Answer) (texts : List (List ℕ))

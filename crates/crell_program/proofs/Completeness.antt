@@ -14,15 +14,12 @@ use Rattle.crell_io.specs.Shelf.Told.{NoSuch, Bytes}
 use Rattle.crell_program.specs.declared.answer.Answer.{Answer}
 use Rattle.crell_program.specs.Answer.{not_of_the_first_form}
 use Rattle.crell_program.specs.Command.{File, most_bytes, CheckFiles, Command, Check, files_of}
-use Rattle.crell_program.specs.VerdictText.{verdict_status}
+use Rattle.crell_program.specs.VerdictText.{verdict_status, verdict_answer}
 use Rattle.crell_program.specs.Due.{ShelfSeen, Held, Missing, Long, Broken, DueOfFile, DueOfFiles, DueOfCheck, DueOfTexts}
 use Rattle.crell_program.specs.Delivery.{SinkSeen, IsDelivered}
 use Rattle.crell_program.specs.Rows.{Run, IsAnswered, NoFault}
 use Rattle.crell_program.specs.Statuses.{HoldsAllOf, HoldsAll, HasVerdict, AreJudged, OneIsUnfit, IsAbsent, IsOverlong, FirstUnheldOf, FirstUnheld}
 use Rattle.crell_program.proofs.Bytes.{told_bytes}
-
-hints_are_one : (text : List ℕ) (a b : Hints) → HintsOf text a → HintsOf text b → a ≡ b
-hints_are_one text a b p q = cc
 
 isnt_missing : (bytes : List ℕ) → Bytes bytes ≡ NoSuch → ⊥
 isnt_missing bytes e = cc
@@ -40,30 +37,30 @@ held shelf file answer next bytes told within fine (Long, m, d) =
     let e : most_bytes file < length bytes = subst P told m.1 in absurd (omega arith)
 held shelf file answer next bytes told within fine (Broken, m, d) = absurd (fine m)
 
-verdict_of_texts : (rules : Rules) (names : CheckFiles) (answer : Answer) (source target hints : List ℕ) (s t : Module) (h : Hints)
+answer_of_texts : (rules : Rules) (names : CheckFiles) (answer : Answer) (source target hints : List ℕ) (s t : Module) (h : Hints)
     → HasFirstForm source s → HasFirstForm target t → HintsOf hints h → DueOfCheck rules names answer source target hints
-    → answer.status ≡ verdict_status (module_verdict rules s t h)
-verdict_of_texts rules names answer source target hints s t h sp tp hp (inl (unread, e)) = absurd (unread s sp)
-verdict_of_texts rules names answer source target hints s t h sp tp hp (inr (s2, sq, inl (unread, e))) = absurd (unread t tp)
-verdict_of_texts rules names answer source target hints s t h sp tp hp (inr (s2, sq, inr (t2, tq, inl (unread, e)))) = absurd (unread h hp)
-verdict_of_texts rules names answer source target hints s t h sp tp hp (inr (s2, sq, inr (t2, tq, inr (h2, hq, e)))) =
+    → answer ≡ verdict_answer (module_verdict rules s t h)
+answer_of_texts rules names answer source target hints s t h sp tp hp (inl (unread, e)) = absurd (unread s sp)
+answer_of_texts rules names answer source target hints s t h sp tp hp (inr (s2, sq, inl (unread, e))) = absurd (unread t tp)
+answer_of_texts rules names answer source target hints s t h sp tp hp (inr (s2, sq, inr (t2, tq, inl (unread, e)))) = absurd (unread h hp)
+answer_of_texts rules names answer source target hints s t h sp tp hp (inr (s2, sq, inr (t2, tq, inr (h2, hq, e)))) =
     let es : s2 ≡ s = sym (sq.1 s sp.0) in
     let et : t2 ≡ t = sym (tq.1 t tp.0) in
-    let eh : h2 ≡ h = hints_are_one hints h2 h hq hp in
-    ap (λ (a : Answer). a.status) e ∙ (ap (λ (x : Module). verdict_status (module_verdict rules x t2 h2)) es
-    ∙ (ap (λ (x : Module). verdict_status (module_verdict rules s x h2)) et ∙ ap (λ (x : Hints). verdict_status (module_verdict rules s t x)) eh))
+    let eh : h2 ≡ h = sym (hq.1 h hp) in
+    e ∙ (ap (λ (x : Module). verdict_answer (module_verdict rules x t2 h2)) es
+    ∙ (ap (λ (x : Module). verdict_answer (module_verdict rules s x h2)) et ∙ ap (λ (x : Hints). verdict_answer (module_verdict rules s t x)) eh))
 
 -- no sink counts a fault
-abbrev SinksAreFine : SinkSeen → SinkSeen → Type 0
+abbrev pub SinksAreFine : SinkSeen → SinkSeen → Type 0
 SinksAreFine out err = (HasRisen out.faults out.faults_after → ⊥) × (HasRisen err.faults err.faults_after → ⊥)
 
-delivered_well : (answer : Answer) (out err : SinkSeen) (status : ℕ) → SinksAreFine out err → IsDelivered answer out err status → status ≡ answer.status
+pub delivered_well : (answer : Answer) (out err : SinkSeen) (status : ℕ) → SinksAreFine out err → IsDelivered answer out err status → status ≡ answer.status
 delivered_well answer out err status fine (inl (e, to_out, to_err)) = e
 delivered_well answer out err status fine (inr (inl (e, part, nothing))) = absurd (fine.0 part.0)
 delivered_well answer out err status fine (inr (inr (e, all, part))) = absurd (fine.1 part.0)
 
 -- the texts, and that the answer is due to them
-due_well : (shelf : ShelfSeen) (files : List File) (P : List (List ℕ) → Type 0) (answer : Answer) (next : List (List ℕ) → Type 0)
+pub due_well : (shelf : ShelfSeen) (files : List File) (P : List (List ℕ) → Type 0) (answer : Answer) (next : List (List ℕ) → Type 0)
     → (HasRisen shelf.faults shelf.faults_after → ⊥) → HoldsAllOf shelf.told files P → DueOfFiles shelf files answer next
     → (texts : List (List ℕ)) × P texts × next texts
 due_well shelf [] P answer next fine has due = ([], has, due)
@@ -74,7 +71,7 @@ due_well shelf (file ∷ files) P answer next fine has due =
     (a.0 ∷ rest.0, rest.1, rest.2)
 
 -- Where all is well the status is that of an answer that is due to the texts; or memory was refused.
-all_well : (rules : Rules) (shelf : ShelfSeen) (out err : SinkSeen) (command : Option Command) (P : Command → List (List ℕ) → Type 0) (known status : ℕ)
+pub all_well : (rules : Rules) (shelf : ShelfSeen) (out err : SinkSeen) (command : Option Command) (P : Command → List (List ℕ) → Type 0) (known status : ℕ)
     → ((command : Command) (answer : Answer) (texts : List (List ℕ)) → P command texts → DueOfTexts rules command answer texts → answer.status ≡ known)
     → IsAnswered (record { rules = rules; command = command; shelf = shelf; out = out; err = err }) status → HoldsAll shelf.told command P
     → NoFault (record { rules = rules; command = command; shelf = shelf; out = out; err = err }) → (status ≡ known) ⊎ (status ≡ 8)
@@ -92,25 +89,26 @@ status_of_other modules.Valid other = absurd (other refl)
 status_of_other (modules.Differs what) other = refl
 status_of_other (modules.Refused function block spot reason) other = refl
 
-judged_as : (rules : Rules) (P : ModuleVerdict → Type 0) (known : ℕ) → ((v : ModuleVerdict) → P v → verdict_status v ≡ known)
+-- what is so of the answer to each verdict of that kind is so of an answer that is due to texts with such a verdict
+pub judged_as : (rules : Rules) (P : ModuleVerdict → Type 0) (Q : Answer → Type 0) → ((v : ModuleVerdict) → P v → Q (verdict_answer v))
     → (command : Command) (answer : Answer) (texts : List (List ℕ)) → AreJudged rules P command texts → DueOfTexts rules command answer texts
-    → answer.status ≡ known
-judged_as rules P known leads (Check names) answer (source ∷ target ∷ hints ∷ []) (s, t, h, sp, tp, hp, p) due =
-    verdict_of_texts rules names answer source target hints s t h sp tp hp due ∙ leads (module_verdict rules s t h) p
-judged_as rules P known leads (Check names) answer [] judged due = absurd due
-judged_as rules P known leads (Check names) answer (source ∷ []) judged due = absurd due
-judged_as rules P known leads (Check names) answer (source ∷ target ∷ []) judged due = absurd due
-judged_as rules P known leads (Check names) answer (source ∷ target ∷ hints ∷ text ∷ more) judged due = absurd due
+    → Q answer
+judged_as rules P Q leads (Check names) answer (source ∷ target ∷ hints ∷ []) (s, t, h, sp, tp, hp, p) due =
+    subst Q (sym (answer_of_texts rules names answer source target hints s t h sp tp hp due)) (leads (module_verdict rules s t h) p)
+judged_as rules P Q leads (Check names) answer [] judged due = absurd due
+judged_as rules P Q leads (Check names) answer (source ∷ []) judged due = absurd due
+judged_as rules P Q leads (Check names) answer (source ∷ target ∷ []) judged due = absurd due
+judged_as rules P Q leads (Check names) answer (source ∷ target ∷ hints ∷ text ∷ more) judged due = absurd due
 
 pub valid : (run : Run) (status : ℕ) → IsAnswered run status → HasVerdict run.rules run.shelf.told run.command (λ v. v ≡ modules.Valid) → NoFault run → (status ≡ 0) ⊎ (status ≡ 8)
 valid run status =
     all_well run.rules run.shelf run.out run.err run.command (AreJudged run.rules (λ v. v ≡ modules.Valid)) 0 status
-    (judged_as run.rules (λ v. v ≡ modules.Valid) 0 status_of_valid)
+    (judged_as run.rules (λ v. v ≡ modules.Valid) (λ a. a.status ≡ 0) status_of_valid)
 
 pub invalid : (run : Run) (status : ℕ) → IsAnswered run status → HasVerdict run.rules run.shelf.told run.command (λ v. v ≢ modules.Valid) → NoFault run → (status ≡ 1) ⊎ (status ≡ 8)
 invalid run status =
     all_well run.rules run.shelf run.out run.err run.command (AreJudged run.rules (λ v. v ≢ modules.Valid)) 1 status
-    (judged_as run.rules (λ v. v ≢ modules.Valid) 1 status_of_other)
+    (judged_as run.rules (λ v. v ≢ modules.Valid) (λ a. a.status ≡ 1) status_of_other)
 
 status_of : (answer : Answer) (file : List ℕ) → answer ≡ not_of_the_first_form file → answer.status ≡ 3
 status_of answer file e = ap (λ (a : Answer). a.status) e
@@ -122,7 +120,7 @@ unread_check rules names answer source target hints unfit (inr (s, sp, inl (unre
 unread_check rules names answer source target hints unfit (inr (s, sp, inr (t, tp, inl (unread, e)))) = status_of answer names.hints e
 unread_check rules names answer source target hints (inl unfit) (inr (s, sp, inr (t, tp, inr (h, hp, e)))) = absurd (unfit s sp.0)
 unread_check rules names answer source target hints (inr (inl unfit)) (inr (s, sp, inr (t, tp, inr (h, hp, e)))) = absurd (unfit t tp.0)
-unread_check rules names answer source target hints (inr (inr (inl unfit))) (inr (s, sp, inr (t, tp, inr (h, hp, e)))) = absurd (unfit h hp)
+unread_check rules names answer source target hints (inr (inr (inl unfit))) (inr (s, sp, inr (t, tp, inr (h, hp, e)))) = absurd (unfit h hp.0)
 unread_check rules names answer source target hints (inr (inr (inr none))) due = absurd none
 
 unread_texts : (rules : Rules) (command : Command) (answer : Answer) (texts : List (List ℕ)) → OneIsUnfit (files_of command) texts

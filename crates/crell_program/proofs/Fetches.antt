@@ -4,7 +4,7 @@ use Rattle.std.proofs.Math.Nat.{le_refl}
 use Rattle.std.proofs.Math.Seq.{drop-cons}
 use Rattle.std.proofs.lemmas.List.{map-append, take_more, take-append-drop}
 use Rattle.crell_io.specs.Count.{HasRisen, HasRisenAbove}
-use Rattle.crell_io.specs.Shelf.{Told}
+use Rattle.crell_io.specs.Shelf.{Told, StaysWell}
 use Rattle.crell_program.specs.declared.answer.Answer.{Answer}
 use Rattle.crell_program.specs.declared.fetch.Stop.{Stop}
 use Rattle.crell_program.specs.declared.fetch.Stop.TheVariants as stop
@@ -97,6 +97,11 @@ files_stop shelf (file ∷ files) answer next (got, m, d) =
 pub if_due : (end : Stop) (P Q : Answer → Type 0) → ((answer : Answer) → P answer → Q answer) → IfDue end P → IfDue end Q
 if_due (stop.Due answer) P Q f d = f answer d
 if_due stop.Memory P Q f d = tt
+
+-- a shelf that fails nowhere in one call and in the next
+pub well_after : {S : Type 0} (fails_nowhere : S → Type 0) (faults : S → ℕ) (a b c : S)
+    → StaysWell fails_nowhere faults a b → StaysWell fails_nowhere faults b c → StaysWell fails_nowhere faults a c
+well_after fails_nowhere faults a b c first second = λ h. (let x = first h in let y = second x.0 in (y.0, y.1 ∙ x.1))
 
 -- files that are fetched one after another: of the shelf before the first, between two, and now
 module _ {S : Type 0} (told : S → List ℕ → Told) (faults taken : S → ℕ) (old cur new : S) (same : told cur ≡ told old)

@@ -1,7 +1,6 @@
 -- What the inner calls owe, from what those that they make ensure.
 use Rattle.std.proofs.Common.{◌≡◌, ◌≢◌, ◌≤◌, ◌<◌, ℕ, List, [], ◌∷◌, length, get_or, IfOk, Result, Ok, Err, Option, None, Some, refl, sym, ◌∙◌, ap, subst, inl, inr, arith}
 use Rattle.ir_core.specs.declared.functions.Module.{Module}
-use Rattle.hint_format.specs.Form.{HintsOf}
 use Rattle.erhl_assert.specs.declared.hints.Hints.{Hints}
 use Rattle.erhl_assert.specs.Steps.{Rules}
 use Rattle.erhl_assert.specs.Acceptance.{module_verdict}
@@ -14,7 +13,7 @@ use Rattle.crell_program.specs.declared.answer.Answer.{Answer}
 use Rattle.crell_program.specs.Command.{File, CheckFiles, Command, Check, files_of}
 use Rattle.crell_program.specs.Fetching.{AreHeld}
 use Rattle.crell_program.specs.VerdictText.{verdict_status, verdict_answer}
-use Rattle.crell_program.specs.Due.{ShelfSeen, Held, Missing, Long, Broken, DueOfFile, DueOfFiles, DueOfCheck, DueOfTexts, NamesNoModule, HoldsNoHints, SpellsOnly}
+use Rattle.crell_program.specs.Due.{ShelfSeen, Held, Missing, Long, Broken, DueOfFile, DueOfFiles, DueOfCheck, DueOfTexts, NamesNoModule, HoldsNoHints, HoldsOnly, SpellsOnly}
 use Rattle.crell_program.specs.Delivery.{SinkSeen, IsDelivered, Untouched}
 use Rattle.crell_program.specs.Rows.{IsAnswered}
 use Rattle.crell_program.specs.Statuses.{AreRefined, IsRefinement, IsRefinementOfBytes}
@@ -66,7 +65,7 @@ module _ {E : Type 0} (rules : Rules) (names : CheckFiles) (source target hints 
       unfit_hints unread (Ok answer) e = inr (s, sp, inr (t, tp, inl (unread, e)))
       unfit_hints unread (Err end) e = e
 
-      pub texts_judged : (h : Hints) → HintsOf hints h → (r : Result Answer E) → IfOk r (λ a. a ≡ verdict_answer (module_verdict rules s t h))
+      pub texts_judged : (h : Hints) → HoldsOnly hints h → (r : Result Answer E) → IfOk r (λ a. a ≡ verdict_answer (module_verdict rules s t h))
           → IfOk r (λ answer. DueOfCheck rules names answer source target hints)
       texts_judged h hp (Ok answer) e = inr (s, sp, inr (t, tp, inr (h, hp, e)))
       texts_judged h hp (Err end) e = e

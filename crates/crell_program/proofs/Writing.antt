@@ -1,5 +1,5 @@
 -- Pieces of a text, written one after another.
-use Rattle.std.proofs.Common.{◌≡◌, ◌≢◌, ◌++◌, ◌+◌, ◌≤◌, ◌<◌, ℕ, zero, suc, ◌-◌, List, [], ◌∷◌, Option, None, Some, length, take, drop, refl, sym, ◌∙◌, ap, inl, inr, append_assoc, zero-add, arith}
+use Rattle.std.proofs.Common.{◌≡◌, ◌≢◌, ◌++◌, ◌+◌, ◌≤◌, ◌<◌, ℕ, zero, suc, ◌-◌, List, [], ◌∷◌, Option, None, Some, length, take, drop, refl, sym, ◌∙◌, ap, inl, inr, append_assoc, zero-add, lt_of_not-le, arith}
 use Rattle.std.proofs.Math.Seq.{take-length}
 use Rattle.std.proofs.lemmas.List.{append-nil, take-append-drop, length-drop}
 use Rattle.crell_io.specs.Count.{HasRisen}
@@ -55,3 +55,28 @@ appended_nothing (Some bytes) = ap (λ (b : List ℕ). Some b) (append-nil bytes
 -- taking no bytes leaves what was written
 pub took_none : (now after : Option (List ℕ)) (piece : List ℕ) (count : ℕ) → count ≡ 0 → after ≡ appended now (take count piece) → after ≡ now
 took_none now after piece count e f = f ∙ (ap (λ (n : ℕ). appended now (take n piece)) e ∙ appended_nothing now)
+
+-- What is kept while pieces of a text are written to a sink that is sure to take it: there is room for the rest, and no fault is counted.
+abbrev pub HasRoomStill : (room faults now_room now_faults done : ℕ) (text : List ℕ) → Type 0
+HasRoomStill room faults now_room now_faults done text =
+    length text ≤ room → (length text ≤ now_room + done) × (now_faults ≡ faults)
+
+-- there is room for the rest of the text
+pub rest_has_room : (text : List ℕ) (done room : ℕ) → length text ≤ room + done → length (rest_from done text) ≤ room
+rest_has_room text done room h =
+    let e = ap (λ (l : List ℕ). length l) (rest_is text done) in omega (arith, length-drop done text)
+
+pub room_after : (text : List ℕ) (room faults now_room now_faults after_room after_faults done count : ℕ)
+    → HasRoomStill room faults now_room now_faults done text → done ≤ length text
+    → (length (rest_from done text) ≤ now_room → (1 ≤ count) × (now_room ≤ after_room + count) × (after_faults ≡ now_faults))
+    → HasRoomStill room faults after_room after_faults (done + count) text
+room_after text room faults now_room now_faults after_room after_faults done count still within more = λ h.
+    let s = still h in
+    let m = more (rest_has_room text done now_room s.0) in
+    (let kept : length text ≤ now_room + done = s.0 in let next : now_room ≤ after_room + count = m.1 in omega arith, m.2 ∙ s.1)
+
+-- a sink that takes nothing of the rest wasn't sure to take the text
+pub no_room : (text : List ℕ) (room faults now_room now_faults done : ℕ) → HasRoomStill room faults now_room now_faults done text
+    → (length (rest_from done text) ≤ now_room → ⊥) → room < length text
+no_room text room faults now_room now_faults done still refused =
+    lt_of_not-le (λ h. refused (rest_has_room text done now_room (still h).0))

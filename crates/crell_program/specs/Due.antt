@@ -68,6 +68,10 @@ NamesNoModule text = (m : Module) → HasFirstForm text m → ⊥
 abbrev pub SpellsOnly : List ℕ → Module → Type 0
 SpellsOnly text m = HasFirstForm text m × ((other : Module) → Spells text other → other ≡ m)
 
+-- the text holds these hints, and no others
+abbrev pub HoldsOnly : List ℕ → Hints → Type 0
+HoldsOnly text h = HintsOf text h × ((other : Hints) → HintsOf text other → other ≡ h)
+
 abbrev pub HoldsNoHints : List ℕ → Type 0
 HoldsNoHints text = (h : Hints) → HintsOf text h → ⊥
 
@@ -77,7 +81,7 @@ DueOfModule name text answer next = (NamesNoModule text × (answer ≡ not_of_th
 
 -- a hint file's text is judged
 abbrev pub DueOfHints : List ℕ → List ℕ → Answer → (Hints → Type 0) → Type 0
-DueOfHints name text answer next = (HoldsNoHints text × (answer ≡ not_of_the_first_form name)) ⊎ ((h : Hints) × HintsOf text h × next h)
+DueOfHints name text answer next = (HoldsNoHints text × (answer ≡ not_of_the_first_form name)) ⊎ ((h : Hints) × HoldsOnly text h × next h)
 
 -- the three texts of `check` are judged, and then the pair
 abbrev pub DueOfCheck : Rules → CheckFiles → Answer → List ℕ → List ℕ → List ℕ → Type 0

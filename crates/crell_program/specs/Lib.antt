@@ -3,6 +3,7 @@ pub mod Command
 pub mod Delivery
 pub mod Due
 pub mod Fetching
+pub mod InMemory
 pub mod Rows
 pub mod Statuses
 pub mod VerdictText

@@ -15,8 +15,8 @@ pub fn deliver<O: Sink, E: Sink>(
     err: &mut E,
 ) -> u8
     ensures delivered { IsDelivered (record { status = status; out = out_text.now; err = err_text.now })
-        (sink_seen O.written O.faults out.old out.new)
-        (sink_seen E.written E.faults err.old err.new) result }
+        (sink_seen O.written O.room_left O.faults out.old out.new)
+        (sink_seen E.written E.room_left E.faults err.old err.new) result }
     ensures out_faults { O.faults out.old ≤ O.faults out.new }
     ensures err_faults { E.faults err.old ≤ E.faults err.new }
 {
@@ -31,8 +31,8 @@ pub fn deliver<O: Sink, E: Sink>(
 
 /// Writes the text piece by piece. It answers false where the sink failed, after some first part of the text.
 fn write_whole<K: Sink>(sink: &mut K, text: &[u8]) -> bool
-    ensures whole { IsTrue result → GotAll (sink_seen K.written K.faults sink.old sink.new) text.now }
-    ensures part { result ≡ false → GotPart (sink_seen K.written K.faults sink.old sink.new) text.now }
+    ensures whole { IsTrue result → GotAll (sink_seen K.written K.room_left K.faults sink.old sink.new) text.now }
+    ensures part { result ≡ false → GotPart (sink_seen K.written K.room_left K.faults sink.old sink.new) text.now }
     ensures faults { K.faults sink.old ≤ K.faults sink.new }
 {
     let mut done = 0;

@@ -1,4 +1,5 @@
 ghost use Rattle.std.specs.Prelude.{◌≡◌, ◌≤◌, IfOk, IfErr, map};
+ghost use Rattle.crell_io.specs.Shelf.{StaysWell};
 ghost use Rattle.crell_program.specs.Due.{shelf_seen, DueOfFile, DueOfFiles};
 ghost use Rattle.crell_program.specs.Fetching.{IsHeld, AreHeld, IfDue};
 ghost use Rattle.crell_program.specs.Command.{shown_file};
@@ -33,6 +34,7 @@ pub fn gather<S: Shelf>(
     files: &[Wanted<'_>],
 ) -> Result<Seq<Seq<u8>>, Stop>
     ensures told { S.told shelf.new ≡ S.told shelf.old }
+    ensures well { StaysWell S.fails_nowhere S.faults shelf.old shelf.new }
     ensures faults { S.faults shelf.old ≤ S.faults shelf.new }
     ensures taken { S.taken shelf.old ≤ S.taken shelf.new }
     ensures held { IfOk result
@@ -53,6 +55,7 @@ pub fn gather<S: Shelf>(
 /// Asks the shelf for a file.
 fn fetch<S: Shelf>(alloc: Global, shelf: &mut S, file: &Wanted<'_>) -> Result<Seq<u8>, Stop>
     ensures told { S.told shelf.new ≡ S.told shelf.old }
+    ensures well { StaysWell S.fails_nowhere S.faults shelf.old shelf.new }
     ensures faults { S.faults shelf.old ≤ S.faults shelf.new }
     ensures taken { S.taken shelf.old ≤ S.taken shelf.new }
     ensures held { IfOk result

@@ -5,7 +5,9 @@ mod answer;
 mod command;
 mod delivery;
 mod fetch;
+mod in_memory;
 mod program;
 mod verdict_text;
 
+pub use in_memory::{MemoryRun, crell_in_memory};
 pub use program::{WANT_OF_MEMORY, crell, crell_with_shipped_rules};

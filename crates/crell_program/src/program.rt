@@ -3,6 +3,7 @@ ghost use Rattle.ir_machine.specs.Refinement.{Refines};
 ghost use Rattle.erhl_assert.specs.Acceptance.{module_verdict};
 ghost use Rattle.rule_base.specs.Book.{meanings_of};
 ghost use Rattle.rule_base.specs.Rows.{shipped_rules};
+ghost use Rattle.crell_io.specs.Shelf.{StaysWell};
 ghost use Rattle.crell_program.specs.Answer.{usage};
 ghost use Rattle.ir_core.specs.Limits.{limit_number};
 ghost use Rattle.crell_program.specs.Command.{command_of, files_of, shown_command, shown_names};
@@ -56,12 +57,13 @@ pub fn crell<S: Shelf, O: Sink, E: Sink>(
           rules.now.rules.items;
       command = command_of (map string_bytes words.now);
       shelf = shelf_seen S.told S.faults S.taken shelf.old shelf.new;
-      out = sink_seen O.written O.faults out.old out.new;
-      err = sink_seen E.written E.faults err.old err.new;
+      out = sink_seen O.written O.room_left O.faults out.old out.new;
+      err = sink_seen E.written E.room_left E.faults err.old err.new;
     }) result }
 
-    // The shelf tells what it told before, and no count falls.
+    // The shelf tells what it told before, and counts no fault where it fails nowhere. No count falls.
     ensures told { S.told shelf.new ≡ S.told shelf.old }
+    ensures well { StaysWell S.fails_nowhere S.faults shelf.old shelf.new }
     ensures counts { (S.faults shelf.old ≤ S.faults shelf.new) × (S.taken shelf.old ≤ S.taken shelf.new)
         × (O.faults out.old ≤ O.faults out.new) × (E.faults err.old ≤ E.faults err.new) }
 
@@ -92,12 +94,13 @@ pub fn crell_with_shipped_rules<S: Shelf, O: Sink, E: Sink>(
       rules = shipped_rules;
       command = command_of (map string_bytes words.now);
       shelf = shelf_seen S.told S.faults S.taken shelf.old shelf.new;
-      out = sink_seen O.written O.faults out.old out.new;
-      err = sink_seen E.written E.faults err.old err.new;
+      out = sink_seen O.written O.room_left O.faults out.old out.new;
+      err = sink_seen E.written E.room_left E.faults err.old err.new;
     }) result }
 
-    // The shelf tells what it told before, and no count falls.
+    // The shelf tells what it told before, and counts no fault where it fails nowhere. No count falls.
     ensures told { S.told shelf.new ≡ S.told shelf.old }
+    ensures well { StaysWell S.fails_nowhere S.faults shelf.old shelf.new }
     ensures counts { (S.faults shelf.old ≤ S.faults shelf.new) × (S.taken shelf.old ≤ S.taken shelf.new)
         × (O.faults out.old ≤ O.faults out.new) × (E.faults err.old ≤ E.faults err.new) }
 
@@ -122,10 +125,11 @@ pub(crate) fn run<R: RuleSet, S: Shelf, O: Sink, E: Sink>(
       rules = R.rules rules.now;
       command = command_of (map string_bytes words.now);
       shelf = shelf_seen S.told S.faults S.taken shelf.old shelf.new;
-      out = sink_seen O.written O.faults out.old out.new;
-      err = sink_seen E.written E.faults err.old err.new;
+      out = sink_seen O.written O.room_left O.faults out.old out.new;
+      err = sink_seen E.written E.room_left E.faults err.old err.new;
     }) result }
     ensures told { S.told shelf.new ≡ S.told shelf.old }
+    ensures well { StaysWell S.fails_nowhere S.faults shelf.old shelf.new }
     ensures counts { (S.faults shelf.old ≤ S.faults shelf.new) × (S.taken shelf.old ≤ S.taken shelf.new)
         × (O.faults out.old ≤ O.faults out.new) × (E.faults err.old ≤ E.faults err.new) }
     ensures unasked { command_of (map string_bytes words.now) ≡ None → shelf.new ≡ shelf.old }
@@ -139,8 +143,8 @@ pub(crate) fn run<R: RuleSet, S: Shelf, O: Sink, E: Sink>(
 /// Writes the usage to err.
 fn tell_usage<O: Sink, E: Sink>(out: &mut O, err: &mut E) -> u8
     ensures delivered { IsDelivered usage
-        (sink_seen O.written O.faults out.old out.new)
-        (sink_seen E.written E.faults err.old err.new) result }
+        (sink_seen O.written O.room_left O.faults out.old out.new)
+        (sink_seen E.written E.room_left E.faults err.old err.new) result }
     ensures out_faults { O.faults out.old ≤ O.faults out.new }
     ensures err_faults { E.faults err.old ≤ E.faults err.new }
 {
@@ -161,10 +165,11 @@ fn check<R: RuleSet, S: Shelf, O: Sink, E: Sink>(
       rules = R.rules rules.now;
       command = Some (shown_command files.now);
       shelf = shelf_seen S.told S.faults S.taken shelf.old shelf.new;
-      out = sink_seen O.written O.faults out.old out.new;
-      err = sink_seen E.written E.faults err.old err.new;
+      out = sink_seen O.written O.room_left O.faults out.old out.new;
+      err = sink_seen E.written E.room_left E.faults err.old err.new;
     }) result }
     ensures told { S.told shelf.new ≡ S.told shelf.old }
+    ensures well { StaysWell S.fails_nowhere S.faults shelf.old shelf.new }
     ensures counts { (S.faults shelf.old ≤ S.faults shelf.new) × (S.taken shelf.old ≤ S.taken shelf.new)
         × (O.faults out.old ≤ O.faults out.new) × (E.faults err.old ≤ E.faults err.new) }
 {
@@ -195,6 +200,7 @@ fn check_files<R: RuleSet, S: Shelf>(
     ensures refines { IfOk result
         (λ answer. answer.status ≡ 0 → IsRefinement (S.told shelf.old) (shown_command files.now)) }
     ensures told { S.told shelf.new ≡ S.told shelf.old }
+    ensures well { StaysWell S.fails_nowhere S.faults shelf.old shelf.new }
     ensures faults { S.faults shelf.old ≤ S.faults shelf.new }
     ensures taken { S.taken shelf.old ≤ S.taken shelf.new }
 {

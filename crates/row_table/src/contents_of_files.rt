@@ -3,7 +3,7 @@
 // A text stands as it is. An array is a list of pieces: a text is a line, and ends with a line feed; a number is a byte; `{"text": T,
 // "times": N}` is T so often. An object is that JSON, written compactly.
 use crate::fault::Fault;
-use crate::members::{byte, members_among, number};
+use crate::members::{byte, members_among, number, push};
 use serde_json::{Map, Value};
 use std::alloc::Global;
 
@@ -55,7 +55,7 @@ fn push_line(bytes: &mut Vec<u8>, line: &[u8]) -> Result<(), Fault> {
 }
 
 fn push_byte(bytes: &mut Vec<u8>, byte: u8) -> Result<(), Fault> {
-    Ok(bytes.push(byte)?)
+    Ok(push(bytes, byte)?)
 }
 
 fn push_repeated(bytes: &mut Vec<u8>, piece: &Value) -> Result<(), Fault> {

@@ -2,7 +2,7 @@
 ghost use Rattle.std.specs.Prelude.{◌≡◌, codes};
 ghost use Rattle.row_table.specs.declared.fault.Fault.TheVariants.{Memory, Unlike};
 
-use std::alloc::{AllocError, AllocFailed};
+use std::alloc::AllocError;
 
 /// Memory was refused; or the table or the row isn't as it must be.
 #[derive(Clone, Copy)]
@@ -26,12 +26,6 @@ impl Fault {
 
 impl From<AllocError> for Fault {
     fn from(_: AllocError) -> Fault {
-        Fault::Memory
-    }
-}
-
-impl<T: Drop> From<AllocFailed<T>> for Fault {
-    fn from(_: AllocFailed<T>) -> Fault {
         Fault::Memory
     }
 }

@@ -1,9 +1,9 @@
 // What `crell` is given in a row: the words, the files, and how the sinks take bytes.
 use crate::contents_of_files::bytes_of;
 use crate::fault::Fault;
-use crate::members::{members_among, number_under, numbers_of};
+use crate::members::{members_among, number_under, numbers_of, push};
 use serde_json::{Map, Value};
-use std::alloc::Global;
+use std::alloc::{AllocError, Global};
 
 const MEMBERS_OF_PLAN: [&str; 3] = ["room", "most", "failing"];
 
@@ -87,9 +87,7 @@ fn push_file(
     name: &String,
     value: &Value,
 ) -> Result<(), Fault> {
-    let file = file_of(alloc, name, value)?;
-    files.push(file)?;
-    Ok(())
+    Ok(push(files, file_of(alloc, name, value)?)?)
 }
 
 fn file_of(alloc: Global, name: &String, value: &Value) -> Result<File, Fault> {
@@ -100,16 +98,16 @@ fn file_of(alloc: Global, name: &String, value: &Value) -> Result<File, Fault> {
 
 fn words_of(alloc: Global, words: Option<&Value>) -> Result<Vec<String>, Fault> {
     match words {
-        None => usual_words(alloc),
+        None => Ok(usual_words(alloc)?),
         Some(Value::Array(words)) => words_among(alloc, words),
         Some(_) => Err(Fault::Unlike("the words are a list of texts")),
     }
 }
 
-fn usual_words(alloc: Global) -> Result<Vec<String>, Fault> {
+fn usual_words(alloc: Global) -> Result<Vec<String>, AllocError> {
     let mut words = Vec::new(alloc);
     for word in CHECK {
-        words.push(String::from_str(alloc, word)?)?;
+        push(&mut words, String::from_str(alloc, word)?)?;
     }
     Ok(words)
 }
@@ -117,7 +115,7 @@ fn usual_words(alloc: Global) -> Result<Vec<String>, Fault> {
 fn words_among(alloc: Global, values: &[Value]) -> Result<Vec<String>, Fault> {
     let mut words = Vec::new(alloc);
     for value in values {
-        words.push(word_of(value)?)?;
+        push(&mut words, word_of(value)?)?;
     }
     Ok(words)
 }

@@ -1,7 +1,7 @@
 // The members of an object of JSON, by their names.
 use crate::fault::Fault;
 use serde_json::{Map, Value};
-use std::alloc::Global;
+use std::alloc::{AllocError, Global};
 
 /// The members of an object. One that isn't named among these is an error.
 pub(crate) fn members_among<'a>(
@@ -77,9 +77,12 @@ fn numbers(alloc: Global, values: &[Value]) -> Result<Vec<u64>, Fault> {
 }
 
 fn push_number(numbers: &mut Vec<u64>, value: &Value) -> Result<(), Fault> {
-    let number = number(value)?;
-    numbers.push(number)?;
-    Ok(())
+    Ok(push(numbers, number(value)?)?)
+}
+
+/// Appends an item.
+pub(crate) fn push<T: Drop>(list: &mut Vec<T>, item: T) -> Result<(), AllocError> {
+    Ok(list.push(item)?)
 }
 
 /// The number that a value is.

@@ -4,7 +4,7 @@ use Rattle.crell_program.specs.Fetching.{AreHeld}
 use Rattle.std.proofs.Math.Nat.{le_trans}
 use Rattle.std.proofs.lemmas.Result.{err_from_is_err_and}
 use Rattle.crell_program.specs.Due.{shelf_seen}
-use Rattle.crell_program.proofs.Fetches.{fetched_more, stopped_here, if_due}
+use Rattle.crell_program.proofs.Fetches.{fetched_more, stopped_here, if_due, well_after}
 use Rattle.crell_program.proofs.fetch.gather.Goals as goal
 
 pub returns-in_err-text-clause-due : goal.returns-in_err-text-clause-due
@@ -16,10 +16,15 @@ returns-in_err-text-clause-due g c =
     i.faults c.fetch.ensures.faults i.taken c.fetch.ensures.taken c.args.files.now c.loop-file.file-index _ c.loop-file.texts c.loop-file-test.true i.held answer due)
     c.in_err-text.ensures.due)
 
+pub returns-in_err-text-clause-well : goal.returns-in_err-text-clause-well
+returns-in_err-text-clause-well g c =
+    well_after g.S.Shelf.fails_nowhere g.S.Shelf.faults c.args.shelf.now c.loop-file.shelf c.fetch.new.shelf c.loop-file.invariant.well c.fetch.ensures.well
+
 pub loop-file-preserved : goal.loop-file-preserved
 loop-file-preserved g c =
     let i = c.loop-file.invariant in record {
       told = c.fetch.ensures.told ∙ i.told;
+      well = well_after g.S.Shelf.fails_nowhere g.S.Shelf.faults c.args.shelf.now c.loop-file.shelf c.fetch.new.shelf i.well c.fetch.ensures.well;
       faults = le_trans i.faults c.fetch.ensures.faults;
       taken = le_trans i.taken c.fetch.ensures.taken;
       held = subst (λ texts. AreHeld (shelf_seen g.S.Shelf.told g.S.Shelf.faults g.S.Shelf.taken c.args.shelf.now c.fetch.new.shelf)

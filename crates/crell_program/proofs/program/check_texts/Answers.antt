@@ -14,7 +14,7 @@ pub returns-clause-due : goal.returns-clause-due
 returns-clause-due g c = λ source_short target_short.
     texts_judged _ (shown_names c.args.files.now) c.args.source.now c.args.target.now c.args.hints.now
     c.in-Ok.module ((c.in-Ok.ensures.spelled, c.in-Ok.ensures.well_formed), c.in-Ok.ensures.only) c.in-Ok-read_module.module ((c.in-Ok-read_module.ensures.spelled, c.in-Ok-read_module.ensures.well_formed), c.in-Ok-read_module.ensures.only)
-    c.in-Ok-read_hints.hints c.in-Ok-read_hints.ensures.ok _ c.judge.ensures.verdict
+    c.in-Ok-read_hints.hints (c.in-Ok-read_hints.ensures.ok, c.in-Ok-read_hints.ensures.only) _ c.judge.ensures.verdict
 
 pub returns-clause-refines : goal.returns-clause-refines
 returns-clause-refines g c =
