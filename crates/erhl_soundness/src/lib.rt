@@ -8,33 +8,45 @@
 
 ghost use Rattle.erhl_soundness.specs.Laws.{ALineComesToWhatIsKnown, SizesBoundWhatIsKnown, FactsAreCounted, ALineKeepsWhatHolds, MatchedOperandsAreRelated, AcceptedModulesRefine};
 
+/// Empty on purpose: its contract is the law.
+///
 /// Over an aligned line, fact by fact, a check comes to what the postcondition gives.
 pub fn a_line_comes_to_what_is_known()
     ensures { ALineComesToWhatIsKnown }
 {}
 
+/// Empty on purpose: its contract is the law.
+///
 /// Sizes tell of every assertion that a check comes to: none has more facts than the greatest size before it, or than were known
 /// at the start.
 pub fn sizes_bound_what_is_known()
     ensures { SizesBoundWhatIsKnown }
 {}
 
+/// Empty on purpose: its contract is the law.
+///
 /// How many facts are known in the course of a check, in checks that are written out.
 pub fn facts_are_counted()
     ensures { FactsAreCounted }
 {}
 
+/// Empty on purpose: its contract is the law.
+///
 /// Two sides of which an assertion holds come, by an aligned line, to two sides of which holds what the postcondition gives,
 /// unless the source's line is undefined behaviour; whatever their old and ghost registers are.
 pub fn a_line_keeps_what_holds()
     ensures { ALineKeepsWhatHolds }
 {}
 
+/// Empty on purpose: its contract is the law.
+///
 /// Where an assertion holds of two sides and two operands are matched, the source's value and the target's are related.
 pub fn matched_operands_are_related()
     ensures { MatchedOperandsAreRelated }
 {}
 
+/// Empty on purpose: its contract is the law.
+///
 /// Where every step that the rules take is sound, and each pair of functions of two modules is accepted under some hint, the
 /// target refines the source: whichever function is entered, on whatever input, what the target can show the source can show
 /// too, or it has undefined behaviour after a first part of it.

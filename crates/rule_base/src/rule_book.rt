@@ -83,6 +83,8 @@ impl RuleBook {
     }
 }
 
+/// Empty on purpose: its contract is the law.
+///
 /// What a book takes is sound, whatever rules it is made of: each brings its proof.
 pub fn book_is_sound(book: &RuleBook)
     ensures { AreSound

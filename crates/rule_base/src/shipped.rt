@@ -51,6 +51,8 @@ impl InferRule for Rule {
     }
 }
 
+/// Empty on purpose: its contract is the law.
+///
 /// The table: each rule stands there once, in this order, and no two of them have one name.
 pub fn rules_stand_in_the_table()
     ensures table { Rule.ALL ≡ Rule.Trans ∷ Rule.UndefConst ∷ Rule.ZeroRight ∷ [] }
