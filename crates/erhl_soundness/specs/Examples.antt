@@ -10,6 +10,7 @@ use Rattle.ir_core.specs.declared.functions.Instr.{Instr}
 use Rattle.ir_core.specs.declared.functions.Instr.TheVariants as line
 use Rattle.ir_core.specs.declared.functions.Term.TheVariants.{Ret}
 use Rattle.ir_core.specs.declared.functions.Function.{Function}
+use Rattle.ir_core.specs.Modules.{no_scope}
 use Rattle.erhl_assert.specs.declared.facts.Side.{Side}
 use Rattle.erhl_assert.specs.declared.facts.Fact.{Fact}
 use Rattle.erhl_assert.specs.declared.facts.Fact.TheVariants.{LessDef}
@@ -44,7 +45,7 @@ defining lines result = record {
 
 -- one rule, whose name is of no letters, and which takes whatever it is given
 abbrev pub taking_all : Beside
-taking_all = record { rules = record { name = []; takes = λ scope schema. true } ∷ []; scope = tt }
+taking_all = record { rules = record { name = []; takes = λ scope schema. true } ∷ []; scope = no_scope }
 
 -- undef >= undef
 abbrev pub claim : Fact

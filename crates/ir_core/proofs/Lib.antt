@@ -1,3 +1,4 @@
 pub mod SameLaws
 pub mod Widths
 pub mod WellFormed
+pub mod Shapes

@@ -33,7 +33,7 @@ in_two a b c other same further also (zero, inside, is) =
 in_two a b c other same further also (suc k, inside, is) = in_one b c further also (k, omega (arith, inside), is)
 
 -- where the first block uses what is defined, each path does: it goes no further
-defined : (g : Function) (b : Block) (more : List Block) → g.blocks ≡ b ∷ more → BlockUsesDefined (names_in (params_of g)) b → IsFunctionDefined g
+pub defined : (g : Function) (b : Block) (more : List Block) → g.blocks ≡ b ∷ more → BlockUsesDefined (names_in (params_of g)) b → IsFunctionDefined g
 defined g b more are uses first further [] blocks path =
     let same : b ≡ first = cc (are, blocks) in
     subst (BlockUsesDefined (names_in (params_of g))) same uses
@@ -41,13 +41,13 @@ defined g b more are uses first further (c ∷ path) blocks goes =
     let there = subst (λ names. Contains names c.name) (no_successors first.term) goes.1 in
     absurd (in_none c.name there)
 
-name_f : IsNameInRange f
+pub name_f : IsNameInRange f
 name_f = (omega arith, (omega arith, tt))
 
-name_x : IsNameInRange x
+pub name_x : IsNameInRange x
 name_x = (omega arith, (omega arith, tt))
 
-name_y : IsNameInRange y
+pub name_y : IsNameInRange y
 name_y = (omega arith, (omega arith, tt))
 
 pub two_blocks_are_well_formed : TwoBlocksAreWellFormed

@@ -1,4 +1,7 @@
 ghost use Rattle.ir_core.specs.Laws.{TwoBlocksAreWellFormed, EmptyNamesAreNot, EarlyUsesAreNot, WideNumbersAreNot};
+ghost use Rattle.ir_core.specs.Laws.{OtherWidthsAreNot, OtherResultsAreNot, VoidParametersAreNot, VoidNumbersAreNot};
+ghost use Rattle.ir_core.specs.Laws.{LinesWithoutOperatorsAreNot, PhisOfNoEdgeAreNot, PhisOfNothingAreNot};
+ghost use Rattle.ir_core.specs.Laws.{FunctionsOfOneNameAreNot, NamesSetTwiceAreNot, DebugNamesAreNot, FunctionsWithoutBlocksAreNot};
 
 /// Empty on purpose: its contract is the law.
 ///
@@ -9,4 +12,35 @@ pub fn examples_of_well_formedness()
     ensures empty_name { EmptyNamesAreNot }
     ensures early_use { EarlyUsesAreNot }
     ensures wide_number { WideNumbersAreNot }
+{}
+
+/// Empty on purpose: its contract is the law.
+///
+/// No module has shape in which an operand is stated at another width than its register's, a function of `i32` returns an `i64`, a
+/// parameter is of `void`, or so is a number.
+pub fn examples_of_types()
+    ensures other_width { OtherWidthsAreNot }
+    ensures other_result { OtherResultsAreNot }
+    ensures void_parameter { VoidParametersAreNot }
+    ensures void_number { VoidNumbersAreNot }
+{}
+
+/// Empty on purpose: its contract is the law.
+///
+/// No module has shape that has a line of one operand alone, a phi with an entry for an edge that isn't there, or one without entries.
+pub fn examples_of_lines()
+    ensures no_operator { LinesWithoutOperatorsAreNot }
+    ensures no_edge { PhisOfNoEdgeAreNot }
+    ensures no_entries { PhisOfNothingAreNot }
+{}
+
+/// Empty on purpose: its contract is the law.
+///
+/// No module has shape that has two functions of one name, a function in which two lines set one name, one of a name for debug
+/// information, or one without blocks.
+pub fn examples_of_names_and_blocks()
+    ensures function_names { FunctionsOfOneNameAreNot }
+    ensures names { NamesSetTwiceAreNot }
+    ensures debug_name { DebugNamesAreNot }
+    ensures no_blocks { FunctionsWithoutBlocksAreNot }
 {}

@@ -19,7 +19,9 @@ mod words;
 pub use bits::Bits;
 pub use expressions::{Binary, Expr, Expr0, Reg};
 pub use functions::{Block, Calm, Entry, Function, Instr, Module, Param, Phi, Term};
-pub use laws::examples_of_well_formedness;
+pub use laws::{
+    examples_of_lines, examples_of_names_and_blocks, examples_of_types, examples_of_well_formedness,
+};
 pub use limits::Limit;
 pub use names::{Name, Sigil};
 pub use operands::{Atom, BinOp, Const, Flags, Operand, Ty};

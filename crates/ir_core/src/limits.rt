@@ -2,7 +2,7 @@ ghost use Rattle.std.specs.Prelude.{◌≡◌};
 ghost use Rattle.ir_core.specs.Limits.{limit_name, limit_number};
 
 /// A limit on what is read. Its number is itself allowed.
-#[derive(Drop, Clone, Copy)]
+#[derive(Clone, Copy, Debug, Drop)]
 pub enum Limit {
     /// The bytes of a module's text.
     Text,
@@ -10,6 +10,8 @@ pub enum Limit {
     Json,
     /// The lines of a function, `ret` among them.
     Lines,
+    /// The facts that are known at a place, of both sides together.
+    Facts,
 }
 
 impl Limit {
@@ -20,6 +22,7 @@ impl Limit {
             Limit::Text => "text",
             Limit::Json => "json",
             Limit::Lines => "lines",
+            Limit::Facts => "facts",
         }
     }
 
@@ -30,6 +33,7 @@ impl Limit {
             Limit::Text => 16_777_216,
             Limit::Json => 67_108_864,
             Limit::Lines => 1_048_576,
+            Limit::Facts => 65_536,
         }
     }
 }
