@@ -1,6 +1,8 @@
 -- Courses: what is good is valid, what a good check is made of, and what an aligned line comes to.
-use Rattle.std.proofs.Common.{◌≡◌, ◌∙◌, ◌++◌, ℕ, true, false, cond, List, Option, None, Some, refl, sym, ap}
+use Rattle.std.proofs.Common.{◌≡◌, ◌∙◌, ◌++◌, ◌||◌, ℕ, nat_lt, Bool, true, false, cond, List, Option, None, Some, refl, sym, ap}
+use Rattle.std.proofs.lemmas.List.Folds.{list_any-append}
 use Rattle.ir_core.specs.declared.names.Name.{Name}
+use Rattle.ir_core.specs.Limits.{fact_limit}
 use Rattle.ir_core.specs.declared.functions.Calm.{Calm}
 use Rattle.ir_core.specs.declared.functions.Instr.{Instr}
 use Rattle.ir_core.specs.declared.functions.Instr.TheVariants as line
@@ -11,28 +13,96 @@ use Rattle.erhl_assert.specs.declared.facts.Side.{Side}
 use Rattle.erhl_assert.specs.declared.facts.Side.TheVariants.{Src, Tgt}
 use Rattle.erhl_assert.specs.declared.verdict.Reason.{Reason}
 use Rattle.erhl_assert.specs.declared.verdict.Spot.{Spot}
+use Rattle.erhl_assert.specs.declared.verdict.Verdict.{Verdict}
 use Rattle.erhl_assert.specs.declared.verdict.Verdict.TheVariants as verdict
 use Rattle.erhl_assert.specs.Facts.{with_fact, expr_names, without_naming}
 use Rattle.erhl_assert.specs.Alignment.{Line}
 use Rattle.erhl_assert.specs.Postcondition.{right_side, left_side, facts_after, diff_after, after_line}
-use Rattle.erhl_assert.specs.Course.{Ends, Refuses, Gives, Course, gives, after_ends, and_then, tested, Judged, Good, Bad, with_sizes, placed_end, placed, verdict_of, IsGood}
+use Rattle.erhl_assert.specs.Course.{Ends, Refuses, Gives, Course, gives, after_ends, and_then, tested, Judged, Good, Bad, with_sizes, placed_end, placed, sizes_of, verdict_of, are_too_many, within, judged_answer, answer_at, IsGood}
 use Rattle.erhl_assert.specs.Growth.{adds, forgetting, over_calm, over_side, over_line}
-
--- a check is good exactly where it says valid
-pub good_is_valid : (j : Judged) → IsGood j → verdict_of j ≡ verdict.Valid
-good_is_valid j h = ap verdict_of h.1
-
-pub valid_is_good : (j : Judged) → verdict_of j ≡ verdict.Valid → IsGood j
-valid_is_good (Good sizes) h = (sizes, refl)
-valid_is_good (Bad sizes block where_ why) h = absurd (cc)
 
 pub bad_is_not_good : (sizes : List ℕ) (block : Name) (where_ : Spot) (why : Reason) → IsGood (Bad sizes block where_ why) → ⊥
 bad_is_not_good sizes block where_ why h = let e = h.1 in cc
 
--- sizes say nothing of the verdict
-pub verdict_with_sizes : (sizes : List ℕ) (j : Judged) → verdict_of (with_sizes sizes j) ≡ verdict_of j
-verdict_with_sizes before (Good sizes) = refl
-verdict_with_sizes before (Bad sizes block where_ why) = refl
+-- ---- within the limit on facts
+
+-- of two lists of sizes
+too_many_of_two : (xs ys : List ℕ) → are_too_many (xs ++ ys) ≡ (are_too_many xs || are_too_many ys)
+too_many_of_two xs ys = list_any-append (nat_lt fact_limit) xs ys
+
+-- what goes on where a course ends within the limit
+abbrev pub going_on : {A B : Type 0} → Option (Ends A) → (A → Option (Ends B)) → Option (Ends B)
+going_on None next = None
+going_on (Some (Refuses r)) next = Some (Refuses r)
+going_on (Some (Gives a)) next = next a
+
+two_within : {A : Type 0} (p q : Bool) (e : A) → cond (p || q) None (Some e) ≡ cond p None (cond q None (Some e))
+two_within true q e = refl
+two_within false q e = refl
+
+within_at : {A B : Type 0} (sizes : List ℕ) (e : Ends A) (next : A → Course B)
+    → within (after_ends sizes e next) ≡ going_on (cond (are_too_many sizes) None (Some e)) (λ a. within (next a))
+within_at sizes (Refuses r) next =
+    elim (are_too_many sizes) as (λ b. cond b None (Some (Refuses r)) ≡ going_on (cond b None (Some (Refuses r))) (λ a. within (next a))) [ true ↦ refl | false ↦ refl ]
+within_at sizes (Gives a) next =
+    ap (λ b. cond b None (Some (next a).ends)) (too_many_of_two sizes (next a).sizes)
+    ∙ two_within (are_too_many sizes) (are_too_many (next a).sizes) (next a).ends
+    ∙ (elim (are_too_many sizes) as (λ b. cond b None (within (next a)) ≡ going_on (cond b None (Some (Gives a))) (λ a. within (next a))) [ true ↦ refl | false ↦ refl ])
+
+-- a course of two goes on within the limit
+pub within_then : {A B : Type 0} (c : Course A) (next : A → Course B) → within (and_then c next) ≡ going_on (within c) (λ a. within (next a))
+within_then c next = within_at c.sizes c.ends next
+
+pub within_more : {A B : Type 0} (c : Course A) (next : A → Course B) (a : A) → within c ≡ Some (Gives a) → within (and_then c next) ≡ within (next a)
+within_more c next a h = within_then c next ∙ ap (λ e. going_on e (λ a. within (next a))) h
+
+pub within_none : {A B : Type 0} (c : Course A) (next : A → Course B) → within c ≡ None → within (and_then c next) ≡ None
+within_none c next h = within_then c next ∙ ap (λ e. going_on e (λ a. within (next a))) h
+
+pub within_refused : {A B : Type 0} (c : Course A) (next : A → Course B) (r : Reason) → within c ≡ Some (Refuses r) → within (and_then c next) ≡ Some (Refuses r)
+within_refused c next r h = within_then c next ∙ ap (λ e. going_on e (λ a. within (next a))) h
+
+pub answer_with_sizes : (before : List ℕ) (j : Judged) → judged_answer (with_sizes before j) ≡ cond (are_too_many before) None (judged_answer j)
+answer_with_sizes before (Good sizes) =
+    ap (λ b. cond b None (Some verdict.Valid)) (too_many_of_two before sizes) ∙ two_within (are_too_many before) (are_too_many sizes) verdict.Valid
+answer_with_sizes before (Bad sizes block where_ why) =
+    ap (λ b. cond b None (Some (verdict.Refused block where_ why))) (too_many_of_two before sizes)
+    ∙ two_within (are_too_many before) (are_too_many sizes) (verdict.Refused block where_ why)
+
+answer_placed_at : {A : Type 0} (block : Name) (where_ : Spot) (sizes : List ℕ) (e : Ends A) (next : A → Judged)
+    → judged_answer (placed_end block where_ sizes e next) ≡ answer_at block where_ (cond (are_too_many sizes) None (Some e)) (λ a. judged_answer (next a))
+answer_placed_at block where_ sizes (Refuses r) next =
+    elim (are_too_many sizes) as (λ b. cond b None (Some (verdict.Refused block where_ r)) ≡ answer_at block where_ (cond b None (Some (Refuses r))) (λ a. judged_answer (next a))) [ true ↦ refl | false ↦ refl ]
+answer_placed_at block where_ sizes (Gives a) next =
+    answer_with_sizes sizes (next a)
+    ∙ (elim (are_too_many sizes) as (λ b. cond b None (judged_answer (next a)) ≡ answer_at block where_ (cond b None (Some (Gives a))) (λ a. judged_answer (next a))) [ true ↦ refl | false ↦ refl ])
+
+-- what a check answers that begins with a course at a place
+pub answer_placed : {A : Type 0} (block : Name) (where_ : Spot) (c : Course A) (next : A → Judged)
+    → judged_answer (placed block where_ c next) ≡ answer_at block where_ (within c) (λ a. judged_answer (next a))
+answer_placed block where_ c next = answer_placed_at block where_ c.sizes c.ends next
+
+-- a check that answers that the pair is valid is good
+valid_within : (b : Bool) (v w : Verdict) → cond b None (Some v) ≡ Some w → v ≡ w
+valid_within true v w h = absurd (cc)
+valid_within false v w h = cc
+
+valid_is_good : (j : Judged) → verdict_of j ≡ verdict.Valid → IsGood j
+valid_is_good (Good sizes) h = (sizes, refl)
+valid_is_good (Bad sizes block where_ why) h = absurd (cc)
+
+pub answer_is_good : (j : Judged) → judged_answer j ≡ Some verdict.Valid → IsGood j
+answer_is_good j h = valid_is_good j (valid_within (are_too_many (sizes_of j)) (verdict_of j) verdict.Valid h)
+
+-- and a good check answers nothing else
+good_answers_at : (b : Bool) (v w : Verdict) → v ≡ verdict.Valid → cond b None (Some v) ≡ Some w → w ≡ verdict.Valid
+good_answers_at true v w valid h = absurd (cc)
+good_answers_at false v w valid h = cc
+
+pub good_answers : (j : Judged) (v : Verdict) → IsGood j → judged_answer j ≡ Some v → v ≡ verdict.Valid
+good_answers j v good h = good_answers_at (are_too_many (sizes_of j)) (verdict_of j) v (ap verdict_of good.1) h
+
+-- ---- good checks
 
 good_with_sizes : (before : List ℕ) (j : Judged) → IsGood (with_sizes before j) → IsGood j
 good_with_sizes before (Good sizes) h = (sizes, refl)
@@ -83,6 +153,20 @@ calm_ends Tgt l known =
     elim (expr_names (Now l.name) (right_side l)) as (λ b.
     (cond b (gives (forgetting Tgt (Now l.name) known)) (and_then (adds Tgt above (forgetting Tgt (Now l.name) known)) (adds Tgt below))).ends
     ≡ Gives (record known { tgt = cond b kept (with_fact below (with_fact above kept)) })) [ true ↦ refl | false ↦ refl ]
+
+ends_within : {A : Type 0} (b : Bool) (e : Ends A) (a : A) → cond b None (Some e) ≡ Some (Gives a) → e ≡ Gives a
+ends_within true e a h = absurd (cc)
+ends_within false e a h = cc
+
+diff_kept : (side : Side) (o : Option Instr) (known after : Assertion) → Gives (known_after side o known) ≡ Gives after → after.diff ≡ known.diff
+diff_kept Src o known after h = cc
+diff_kept Tgt o known after h = cc
+
+-- the registers that may differ stay as facts are added
+pub calm_keeps_diff : (side : Side) (l : Calm) (known after : Assertion) → within (over_calm side l known) ≡ Some (Gives after) → after.diff ≡ known.diff
+calm_keeps_diff side l known after h =
+    diff_kept side (Some (line.Calm l)) known after
+    (sym (calm_ends side l known) ∙ ends_within (are_too_many (over_calm side l known).sizes) (over_calm side l known).ends after h)
 
 side_ends : (side : Side) (o : Option Instr) (known : Assertion) → (over_side side o known).ends ≡ Gives (known_after side o known)
 side_ends Src None known = refl

@@ -24,7 +24,7 @@ use Rattle.erhl_assert.specs.declared.verdict.ModuleVerdict.{ModuleVerdict}
 use Rattle.erhl_assert.specs.declared.verdict.ModuleVerdict.TheVariants as modules
 use Rattle.erhl_assert.specs.Matched.{matched}
 use Rattle.erhl_assert.specs.Alignment.{Line, AlignedBlock, Alignment, Aligned, Differs, block_hint, alignment}
-use Rattle.erhl_assert.specs.Course.{and_then, tested, Judged, Good, Bad, placed, verdict_of, IsGood}
+use Rattle.erhl_assert.specs.Course.{and_then, tested, Judged, Good, Bad, placed, judged_answer, IsGood}
 use Rattle.erhl_assert.specs.Growth.{over_line}
 use Rattle.erhl_assert.specs.Steps.{Rules, Beside, beside, after_steps, steps_at}
 
@@ -67,9 +67,9 @@ aligned_judged w hint (Aligned blocks) = reached_judged w hint blocks
 abbrev pub function_judged : Beside → Function → Function → Hint → Judged
 function_judged w f g hint = aligned_judged w hint (alignment hint f g)
 
--- and the verdict on it
-abbrev pub function_verdict : Beside → Function → Function → Hint → Verdict
-function_verdict w f g hint = verdict_of (function_judged w f g hint)
+-- and what it answers: a verdict, unless the limit on facts is passed
+abbrev pub function_answer : Beside → Function → Function → Hint → Option Verdict
+function_answer w f g hint = judged_answer (function_judged w f g hint)
 
 -- The pair is accepted: all tests are passed.
 abbrev pub Accepts : Beside → Function → Function → Hint → Type 0
@@ -88,16 +88,17 @@ abbrev pub same_signature : Function → Function → Bool
 same_signature f g = same_name f.name g.name && same_ty f.result g.result && same_list same_ty (map (λ p. p.ty) f.params) (map (λ p. p.ty) g.params)
 
 -- the first function that isn't valid decides
-abbrev pub of_function : Name → Verdict → ModuleVerdict → ModuleVerdict
-of_function x verdict.Valid rest = rest
-of_function x (verdict.Refused block where_ why) rest = modules.Refused x block where_ why
+abbrev pub of_function : Name → Option Verdict → Option ModuleVerdict → Option ModuleVerdict
+of_function x None rest = None
+of_function x (Some verdict.Valid) rest = rest
+of_function x (Some (verdict.Refused block where_ why)) rest = Some (modules.Refused x block where_ why)
 
-abbrev pub functions_verdict : Beside → Hints → List Function → List Function → ModuleVerdict
-functions_verdict w hints (f ∷ fs) (g ∷ gs) =
-    of_function f.name (function_verdict w f g (hint_for hints f.name)) (functions_verdict w hints fs gs)
-functions_verdict w hints [] [] = modules.Valid
-functions_verdict w hints (f ∷ fs) [] = modules.Differs difference.Functions
-functions_verdict w hints [] (g ∷ gs) = modules.Differs difference.Functions
+abbrev pub functions_answer : Beside → Hints → List Function → List Function → Option ModuleVerdict
+functions_answer w hints (f ∷ fs) (g ∷ gs) =
+    of_function f.name (function_answer w f g (hint_for hints f.name)) (functions_answer w hints fs gs)
+functions_answer w hints [] [] = Some modules.Valid
+functions_answer w hints (f ∷ fs) [] = Some (modules.Differs difference.Functions)
+functions_answer w hints [] (g ∷ gs) = Some (modules.Differs difference.Functions)
 
 -- each pair of functions has one signature and is accepted under its hint, and no function is left over
 abbrev pub AreAcceptedUnder : Hints → Beside → List Function → List Function → Type 0
@@ -114,9 +115,10 @@ AreAccepted w (f ∷ fs) (g ∷ gs) = (same_signature f g ≡ true) × ((hint : 
 AreAccepted w (f ∷ fs) [] = ⊥
 AreAccepted w [] (g ∷ gs) = ⊥
 
--- THE verdict on two modules: their functions have equal names, return and parameter types; then each pair in its order
-abbrev pub module_verdict : Rules → Module → Module → Hints → ModuleVerdict
-module_verdict rules source target hints =
+-- THE answer on two modules: their functions have equal names, return and parameter types; then each pair in its order, of which the
+-- first decides that isn't valid, or on which too many facts are known.
+abbrev pub module_answer : Rules → Module → Module → Hints → Option ModuleVerdict
+module_answer rules source target hints =
     cond (same_list same_signature (definitions_of source) (definitions_of target))
-    (functions_verdict (beside rules source) hints (definitions_of source) (definitions_of target))
-    (modules.Differs difference.Functions)
+    (functions_answer (beside rules source) hints (definitions_of source) (definitions_of target))
+    (Some (modules.Differs difference.Functions))

@@ -1,6 +1,8 @@
 -- A check as a course: what it comes to, and how many facts are known on the way.
-use Rattle.std.specs.Prelude.{◌≡◌, ℕ, List, [], ◌++◌, Option, None, Some}
+use Rattle.std.specs.Prelude.{◌≡◌, ℕ, Bool, nat_lt, cond, List, [], ◌++◌, Option, None, Some}
+use Rattle.std.specs.List.{list_any}
 use Rattle.ir_core.specs.declared.names.Name.{Name}
+use Rattle.ir_core.specs.Limits.{fact_limit}
 use Rattle.erhl_assert.specs.declared.verdict.Reason.{Reason}
 use Rattle.erhl_assert.specs.declared.verdict.Spot.{Spot}
 use Rattle.erhl_assert.specs.declared.verdict.Verdict.{Verdict}
@@ -60,6 +62,27 @@ sizes_of (Bad sizes block where_ why) = sizes
 abbrev pub verdict_of : Judged → Verdict
 verdict_of (Good sizes) = verdict.Valid
 verdict_of (Bad sizes block where_ why) = verdict.Refused block where_ why
+
+-- ---- within the limit on facts
+
+-- one of the sizes is past the limit
+abbrev pub are_too_many : List ℕ → Bool
+are_too_many sizes = list_any (nat_lt fact_limit) sizes
+
+-- How a course ends; one on which too many facts are known has no end.
+abbrev pub within : {A : Type 0} → Course A → Option (Ends A)
+within c = cond (are_too_many c.sizes) None (Some c.ends)
+
+-- What a check answers: its verdict, or nothing, where too many facts are known before the first test that fails, or before the end
+-- where none does. With the sizes 65,535 and 65,536 it has a verdict; with 65,537 among them it has none.
+abbrev pub judged_answer : Judged → Option Verdict
+judged_answer j = cond (are_too_many (sizes_of j)) None (Some (verdict_of j))
+
+-- the answer at a place where a course ends so within the limit, and on what follows
+abbrev pub answer_at : {A : Type 0} → Name → Spot → Option (Ends A) → (A → Option Verdict) → Option Verdict
+answer_at block where_ None next = None
+answer_at block where_ (Some (Refuses r)) next = Some (verdict.Refused block where_ r)
+answer_at block where_ (Some (Gives a)) next = next a
 
 -- all tests are passed
 abbrev pub IsGood : Judged → Type 0

@@ -1,7 +1,8 @@
 -- Two modules differ exactly where their signatures do, and are valid exactly where each pair is accepted.
-use Rattle.std.proofs.Common.{◌≡◌, ◌∙◌, ◌&&◌, true, false, cond, List, [], ◌∷◌, map, refl, sym, ap}
-use Rattle.std.proofs.lemmas.Bool.{false≢true, cond-true}
-use Rattle.std.specs.Prelude.{◌↔◌}
+use Rattle.std.proofs.Common.{◌≡◌, ◌∙◌, ◌&&◌, Bool, true, false, cond, List, [], ◌∷◌, map, Option, None, Some, refl, sym, ap}
+use Rattle.std.proofs.lemmas.Bool.{false≢true}
+use Rattle.std.specs.Prelude.{◌↔◌, Result, Ok, Err, IfOk}
+use Rattle.ir_machine.specs.Refinement.{Refines}
 use Rattle.ir_core.specs.declared.names.Name.{Name}
 use Rattle.ir_core.specs.declared.functions.Function.{Function}
 use Rattle.ir_core.specs.declared.functions.Param.{Param}
@@ -16,9 +17,12 @@ use Rattle.erhl_assert.specs.declared.verdict.Difference.{Difference}
 use Rattle.erhl_assert.specs.declared.verdict.Difference.TheVariants as difference
 use Rattle.erhl_assert.specs.declared.verdict.ModuleVerdict.{ModuleVerdict}
 use Rattle.erhl_assert.specs.declared.verdict.ModuleVerdict.TheVariants as modules
-use Rattle.erhl_assert.specs.Steps.{Rules, Beside, beside}
-use Rattle.erhl_assert.specs.Acceptance.{function_judged, function_verdict, hint_for, of_function, functions_verdict, module_verdict, same_signature, AreAcceptedUnder, AreAccepted}
-use Rattle.erhl_assert.proofs.Courses.{good_is_valid, valid_is_good}
+use Rattle.erhl_assert.specs.Steps.{Rules, Beside, beside, AreSound}
+use Rattle.erhl_assert.specs.Acceptance.{function_judged, function_answer, hint_for, of_function, functions_answer, module_answer, same_signature, AreAcceptedUnder, AreAccepted}
+use Rattle.erhl_soundness.specs.Laws.{AcceptedModulesRefine}
+use Rattle.erhl_checker.specs.declared.ends.CheckEnd.{CheckEnd}
+use Rattle.erhl_checker.specs.Progress.{Answers}
+use Rattle.erhl_assert.proofs.Courses.{answer_is_good, good_answers}
 
 -- parameters are compared by their types
 pub same_types : (ps qs : List Param) → same_list (λ p q. same_ty p.ty q.ty) ps qs ≡ same_list same_ty (map (λ p. p.ty) ps) (map (λ p. p.ty) qs)
@@ -27,43 +31,44 @@ same_types [] (q ∷ qs) = refl
 same_types (p ∷ ps) [] = refl
 same_types (p ∷ ps) (q ∷ qs) = ap (λ rest. same_ty p.ty q.ty && rest) (same_types ps qs)
 
-of_function_same : (x : Name) (v : Verdict) (rest : ModuleVerdict) (d : Difference) → (rest ≡ modules.Differs d → ⊥) → of_function x v rest ≡ modules.Differs d → ⊥
-of_function_same x verdict.Valid rest d h e = h e
-of_function_same x (verdict.Refused block where_ why) rest d h e = cc
+of_function_same : (x : Name) (v : Option Verdict) (rest : Option ModuleVerdict) (d : Difference) → (rest ≡ Some (modules.Differs d) → ⊥)
+    → of_function x v rest ≡ Some (modules.Differs d) → ⊥
+of_function_same x None rest d h e = cc
+of_function_same x (Some verdict.Valid) rest d h e = h e
+of_function_same x (Some (verdict.Refused block where_ why)) rest d h e = cc
 
 functions_never_differ : (w : Beside) (hints : Hints) (fs gs : List Function) (d : Difference) → same_list same_signature fs gs ≡ true
-    → functions_verdict w hints fs gs ≡ modules.Differs d → ⊥
+    → functions_answer w hints fs gs ≡ Some (modules.Differs d) → ⊥
 functions_never_differ w hints [] [] d same e = cc
 functions_never_differ w hints [] (g ∷ gs) d same e = absurd (false≢true same)
 functions_never_differ w hints (f ∷ fs) [] d same e = absurd (false≢true same)
 functions_never_differ w hints (f ∷ fs) (g ∷ gs) d same e =
-    of_function_same f.name (function_verdict w f g (hint_for hints f.name)) (functions_verdict w hints fs gs) d
+    of_function_same f.name (function_answer w f g (hint_for hints f.name)) (functions_answer w hints fs gs) d
     (functions_never_differ w hints fs gs d (right_true (same_signature f g) (same_list same_signature fs gs) same)) e
 
-pub differs_exactly : (rules : Rules) (source target : Module) (hints : Hints)
-    → module_verdict rules source target hints ≡ modules.Differs difference.Functions ↔ same_list same_signature (definitions_of source) (definitions_of target) ≡ false
-differs_exactly rules source target hints =
-    let test = same_list same_signature (definitions_of source) (definitions_of target) in
-    let others = functions_verdict (beside rules source) hints (definitions_of source) (definitions_of target) in
-    (elim test as (λ b. test ≡ b → cond b others (modules.Differs difference.Functions) ≡ modules.Differs difference.Functions ↔ b ≡ false) [
-      | true ↦ λ same. (λ e. absurd (functions_never_differ (beside rules source) hints (definitions_of source) (definitions_of target) difference.Functions same e), λ e. cc)
-      | false ↦ λ same. (λ e. refl, λ e. refl)
-    ]) refl
+of_function_valid : (x : Name) (v : Option Verdict) (rest : Option ModuleVerdict) → of_function x v rest ≡ Some modules.Valid
+    → (v ≡ Some verdict.Valid) × (rest ≡ Some modules.Valid)
+of_function_valid x None rest h = absurd (cc)
+of_function_valid x (Some verdict.Valid) rest h = (refl, h)
+of_function_valid x (Some (verdict.Refused block where_ why)) rest h = absurd (cc)
 
-of_function_valid : (x : Name) (v : Verdict) (rest : ModuleVerdict) → of_function x v rest ≡ modules.Valid → (v ≡ verdict.Valid) × (rest ≡ modules.Valid)
-of_function_valid x verdict.Valid rest h = (refl, h)
-of_function_valid x (verdict.Refused block where_ why) rest h = absurd (cc)
+-- a function that is accepted leaves the answer to the others
+of_function_good : (x : Name) (o : Option Verdict) → ((v : Verdict) → o ≡ Some v → v ≡ verdict.Valid) → (rest : Option ModuleVerdict) (m : ModuleVerdict)
+    → of_function x o rest ≡ Some m → rest ≡ Some m
+of_function_good x None good rest m h = absurd (cc)
+of_function_good x (Some verdict.Valid) good rest m h = h
+of_function_good x (Some (verdict.Refused block where_ why)) good rest m h = let e = good (verdict.Refused block where_ why) refl in absurd (cc)
 
 module _ (w : Beside) (hints : Hints) where
-  valid_are_accepted : (fs gs : List Function) → same_list same_signature fs gs ≡ true → functions_verdict w hints fs gs ≡ modules.Valid
+  valid_are_accepted : (fs gs : List Function) → same_list same_signature fs gs ≡ true → functions_answer w hints fs gs ≡ Some modules.Valid
       → AreAcceptedUnder hints w fs gs
   valid_are_accepted [] [] same valid = tt
   valid_are_accepted [] (g ∷ gs) same valid = absurd (false≢true same)
   valid_are_accepted (f ∷ fs) [] same valid = absurd (false≢true same)
   valid_are_accepted (f ∷ fs) (g ∷ gs) same valid =
-      let pair = of_function_valid f.name (function_verdict w f g (hint_for hints f.name)) (functions_verdict w hints fs gs) valid in (
+      let pair = of_function_valid f.name (function_answer w f g (hint_for hints f.name)) (functions_answer w hints fs gs) valid in (
         left_true (same_signature f g) (same_list same_signature fs gs) same,
-        valid_is_good (function_judged w f g (hint_for hints f.name)) pair.0,
+        answer_is_good (function_judged w f g (hint_for hints f.name)) pair.0,
         valid_are_accepted fs gs (right_true (same_signature f g) (same_list same_signature fs gs) same) pair.1,
       )
 
@@ -73,13 +78,13 @@ module _ (w : Beside) (hints : Hints) where
   accepted_are_same (f ∷ fs) [] h = absurd h
   accepted_are_same (f ∷ fs) (g ∷ gs) h = all_true h.0 (accepted_are_same fs gs h.2)
 
-  accepted_are_valid : (fs gs : List Function) → AreAcceptedUnder hints w fs gs → functions_verdict w hints fs gs ≡ modules.Valid
-  accepted_are_valid [] [] h = refl
-  accepted_are_valid [] (g ∷ gs) h = absurd h
-  accepted_are_valid (f ∷ fs) [] h = absurd h
-  accepted_are_valid (f ∷ fs) (g ∷ gs) h =
-      ap (λ v. of_function f.name v (functions_verdict w hints fs gs)) (good_is_valid (function_judged w f g (hint_for hints f.name)) h.1)
-      ∙ accepted_are_valid fs gs h.2
+  accepted_are_valid : (fs gs : List Function) → AreAcceptedUnder hints w fs gs → (m : ModuleVerdict) → functions_answer w hints fs gs ≡ Some m → m ≡ modules.Valid
+  accepted_are_valid [] [] h m e = cc
+  accepted_are_valid [] (g ∷ gs) h m e = absurd h
+  accepted_are_valid (f ∷ fs) [] h m e = absurd h
+  accepted_are_valid (f ∷ fs) (g ∷ gs) h m e =
+      accepted_are_valid fs gs h.2 m (of_function_good f.name (function_answer w f g (hint_for hints f.name))
+      (λ v. good_answers (function_judged w f g (hint_for hints f.name)) v h.1) (functions_answer w hints fs gs) m e)
 
 -- what the hints accept is accepted under some hint
 pub accepted_under_some : (w : Beside) (hints : Hints) (fs gs : List Function) → AreAcceptedUnder hints w fs gs → AreAccepted w fs gs
@@ -88,27 +93,54 @@ accepted_under_some w hints [] (g ∷ gs) h = absurd h
 accepted_under_some w hints (f ∷ fs) [] h = absurd h
 accepted_under_some w hints (f ∷ fs) (g ∷ gs) h = (h.0, (hint_for hints f.name, h.1), accepted_under_some w hints fs gs h.2)
 
-pub accepted_exactly : (rules : Rules) (source target : Module) (hints : Hints)
-    → module_verdict rules source target hints ≡ modules.Valid ↔ AreAcceptedUnder hints (beside rules source) (definitions_of source) (definitions_of target)
-accepted_exactly rules source target hints =
-    let test = same_list same_signature (definitions_of source) (definitions_of target) in
-    let others = functions_verdict (beside rules source) hints (definitions_of source) (definitions_of target) in (
-      (elim test as (λ b. test ≡ b → cond b others (modules.Differs difference.Functions) ≡ modules.Valid
-          → AreAcceptedUnder hints (beside rules source) (definitions_of source) (definitions_of target)) [
-            | true ↦ λ same valid. valid_are_accepted (beside rules source) hints (definitions_of source) (definitions_of target) same valid
-            | false ↦ λ same valid. cc
-          ]) refl,
-      λ h.
-          cond-true test others (modules.Differs difference.Functions) (accepted_are_same (beside rules source) hints (definitions_of source) (definitions_of target) h)
-          ∙ accepted_are_valid (beside rules source) hints (definitions_of source) (definitions_of target) h,
-    )
+-- of an answer that is the one on the two modules
+module _ (rules : Rules) (source target : Module) (hints : Hints) (v : ModuleVerdict) (is : module_answer rules source target hints ≡ Some v) where
+  abbrev test : Bool
+  test = same_list same_signature (definitions_of source) (definitions_of target)
 
--- the same of a verdict that is the one on the two modules
-module _ (rules : Rules) (source target : Module) (hints : Hints) (v : ModuleVerdict) (is : v ≡ module_verdict rules source target hints) where
+  abbrev others : Option ModuleVerdict
+  others = functions_answer (beside rules source) hints (definitions_of source) (definitions_of target)
+
+  by_test : (b : Bool) → test ≡ b → cond b others (Some (modules.Differs difference.Functions)) ≡ Some v
+  by_test b e = sym (ap (λ b. cond b others (Some (modules.Differs difference.Functions))) e) ∙ is
+
   pub accepted_where : v ≡ modules.Valid ↔ AreAcceptedUnder hints (beside rules source) (definitions_of source) (definitions_of target)
-  accepted_where =
-      let whole = accepted_exactly rules source target hints in (λ valid. whole.0 (sym is ∙ valid), λ accepted. is ∙ whole.1 accepted)
+  accepted_where = (
+    λ valid. (elim test as (λ b. test ≡ b → AreAcceptedUnder hints (beside rules source) (definitions_of source) (definitions_of target)) [
+      | true ↦ λ same. valid_are_accepted (beside rules source) hints (definitions_of source) (definitions_of target) same (by_test true same ∙ ap (λ v. Some v) valid)
+      | false ↦ λ other. let e = by_test false other ∙ ap (λ v. Some v) valid in absurd (cc)
+    ]) refl,
+    λ accepted.
+        accepted_are_valid (beside rules source) hints (definitions_of source) (definitions_of target) accepted v
+        (by_test true (accepted_are_same (beside rules source) hints (definitions_of source) (definitions_of target) accepted)),
+  )
 
   pub differs_where : v ≡ modules.Differs difference.Functions ↔ same_list same_signature (definitions_of source) (definitions_of target) ≡ false
-  differs_where =
-      let whole = differs_exactly rules source target hints in (λ differs. whole.0 (sym is ∙ differs), λ unlike. is ∙ whole.1 unlike)
+  differs_where = (
+    λ differs. (elim test as (λ b. test ≡ b → b ≡ false) [
+      | true ↦ λ same.
+          absurd (functions_never_differ (beside rules source) hints (definitions_of source) (definitions_of target) difference.Functions same
+          (by_test true same ∙ ap (λ v. Some v) differs))
+      | false ↦ λ other. refl
+    ]) refl,
+    λ other. let e = by_test false other in cc,
+  )
+
+-- and of how a check of two modules ends
+module _ (rules : Rules) (source target : Module) (hints : Hints) where
+  pub accepted_ended : (ended : Result ModuleVerdict CheckEnd) → Answers ended (module_answer rules source target hints)
+      → IfOk ended (λ v. v ≡ modules.Valid ↔ AreAcceptedUnder hints (beside rules source) (definitions_of source) (definitions_of target))
+  accepted_ended (Ok v) is = accepted_where rules source target hints v is
+  accepted_ended (Err fault) is = tt
+
+  pub differs_ended : (ended : Result ModuleVerdict CheckEnd) → Answers ended (module_answer rules source target hints)
+      → IfOk ended (λ v. v ≡ modules.Differs difference.Functions ↔ same_list same_signature (definitions_of source) (definitions_of target) ≡ false)
+  differs_ended (Ok v) is = differs_where rules source target hints v is
+  differs_ended (Err fault) is = tt
+
+  pub refines_ended : AreSound rules → AcceptedModulesRefine → (ended : Result ModuleVerdict CheckEnd) → Answers ended (module_answer rules source target hints)
+      → IfOk ended (λ v. v ≡ modules.Valid → Refines source target)
+  refines_ended sound refine (Ok v) is = λ valid.
+      refine rules source target sound
+      (accepted_under_some (beside rules source) hints (definitions_of source) (definitions_of target) ((accepted_where rules source target hints v is).0 valid))
+  refines_ended sound refine (Err fault) is = tt

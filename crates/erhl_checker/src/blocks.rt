@@ -1,16 +1,17 @@
 //! Along two blocks, line by line.
-ghost use Rattle.std.specs.Prelude.{◌≡◌, IfOk, OnOk, map};
+ghost use Rattle.std.specs.Prelude.{◌≡◌, IfOk, Some, map};
 ghost use Rattle.std.specs.Option.{option_copied};
 ghost use Rattle.ir_core.specs.declared.functions.Term.TheVariants.{Ret};
 ghost use Rattle.erhl_assert.specs.Alignment.{block_hint};
 ghost use Rattle.erhl_assert.specs.Steps.{beside, after_steps};
-ghost use Rattle.erhl_assert.specs.Postcondition.{after_line};
-ghost use Rattle.erhl_assert.specs.Course.{verdict_of};
+ghost use Rattle.erhl_assert.specs.Course.{within, answer_at, judged_answer};
+ghost use Rattle.erhl_assert.specs.Growth.{over_line};
 ghost use Rattle.erhl_assert.specs.Acceptance.{entry_judged};
 ghost use Rattle.line_align.specs.Cursor.{aligned_line};
 ghost use Rattle.line_align.specs.Lent.{lent_block};
-ghost use Rattle.erhl_checker.specs.Progress.{ended, past_line, verdict_at, term_verdict, lines_verdict, first_claim};
+ghost use Rattle.erhl_checker.specs.Progress.{CameOf, Answers, past_line, term_answer, lines_answer, first_claim};
 
+use crate::CheckEnd;
 use crate::steps::after_steps;
 use contents::Exact;
 use erhl_assert::{Assertion, Fact, Hint, HintBlock, Letter, PlacedStep, Reason, Spot, Verdict};
@@ -47,7 +48,7 @@ fn at_terms(
     target: &Term,
     known: &Sides<IndexedSet>,
 ) -> Result<Verdict, AllocError>
-    ensures { IfOk result (λ v. v ≡ term_verdict block.now k source.now target.now known.now) }
+    ensures { IfOk result (λ v. term_answer block.now k source.now target.now known.now ≡ Some v) }
 {
     let a = returned(source);
     let b = returned(target);
@@ -69,19 +70,25 @@ fn at_end<B: RuleSet>(
     source: &Block,
     target: &Block,
     known: &mut Sides<IndexedSet>,
-) -> Result<Verdict, AllocError>
-    ensures { IfOk result
-        (λ v. v
-        ≡ verdict_at source.now.name (Spot.Line k)
-        (after_steps (beside (B.rules book.now) «module».now) (map (λ s. s.now) steps.now) known.old).ends
-        (term_verdict source.now.name k source.now.term target.now.term)) }
+) -> Result<Verdict, CheckEnd>
+    ensures { Answers result
+        (answer_at source.now.name (Spot.Line k)
+        (within (after_steps (beside (B.rules book.now) «module».now) (map (λ s. s.now) steps.now) known.old))
+        (term_answer source.now.name k source.now.term target.now.term)) }
 {
     match after_steps(alloc, module, book, steps, known)? {
-        None => at_terms(alloc, &source.name, k, &source.term, &target.term, known),
-        Some(reason) => refused(alloc, &source.name, Spot::Line(k), reason),
+        None => {
+            let verdict = at_terms(alloc, &source.name, k, &source.term, &target.term, known)?;
+            Ok(verdict)
+        }
+        Some(reason) => {
+            let verdict = refused(alloc, &source.name, Spot::Line(k), reason)?;
+            Ok(verdict)
+        }
     }
 }
 
+#[tactic(auto, using(crate::proofs::Progressing::line_within, crate::proofs::Progressing::line_over))]
 fn over_line(
     alloc: Global,
     module: &Module,
@@ -89,20 +96,22 @@ fn over_line(
     xs: &[Instr],
     ys: &[Instr],
     known: &mut Sides<IndexedSet>,
-) -> Result<(), AllocError>
-    ensures { OnOk result (known.new ≡ after_line known.old (aligned_line letter xs.now ys.now)) }
+) -> Result<Option<Reason>, CheckEnd>
+    ensures { CameOf result known.new (within (over_line (aligned_line letter xs.now ys.now) known.old)) }
 {
     let line = Line {
         source: taken(on_source(letter), xs),
         target: taken(on_target(letter), ys),
     };
     match after_line(alloc, module, known, &line) {
-        Ok(()) => Ok(()),
-        Err(LineEnd::Memory) => Err(AllocError),
+        Ok(()) => Ok(None),
+        Err(LineEnd::Limit(limit)) => Err(CheckEnd::Limit(limit)),
+        Err(LineEnd::Memory) => Err(CheckEnd::Memory),
     }
 }
 
 /// The steps before an aligned line, and then the line.
+#[tactic(auto, using(erhl_assert::proofs::Courses::within_more, erhl_assert::proofs::Courses::within_refused, erhl_assert::proofs::Courses::within_none))]
 fn past_line<B: RuleSet>(
     alloc: Global,
     module: &Module,
@@ -112,17 +121,13 @@ fn past_line<B: RuleSet>(
     xs: &[Instr],
     ys: &[Instr],
     known: &mut Sides<IndexedSet>,
-) -> Result<Option<Reason>, AllocError>
-    ensures { IfOk result
-        (λ refusal. ended refusal known.new
-        ≡ past_line
+) -> Result<Option<Reason>, CheckEnd>
+    ensures { CameOf result known.new
+        (past_line
         (beside (B.rules book.now) «module».now) (map (λ s. s.now) steps.now) (aligned_line letter xs.now ys.now) known.old) }
 {
     match after_steps(alloc, module, book, steps, known)? {
-        None => {
-            over_line(alloc, module, letter, xs, ys, known)?;
-            Ok(None)
-        }
+        None => over_line(alloc, module, letter, xs, ys, known),
         Some(reason) => Ok(Some(reason)),
     }
 }
@@ -135,10 +140,9 @@ fn along<B: RuleSet>(
     steps: &[PlacedStep],
     block: &AlignedBlock<'_>,
     entry: Sides<IndexedSet>,
-) -> Result<Verdict, AllocError>
-    ensures { IfOk result
-        (λ v. v
-        ≡ lines_verdict (beside (B.rules book.now) «module».now) block.now.source.now.name steps.now 0
+) -> Result<Verdict, CheckEnd>
+    ensures { Answers result
+        (lines_answer (beside (B.rules book.now) «module».now) block.now.source.now.name steps.now 0
         (lent_block block.now).lines block.now.source.now.term block.now.target.now.term entry) }
 {
     let letters = block.letters.as_slice();
@@ -151,7 +155,10 @@ fn along<B: RuleSet>(
         let steps = by_line.before(i).as_slice();
         match past_line(alloc, module, book, steps, letter, xs, ys, &mut known)? {
             None => {}
-            Some(reason) => return refused(alloc, &block.source.name, Spot::Line(i as u64), reason),
+            Some(reason) => {
+                let verdict = refused(alloc, &block.source.name, Spot::Line(i as u64), reason)?;
+                return Ok(verdict);
+            }
         }
         xs = left(on_source(letter), xs);
         ys = left(on_target(letter), ys);
@@ -197,13 +204,15 @@ fn hinted<B: RuleSet>(
     book: &B,
     hint: &HintBlock,
     block: &AlignedBlock<'_>,
-) -> Result<Verdict, AllocError>
-    ensures { IfOk result
-        (λ v. v
-        ≡ verdict_of (entry_judged (beside (B.rules book.now) «module».now) hint.now (lent_block block.now))) }
+) -> Result<Verdict, CheckEnd>
+    ensures { Answers result
+        (judged_answer (entry_judged (beside (B.rules book.now) «module».now) hint.now (lent_block block.now))) }
 {
     match first_claim(&hint.entry) {
-        Some(fact) => missing(alloc, &block.source.name, fact),
+        Some(fact) => {
+            let verdict = missing(alloc, &block.source.name, fact)?;
+            Ok(verdict)
+        }
         None => {
             let entry = Sides::of(alloc, &hint.entry)?;
             along(alloc, module, book, hint.steps.as_slice(), block, entry)
@@ -218,10 +227,9 @@ pub(crate) fn entry_verdict<B: RuleSet>(
     book: &B,
     hint: &Hint,
     block: &AlignedBlock<'_>,
-) -> Result<Verdict, AllocError>
-    ensures { IfOk result
-        (λ v. v
-        ≡ verdict_of
+) -> Result<Verdict, CheckEnd>
+    ensures { Answers result
+        (judged_answer
         (entry_judged (beside (B.rules book.now) «module».now)
         (block_hint hint.now block.now.source.now.name) (lent_block block.now))) }
 {

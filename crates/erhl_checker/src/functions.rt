@@ -1,10 +1,13 @@
 //! The verdict on two functions.
-ghost use Rattle.std.specs.Prelude.{◌≡◌, IfOk, map};
-ghost use Rattle.erhl_assert.specs.Course.{verdict_of};
-ghost use Rattle.erhl_assert.specs.Acceptance.{function_verdict, reached_judged};
+ghost use Rattle.std.specs.Prelude.{◌≡◌, IfOk, IfErr, None, Some, map};
+ghost use Rattle.ir_core.specs.declared.limits.Limit.{Limit};
+ghost use Rattle.ir_core.specs.declared.limits.Limit.TheVariants.{Facts};
+ghost use Rattle.erhl_assert.specs.Course.{judged_answer};
+ghost use Rattle.erhl_assert.specs.Acceptance.{function_answer, reached_judged};
 ghost use Rattle.erhl_assert.specs.Steps.{beside};
 ghost use Rattle.rule_base.specs.Book.{meanings_of};
 ghost use Rattle.line_align.specs.Lent.{lent_block};
+ghost use Rattle.erhl_checker.specs.Progress.{Answers};
 
 use crate::CheckEnd;
 use crate::blocks::entry_verdict;
@@ -12,7 +15,7 @@ use erhl_assert::{Hint, Reason, Spot, Verdict};
 use ir_core::{Function, Module};
 use line_align::{AlignEnd, AlignedBlock, align};
 use rule_base::{InferRule, LentBook, RuleBook, RuleSet};
-use std::alloc::{AllocError, Global};
+use std::alloc::Global;
 use std::marker::PhantomData;
 
 /// The blocks that are reached: no terminator leads to another block, so the entry alone.
@@ -22,10 +25,9 @@ fn reached_verdict<B: RuleSet>(
     book: &B,
     hint: &Hint,
     blocks: &[AlignedBlock<'_>],
-) -> Result<Verdict, AllocError>
-    ensures { IfOk result
-        (λ v. v
-        ≡ verdict_of (reached_judged (beside (B.rules book.now) «module».now) hint.now (map lent_block blocks.now))) }
+) -> Result<Verdict, CheckEnd>
+    ensures { Answers result
+        (judged_answer (reached_judged (beside (B.rules book.now) «module».now) hint.now (map lent_block blocks.now))) }
 {
     match blocks.first() {
         Some(block) => entry_verdict(alloc, module, book, hint, block),
@@ -33,17 +35,16 @@ fn reached_verdict<B: RuleSet>(
     }
 }
 
-pub(crate) fn function_verdict<B: RuleSet>(
+pub(crate) fn function_answer<B: RuleSet>(
     alloc: Global,
     module: &Module,
     book: &B,
     hint: &Hint,
     source: &Function,
     target: &Function,
-) -> Result<Verdict, AllocError>
-    ensures { IfOk result
-        (λ v. v
-        ≡ function_verdict
+) -> Result<Verdict, CheckEnd>
+    ensures { Answers result
+        (function_answer
         (beside (B.rules book.now) «module».now) source.now target.now hint.now) }
 {
     match align(alloc, source, target, hint) {
@@ -53,12 +54,13 @@ pub(crate) fn function_verdict<B: RuleSet>(
             spot: Spot::Start,
             reason: Reason::AlignmentDiffers,
         }),
-        Err(AlignEnd::Memory) => Err(AllocError),
+        Err(AlignEnd::Memory) => Err(CheckEnd::Memory),
     }
 }
 
 /// Checks one function against another, beside a module: `Valid` exactly where the pair is accepted under the hint, and else
-/// refused with the first place and the first reason.
+/// refused with the first place and the first reason. More facts than the limit allows are no verdict, where they are known before
+/// the first test that fails, or before the end where none does.
 pub fn check_function(
     alloc: Global,
     module: &Module,
@@ -68,22 +70,31 @@ pub fn check_function(
     book: &RuleBook,
 ) -> Result<Verdict, CheckEnd>
     ensures verdict { IfOk result
-        (λ v. v
-        ≡ function_verdict
+        (λ v. function_answer
         (beside
         (meanings_of
         (λ b. (⟦<dyn InferRule as InferRule>⟧ b.vtable).called b.value)
         (λ b. (⟦<dyn InferRule as InferRule>⟧ b.vtable).takes b.value)
         book.now.rules.items)
         «module».now)
-        src.now tgt.now hint.now) }
+        src.now tgt.now hint.now
+        ≡ Some v) }
+    ensures limit { IfErr result
+        (λ fault. (l : Limit) → fault ≡ CheckEnd.Limit l
+        → (l ≡ Facts)
+        × (function_answer
+        (beside
+        (meanings_of
+        (λ b. (⟦<dyn InferRule as InferRule>⟧ b.vtable).called b.value)
+        (λ b. (⟦<dyn InferRule as InferRule>⟧ b.vtable).takes b.value)
+        book.now.rules.items)
+        «module».now)
+        src.now tgt.now hint.now
+        ≡ None)) }
 {
     let rules = LentBook {
         book,
         boxes: PhantomData,
     };
-    match function_verdict(alloc, module, &rules, hint, src, tgt) {
-        Ok(verdict) => Ok(verdict),
-        Err(_) => Err(CheckEnd::Memory),
-    }
+    function_answer(alloc, module, &rules, hint, src, tgt)
 }

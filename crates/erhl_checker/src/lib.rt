@@ -3,16 +3,11 @@
 #![tactic(auto)]
 
 mod blocks;
+mod ends;
 mod functions;
 mod modules;
 mod steps;
 
+pub use ends::CheckEnd;
 pub use functions::check_function;
 pub use modules::{check_module, check_module_under};
-
-/// Why a check ended without a verdict.
-#[derive(Drop, Clone, Copy)]
-pub enum CheckEnd {
-    /// No memory is left.
-    Memory,
-}

@@ -1,22 +1,25 @@
 //! The verdict on two modules.
-ghost use Rattle.std.specs.Prelude.{◌≡◌, ◌↔◌, false, map, find, IfOk};
+ghost use Rattle.std.specs.Prelude.{◌≡◌, ◌↔◌, false, map, find, IfOk, IfErr, None, Some};
 ghost use Rattle.std.specs.Option.{option_copied};
+ghost use Rattle.ir_core.specs.declared.limits.Limit.{Limit};
+ghost use Rattle.ir_core.specs.declared.limits.Limit.TheVariants.{Facts};
 ghost use Rattle.ir_core.specs.Same as same;
 ghost use Rattle.ir_core.specs.Modules.{definitions_of};
 ghost use Rattle.ir_machine.specs.Refinement.{Refines};
 ghost use Rattle.erhl_assert.specs.Acceptance as acceptance;
 ghost use Rattle.erhl_assert.specs.Steps.{beside};
 ghost use Rattle.rule_base.specs.Book.{meanings_of};
+ghost use Rattle.erhl_checker.specs.Progress.{Answers};
 
 use crate::CheckEnd;
-use crate::functions::function_verdict;
+use crate::functions::function_answer;
 use contents::{Exact, Seq};
 use erhl_assert::{Difference, FunctionHint, Hint, Hints, ModuleVerdict, Verdict};
 use erhl_soundness::accepted_modules_refine;
 use ir_core::{Function, Module, Name, Param, same_name, same_ty};
 use line_align::{Likeness, all_alike, first_named};
 use rule_base::{InferRule, LentBook, RuleBook, RuleSet};
-use std::alloc::{AllocError, Global};
+use std::alloc::Global;
 use std::marker::PhantomData;
 
 /// One type.
@@ -61,50 +64,48 @@ fn hint_of<'a>(hints: &'a Hints, function: &Name) -> Option<&'a FunctionHint>
     first_named(hints.functions.as_slice(), function)
 }
 
-/// The verdict on two functions under the hint that the hints have for the source's, or an empty one.
-fn hinted_verdict<B: RuleSet>(
+/// The answer on two functions under the hint that the hints have for the source's, or an empty one.
+fn hinted_answer<B: RuleSet>(
     alloc: Global,
     module: &Module,
     book: &B,
     hints: &Hints,
     source: &Function,
     target: &Function,
-) -> Result<Verdict, AllocError>
-    ensures { IfOk result
-        (λ v. v
-        ≡ acceptance.function_verdict
+) -> Result<Verdict, CheckEnd>
+    ensures { Answers result
+        (acceptance.function_answer
         (beside (B.rules book.now) «module».now) source.now target.now (acceptance.hint_for hints.now source.now.name)) }
 {
     match hint_of(hints, &source.name) {
-        Some(found) => function_verdict(alloc, module, book, &found.hint, source, target),
+        Some(found) => function_answer(alloc, module, book, &found.hint, source, target),
         None => {
             let empty = Hint {
                 blocks: Seq::new(alloc),
             };
-            function_verdict(alloc, module, book, &empty, source, target)
+            function_answer(alloc, module, book, &empty, source, target)
         }
     }
 }
 
 /// The first function that isn't valid decides.
-fn functions_verdict<B: RuleSet>(
+fn functions_answer<B: RuleSet>(
     alloc: Global,
     module: &Module,
     book: &B,
     hints: &Hints,
     source: &[Function],
     target: &[Function],
-) -> Result<ModuleVerdict, AllocError>
-    ensures { IfOk result
-        (λ v. v
-        ≡ acceptance.functions_verdict
+) -> Result<ModuleVerdict, CheckEnd>
+    ensures { Answers result
+        (acceptance.functions_answer
         (beside (B.rules book.now) «module».now) hints.now source.now target.now) }
 {
     let mut rest = target;
     for f in source {
         match rest.split_first() {
             Some((g, after)) => {
-                let verdict = hinted_verdict(alloc, module, book, hints, f, g)?;
+                let verdict = hinted_answer(alloc, module, book, hints, f, g)?;
                 if let Verdict::Refused {
                     block,
                     spot,
@@ -129,23 +130,22 @@ fn functions_verdict<B: RuleSet>(
     }
 }
 
-fn module_verdict<B: RuleSet>(
+fn module_answer<B: RuleSet>(
     alloc: Global,
     book: &B,
     hints: &Hints,
     source: &Module,
     target: &Module,
-) -> Result<ModuleVerdict, AllocError>
-    ensures { IfOk result
-        (λ v. v
-        ≡ acceptance.module_verdict
+) -> Result<ModuleVerdict, CheckEnd>
+    ensures { Answers result
+        (acceptance.module_answer
         (B.rules book.now)
         source.now target.now hints.now) }
 {
     let functions = source.functions.as_slice();
     let others = target.functions.as_slice();
     if all_alike(&Signature, functions, others) {
-        functions_verdict(alloc, source, book, hints, functions, others)
+        functions_answer(alloc, source, book, hints, functions, others)
     } else {
         Ok(ModuleVerdict::Differs(Difference::Functions))
     }
@@ -163,13 +163,23 @@ pub fn check_module(
     book: &RuleBook,
 ) -> Result<ModuleVerdict, CheckEnd>
     ensures verdict { IfOk result
-        (λ v. v
-        ≡ acceptance.module_verdict
+        (λ v. acceptance.module_answer
         (meanings_of
         (λ b. (⟦<dyn InferRule as InferRule>⟧ b.vtable).called b.value)
         (λ b. (⟦<dyn InferRule as InferRule>⟧ b.vtable).takes b.value)
         book.now.rules.items)
-        source.now target.now hints.now) }
+        source.now target.now hints.now
+        ≡ Some v) }
+    ensures limit { IfErr result
+        (λ fault. (l : Limit) → fault ≡ CheckEnd.Limit l
+        → (l ≡ Facts)
+        × (acceptance.module_answer
+        (meanings_of
+        (λ b. (⟦<dyn InferRule as InferRule>⟧ b.vtable).called b.value)
+        (λ b. (⟦<dyn InferRule as InferRule>⟧ b.vtable).takes b.value)
+        book.now.rules.items)
+        source.now target.now hints.now
+        ≡ None)) }
     ensures accepted { IfOk result
         (λ v. v ≡ ModuleVerdict.Valid
         ↔ acceptance.AreAcceptedUnder hints.now
@@ -201,7 +211,10 @@ pub fn check_module_under<B: RuleSet>(
     rules: &B,
 ) -> Result<ModuleVerdict, CheckEnd>
     ensures verdict { IfOk result
-        (λ v. v ≡ acceptance.module_verdict (B.rules rules.now) source.now target.now hints.now) }
+        (λ v. acceptance.module_answer (B.rules rules.now) source.now target.now hints.now ≡ Some v) }
+    ensures limit { IfErr result
+        (λ fault. (l : Limit) → fault ≡ CheckEnd.Limit l
+        → (l ≡ Facts) × (acceptance.module_answer (B.rules rules.now) source.now target.now hints.now ≡ None)) }
     ensures accepted { IfOk result
         (λ v. v ≡ ModuleVerdict.Valid
         ↔ acceptance.AreAcceptedUnder hints.now (beside (B.rules rules.now) source.now)
@@ -213,8 +226,5 @@ pub fn check_module_under<B: RuleSet>(
 {
     rules.are_sound();
     accepted_modules_refine();
-    match module_verdict(alloc, rules, hints, source, target) {
-        Ok(verdict) => Ok(verdict),
-        Err(_) => Err(CheckEnd::Memory),
-    }
+    module_answer(alloc, rules, hints, source, target)
 }

@@ -1,14 +1,16 @@
-ghost use Rattle.std.specs.Prelude.{◌≡◌, [], IfOk, OnOk};
+ghost use Rattle.std.specs.Prelude.{◌≡◌, [], IfOk, OnOk, None, Some, cond, not, nat_lt};
 ghost use Rattle.erhl_assert.specs.Sides.{has_reg};
 ghost use Rattle.erhl_assert.specs.Alignment.{no_facts};
 ghost use Rattle.erhl_assert.specs.Facts.{has_fact, with_facts, each_once, killed, on_side};
 ghost use Rattle.erhl_assert.specs.Postcondition.{with_reg, without_reg};
-ghost use Rattle.erhl_assert.specs.Growth.{facts_of, with_conclusion};
+ghost use Rattle.ir_core.specs.Limits.{fact_limit};
+ghost use Rattle.erhl_assert.specs.Course.{Gives, within};
+ghost use Rattle.erhl_assert.specs.Growth.{adds, facts_of, size, with_conclusion};
 
 use contents::{Exact, Seq};
 use erhl_assert::{Assertion, Fact, FactSet, Kill, Side};
 use fact_sets::RegisterSet;
-use ir_core::Reg;
+use ir_core::{Limit, Reg};
 use std::alloc::{AllocError, Global};
 use std::marker::Model;
 
@@ -111,6 +113,28 @@ impl<S: FactSet> Sides<S> {
             Side::Src => self.src.add(fact),
             Side::Tgt => self.tgt.add(fact),
         }
+    }
+
+    /// Whether no more facts are known than the limit allows.
+    fn is_within_limit(&self) -> bool
+        ensures { result ≡ not (nat_lt fact_limit (size self.now)) }
+    {
+        let most = Limit::Facts.number() as usize;
+        let source = self.src.len();
+        source <= most && self.tgt.len() <= most - source
+    }
+
+    /// The same, and whether no more facts are known then than the limit allows. A fact that is there already passes no limit.
+    #[tactic(auto, using(crate::proofs::Adding::there_already, crate::proofs::Adding::added_within))]
+    pub fn add_within(&mut self, side: Side, fact: Fact) -> Result<bool, AllocError>
+        ensures { IfOk result
+            (λ few. within (adds side fact self.old) ≡ cond few (Some (Gives self.new)) None) }
+    {
+        if self.has_fact(side, &fact) {
+            return Ok(true);
+        }
+        self.add_fact(side, fact)?;
+        Ok(self.is_within_limit())
     }
 
     /// Takes facts out of the side.

@@ -1,6 +1,10 @@
--- What a line adds to a side.
-use Rattle.std.proofs.Common.{◌≡◌, true, false, refl}
+-- What a line adds to a side, and how an aligned line goes on, within the limit on facts.
+use Rattle.std.proofs.Common.{◌≡◌, ◌∙◌, Bool, true, false, cond, Option, None, Some, refl, sym, ap}
+use Rattle.ir_core.specs.declared.names.Name.{Name}
 use Rattle.ir_core.specs.declared.functions.Calm.{Calm}
+use Rattle.ir_core.specs.declared.functions.Instr.{Instr}
+use Rattle.ir_core.specs.declared.functions.Instr.TheVariants as line
+use Rattle.ir_core.specs.declared.expressions.Reg.{Reg}
 use Rattle.ir_core.specs.declared.expressions.Reg.TheVariants.{Now}
 use Rattle.ir_core.specs.Expressions.{map_expr}
 use Rattle.erhl_assert.specs.declared.facts.Fact.TheVariants.{LessDef}
@@ -9,15 +13,94 @@ use Rattle.erhl_assert.specs.declared.facts.Side.{Side}
 use Rattle.erhl_assert.specs.declared.facts.Side.TheVariants.{Src, Tgt}
 use Rattle.erhl_assert.specs.declared.fact_set.Kill.TheVariants.{Naming}
 use Rattle.erhl_assert.specs.Facts.{expr_names, killed, on_side}
-use Rattle.erhl_assert.specs.Growth.{with_conclusion}
-use Rattle.erhl_assert.specs.Postcondition.{right_side, left_side, facts_after_line}
+use Rattle.erhl_assert.specs.Alignment.{Line}
+use Rattle.erhl_assert.specs.Course.{Course, Ends, Gives, gives, and_then, are_too_many, within}
+use Rattle.erhl_assert.specs.Growth.{adds, forgetting, over_calm, over_side, over_line}
+use Rattle.erhl_assert.specs.Postcondition.{right_side, left_side, diff_after, lines_agree, without_reg, with_reg, after_line}
+use Rattle.erhl_assert.proofs.Courses.{within_more, within_none, calm_keeps_diff, line_gives}
+
+pub forgotten : (side : Side) (r : Reg) (known : Assertion) → on_side side (killed (Naming r)) known ≡ forgetting side r known
+forgotten Src r known = refl
+forgotten Tgt r known = refl
 
 module _ (side : Side) (l : Calm) (known : Assertion) where
-  pub line_added : expr_names (Now l.name) (map_expr Now l.right) ≡ false
-      → with_conclusion side (LessDef (right_side l) (left_side l)) (with_conclusion side (LessDef (left_side l) (right_side l)) (on_side side (killed (Naming (Now l.name))) known))
-      ≡ on_side side (facts_after_line l) known
-  line_added h = elim side as (λ s. with_conclusion s (LessDef (right_side l) (left_side l)) (with_conclusion s (LessDef (left_side l) (right_side l)) (on_side s (killed (Naming (Now l.name))) known))
-      ≡ on_side s (facts_after_line l) known) [ Src ↦ rw h refl | Tgt ↦ rw h refl ]
+  abbrev over : Bool → Course Assertion
+  over b =
+      let kept = forgetting side (Now l.name) known in
+      cond b (gives kept) (and_then (adds side (LessDef (left_side l) (right_side l)) kept) (adds side (LessDef (right_side l) (left_side l))))
 
-  pub line_not_added : expr_names (Now l.name) (map_expr Now l.right) ≡ true → on_side side (killed (Naming (Now l.name))) known ≡ on_side side (facts_after_line l) known
-  line_not_added h = elim side as (λ s. on_side s (killed (Naming (Now l.name))) known ≡ on_side s (facts_after_line l) known) [ Src ↦ rw h refl | Tgt ↦ rw h refl ]
+  pub line_added : expr_names (Now l.name) (map_expr Now l.right) ≡ false
+      → over_calm side l known
+      ≡ and_then (adds side (LessDef (left_side l) (right_side l)) (forgetting side (Now l.name) known)) (adds side (LessDef (right_side l) (left_side l)))
+  line_added h = ap over h
+
+  pub line_not_added : expr_names (Now l.name) (map_expr Now l.right) ≡ true → within (over_calm side l known) ≡ Some (Gives (forgetting side (Now l.name) known))
+  line_not_added h = ap (λ b. within (over b)) h
+
+module _ (known : Assertion) where
+  pub both_done : (s t : Calm) (half after : Assertion)
+      → within (over_calm Src s known) ≡ Some (Gives half) → within (over_calm Tgt t half) ≡ Some (Gives after)
+      → within (over_line (record { source = Some (line.Calm s); target = Some (line.Calm t) }) known)
+      ≡ Some (Gives (record after { diff = diff_after known (Some (line.Calm s)) (Some (line.Calm t)) }))
+  both_done s t half after first second =
+      let last : Assertion → Course Assertion = λ after. gives (record after { diff = diff_after known (Some (line.Calm s)) (Some (line.Calm t)) }) in
+      within_more (over_calm Src s known) (λ half. and_then (over_calm Tgt t half) last) half first
+      ∙ within_more (over_calm Tgt t half) last after second
+
+  pub both_end : (s t : Calm) (half after last : Assertion) (agreed : Bool) → agreed ≡ lines_agree known s t
+      → within (over_calm Src s known) ≡ Some (Gives half) → within (over_calm Tgt t half) ≡ Some (Gives after)
+      → last ≡ record after { diff = cond agreed (without_reg (Now s.name) after.diff) (with_reg (Now t.name) (with_reg (Now s.name) after.diff)) }
+      → within (over_line (record { source = Some (line.Calm s); target = Some (line.Calm t) }) known) ≡ Some (Gives last)
+  both_end s t half after last agreed is first second at =
+      both_done s t half after first second
+      ∙ ap (λ a. Some (Gives a)) (sym (at
+      ∙ ap (λ d. record after { diff = cond agreed (without_reg (Now s.name) d) (with_reg (Now t.name) (with_reg (Now s.name) d)) })
+      (calm_keeps_diff Tgt t half after second ∙ calm_keeps_diff Src s known half first)
+      ∙ ap (λ b. record after { diff = cond b (without_reg (Now s.name) known.diff) (with_reg (Now t.name) (with_reg (Now s.name) known.diff)) }) is))
+
+  pub source_over : (s : Calm) (t : Option Instr) → within (over_calm Src s known) ≡ None → within (over_line (record { source = Some (line.Calm s); target = t }) known) ≡ None
+  source_over s t h =
+      let last : Assertion → Course Assertion = λ after. gives (record after { diff = diff_after known (Some (line.Calm s)) t }) in
+      within_none (over_calm Src s known) (λ half. and_then (over_side Tgt t half) last) h
+
+  pub target_over : (s t : Calm) (half : Assertion) → within (over_calm Src s known) ≡ Some (Gives half) → within (over_calm Tgt t half) ≡ None
+      → within (over_line (record { source = Some (line.Calm s); target = Some (line.Calm t) }) known) ≡ None
+  target_over s t half first h =
+      let last : Assertion → Course Assertion = λ after. gives (record after { diff = diff_after known (Some (line.Calm s)) (Some (line.Calm t)) }) in
+      within_more (over_calm Src s known) (λ half. and_then (over_calm Tgt t half) last) half first
+      ∙ within_none (over_calm Tgt t half) last h
+
+  pub source_done : (s : Calm) (after : Assertion) → within (over_calm Src s known) ≡ Some (Gives after)
+      → within (over_line (record { source = Some (line.Calm s); target = None }) known) ≡ Some (Gives (record after { diff = with_reg (Now s.name) known.diff }))
+  source_done s after h =
+      let last : Assertion → Course Assertion = λ after. gives (record after { diff = with_reg (Now s.name) known.diff }) in
+      within_more (over_calm Src s known) (λ half. and_then (gives half) last) after h
+
+  pub target_done : (t : Calm) (after : Assertion) → within (over_calm Tgt t known) ≡ Some (Gives after)
+      → within (over_line (record { source = None; target = Some (line.Calm t) }) known) ≡ Some (Gives (record after { diff = with_reg (Now t.name) known.diff }))
+  target_done t after h =
+      let last : Assertion → Course Assertion = λ after. gives (record after { diff = with_reg (Now t.name) known.diff }) in
+      within_more (over_calm Tgt t known) last after h
+
+  pub target_alone_over : (t : Calm) → within (over_calm Tgt t known) ≡ None → within (over_line (record { source = None; target = Some (line.Calm t) }) known) ≡ None
+  target_alone_over t h =
+      let last : Assertion → Course Assertion = λ after. gives (record after { diff = with_reg (Now t.name) known.diff }) in
+      within_none (over_calm Tgt t known) last h
+
+-- what is within the limit, and what isn't
+parts_at : (b : Bool) (e : Ends Assertion) (known : Assertion) → cond b None (Some e) ≡ Some (Gives known) → (b ≡ false) × (e ≡ Gives known)
+parts_at true e known h = absurd (cc)
+parts_at false e known h = (refl, cc)
+
+passed_at : (b : Bool) (e : Ends Assertion) → cond b None (Some e) ≡ None → b ≡ true
+passed_at true e h = refl
+passed_at false e h = absurd (cc)
+
+pub known_after : (l : Line) (known after : Assertion) → within (over_line l known) ≡ Some (Gives after) → after ≡ after_line known l
+known_after l known after h = line_gives l known after (parts_at (are_too_many (over_line l known).sizes) (over_line l known).ends after h).1
+
+pub few_after : (l : Line) (known after : Assertion) → within (over_line l known) ≡ Some (Gives after) → are_too_many (over_line l known).sizes ≡ false
+few_after l known after h = (parts_at (are_too_many (over_line l known).sizes) (over_line l known).ends after h).0
+
+pub too_many_after : (l : Line) (known : Assertion) → within (over_line l known) ≡ None → are_too_many (over_line l known).sizes ≡ true
+too_many_after l known h = passed_at (are_too_many (over_line l known).sizes) (over_line l known).ends h

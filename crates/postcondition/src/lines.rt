@@ -1,5 +1,5 @@
 //! What is known after an aligned line.
-ghost use Rattle.std.specs.Prelude.{◌≡◌, IfOk, OnOk, None, Some, cond};
+ghost use Rattle.std.specs.Prelude.{◌≡◌, IfOk, IfErr, OnOk, None, Some, cond, true, false};
 ghost use Rattle.std.specs.Option.{option_copied};
 ghost use Rattle.ir_core.specs.declared.expressions.Reg.TheVariants.{Now};
 ghost use Rattle.ir_core.specs.declared.expressions.Expr.TheVariants as expr;
@@ -8,18 +8,22 @@ ghost use Rattle.ir_core.specs.Same.{same_reg};
 ghost use Rattle.ir_core.specs.Expressions.{map_atom, map_operand, map_binary, map_expr, atom_has};
 ghost use Rattle.ir_values.specs.Laws.{flags_among};
 ghost use Rattle.erhl_assert.specs.declared.facts.Fact.TheVariants.{LessDef};
-ghost use Rattle.erhl_assert.specs.declared.fact_set.Kill.TheVariants.{Naming};
-ghost use Rattle.erhl_assert.specs.Facts.{expr_names, killed, on_side};
-ghost use Rattle.erhl_assert.specs.Growth.{with_conclusion};
-ghost use Rattle.erhl_assert.specs.Postcondition.{right_side, left_side, facts_after_line, rights_agree, lines_agree, without_reg, with_reg, after_line};
+ghost use Rattle.ir_core.specs.declared.limits.Limit.{Limit};
+ghost use Rattle.ir_core.specs.declared.limits.Limit.TheVariants.{Facts};
+ghost use Rattle.erhl_assert.specs.Facts.{expr_names};
+ghost use Rattle.erhl_assert.specs.Course.{and_then, are_too_many};
+ghost use Rattle.erhl_assert.specs.Growth.{adds, forgetting, over_calm, over_line};
+ghost use Rattle.erhl_assert.specs.Postcondition.{right_side, left_side, rights_agree, lines_agree, without_reg, with_reg, after_line};
+ghost use Rattle.postcondition.specs.declared.ends.LineEnd.TheVariants as line_end;
+ghost use Rattle.postcondition.specs.Ends.{Follows};
 
 use crate::LineEnd;
 use contents::Exact;
 use erhl_assert::{Fact, FactSet, Kill, Side};
 use erhl_sides::{Sides, atoms_matched, matched};
 use ir_core::{
-    Atom, Binary, Calm, Expr, Expr0, Flags, Instr, Module, Name, Operand, Reg, same_name, same_op,
-    same_ty,
+    Atom, Binary, Calm, Expr, Expr0, Flags, Instr, Limit, Module, Name, Operand, Reg, same_name,
+    same_op, same_ty,
 };
 use std::alloc::{AllocError, Global};
 
@@ -80,20 +84,31 @@ fn less_def(alloc: Global, a: &Expr0, b: &Expr0) -> Result<Fact, AllocError>
     Ok(Fact::LessDef(a, b.copy(alloc)?))
 }
 
+/// Adds the fact to the side's.
+fn add<S: FactSet>(side: Side, fact: Fact, sides: &mut Sides<S>) -> Result<(), LineEnd>
+    ensures { Follows result sides.new (adds side fact sides.old) }
+{
+    if sides.add_within(side, fact)? {
+        Ok(())
+    } else {
+        Err(LineEnd::Limit(Limit::Facts))
+    }
+}
+
 /// Adds that the two expressions are less defined than each other.
+#[tactic(auto, using(erhl_assert::proofs::Courses::within_more, erhl_assert::proofs::Courses::within_none))]
 fn add_equal<S: FactSet>(
     alloc: Global,
     side: Side,
     a: Expr0,
     b: Expr0,
     sides: &mut Sides<S>,
-) -> Result<(), AllocError>
-    ensures { OnOk result
-        (sides.new ≡ with_conclusion side (LessDef b a) (with_conclusion side (LessDef a b) sides.old)) }
+) -> Result<(), LineEnd>
+    ensures { Follows result sides.new (and_then (adds side (LessDef a b) sides.old) (adds side (LessDef b a))) }
 {
     let back = less_def(alloc, &b, &a)?;
-    sides.add_fact(side, Fact::LessDef(a, b))?;
-    sides.add_fact(side, back)
+    add(side, Fact::LessDef(a, b), sides)?;
+    add(side, back, sides)
 }
 
 /// Adds that the register of the line and its right side are less defined than each other.
@@ -102,11 +117,11 @@ fn add_line<S: FactSet>(
     side: Side,
     line: &Calm,
     sides: &mut Sides<S>,
-) -> Result<(), AllocError>
-    ensures { OnOk result
-        (sides.new
-        ≡ with_conclusion side (LessDef (right_side line.now) (left_side line.now))
-        (with_conclusion side (LessDef (left_side line.now) (right_side line.now)) sides.old)) }
+) -> Result<(), LineEnd>
+    ensures { Follows result sides.new
+        (and_then
+        (adds side (LessDef (left_side line.now) (right_side line.now)) sides.old)
+        (adds side (LessDef (right_side line.now) (left_side line.now)))) }
 {
     let register = left_side(alloc, line)?;
     add_equal(alloc, side, register, now_expr(alloc, &line.right)?, sides)
@@ -131,13 +146,14 @@ fn names(name: &Name, expr: &Expr<Name>) -> bool
     }
 }
 
+#[tactic(auto, using(crate::proofs::LineFacts::forgotten))]
 fn forget<S: FactSet>(
     alloc: Global,
     side: Side,
     name: &Name,
     sides: &mut Sides<S>,
 ) -> Result<(), AllocError>
-    ensures { OnOk result (sides.new ≡ on_side side (killed (Naming (Now name.now))) sides.old) }
+    ensures { OnOk result (sides.new ≡ forgetting side (Now name.now) sides.old) }
 {
     sides.kill(side, &Kill::Naming(Reg::Now(name.copy(alloc)?)));
     Ok(())
@@ -150,8 +166,8 @@ fn facts_after<S: FactSet>(
     side: Side,
     line: &Calm,
     sides: &mut Sides<S>,
-) -> Result<(), AllocError>
-    ensures { OnOk result (sides.new ≡ on_side side (facts_after_line line.now) sides.old) }
+) -> Result<(), LineEnd>
+    ensures { Follows result sides.new (over_calm side line.now sides.old) }
 {
     forget(alloc, side, &line.name, sides)?;
     if names(&line.name, &line.right) {
@@ -233,36 +249,41 @@ fn diff_after_both<S: FactSet>(
     }
 }
 
+#[tactic(auto, using(crate::proofs::LineFacts::both_end, crate::proofs::LineFacts::source_over, crate::proofs::LineFacts::target_over))]
 fn after_both<S: FactSet>(
     alloc: Global,
     s: &Calm,
     t: &Calm,
     sides: &mut Sides<S>,
-) -> Result<(), AllocError>
-    ensures { OnOk result
-        (sides.new
-        ≡ after_line sides.old (record { source = Some (line.Calm s.now); target = Some (line.Calm t.now) })) }
+) -> Result<(), LineEnd>
+    ensures { Follows result sides.new
+        (over_line (record { source = Some (line.Calm s.now); target = Some (line.Calm t.now) }) sides.old) }
 {
     let agreed = lines_agree(sides, s, t);
     facts_after(alloc, Side::Src, s, sides)?;
     facts_after(alloc, Side::Tgt, t, sides)?;
-    diff_after_both(alloc, agreed, &s.name, &t.name, sides)
+    diff_after_both(alloc, agreed, &s.name, &t.name, sides)?;
+    Ok(())
 }
 
-fn after_source<S: FactSet>(alloc: Global, s: &Calm, sides: &mut Sides<S>) -> Result<(), AllocError>
-    ensures { OnOk result
-        (sides.new ≡ after_line sides.old (record { source = Some (line.Calm s.now); target = None })) }
+#[tactic(auto, using(crate::proofs::LineFacts::source_done, crate::proofs::LineFacts::source_over))]
+fn after_source<S: FactSet>(alloc: Global, s: &Calm, sides: &mut Sides<S>) -> Result<(), LineEnd>
+    ensures { Follows result sides.new
+        (over_line (record { source = Some (line.Calm s.now); target = None }) sides.old) }
 {
     facts_after(alloc, Side::Src, s, sides)?;
-    differ(alloc, &s.name, sides)
+    differ(alloc, &s.name, sides)?;
+    Ok(())
 }
 
-fn after_target<S: FactSet>(alloc: Global, t: &Calm, sides: &mut Sides<S>) -> Result<(), AllocError>
-    ensures { OnOk result
-        (sides.new ≡ after_line sides.old (record { source = None; target = Some (line.Calm t.now) })) }
+#[tactic(auto, using(crate::proofs::LineFacts::target_done, crate::proofs::LineFacts::target_alone_over))]
+fn after_target<S: FactSet>(alloc: Global, t: &Calm, sides: &mut Sides<S>) -> Result<(), LineEnd>
+    ensures { Follows result sides.new
+        (over_line (record { source = None; target = Some (line.Calm t.now) }) sides.old) }
 {
     facts_after(alloc, Side::Tgt, t, sides)?;
-    differ(alloc, &t.name, sides)
+    differ(alloc, &t.name, sides)?;
+    Ok(())
 }
 
 fn calm_of(instr: &Instr) -> &Calm
@@ -284,10 +305,9 @@ fn past<S: FactSet>(
     sides: &mut Sides<S>,
     source: Option<&Instr>,
     target: Option<&Instr>,
-) -> Result<(), AllocError>
-    ensures { OnOk result
-        (sides.new
-        ≡ after_line sides.old (record { source = option_copied source.entry; target = option_copied target.entry })) }
+) -> Result<(), LineEnd>
+    ensures { Follows result sides.new
+        (over_line (record { source = option_copied source.entry; target = option_copied target.entry }) sides.old) }
 {
     match source {
         Some(s) => match target {
@@ -303,19 +323,31 @@ fn past<S: FactSet>(
 
 /// What is known after a line, of what was known before it. No line of today asks the module. After an error nothing is said
 /// of the sides, which are to be given up.
+#[tactic(auto, using(crate::proofs::LineFacts::known_after, crate::proofs::LineFacts::few_after, crate::proofs::LineFacts::too_many_after))]
 pub fn after_line<S: FactSet>(
     alloc: Global,
     _module: &Module,
     sides: &mut Sides<S>,
     line: &Line<'_>,
 ) -> Result<(), LineEnd>
-    ensures { OnOk result
+    ensures after { OnOk result
         (sides.new
         ≡ after_line sides.old (record {
           source = option_copied line.now.source;
           target = option_copied line.now.target;
         })) }
+    // Where each fact of the line is added, no more are known than the limit allows.
+    ensures few { OnOk result
+        (are_too_many
+        (over_line (record { source = option_copied line.now.source; target = option_copied line.now.target }) sides.old).sizes
+        ≡ false) }
+    // Somewhere on the line more would be known.
+    ensures limit { IfErr result
+        (λ fault. (l : Limit) → fault ≡ line_end.Limit l
+        → (l ≡ Facts)
+        × (are_too_many
+        (over_line (record { source = option_copied line.now.source; target = option_copied line.now.target }) sides.old).sizes
+        ≡ true)) }
 {
-    past(alloc, sides, line.source, line.target)?;
-    Ok(())
+    past(alloc, sides, line.source, line.target)
 }

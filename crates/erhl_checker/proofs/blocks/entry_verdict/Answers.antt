@@ -1,10 +1,10 @@
 use Rattle.std.proofs.Common.{rules}
 use Rattle.erhl_assert.specs.Steps.{beside}
 use Rattle.line_align.specs.Lent.{lent_block}
-use Rattle.erhl_checker.proofs.Progressing.{unhinted, ended_so}
+use Rattle.erhl_checker.proofs.Progressing.{unhinted, answers_so}
 use Rattle.erhl_checker.proofs.blocks.entry_verdict.Goals as goal
 
 pub returns-in_ok-entry-in-None : goal.returns-in_ok-entry-in-None
 returns-in_ok-entry-in-None g c =
     let w = beside (g.B.RuleSet.rules c.args.book.now) c.args.«module».now in
-    ended_so (unhinted w c.args.hint.now (lent_block c.args.block.now) c.in_ok-entry-in-None.entry c.in_ok-entry-in-None.ensures (search rules)) c.along.result c.along.ensures
+    answers_so (unhinted w c.args.hint.now (lent_block c.args.block.now) c.in_ok-entry-in-None.entry c.in_ok-entry-in-None.ensures (search rules)) c.along.result c.along.ensures
