@@ -1,0 +1,5 @@
+use Rattle.predictive.proofs.Selects.{unambiguous}
+use Rattle.predictive.proofs.laws.is_unambiguous.Goals as goal
+
+pub returns : goal.returns
+returns c = unambiguous

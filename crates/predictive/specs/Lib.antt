@@ -1,0 +1,6 @@
+pub mod Grammar
+pub mod Predictive
+pub mod Moves
+pub mod Listed
+pub mod Examples
+pub mod Arrays

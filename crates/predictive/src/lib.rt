@@ -1,0 +1,23 @@
+//! A predictive parser over grammars as data (LL(1), Aho, Sethi and Ullman): an explicit stack, and acts that are called as tokens are
+//! shifted and rules reduced.
+//!
+//! A grammar is an `impl Table`. The easy way to one is a list of rules with their LL(1) sets (`specs/Listed.antt`, and an example in
+//! `specs/Examples.antt`): that it is predictive is then computed, `by_test grammar refl`, and `choice` and `side` read its arrays, which
+//! are compared with the list by `refl` too.
+#![tactic(auto)]
+
+mod action;
+mod dense;
+mod engine;
+mod item;
+mod laws;
+mod stack;
+mod symbol;
+mod table;
+
+pub use action::Action;
+pub use dense::{choice, side};
+pub use engine::parse;
+pub use laws::{examples, is_unambiguous, one_first_fault, test_is_sound};
+pub use symbol::Symbol;
+pub use table::Table;

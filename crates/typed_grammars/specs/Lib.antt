@@ -1,0 +1,5 @@
+pub mod Meaning
+pub mod Made
+pub mod Typed
+pub mod Unexpected
+pub mod Listing
