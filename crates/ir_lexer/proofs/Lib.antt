@@ -1,5 +1,8 @@
+pub mod Agrees
 pub mod Cuts
 pub mod Escapes
 pub mod Fronts
 pub mod Order
+pub mod Outlines
+pub mod Those
 pub mod Values

@@ -24,3 +24,8 @@ are_digits (b ∷ bytes) = list_all is_ascii_digit (b ∷ bytes)
 abbrev pub begins_with_colon : List ℕ → Bool
 begins_with_colon [] = false
 begins_with_colon (b ∷ rest) = b == 58
+
+-- the text goes on with a quote
+abbrev pub begins_with_quote : List ℕ → Bool
+begins_with_quote [] = false
+begins_with_quote (b ∷ rest) = b == 34

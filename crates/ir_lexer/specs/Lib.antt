@@ -4,4 +4,5 @@ pub mod Names
 pub mod Numbers
 pub mod Pieces
 pub mod Runs
+pub mod Said
 pub mod Strings

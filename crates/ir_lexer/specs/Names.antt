@@ -1,13 +1,20 @@
 -- The name after a sigil.
 use Rattle.std.specs.Prelude.{ℕ, ◌+◌, ◌^◌, ◌==◌, List, [], ◌∷◌, length, Option, Some, None, if◌then◌else◌}
 use Rattle.std.specs.Char.{is_ascii_digit}
+use Rattle.ir_core.specs.declared.names.Name.{Name}
 use Rattle.ir_core.specs.declared.names.Name.TheVariants.{Text, Number}
-use Rattle.ir_lexer.specs.declared.names.NameAt.{NameAt}
-use Rattle.ir_lexer.specs.declared.names.NameAt.TheVariants.{Found, EmptyOrOpen, Missing}
+use Rattle.ir_lexer.specs.declared.names.NameSpan.{NameSpan}
+use Rattle.ir_lexer.specs.declared.names.NameSpan.TheVariants as span
 use Rattle.ir_core.specs.Names.{is_name_byte}
 use Rattle.ir_lexer.specs.Numbers.{value_of, if_below}
 use Rattle.ir_lexer.specs.Runs.{run_at, digits_at, quoted_at}
 use Rattle.ir_lexer.specs.Strings.{unescaped}
+
+-- what stands behind a sigil: a name and how many bytes spell it, a string that is empty or not closed, or nothing of both
+pub data NameAt : Type 0 where
+  Found : Name → ℕ → NameAt
+  EmptyOrOpen : NameAt
+  Missing : NameAt
 
 -- a number below 2 to the 32, of len digits
 abbrev pub numbered : Option ℕ → ℕ → NameAt
@@ -30,8 +37,14 @@ name_at (b ∷ rest) =
     else (if b == 34 then quoted_name (quoted_at rest)
     else Missing))
 
+-- without what the name says
+abbrev pub span_of : NameAt → NameSpan
+span_of (Found name len) = span.Found len
+span_of EmptyOrOpen = span.EmptyOrOpen
+span_of Missing = span.Missing
+
 -- how many bytes spell the name
-abbrev pub name_len : NameAt → ℕ
-name_len (Found name len) = len
-name_len EmptyOrOpen = 0
-name_len Missing = 0
+abbrev pub span_len : NameSpan → ℕ
+span_len (span.Found len) = len
+span_len span.EmptyOrOpen = 0
+span_len span.Missing = 0

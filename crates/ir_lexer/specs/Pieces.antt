@@ -4,17 +4,30 @@ use Rattle.std.specs.Str.{bytes_eq}
 use Rattle.ir_core.specs.Names.{is_name_byte}
 use Rattle.ir_core.specs.declared.names.Name.{Name}
 use Rattle.ir_core.specs.declared.names.Name.TheVariants as name
-use Rattle.ir_lexer.specs.declared.names.NameAt.{NameAt}
-use Rattle.ir_lexer.specs.declared.names.NameAt.TheVariants.{Found, EmptyOrOpen, Missing}
-use Rattle.ir_lexer.specs.declared.pieces.Piece.{Piece}
-use Rattle.ir_lexer.specs.declared.pieces.Piece.TheVariants.{End, Gap, Token, BadByte, BadString, BadNumber}
+use Rattle.ir_lexer.specs.declared.names.NameSpan.{NameSpan}
+use Rattle.ir_lexer.specs.declared.names.NameSpan.TheVariants as span
+use Rattle.ir_lexer.specs.declared.pieces.Outline.{Outline}
+use Rattle.ir_lexer.specs.declared.pieces.Outline.TheVariants as outline_is
+use Rattle.ir_lexer.specs.declared.token.Kind.{Kind}
+use Rattle.ir_lexer.specs.declared.token.Kind.TheVariants as alone
 use Rattle.ir_lexer.specs.declared.token.TokenKind.{TokenKind}
 use Rattle.ir_lexer.specs.declared.token.TokenKind.TheVariants as kind
 use Rattle.ir_lexer.specs.Bytes.{is_blank, is_mark, begins_word, are_digits, begins_with_colon}
-use Rattle.ir_lexer.specs.Names.{name_at}
+use Rattle.ir_lexer.specs.Names.{NameAt, name_at}
+use Rattle.ir_lexer.specs.Names.NameAt.{Found, EmptyOrOpen, Missing}
 use Rattle.ir_lexer.specs.Numbers.{value_of, if_below}
 use Rattle.ir_lexer.specs.Runs.{run_at, digits_at, rest_of_line, quoted_at}
 use Rattle.ir_lexer.specs.Strings.{unescaped}
+
+-- What stands at the front of a text: nothing, a gap of so many bytes, a token and how many bytes spell it, a byte that begins nothing, a
+-- string that is no token so many bytes from here, or a number that is none.
+pub data Piece : Type 0 where
+  End : Piece
+  Gap : ℕ → Piece
+  Token : TokenKind → ℕ → Piece
+  BadByte : Piece
+  BadString : ℕ → Piece
+  BadNumber : Piece
 
 -- `%` or `@` and a name. A string that is no name is a fault at its quote.
 abbrev pub named : (Name → TokenKind) → NameAt → Piece
@@ -96,11 +109,46 @@ piece_len BadByte = 0
 piece_len (BadString offset) = 0
 piece_len BadNumber = 0
 
+-- ---- without what it says
+
+-- of which kind a token is
+abbrev pub kind_alone : TokenKind → Kind
+kind_alone (kind.Local name) = alone.Local
+kind_alone (kind.Global name) = alone.Global
+kind_alone (kind.Attribute digits) = alone.Attribute
+kind_alone kind.Bang = alone.Bang
+kind_alone (kind.Metadata run) = alone.Metadata
+kind_alone (kind.Label name) = alone.Label
+kind_alone kind.Dots = alone.Dots
+kind_alone (kind.Number number) = alone.Number
+kind_alone (kind.Word word) = alone.Word
+kind_alone (kind.Text text) = alone.Text
+kind_alone (kind.Mark byte) = alone.Mark
+
+abbrev pub outline : Piece → Outline
+outline End = outline_is.End
+outline (Gap len) = outline_is.Gap len
+outline (Token kind len) = outline_is.Token (kind_alone kind) len
+outline BadByte = outline_is.BadByte
+outline (BadString offset) = outline_is.BadString offset
+outline BadNumber = outline_is.BadNumber
+
+-- a sigil, and what stands behind it
+abbrev pub behind_sigil : Kind → NameSpan → Outline
+behind_sigil kind (span.Found len) = outline_is.Token kind (len + 1)
+behind_sigil kind span.EmptyOrOpen = outline_is.BadString 1
+behind_sigil kind span.Missing = outline_is.BadByte
+
+-- a number of either sign
+abbrev pub number_outline : Option ℕ → ℕ → Outline
+number_outline None len = outline_is.BadNumber
+number_outline (Some n) len = outline_is.Token alone.Number len
+
 -- a gap or a token takes at least one byte and at most `room`, and no fault stands behind them
-abbrev pub IsWithin : Piece → ℕ → Type 0
-IsWithin (Gap len) room = (1 ≤ len) × (len ≤ room)
-IsWithin (Token kind len) room = (1 ≤ len) × (len ≤ room)
-IsWithin End room = Unit {0}
-IsWithin BadByte room = Unit {0}
-IsWithin (BadString offset) room = offset ≤ room
-IsWithin BadNumber room = Unit {0}
+abbrev pub IsWithin : Outline → ℕ → Type 0
+IsWithin (outline_is.Gap len) room = (1 ≤ len) × (len ≤ room)
+IsWithin (outline_is.Token kind len) room = (1 ≤ len) × (len ≤ room)
+IsWithin outline_is.End room = Unit {0}
+IsWithin outline_is.BadByte room = Unit {0}
+IsWithin (outline_is.BadString offset) room = offset ≤ room
+IsWithin outline_is.BadNumber room = Unit {0}

@@ -3,7 +3,7 @@ ghost use Rattle.std.specs.Char.{is_ascii_digit};
 ghost use Rattle.std.specs.List.{list_all};
 ghost use Rattle.ir_core.specs.Names.{is_name_byte};
 ghost use Rattle.ir_lexer.specs.Runs.{is_in_line};
-ghost use Rattle.ir_lexer.specs.Bytes.{is_blank, is_mark, begins_word, are_digits, begins_with_colon};
+ghost use Rattle.ir_lexer.specs.Bytes.{is_blank, is_mark, begins_word, are_digits, begins_with_colon, begins_with_quote};
 
 use crate::runs;
 
@@ -70,6 +70,16 @@ pub fn begins_with_colon(text: &[u8]) -> bool
 {
     match runs::split(text) {
         Some((first, _)) => first == b':',
+        None => false,
+    }
+}
+
+/// Whether a quote stands first.
+pub fn begins_with_quote(text: &[u8]) -> bool
+    ensures { result ≡ begins_with_quote text.now }
+{
+    match runs::split(text) {
+        Some((first, _)) => first == b'"',
         None => false,
     }
 }

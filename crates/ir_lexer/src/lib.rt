@@ -10,8 +10,10 @@ mod names;
 mod numbers;
 mod pieces;
 mod runs;
+mod saying;
 mod strings;
 mod token;
 
 pub use cut::lex;
-pub use token::{LexFault, Number, Token, TokenKind};
+pub use saying::{bytes_of, is_word, mark_of, says};
+pub use token::{Kind, LexFault, Number, Token, TokenKind};

@@ -1,70 +1,56 @@
-ghost use Rattle.std.specs.Prelude.{◌≡◌, ◌≤◌, ◌+◌, ◌^◌, length, IfOk, IfSome, MatchOption, option_map};
-ghost use Rattle.ir_lexer.specs.Names.{name_at, name_len, numbered, quoted_name};
+ghost use Rattle.std.specs.Prelude.{◌≡◌, ◌≤◌, ◌^◌, ◌+◌, length, MatchOption, option_map};
+ghost use Rattle.ir_lexer.specs.Names.{name_at, numbered, quoted_name, span_of, span_len};
 ghost use Rattle.ir_lexer.specs.Numbers.{value_of, if_below};
 
-use crate::{bytes, numbers, runs, strings};
-use contents::Text;
-use ir_core::Name;
-use std::alloc::{AllocError, Global};
+use crate::{bytes, numbers, runs};
 
-/// What stands behind a sigil.
-#[derive(Drop)]
-pub enum NameAt {
-    /// A name, and how many bytes spell it.
-    Found(Name, usize),
+/// What stands behind a sigil, without what it says.
+#[derive(Drop, Clone, Copy)]
+pub enum NameSpan {
+    /// A name of so many bytes.
+    Found(usize),
     /// A string that is empty or not closed.
     EmptyOrOpen,
     Missing,
 }
 
-fn quoted_name(alloc: Global, quoted: Option<&[u8]>) -> Result<NameAt, AllocError>
-    ensures value { IfOk result (λ name. name ≡ quoted_name (option_map (λ raw. raw.now) quoted.entry)) }
-    ensures within { IfOk result (λ name. MatchOption quoted.entry (name_len name ≡ 0) (λ raw. name_len name ≤ length raw.now + 2)) }
+fn quoted_span(quoted: Option<&[u8]>) -> NameSpan
+    ensures value { result ≡ span_of (quoted_name (option_map (λ raw. raw.now) quoted.entry)) }
+    ensures within { MatchOption quoted.entry (span_len result ≡ 0) (λ raw. span_len result ≤ length raw.now + 2) }
 {
     match quoted {
-        None => Ok(NameAt::EmptyOrOpen),
-        Some([]) => Ok(NameAt::EmptyOrOpen),
-        Some(raw) => {
-            let text = strings::unescaped(alloc, raw)?;
-            let text = Text::from_slice(alloc, text.as_slice())?;
-            Ok(NameAt::Found(Name::Text(text), raw.len() + 2))
-        }
+        None => NameSpan::EmptyOrOpen,
+        Some([]) => NameSpan::EmptyOrOpen,
+        Some(raw) => NameSpan::Found(raw.len() + 2),
     }
 }
 
-fn run_name(alloc: Global, run: &[u8]) -> Result<NameAt, AllocError>
-    ensures { IfOk result (λ name. name ≡ NameAt.Found (Name.Text run.now) (length run.now)) }
-{
-    let text = Text::from_slice(alloc, run)?;
-    Ok(NameAt::Found(Name::Text(text), run.len()))
-}
-
-fn numbered(digits: &[u8]) -> NameAt
-    ensures value { result ≡ numbered (if_below (2 ^ 32) (value_of digits.now)) (length digits.now) }
-    ensures within { name_len result ≤ length digits.now }
+fn numbered_span(digits: &[u8]) -> NameSpan
+    ensures value { result ≡ span_of (numbered (if_below (2 ^ 32) (value_of digits.now)) (length digits.now)) }
+    ensures within { span_len result ≤ length digits.now }
 {
     match numbers::small_value_of(digits) {
-        Some(number) => NameAt::Found(Name::Number(number), digits.len()),
-        None => NameAt::Missing,
+        Some(_) => NameSpan::Found(digits.len()),
+        None => NameSpan::Missing,
     }
 }
 
-/// The name at the front of the text.
+/// How far the name at the front of the text goes.
 #[tactic(auto, unfolding(crate::specs::Names::name_at))]
-pub fn name_at(alloc: Global, text: &[u8]) -> Result<NameAt, AllocError>
-    ensures value { IfOk result (λ name. name ≡ name_at text.now) }
-    ensures within { IfOk result (λ name. name_len name ≤ length text.now) }
+pub fn name_span(text: &[u8]) -> NameSpan
+    ensures value { result ≡ span_of (name_at text.now) }
+    ensures within { span_len result ≤ length text.now }
 {
     let Some((first, rest)) = runs::split(text) else {
-        return Ok(NameAt::Missing);
+        return NameSpan::Missing;
     };
     if first.is_ascii_digit() {
-        Ok(numbered(runs::digits_at(text)))
+        numbered_span(runs::digits_at(text))
     } else if bytes::is_run_byte(first) {
-        run_name(alloc, runs::run_at(text))
+        NameSpan::Found(runs::run_at(text).len())
     } else if first == b'"' {
-        quoted_name(alloc, runs::quoted_at(rest))
+        quoted_span(runs::quoted_at(rest))
     } else {
-        Ok(NameAt::Missing)
+        NameSpan::Missing
     }
 }

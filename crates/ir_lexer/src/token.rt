@@ -2,81 +2,61 @@ ghost use Rattle.std.specs.Prelude.{◌≡◌};
 ghost use Rattle.ir_lexer.specs.declared.token.LexFault.TheVariants.{Memory};
 
 use contents::Seq;
-use ir_core::Name;
+use ir_core::{Limit, Name};
 use std::alloc::{AllocError, AllocFailed};
+use thiserror::Error;
+
+/// What sort of token it is. What it says is read from the text.
+#[derive(Drop, Clone, Copy)]
+pub enum Kind {
+    /// `%x`, `%"x y"`, `%5`.
+    Local,
+    /// `@f`, `@"f g"`, `@5`.
+    Global,
+    /// `#` and digits.
+    Attribute,
+    /// `!` alone.
+    Bang,
+    /// `!` and a run.
+    Metadata,
+    /// `entry:`, `"my block":`, `5:`.
+    Label,
+    /// `...`
+    Dots,
+    Number,
+    /// A run that is none of the others.
+    Word,
+    /// A string.
+    Text,
+    /// One of `= , ( ) { } [ ] * < > |`.
+    Mark,
+}
 
 /// A token, and the bytes that spell it: from `start` up to `end`, counted from 0.
+#[derive(Drop, Clone, Copy)]
 pub struct Token {
-    pub kind: TokenKind,
-    pub start: usize,
-    pub end: usize,
-}
-
-impl Drop for Token {
-    fn drop(self) {
-        let Token {
-            kind: _,
-            start: _,
-            end: _,
-        } = self;
-    }
-}
-
-impl Token {
-    /// The token without its place.
-    pub fn into_kind(self) -> TokenKind
-        ensures { result ≡ self.kind }
-    {
-        let Token {
-            kind,
-            start: _,
-            end: _,
-        } = self;
-        kind
-    }
+    pub kind: Kind,
+    pub start: u32,
+    pub end: u32,
 }
 
 /// What a token is and says.
+#[derive(Drop)]
 pub enum TokenKind {
-    /// `%x`, `%"x y"`, `%5`.
     Local(Name),
-    /// `@f`, `@"f g"`, `@5`.
     Global(Name),
     /// `#` and these digits.
     Attribute(Seq<u8>),
-    /// `!` alone.
     Bang,
     /// `!` and this run.
     Metadata(Seq<u8>),
-    /// `entry:`, `"my block":`, `5:`.
     Label(Name),
-    /// `...`
     Dots,
     Number(Number),
-    /// A run that is none of the others.
     Word(Seq<u8>),
     /// What stands between two quotes, its escapes read.
     Text(Seq<u8>),
-    /// One of `= , ( ) { } [ ] * < > |`.
     Mark(u8),
-}
-
-impl Drop for TokenKind {
-    fn drop(self) {
-        match self {
-            TokenKind::Local(_) => {}
-            TokenKind::Global(_) => {}
-            TokenKind::Attribute(_) => {}
-            TokenKind::Bang => {}
-            TokenKind::Metadata(_) => {}
-            TokenKind::Label(_) => {}
-            TokenKind::Dots => {}
-            TokenKind::Number(_) => {}
-            TokenKind::Word(_) => {}
-            TokenKind::Text(_) => {}
-            TokenKind::Mark(_) => {}
-        }
-    }
 }
 
 /// A number as it is written: its sign and its absolute value.
@@ -87,17 +67,22 @@ pub struct Number {
 }
 
 /// Why a text has no tokens. A place counts bytes from 0.
-#[derive(Drop, Clone, Copy)]
+#[derive(Clone, Copy, Debug, Drop, Error)]
 pub enum LexFault {
     /// A byte that begins no token, or a sigil that no name follows.
+    #[error("{0}: a byte that begins nothing")]
     BadByte(usize),
     /// A string that is not closed, or is empty where a name is wanted. The place is its quote.
+    #[error("{0}: a string that is open or empty")]
     BadString(usize),
     /// A run that begins as a number and is none, or a number out of range.
+    #[error("{0}: a number that is none or out of range")]
     BadNumber(usize),
+    #[error("out of memory")]
     Memory,
     /// The text is longer than 2 to the 24 bytes.
-    Limit,
+    #[error("the text is too long")]
+    Limit(Limit),
 }
 
 impl From<AllocError> for LexFault {

@@ -17,7 +17,7 @@ fn is_boxed(alloc: Global, number: u32) -> bool {
     }
 }
 
-/// What no text of the first form needs.
+/// What no text needs that is read so far.
 #[test]
 fn boxes_and_registers_are_copied(rt: HostRuntime) {
     let alloc = rt.alloc();

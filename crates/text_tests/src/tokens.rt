@@ -1,10 +1,10 @@
 use ir_core::Name;
-use ir_lexer::{LexFault, Token, TokenKind, lex};
+use ir_lexer::{LexFault, Token, TokenKind, bytes_of, is_word, lex, mark_of, says};
 use std::alloc::Global;
 use std::test::*;
 
 /// What stands in front of a token's text where it is shown; nothing before a word.
-fn mark_of(kind: &TokenKind) -> Option<u8> {
+fn sign_of(kind: &TokenKind) -> Option<u8> {
     match kind {
         TokenKind::Local(_) => Some(b'%'),
         TokenKind::Global(_) => Some(b'@'),
@@ -42,7 +42,7 @@ fn kind_text(kind: &TokenKind) -> &[u8] {
 
 /// What is left of the wanted text behind what the token shows, if it begins so.
 fn after<'a>(wanted: &'a [u8], kind: &TokenKind) -> Option<&'a [u8]> {
-    let rest = match mark_of(kind) {
+    let rest = match sign_of(kind) {
         Some(mark) => wanted.strip_prefix(&[mark])?,
         None => wanted,
     };
@@ -55,7 +55,7 @@ fn fault_text(fault: LexFault) -> [u8; 2] {
         LexFault::BadByte(place) => [b'B', digit(place)],
         LexFault::BadString(place) => [b'S', digit(place)],
         LexFault::BadNumber(place) => [b'N', digit(place)],
-        LexFault::Limit => *b"L ",
+        LexFault::Limit(_) => *b"L ",
         LexFault::Memory => *b"M ",
     }
 }
@@ -64,11 +64,14 @@ fn digit(place: usize) -> u8 {
     if place < 10 { b'0' + place as u8 } else { b'?' }
 }
 
-/// Whether the tokens show as that text, a blank behind each.
-fn are(tokens: &[Token], wanted: &[u8]) -> bool {
+/// Whether the tokens of the text show so, a blank behind each.
+fn are(alloc: Global, text: &[u8], tokens: &[Token], wanted: &[u8]) -> bool {
     let mut rest = wanted;
     for token in tokens {
-        match after(rest, &token.kind) {
+        let Ok(kind) = says(alloc, text, token) else {
+            return false;
+        };
+        match after(rest, &kind) {
             Some(left) => rest = left,
             None => return false,
         }
@@ -79,7 +82,7 @@ fn are(tokens: &[Token], wanted: &[u8]) -> bool {
 /// Whether the text is cut so, or has that fault.
 fn is_cut(alloc: Global, text: &[u8], wanted: &[u8]) -> bool {
     match lex(alloc, text) {
-        Ok(tokens) => are(tokens.as_slice(), wanted),
+        Ok(tokens) => are(alloc, text, tokens.as_slice(), wanted),
         Err(fault) => fault_text(fault).as_slice() == wanted,
     }
 }
@@ -132,7 +135,7 @@ fn rows(rt: HostRuntime) {
 }
 
 /// Whether the last token stands there, and so many are before it.
-fn is_last_at(alloc: Global, text: &[u8], before: usize, start: usize, end: usize) -> bool {
+fn is_last_at(alloc: Global, text: &[u8], before: usize, start: u32, end: u32) -> bool {
     let Ok(tokens) = lex(alloc, text) else {
         return false;
     };
@@ -148,4 +151,27 @@ fn places(rt: HostRuntime) {
     assert!(rt; is_last_at(alloc, b" %5", 0, 1, 3));
     assert!(rt; is_last_at(alloc, b" %5abc: ; x", 1, 3, 7));
     assert!(rt; is_last_at(alloc, b" %5abc: ; x\n\"a\\41\":", 2, 12, 19));
+}
+
+/// Whether the first token is the word `ret`, the second the mark `(`, and the third spelled `%"a b"`.
+fn are_asked(alloc: Global, text: &[u8]) -> bool {
+    let Ok(tokens) = lex(alloc, text) else {
+        return false;
+    };
+    match tokens.as_slice() {
+        [word, mark, name] => {
+            is_word(text, word, b"ret")
+                && !is_word(text, word, b"re")
+                && !is_word(text, mark, b"(")
+                && mark_of(text, mark) == Some(b'(')
+                && mark_of(text, word).is_none()
+                && bytes_of(text, name) == b"%\"a b\"".as_slice()
+        }
+        _ => false,
+    }
+}
+
+#[test]
+fn questions(rt: HostRuntime) {
+    assert!(rt; are_asked(rt.alloc(), b"ret ( %\"a b\""));
 }
