@@ -1,14 +1,12 @@
-//! The tokens of textual LLVM IR read as a tree of what is written, from the left: a definition, an operation, a value.
+//! The tokens of textual LLVM IR read as a tree of what is written, from the left: an operation, a value.
 //! What they name is for `ir_reader` to say.
 #![tactic(auto)]
 
-mod definitions;
 mod operations;
 mod terminals;
 mod tokens;
 mod values;
 
-pub use definitions::definition_at;
 pub use operations::operation_at;
 pub use terminals::{end_at, is_i32, split};
 pub use tokens::kinds_of;

@@ -9,7 +9,7 @@ use crate::values::value_at;
 use contents::Seq;
 use ir_core::{BinOp, op_word};
 use ir_lexer::TokenKind;
-use ir_spelling::{FlagWord, OperationText, TextFault, ValueText};
+use ir_spelling::{FlagWord, NotRead, OperationText, ValueText};
 use std::alloc::{AllocError, Global};
 
 fn is_operator(op: BinOp, kind: &TokenKind) -> bool
@@ -34,15 +34,15 @@ fn operator_of(kind: &TokenKind) -> Option<BinOp>
 
 /// The operator at the front, and what stands behind it.
 #[tactic(auto, unfolding(ir_spelling::specs::Operations::operator_at))]
-fn operator_at(kinds: &[TokenKind]) -> Result<(BinOp, &[TokenKind]), TextFault>
+fn operator_at(kinds: &[TokenKind]) -> Result<(BinOp, &[TokenKind]), NotRead>
     ensures { Reads (λ parts. (parts.0, parts.1.now)) result (operator_at kinds.now) }
 {
     let Some((kind, rest)) = split(kinds) else {
-        return Err(TextFault::NotOfTheFirstForm);
+        return Err(NotRead::NotSpelled);
     };
     match operator_of(kind) {
         Some(op) => Ok((op, rest)),
-        None => Err(TextFault::NotOfTheFirstForm),
+        None => Err(NotRead::NotSpelled),
     }
 }
 
@@ -95,7 +95,7 @@ fn flags_at(alloc: Global, kinds: &[TokenKind]) -> Result<Vec<FlagWord>, AllocEr
 fn values_at(
     alloc: Global,
     kinds: &[TokenKind],
-) -> Result<(ValueText, ValueText, &[TokenKind]), TextFault>
+) -> Result<(ValueText, ValueText, &[TokenKind]), NotRead>
     ensures { Reads (λ parts. (parts.0, parts.1, parts.2.now)) result (values_at kinds.now) }
 {
     let rest = i32_at(kinds)?;
@@ -110,7 +110,7 @@ fn values_at(
 pub fn operation_at(
     alloc: Global,
     kinds: &[TokenKind],
-) -> Result<(OperationText, &[TokenKind]), TextFault>
+) -> Result<(OperationText, &[TokenKind]), NotRead>
     ensures { Reads (λ parts. (parts.0, parts.1.now)) result (operation_at kinds.now) }
 {
     let (op, rest) = operator_at(kinds)?;

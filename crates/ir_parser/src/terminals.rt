@@ -4,7 +4,7 @@ ghost use Rattle.ir_spelling.specs.Reading.{Reads};
 ghost use Rattle.ir_spelling.specs.Terminals.{is_word, is_mark, word_at, mark_at, end_at};
 
 use ir_lexer::TokenKind;
-use ir_spelling::TextFault;
+use ir_spelling::NotRead;
 
 /// The first item and the rest.
 pub fn split<T>(items: &[T]) -> Option<(&T, &[T])>
@@ -35,16 +35,16 @@ pub fn is_mark(byte: u8, kind: &TokenKind) -> bool
 
 /// What stands behind the word.
 #[tactic(auto, unfolding(ir_spelling::specs::Terminals::word_at))]
-pub fn word_at<'a>(bytes: &[u8], kinds: &'a [TokenKind]) -> Result<&'a [TokenKind], TextFault>
+pub fn word_at<'a>(bytes: &[u8], kinds: &'a [TokenKind]) -> Result<&'a [TokenKind], NotRead>
     ensures { Reads (λ rest. rest.now) result (word_at bytes.now kinds.now) }
 {
     let Some((kind, rest)) = split(kinds) else {
-        return Err(TextFault::NotOfTheFirstForm);
+        return Err(NotRead::NotSpelled);
     };
     if is_word(bytes, kind) {
         Ok(rest)
     } else {
-        Err(TextFault::NotOfTheFirstForm)
+        Err(NotRead::NotSpelled)
     }
 }
 
@@ -56,7 +56,7 @@ pub fn is_i32(kind: &TokenKind) -> bool
 }
 
 /// What stands behind `i32`.
-pub fn i32_at(kinds: &[TokenKind]) -> Result<&[TokenKind], TextFault>
+pub fn i32_at(kinds: &[TokenKind]) -> Result<&[TokenKind], NotRead>
     ensures { Reads (λ rest. rest.now) result (word_at words.i32_word kinds.now) }
 {
     word_at(b"i32", kinds)
@@ -64,27 +64,27 @@ pub fn i32_at(kinds: &[TokenKind]) -> Result<&[TokenKind], TextFault>
 
 /// What stands behind the mark.
 #[tactic(auto, unfolding(ir_spelling::specs::Terminals::mark_at))]
-pub fn mark_at(byte: u8, kinds: &[TokenKind]) -> Result<&[TokenKind], TextFault>
+pub fn mark_at(byte: u8, kinds: &[TokenKind]) -> Result<&[TokenKind], NotRead>
     ensures { Reads (λ rest. rest.now) result (mark_at byte kinds.now) }
 {
     let Some((kind, rest)) = split(kinds) else {
-        return Err(TextFault::NotOfTheFirstForm);
+        return Err(NotRead::NotSpelled);
     };
     if is_mark(byte, kind) {
         Ok(rest)
     } else {
-        Err(TextFault::NotOfTheFirstForm)
+        Err(NotRead::NotSpelled)
     }
 }
 
 /// Nothing more stands here.
 #[tactic(auto, unfolding(ir_spelling::specs::Terminals::end_at))]
-pub fn end_at(kinds: &[TokenKind]) -> Result<(), TextFault>
+pub fn end_at(kinds: &[TokenKind]) -> Result<(), NotRead>
     ensures { Reads (λ end. tt) result (end_at kinds.now) }
 {
     if kinds.is_empty() {
         Ok(())
     } else {
-        Err(TextFault::NotOfTheFirstForm)
+        Err(NotRead::NotSpelled)
     }
 }

@@ -7,7 +7,7 @@ ghost use Rattle.ir_spelling.specs.Values.{value_of, value_at};
 use crate::terminals::{is_word, split};
 use contents::Exact;
 use ir_lexer::TokenKind;
-use ir_spelling::{TextFault, ValueText};
+use ir_spelling::{NotRead, ValueText};
 use std::alloc::{AllocError, Global};
 
 fn is_undef(kind: &TokenKind) -> bool
@@ -34,14 +34,14 @@ fn value_of(alloc: Global, kind: &TokenKind) -> Result<Option<ValueText>, AllocE
 
 /// The value at the front, and what stands behind it.
 #[tactic(auto, unfolding(ir_spelling::specs::Values::value_at))]
-pub fn value_at(alloc: Global, kinds: &[TokenKind]) -> Result<(ValueText, &[TokenKind]), TextFault>
+pub fn value_at(alloc: Global, kinds: &[TokenKind]) -> Result<(ValueText, &[TokenKind]), NotRead>
     ensures { Reads (λ parts. (parts.0, parts.1.now)) result (value_at kinds.now) }
 {
     let Some((kind, rest)) = split(kinds) else {
-        return Err(TextFault::NotOfTheFirstForm);
+        return Err(NotRead::NotSpelled);
     };
     match value_of(alloc, kind)? {
         Some(value) => Ok((value, rest)),
-        None => Err(TextFault::NotOfTheFirstForm),
+        None => Err(NotRead::NotSpelled),
     }
 }

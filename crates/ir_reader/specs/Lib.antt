@@ -1,12 +1,9 @@
-pub use Rattle.ir_spelling.specs.Definitions
 pub use Rattle.ir_spelling.specs.Expressions
 pub use Rattle.ir_spelling.specs.Grammar
-pub use Rattle.ir_spelling.specs.Modules
 pub use Rattle.ir_spelling.specs.Names
 pub use Rattle.ir_spelling.specs.Operations
-pub use Rattle.ir_spelling.specs.Ordered
 pub use Rattle.ir_spelling.specs.Reading
-pub use Rattle.ir_spelling.specs.SoFar
 pub use Rattle.ir_spelling.specs.Spells
 pub use Rattle.ir_spelling.specs.Terminals
 pub use Rattle.ir_spelling.specs.Values
+pub mod Told

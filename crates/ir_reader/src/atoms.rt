@@ -5,7 +5,7 @@ ghost use Rattle.ir_spelling.specs.Operations.{operation_of};
 ghost use Rattle.ir_spelling.specs.Reading.{Reads};
 ghost use Rattle.ir_spelling.specs.Values.{atom_of, number_atom};
 
-use crate::TextFault;
+use crate::NotRead;
 use crate::flags::flags_of;
 use crate::numbers::kept;
 use ir_core::{Atom, Binary, Bits, Const, Expr, Name, Ty};
@@ -17,16 +17,16 @@ pub trait Means<R> {
     /// The register that a name means, if it means one.
     ghost meaning: { Self → Name → Option R };
 
-    fn register(&self, alloc: Global, name: &Name) -> Result<R, TextFault>
+    fn register(&self, alloc: Global, name: &Name) -> Result<R, NotRead>
         ensures { Reads (λ register. register) result (meaning self.now name.now) };
 }
 
-fn number_atom<R: Drop>(number: Option<u64>) -> Result<Atom<R>, TextFault>
+fn number_atom<R: Drop>(number: Option<u64>) -> Result<Atom<R>, NotRead>
     ensures { Reads (λ atom. atom) result (number_atom number) }
 {
     match number {
         Some(number) => Ok(Atom::Constant(Const::Number(Bits::new(number)))),
-        None => Err(TextFault::NotOfTheFirstForm),
+        None => Err(NotRead::NotSpelled),
     }
 }
 
@@ -35,7 +35,7 @@ pub fn atom_of<R: Drop, M: Means<R>>(
     alloc: Global,
     names: &M,
     value: &ValueText,
-) -> Result<Atom<R>, TextFault>
+) -> Result<Atom<R>, NotRead>
     ensures { Reads (λ atom. atom) result (atom_of (M.meaning names.now) value.now) }
 {
     match value {
@@ -51,7 +51,7 @@ pub fn operation_of<R: Drop, M: Means<R>>(
     alloc: Global,
     names: &M,
     operation: &OperationText,
-) -> Result<Expr<R>, TextFault>
+) -> Result<Expr<R>, NotRead>
     ensures { Reads (λ e. e) result (operation_of (atom_of (M.meaning names.now)) operation.now) }
 {
     let left = atom_of(alloc, names, &operation.left)?;

@@ -1,20 +1,19 @@
-//! Textual LLVM IR (Language Reference 3.7) read as data, as far as it is built: a module of one function
-//! of one block with `add`, `sub` and `ret` of `i32`, and the expressions and names of the logic.
+//! Textual LLVM IR (Language Reference 3.7) read as data, as far as it is built: modules of functions of one block with `add`, `sub`
+//! and `ret` of `i32`, and the expressions and names of the logic.
 //!
-//! A text is cut into tokens and the tokens are read as a tree of what is written, by `ir_lexer` and `ir_parser`; here the tree
-//! is given names.
+//! A module's text is cut into tokens, the tokens are read as a tree, and the tree is given names; each of these steps tells the
+//! first fault.
 #![tactic(auto)]
 
 mod atoms;
 mod expressions;
+mod faults;
 mod flags;
 mod modules;
 mod names;
-mod naming;
 mod numbers;
-mod so_far;
 
 pub use expressions::read_expr;
-pub use ir_spelling::TextFault;
+pub use ir_spelling::{NotRead, TextFault};
 pub use modules::read_module;
 pub use names::read_name;

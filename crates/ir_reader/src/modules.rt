@@ -1,42 +1,109 @@
-ghost use Rattle.std.specs.Prelude.{◌≡◌, ◌≤◌, ◌<◌, length, IfOk, IfErr, Err};
+ghost use Rattle.std.specs.Prelude.{◌≡◌, ◌≤◌, ◌<◌, length, map, IfOk, IfErr, Err, ℕ};
 ghost use Rattle.ir_core.specs.declared.functions.Module.{Module};
 ghost use Rattle.ir_core.specs.Limits.{text_limit};
 ghost use Rattle.ir_core.specs.Order.{IsInOrder};
-ghost use Rattle.ir_core.specs.WellFormed.{IsWellFormed};
-ghost use Rattle.ir_spelling.specs.Reading.{Reads};
-ghost use Rattle.ir_spelling.specs.Ordered.{module_in};
-ghost use Rattle.ir_spelling.specs.Spells.{Spells, HasFirstForm};
+ghost use Rattle.ir_lexer.specs.Cut.{AreInOrder};
+ghost use Rattle.ir_grammar.specs.Symbols.{kind_in, placed_in, symbol_in};
+ghost use Rattle.ir_grammar.specs.Written.{written};
+ghost use Rattle.ir_naming.specs.Modules.{module_of};
+ghost use Rattle.ir_naming_laws.specs.Laws.{IsFaultless};
+ghost use Rattle.ir_spelling.specs.Faults.{HasTokens, IsTextFault, module_form};
+ghost use Rattle.ir_spelling.specs.Spells.{Spells};
+ghost use Rattle.ir_reader.specs.Told.{IsTreeFault, IsTreeNameFault, IsTreeOf};
+ghost use Rattle.tree_reader.specs.Lines.{IsPastLimit};
 
-use crate::TextFault;
-use crate::naming::ordered_module;
-use ir_core::Module;
-use ir_parser::{definition_at, kinds_of};
+use crate::faults::{of_lexer, of_names, of_stuck};
+use ir_core::{Limit, Module};
+use ir_grammar::ModuleText;
+use ir_lexer::{Token, lex};
+use ir_naming::name_module;
+use ir_spelling::TextFault;
+use name_claims::first_fault;
+use spelling_laws::texts_spell_one;
 use std::alloc::Global;
+use tree_reader::{line_past_limit, read_definitions};
 
-/// The module that is read from the text, from the left.
-fn module_in(alloc: Global, text: &[u8]) -> Result<Module, TextFault>
-    ensures reads { Reads (λ m. m) result (module_in text.now) }
-    ensures long { text_limit < length text.now → result ≡ Err TextFault.NotOfTheFirstForm }
+/// The tokens of a text, or its first fault among them.
+fn read_tokens(alloc: Global, text: &[u8]) -> Result<Vec<Token>, TextFault>
+    ensures tokens { IfOk result (λ tokens. HasTokens text.now (map (placed_in text.now) tokens.items)) }
+    ensures order { IfOk result (λ tokens. AreInOrder 0 (length text.now) tokens.items) }
+    ensures fault { IfErr result (λ fault. IsTextFault module_form text.now fault) }
+    ensures long { text_limit < length text.now → result ≡ Err (TextFault.Limit Limit.Text) }
 {
-    let kinds = kinds_of(alloc, text)?;
-    let definition = definition_at(alloc, kinds.as_slice())?;
-    ordered_module(alloc, &definition)
+    match lex(alloc, text) {
+        Ok(tokens) => Ok(tokens),
+        Err(fault) => Err(of_lexer(fault)),
+    }
 }
 
-/// The module that the text spells, if it is well-formed.
+/// The tree of the tokens of a text, or their first fault.
+fn read_tree(alloc: Global, text: &[u8], tokens: &[Token]) -> Result<ModuleText, TextFault>
+    ensures tree { IfOk result (λ tree. written tree ≡ map (symbol_in text.now) tokens.now) }
+    ensures lines { IfOk result (λ tree. (k : ℕ) → IsPastLimit (map (kind_in text.now) tokens.now) k → ⊥) }
+    ensures fault { IfErr result (λ fault. IsTreeFault (map (placed_in text.now) tokens.now) (length text.now) fault) }
+{
+    let past = line_past_limit(text, tokens);
+    match read_definitions(alloc, text, tokens)? {
+        Ok(tree) => match past {
+            None => Ok(tree),
+            Some(_) => Err(TextFault::Limit(Limit::Lines)),
+        },
+        Err(place) => Err(of_stuck(text, tokens, past, place)),
+    }
+}
+
+/// The tree of a text, or its first fault among tokens and grammar. The tokens are let go before it is used.
+fn tree_in(alloc: Global, text: &[u8]) -> Result<ModuleText, TextFault>
+    ensures tree { IfOk result (λ tree. IsTreeOf text.now tree) }
+    ensures fault { IfErr result (λ fault. IsTextFault module_form text.now fault) }
+    ensures long { text_limit < length text.now → result ≡ Err (TextFault.Limit Limit.Text) }
+{
+    let tokens = read_tokens(alloc, text)?;
+    read_tree(alloc, text, tokens.as_slice())
+}
+
+/// The module that is built of a tree, or the first fault of what the tree claims.
+fn name_tree(alloc: Global, tree: ModuleText) -> Result<Module, TextFault>
+    ensures module { IfOk result (λ m. m ≡ module_of tree) }
+    ensures faultless { IfOk result (λ m. IsFaultless tree) }
+    ensures fault { IfErr result (λ fault. IsTreeNameFault tree fault) }
+{
+    let (module, items) = name_module(alloc, tree)?;
+    match first_fault(alloc, items.as_slice())? {
+        None => Ok(module),
+        Some(fault) => Err(of_names(fault)),
+    }
+}
+
+/// The module that the text spells, or its first fault.
+fn module_in(alloc: Global, text: &[u8]) -> Result<Module, TextFault>
+    ensures spelled { IfOk result (λ m. Spells text.now m) }
+    ensures short { IfOk result (λ m. length text.now ≤ text_limit) }
+    ensures fault { IfErr result (λ fault. IsTextFault module_form text.now fault) }
+    ensures long { text_limit < length text.now → result ≡ Err (TextFault.Limit Limit.Text) }
+{
+    let tree = tree_in(alloc, text)?;
+    name_tree(alloc, tree)
+}
+
+/// The module that the text spells. That each name is defined before it is used on every path is not tested here, nor is the
+/// module's shape.
+///
+/// # Errors
+///
+/// The first fault: of the text's length, else of its tokens, else of the grammar, else of names and types; or want of memory.
 pub fn read_module(alloc: Global, text: &[u8]) -> Result<Module, TextFault>
     ensures spelled { IfOk result (λ m. Spells text.now m) }
-    ensures well_formed { IfOk result (λ m. IsWellFormed m) }
     // Each name of it is defined once, and the unnamed ones are counted.
     ensures order { IfOk result IsInOrder }
     // The text spells no other module.
     ensures only { IfOk result (λ m. (other : Module) → Spells text.now other → other ≡ m) }
     // Only texts of at most 2 to the 24 bytes are read.
     ensures short { IfOk result (λ m. length text.now ≤ text_limit) }
-    ensures none { IfErr result (λ fault. fault ≡ TextFault.NotOfTheFirstForm
-        → length text.now ≤ text_limit → (m : Module) → HasFirstForm text.now m → ⊥) }
+    ensures fault { IfErr result (λ fault. IsTextFault module_form text.now fault) }
     // A text of more than 2 to the 24 bytes is refused before anything grows.
-    ensures long { text_limit < length text.now → result ≡ Err TextFault.NotOfTheFirstForm }
+    ensures long { text_limit < length text.now → result ≡ Err (TextFault.Limit Limit.Text) }
 {
+    texts_spell_one();
     module_in(alloc, text)
 }

@@ -4,7 +4,7 @@ ghost use Rattle.ir_core.specs.Limits.{text_limit};
 ghost use Rattle.ir_spelling.specs.Names.{name_in, only_name, name_of, SpellsName};
 ghost use Rattle.ir_spelling.specs.Reading.{Reads};
 
-use crate::TextFault;
+use crate::NotRead;
 use contents::Exact;
 use ir_core::{Name, Sigil};
 use ir_lexer::TokenKind;
@@ -22,44 +22,44 @@ fn name_in(alloc: Global, sigil: Sigil, kind: &TokenKind) -> Result<Option<Name>
 }
 
 #[tactic(auto, unfolding(ir_spelling::specs::Names::only_name))]
-fn only_name(alloc: Global, sigil: Sigil, kinds: &[TokenKind]) -> Result<Name, TextFault>
+fn only_name(alloc: Global, sigil: Sigil, kinds: &[TokenKind]) -> Result<Name, NotRead>
     ensures { Reads (λ name. name) result (only_name sigil kinds.now) }
 {
     let Some((kind, rest)) = split(kinds) else {
-        return Err(TextFault::NotOfTheFirstForm);
+        return Err(NotRead::NotSpelled);
     };
     if !rest.is_empty() {
-        return Err(TextFault::NotOfTheFirstForm);
+        return Err(NotRead::NotSpelled);
     }
     match name_in(alloc, sigil, kind)? {
         Some(name) => Ok(name),
-        None => Err(TextFault::NotOfTheFirstForm),
+        None => Err(NotRead::NotSpelled),
     }
 }
 
 /// The name that is read from the text.
-fn name_of(alloc: Global, sigil: Sigil, text: &[u8]) -> Result<Name, TextFault>
+fn name_of(alloc: Global, sigil: Sigil, text: &[u8]) -> Result<Name, NotRead>
     ensures reads { Reads (λ name. name) result (name_of sigil text.now) }
-    ensures long { text_limit < length text.now → result ≡ Err TextFault.NotOfTheFirstForm }
+    ensures long { text_limit < length text.now → result ≡ Err NotRead.NotSpelled }
 {
     let kinds = kinds_of(alloc, text)?;
     only_name(alloc, sigil, kinds.as_slice())
 }
 
 /// The name that the text spells, with its sigil and nothing else.
-pub fn read_name(alloc: Global, sigil: Sigil, text: &[u8]) -> Result<Name, TextFault>
+pub fn read_name(alloc: Global, sigil: Sigil, text: &[u8]) -> Result<Name, NotRead>
     ensures spelled { IfOk result (λ name. SpellsName sigil text.now name) }
     // The text spells no other name.
     ensures only { IfOk result (λ name. (other : Name) → SpellsName sigil text.now other → other ≡ name) }
     // Only texts of at most 2 to the 24 bytes are read.
     ensures short { IfOk result (λ name. length text.now ≤ text_limit) }
-    ensures none { IfErr result (λ fault. fault ≡ TextFault.NotOfTheFirstForm
+    ensures none { IfErr result (λ fault. fault ≡ NotRead.NotSpelled
         → length text.now ≤ text_limit → (name : Name) → SpellsName sigil text.now name → ⊥) }
     // A text of more than 2 to the 24 bytes is refused before anything grows.
-    ensures long { text_limit < length text.now → result ≡ Err TextFault.NotOfTheFirstForm }
+    ensures long { text_limit < length text.now → result ≡ Err NotRead.NotSpelled }
     // The same, said of what is read from the left.
     ensures read { IfOk result (λ name. name_of sigil text.now ≡ Some name) }
-    ensures not_read { IfErr result (λ fault. fault ≡ TextFault.NotOfTheFirstForm → name_of sigil text.now ≡ None) }
+    ensures not_read { IfErr result (λ fault. fault ≡ NotRead.NotSpelled → name_of sigil text.now ≡ None) }
 {
     name_of(alloc, sigil, text)
 }

@@ -41,18 +41,6 @@ module _ {R : Type 0} (register : Name → Option R) (Means : Name → R → Typ
   atom_again text.Undef atom again is = ap Some (sym is)
   atom_again (text.Local name) atom again is = ap (λ r. register_atom r) (again name is.0 is.1 is.2) ∙ ap Some (sym is.2)
 
-pub atom_once : {R : Type 0} (Means Other : Name → R → Type 0) → ((name : Name) (r s : R) → Means name r → Other name s → r ≡ s) → (v : ValueText) (a b : Atom R) → IsAtom Means v a → IsAtom Other v b → a ≡ b
-atom_once Means Other once (text.Number n) a b p q =
-    p.2 ∙ ap (λ v. Constant (const.Number v)) (some_is p.0 q.0 (sym p.1 ∙ q.1)) ∙ sym q.2
-atom_once Means Other once text.Undef a b p q = p ∙ sym q
-atom_once Means Other once (text.Local name) a b p q = p.2 ∙ ap Register (once name p.0 q.0 p.1 q.1) ∙ sym q.2
-
--- a value over these registers is one over others that mean as much
-pub atom_over : {R : Type 0} (Means Other : Name → R → Type 0) → ((name : Name) (r : R) → Means name r → Other name r) → (v : ValueText) (a : Atom R) → IsAtom Means v a → IsAtom Other v a
-atom_over Means Other over (text.Number n) a is = is
-atom_over Means Other over text.Undef a is = is
-atom_over Means Other over (text.Local name) a is = (is.0, over name is.0 is.1, is.2)
-
 -- ---- operations
 
 binary_same : {R : Type 0} (a b : Binary R) → a.op ≡ b.op → a.flags ≡ b.flags → a.ty ≡ b.ty → a.left ≡ b.left → a.right ≡ b.right → a ≡ b
@@ -81,13 +69,3 @@ module _ {R : Type 0} (atom : ValueText → Option (Atom R)) (Names : ValueText 
   operation_read o b is left right =
       read_of o b.left b.right left right
       ∙ ap (λ x. Some (expr.Binary x)) (binary_same (record { op = o.op; flags = flags_of o.flags; ty = i32; left = b.left; right = b.right }) b (sym is.0) (sym is.1) (sym is.2) refl refl)
-
-pub operation_once : {R : Type 0} (Names Other : ValueText → Atom R → Type 0) → ((v : ValueText) (a b : Atom R) → Names v a → Other v b → a ≡ b) → (o : OperationText) (e f : Expr R) → IsOperation Names o e → IsOperation Other o f → e ≡ f
-operation_once Names Other once o (expr.Plain a) f p q = absurd p
-operation_once Names Other once o (expr.Binary a) (expr.Plain b) p q = absurd q
-operation_once Names Other once o (expr.Binary a) (expr.Binary b) p q =
-    ap expr.Binary (binary_same a b (p.0 ∙ sym q.0) (p.1 ∙ sym q.1) (p.2 ∙ sym q.2) (once o.left a.left b.left p.3 q.3) (once o.right a.right b.right p.4 q.4))
-
-pub operation_over : {R : Type 0} (Names Other : ValueText → Atom R → Type 0) → ((v : ValueText) (a : Atom R) → Names v a → Other v a) → (o : OperationText) (e : Expr R) → IsOperation Names o e → IsOperation Other o e
-operation_over Names Other over o (expr.Plain a) is = is
-operation_over Names Other over o (expr.Binary b) is = (is.0, is.1, is.2, over o.left b.left is.3, over o.right b.right is.4)

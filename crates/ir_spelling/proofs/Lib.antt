@@ -1,16 +1,8 @@
 pub mod Again
 pub mod Alone
 pub mod Atoms
-pub mod Eaches
 pub mod FlagSteps
-pub mod Flat
-pub mod Grammar
 pub mod Lists
-pub mod Named
-pub mod Order
-pub mod Ranges
 pub mod Readers
-pub mod Repeats
-pub mod Shaped
 pub mod Takes
 pub mod Tools

@@ -1,13 +1,10 @@
-pub mod Definitions
 pub mod Expressions
+pub mod Faults
 pub mod Grammar
 pub mod Laws
-pub mod Modules
 pub mod Names
 pub mod Operations
-pub mod Ordered
 pub mod Reading
-pub mod SoFar
 pub mod Spells
 pub mod Terminals
 pub mod Values

@@ -1,13 +1,8 @@
 -- Single tokens at the front of a list of tokens: what each says, and what stands behind it.
 use Rattle.std.specs.Prelude.{ℕ, ◌==◌, Bool, false, List, [], ◌∷◌, Option, Some, None, if◌then◌else◌}
-use Rattle.std.specs.Str.{bytes_eq}
 use Rattle.ir_lexer.specs.declared.token.TokenKind.{TokenKind}
 use Rattle.ir_lexer.specs.declared.token.TokenKind.TheVariants as kind
-
--- the word that these bytes are
-abbrev pub is_word : List ℕ → TokenKind → Bool
-is_word bytes (kind.Word word) = bytes_eq word bytes
-is_word bytes _ = false
+pub use Rattle.ir_lexer.specs.Said.{is_word}
 
 -- the mark that this byte is
 abbrev pub is_mark : ℕ → TokenKind → Bool

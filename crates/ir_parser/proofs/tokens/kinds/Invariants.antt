@@ -1,7 +1,7 @@
--- the kinds of the tokens so far
-use Rattle.std.proofs.Common.{◌≡◌, map}
-use Rattle.ir_lexer.specs.declared.token.Token.{Token}
+-- what the tokens so far say
+use Rattle.std.proofs.Common.{◌≡◌, map, take}
+use Rattle.ir_lexer.specs.Said.{said_in}
 use Rattle.ir_parser.proofs.tokens.kinds.Given as goal
 
 abbrev pub invariant-loop-token : goal.invariant-loop-token
-invariant-loop-token l = l.kinds.items ≡ map (λ (t : Token). t.kind) l.yielded
+invariant-loop-token l = l.kinds.items ≡ map (said_in l.text) (take l.token-index l.tokens)

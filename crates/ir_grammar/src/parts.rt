@@ -1,0 +1,54 @@
+use crate::trees::{
+    BlockText, DefinitionText, ExprText, FlagWord, LineText, ModuleText, OperationText, ParamText,
+    Placed, ValueText,
+};
+use ir_core::{BinOp, Name};
+use ir_lexer::Number;
+use typed_grammars::Stack;
+
+/// A token that says more than its kind.
+#[derive(Drop)]
+pub enum Leaf {
+    Local(Placed<Name>),
+    Global(Placed<Name>),
+    Label(Placed<Name>),
+    Number(Placed<Number>),
+}
+
+/// What one token or two were read as.
+#[derive(Drop)]
+pub enum Atom {
+    Name(Option<Placed<Name>>),
+    Op(BinOp),
+    Flag(FlagWord),
+    Value(ValueText),
+}
+
+/// Things of one form, the first one on top.
+#[derive(Drop)]
+pub enum List {
+    Params(Stack<ParamText>),
+    Lines(Stack<LineText>),
+    Flags(Stack<FlagWord>),
+}
+
+/// What more tokens were read as.
+#[derive(Drop)]
+pub enum Tree {
+    Module(ModuleText),
+    Definition(DefinitionText),
+    Param(ParamText),
+    Block(BlockText),
+    Line(LineText),
+    Operation(OperationText),
+    Expr(ExprText),
+}
+
+/// What stands on the stack: a leaf, or what tokens were read as. In groups, so that each is taken by few cases.
+#[derive(Drop)]
+pub enum Part {
+    Leaf(Leaf),
+    Atom(Atom),
+    List(List),
+    Tree(Tree),
+}

@@ -1,0 +1,156 @@
+-- The names of things that are in order are claimed rightly, and so are their uses.
+use Rattle.std.proofs.Common.{◌≡◌, ℕ, ◌+◌, ◌^◌, Bool, true, false, cond, List, [], ◌∷◌, ◌++◌, length, take, slice_get, Option, Some, None, refl, ap, sym, ◌∙◌, subst, append_assoc, length-append, arith, eq-eqb}
+use Rattle.std.specs.Prelude.{◌||◌, nat_lt}
+use Rattle.std.specs.List.{AllZip, Contains, flat_map}
+use Rattle.std.proofs.Math.Logic.{◌⊎◌, inl, inr, ⊎_elim}
+use Rattle.std.proofs.lemmas.Bool.{ltb-false}
+use Rattle.std.proofs.lemmas.List.Elements.{Contains-append_left, Contains-append_right}
+use Rattle.ir_core.specs.declared.expressions.Expr.{Expr}
+use Rattle.ir_core.specs.declared.expressions.Expr.TheVariants as expr
+use Rattle.ir_core.specs.declared.functions.Block.{Block}
+use Rattle.ir_core.specs.declared.functions.Instr.{Instr}
+use Rattle.ir_core.specs.declared.functions.Instr.TheVariants as instr
+use Rattle.ir_core.specs.declared.functions.Term.{Term}
+use Rattle.ir_core.specs.declared.functions.Term.TheVariants.{Ret}
+use Rattle.ir_core.specs.declared.names.Name.{Name}
+use Rattle.ir_core.specs.declared.names.Name.TheVariants.{Text, Number}
+use Rattle.ir_core.specs.declared.operands.Atom.{Atom}
+use Rattle.ir_core.specs.declared.operands.Ty.{Ty}
+use Rattle.ir_core.specs.NameLaws.{same_name_refl, same_name_true}
+use Rattle.ir_core.specs.Order.{AreCounted, AreNew, Counts}
+use Rattle.ir_core.specs.Same.{same_name, same_ty}
+use Rattle.ir_core.proofs.SameLaws.{same_ty_refl}
+use Rattle.ir_grammar.specs.declared.trees.BlockText.{BlockText}
+use Rattle.ir_grammar.specs.declared.trees.LineText.{LineText}
+use Rattle.ir_grammar.specs.declared.trees.OperationText.{OperationText}
+use Rattle.ir_grammar.specs.declared.trees.Placed.{Placed}
+use Rattle.ir_grammar.specs.declared.trees.ValueText.{ValueText}
+use Rattle.ir_grammar.specs.declared.trees.ValueText.TheVariants as text
+use Rattle.name_claims.specs.declared.claims.Definition.{Definition}
+use Rattle.name_claims.specs.declared.claims.Meaning.{Meaning}
+use Rattle.name_claims.specs.declared.claims.Meaning.TheVariants as meaning
+use Rattle.name_claims.specs.declared.claims.Reason.TheVariants.{Twice, WrongNumber}
+use Rattle.name_claims.specs.declared.claims.Says.TheVariants as says
+use Rattle.name_claims.specs.Faults.{at_fault, find, is_defined, register, repeats, suits, typed}
+use Rattle.ir_naming.specs.Naming.{Thing, at, block_claims, definition_of, definitions_from, due_behind, line_claims, name_claims, name_claims_from, name_due, number_claims, operation_claims, range_claims, value_claims}
+use Rattle.ir_naming.specs.Spells.{IsLine, IsReturn, IsValue, NamesBlock}
+use Rattle.ir_naming.specs.Values.{IsOperation, i32}
+use Rattle.ir_naming_laws.proofs.Built.{next_is}
+use Rattle.ir_naming_laws.proofs.Known.{registers_in}
+use Rattle.ir_naming_laws.proofs.Lists.{all_append, contains_behind, contains_cases, contains_here}
+use Rattle.ir_naming_laws.proofs.Ordered.{AreRight, IsRight, defined_names, names_more, repeats_is}
+
+-- ---- names
+
+number_fits : (due : ℕ) (b : Bool) → nat_lt due (2 ^ 32) ≡ b → cond b due 0 ≡ due → b ≡ true
+number_fits due true is zero_is = refl
+number_fits due false is zero_is = let large = ltb-false due (2 ^ 32) is in absurd (omega (arith, large, zero_is))
+
+number_right : (ds : List Definition) (due : ℕ) (w : Placed Name) (name : Name) (next : ℕ) → Counts due name next → AreRight ds (number_claims due w name)
+number_right ds due w (Text bytes) next counts = tt
+number_right ds due w (Number n) next counts = (ap (λ b. cond b None (Some (WrongNumber due))) (eq-eqb n due counts.0), tt)
+
+name_right : (ds : List Definition) (function : Placed Name) (index due : ℕ) (w : Option (Placed Name)) (next : ℕ) → Counts due (name_due due w) next → repeats (slice_get ds index) (take index ds) ≡ false → AreRight ds (name_claims function index due w)
+name_right ds function index due None next counts new =
+    let fits = number_fits due (nat_lt due (2 ^ 32)) refl counts.0 in
+    subst (λ b. AreRight ds (cond b [] (at function says.Wrong ∷ []))) (sym fits) tt
+name_right ds function index due (Some w) next counts new =
+    (ap (λ b. at_fault b Twice) new, number_right ds due w w.what next counts)
+
+is_new : (done : List Definition) (name : Name) → (Contains (defined_names done) name → ⊥) → is_defined name done ≡ false
+is_new [] name never = refl
+is_new (d ∷ done) name never = by (same_name name d.name) refl (is_new done name (λ more. never (contains_behind d.name name (defined_names done) more)))
+  where
+    by : (same : Bool) → same_name name d.name ≡ same → is_defined name done ≡ false → (same || is_defined name done) ≡ false
+    by true is more = absurd (never (subst (λ n. Contains (n ∷ defined_names done) name) (same_name_true name d.name is) (contains_here name (defined_names done))))
+    by false is more = more
+
+pub names_right : (ds done : List Definition) (ts : List Thing) (index due count : ℕ) → ds ≡ done ++ definitions_from due ts → index ≡ length done → AreNew (defined_names done) (defined_names (definitions_from due ts)) → AreCounted due (defined_names (definitions_from due ts)) count → AreRight ds (name_claims_from index due ts)
+names_right ds done [] index due count whole place new counted = tt
+names_right ds done (t ∷ ts) index due count whole place new counted =
+    let d = definition_of due t in
+    let next = due_behind due t.written in
+    let rest = definitions_from next ts in
+    let fresh : repeats (slice_get ds index) (take index ds) ≡ false =
+    ap (λ k. repeats (slice_get ds k) (take k ds)) place
+    ∙ ap (λ es. repeats (slice_get es (length done)) (take (length done) es)) whole
+    ∙ repeats_is done d rest
+    ∙ is_new done d.name new.0 in
+    let more = names_right ds (done ++ d ∷ []) ts (index + 1) next count (whole ∙ sym (append_assoc done (d ∷ []) rest)) (ap (λ k. k + 1) place ∙ sym (length-append done (d ∷ []))) (subst (λ names. AreNew names (defined_names rest)) (sym (names_more done d)) new.1) (subst (λ k. AreCounted k (defined_names rest) count) (next_is due t.written counted.0 counted.1) counted.2) in
+    all_append (IsRight ds) (name_claims t.function index due t.written) (name_claims_from (index + 1) next ts) (name_right ds t.function index due t.written counted.0 counted.1 fresh) more
+
+-- ---- registers
+
+registers_cases : (d : Definition) (ds : List Definition) (r : Name × Ty) → Contains (registers_in (d ∷ ds)) r → ((ty : Ty) × (d.meaning ≡ meaning.Register ty) × (◌≡◌ {A = Name × Ty} (d.name, ty) r)) ⊎ Contains (registers_in ds) r
+registers_cases d ds r = by d.meaning refl
+  where
+    by : (m : Meaning) → d.meaning ≡ m → Contains (registers_in (record { name = d.name; meaning = m } ∷ ds)) r → ((ty : Ty) × (d.meaning ≡ meaning.Register ty) × (◌≡◌ {A = Name × Ty} (d.name, ty) r)) ⊎ Contains (registers_in ds) r
+    by (meaning.Register ty) is there = ⊎_elim (λ e. inl (ty, is, e)) (λ more. inr more) (contains_cases (d.name, ty) r (registers_in ds) there)
+    by meaning.Block is there = inr there
+    by meaning.Function is there = inr there
+
+register_named : (ds : List Definition) (r : Name × Ty) → Contains (registers_in ds) r → Contains (defined_names ds) r.0
+register_named [] r there = absurd (omega (arith, there.1))
+register_named (d ∷ ds) r there =
+    ⊎_elim
+    (λ here. subst (λ n. Contains (n ∷ defined_names ds) r.0) (sym (ap (λ (p : Name × Ty). p.0) here.2)) (contains_here r.0 (defined_names ds)))
+    (λ more. contains_behind d.name r.0 (defined_names ds) (register_named ds r more))
+    (registers_cases d ds r there)
+
+new_apart : (taken names : List Name) (x : Name) → AreNew taken names → Contains taken x → Contains names x → ⊥
+new_apart taken [] x new there more = omega (arith, more.1)
+new_apart taken (name ∷ names) x new there more =
+    ⊎_elim
+    (λ e. new.0 (subst (Contains taken) (sym e) there))
+    (λ later. new_apart (taken ++ name ∷ []) names x new.1 (Contains-append_left taken (name ∷ []) x there) later)
+    (contains_cases name x names more)
+
+register_right : (ty : Ty) (m : Meaning) → m ≡ meaning.Register ty → ty ≡ i32 → suits i32 m ≡ None
+register_right ty m is same = ap (suits i32) is ∙ ap typed (ap (λ t. same_ty t i32) same ∙ same_ty_refl i32)
+
+-- what is one of the registers is found as one, since no name is defined twice
+pub found_known : (taken : List Name) (ds : List Definition) (name : Name) → AreNew taken (defined_names ds) → Contains (registers_in ds) (name, i32) → register i32 (find name ds) ≡ None
+found_known taken [] name new there = absurd (omega (arith, there.1))
+found_known taken (d ∷ ds) name new there =
+    by (same_name name d.name) refl (registers_cases d ds (name, i32) there) (λ more. found_known (taken ++ d.name ∷ []) ds name new.1 more)
+  where
+    by : (same : Bool) → same_name name d.name ≡ same → ((ty : Ty) × (d.meaning ≡ meaning.Register ty) × (◌≡◌ {A = Name × Ty} (d.name, ty) (name, i32))) ⊎ Contains (registers_in ds) (name, i32) → (Contains (registers_in ds) (name, i32) → register i32 (find name ds) ≡ None) → register i32 (cond same (Some d) (find name ds)) ≡ None
+    by true is cases more =
+        ⊎_elim
+        (λ here. register_right here.0 d.meaning here.1 (ap (λ (p : Name × Ty). p.1) here.2))
+        (λ later.
+        let one : name ≡ d.name = same_name_true name d.name is in
+        absurd (new_apart (taken ++ d.name ∷ []) (defined_names ds) name new.1 (Contains-append_right taken (d.name ∷ []) name (subst (λ n. Contains (n ∷ []) name) one (contains_here name []))) (register_named ds (name, i32) later)))
+        cases
+    by false is cases more =
+        ⊎_elim
+        (λ here.
+        let yes : same_name name d.name ≡ true = ap (same_name name) (ap (λ (p : Name × Ty). p.0) here.2) ∙ same_name_refl name in
+        let no : false ≡ true = sym is ∙ yes in cc)
+        (λ later. more later)
+        cases
+
+-- ---- values
+
+pub value_right : (ds : List Definition) (v : ValueText) (a : Atom Name) → AreNew [] (defined_names ds) → IsValue (registers_in ds) v a → AreRight ds (value_claims v)
+value_right ds (text.Number n) a new is = subst (λ o. AreRight ds (range_claims n o)) (sym is.1) tt
+value_right ds text.Undef a new is = tt
+value_right ds (text.Local w) a new is = (found_known [] ds w.what new is.1.0, tt)
+
+operation_right : (ds : List Definition) (o : OperationText) (e : Expr Name) → AreNew [] (defined_names ds) → IsOperation (IsValue (registers_in ds)) o e → AreRight ds (operation_claims o)
+operation_right ds o (expr.Plain operand) new is = absurd is
+operation_right ds o (expr.Binary b) new is =
+    all_append (IsRight ds) (value_claims o.left) (value_claims o.right) (value_right ds o.left b.left new is.3) (value_right ds o.right b.right new is.4)
+
+lines_right : (ds : List Definition) (ws : List LineText) (ls : List Instr) → AreNew [] (defined_names ds) → AllZip (IsLine (registers_in ds)) ws ls → AreRight ds (flat_map line_claims ws)
+lines_right ds [] ls new zip = tt
+lines_right ds (w ∷ ws) [] new zip = absurd zip
+lines_right ds (w ∷ ws) (instr.Calm c ∷ ls) new zip =
+    all_append (IsRight ds) (line_claims w) (flat_map line_claims ws) (operation_right ds w.operation c.right new zip.0.1) (lines_right ds ws ls new zip.1)
+
+return_right : (ds : List Definition) (v : ValueText) (t : Term) → AreNew [] (defined_names ds) → IsReturn (registers_in ds) v t → AreRight ds (value_claims v)
+return_right ds v (Ret operand) new is = value_right ds v operand.atom new is.1
+
+pub block_right : (ds : List Definition) (w : BlockText) (b : Block) → AreNew [] (defined_names ds) → NamesBlock (registers_in ds) w b → AreRight ds (block_claims w)
+block_right ds w b new named =
+    all_append (IsRight ds) (flat_map line_claims w.lines) (value_claims w.result) (lines_right ds w.lines b.body new named.lines) (return_right ds w.result b.term new named.returns)

@@ -1,0 +1,155 @@
+-- A text of which no claim is at fault names the module that is built of it, and a text names no other module.
+use Rattle.std.proofs.Common.{◌≡◌, ℕ, ◌+◌, ◌≤◌, List, [], ◌∷◌, length, map, Option, Some, None, refl, ap, sym, ◌∙◌, subst, arith}
+use Rattle.std.specs.List.{AllByRecursion, AllZip, Contains, flat_map}
+use Rattle.ir_core.specs.Functions.{function_names, line_count, names_of, typed_of}
+use Rattle.ir_core.specs.Limits.{line_limit}
+use Rattle.ir_core.specs.Order.{AreInOrder}
+use Rattle.ir_core.specs.declared.functions.Function.{Function}
+use Rattle.ir_core.specs.declared.functions.Module.{Module}
+use Rattle.ir_grammar.specs.declared.trees.BlockText.{BlockText}
+use Rattle.ir_grammar.specs.declared.trees.DefinitionText.{DefinitionText}
+use Rattle.ir_grammar.specs.declared.trees.ModuleText.{ModuleText}
+use Rattle.name_claims.specs.declared.claims.Claim.{Claim}
+use Rattle.name_claims.specs.declared.claims.Definition.{Definition}
+use Rattle.name_claims.specs.declared.claims.Fault.{Fault}
+use Rattle.name_claims.specs.declared.claims.Item.{Item}
+use Rattle.name_claims.specs.declared.claims.Reason.{Reason}
+use Rattle.name_claims.specs.Faults.{HasFault, fault_at}
+use Rattle.ir_naming.specs.Modules.{block_from, function_of, module_of}
+use Rattle.ir_naming.specs.Naming.{block_claims, claims_of, definitions_from, due_behind, due_from, function_thing, item_of, label_name, line_claims, module_item, name_claims_from, param_thing, things_of, value_claims}
+use Rattle.ir_naming.specs.Spells.{NamesBlock, NamesFunction, NamesModule}
+use Rattle.ir_naming_laws.specs.Laws.{IsFaultless, IsWithinLines}
+use Rattle.ir_naming_laws.proofs.Built.{function_is}
+use Rattle.ir_naming_laws.proofs.Claimed.{block_right, names_right}
+use Rattle.ir_naming_laws.proofs.Known.{names_are, registers_are, registers_in}
+use Rattle.ir_naming_laws.proofs.Lists.{all_append, all_from, all_left, all_lists, all_mapped, all_right, all_to, zip_mapped}
+use Rattle.ir_naming_laws.proofs.Ordered.{AreRight, IsRight, defined_names, in_order}
+use Rattle.ir_naming_laws.proofs.Parts.{label_named, lines_length, lines_named, params_named, value_named}
+
+-- ---- each claim is right
+
+abbrev IsRightItem : Item → Type 0
+IsRightItem item = AreRight item.definitions item.claims
+
+claim_right : (items : List Item) → ((f : Fault) → HasFault items f → ⊥) → (item : Item) → Contains items item → (claim : Claim) → Contains item.claims claim → fault_at item claim ≡ None
+claim_right items none item there claim within = by (fault_at item claim) refl
+  where
+    by : (r : Option Reason) → fault_at item claim ≡ r → fault_at item claim ≡ None
+    by None e = e
+    by (Some reason) e =
+        absurd (none (record { start = claim.start; end = claim.end; reason = reason }) (item, there, (claim, within, (refl, refl, e))))
+
+all_right_items : (items : List Item) → ((f : Fault) → HasFault items f → ⊥) → AllByRecursion IsRightItem items
+all_right_items items none =
+    all_from IsRightItem items (λ item there. all_from (IsRight item.definitions) item.claims (λ claim within. claim_right items none item there claim within))
+
+-- ---- a function
+
+block_named : (ds : List Definition) (due : ℕ) (b : BlockText) → AreRight ds (block_claims b) → NamesBlock (registers_in ds) b (block_from due b)
+block_named ds due b right =
+    let lines = flat_map line_claims b.lines in
+    let result = value_claims b.result in
+    record {
+      no_phis = refl;
+      label = label_named due b.label;
+      lines = lines_named ds (due_behind due (label_name b.label)) b.lines (all_lists (IsRight ds) line_claims b.lines (all_left (IsRight ds) lines result right));
+      returns = (refl, value_named ds b.result (all_right (IsRight ds) lines result right));
+    }
+
+function_named : (d : DefinitionText) → IsRightItem (item_of d) → length d.block.lines + 1 ≤ line_limit → NamesFunction d (function_of d)
+function_named d right few =
+    let things = things_of d in
+    let ds = definitions_from 0 things in
+    let count = due_from 0 (map (param_thing d.name) d.params) in
+    let named = name_claims_from 0 0 things in
+    let values = block_claims d.block in
+    record {
+      name = refl;
+      result = refl;
+      params = params_named 0 d.params;
+      block = block_from count d.block;
+      one_block = refl;
+      body = subst (λ registers. NamesBlock registers d.block (block_from count d.block)) (sym (registers_are d)) (block_named ds count d.block (all_right (IsRight ds) named values right));
+      order = subst AreInOrder (sym (names_are d)) (in_order things (all_left (IsRight ds) named values right));
+      few = omega (arith, few, lines_length (due_behind count (label_name d.block.label)) d.block.lines);
+    }
+
+-- ---- a module
+
+functions_names : (due : ℕ) (ds : List DefinitionText) → map (λ (f : Function). f.name) (map function_of ds) ≡ defined_names (definitions_from due (map function_thing ds))
+functions_names due [] = refl
+functions_names due (d ∷ ds) = ap (λ ns. d.name.what ∷ ns) (functions_names (due_behind due (Some d.name)) ds)
+
+pub module_named : (w : ModuleText) → IsFaultless w → IsWithinLines w → NamesModule w (module_of w)
+module_named w faultless within =
+    let items = all_right_items (claims_of w) faultless in
+    let each = all_mapped IsRightItem item_of w.definitions (all_left IsRightItem (map item_of w.definitions) (module_item w ∷ []) items) in
+    let last = all_right IsRightItem (map item_of w.definitions) (module_item w ∷ []) items in
+    record {
+      functions = zip_mapped NamesFunction function_of w.definitions (functions w.definitions each within);
+      order = subst AreInOrder (sym (functions_names 0 w.definitions)) (in_order (map function_thing w.definitions) last.0);
+    }
+  where
+    functions : (ds : List DefinitionText) → AllByRecursion (λ d. IsRightItem (item_of d)) ds → AllByRecursion (λ (d : DefinitionText). length d.block.lines + 1 ≤ line_limit) ds → AllByRecursion (λ d. NamesFunction d (function_of d)) ds
+    functions [] right few = tt
+    functions (d ∷ ds) right few = (function_named d right.0 few.0, functions ds right.1 few.1)
+
+-- ---- the other way round
+
+pub record IsFunctionRight (d : DefinitionText) (f : Function) : Type 0 where
+  pub same : f ≡ function_of d
+  pub right : IsRightItem (item_of d)
+  pub few : length d.block.lines + 1 ≤ line_limit
+
+function_right : (d : DefinitionText) (f : Function) → NamesFunction d f → IsFunctionRight d f
+function_right d f n =
+    let same = function_is d f n in
+    let things = things_of d in
+    let ds = definitions_from 0 things in
+    let order : AreInOrder (defined_names ds) = subst AreInOrder (ap names_of same ∙ names_are d) n.order in
+    let body : NamesBlock (registers_in ds) d.block n.block = subst (λ rs. NamesBlock rs d.block n.block) (ap typed_of same ∙ registers_are d) n.body in
+    let count = due_from 0 (map (param_thing d.name) d.params) in
+    let few : line_count (function_of d) ≤ line_limit = subst (λ g. line_count g ≤ line_limit) same n.few in
+    record {
+      same = same;
+      right = all_append (IsRight ds) (name_claims_from 0 0 things) (block_claims d.block) (names_right ds [] things 0 0 order.1 refl refl order.0 order.2) (block_right ds d.block n.block order.0 body);
+      few = omega (arith, few, lines_length (due_behind count (label_name d.block.label)) d.block.lines);
+    }
+
+pub record AreFunctionsRight (ws : List DefinitionText) (fs : List Function) : Type 0 where
+  pub same : fs ≡ map function_of ws
+  pub right : AllByRecursion IsRightItem (map item_of ws)
+  pub few : AllByRecursion (λ (d : DefinitionText). length d.block.lines + 1 ≤ line_limit) ws
+
+functions_right : (ws : List DefinitionText) (fs : List Function) → AllZip NamesFunction ws fs → AreFunctionsRight ws fs
+functions_right [] [] zip = record { same = refl; right = tt; few = tt }
+functions_right [] (f ∷ fs) zip = absurd zip
+functions_right (w ∷ ws) [] zip = absurd zip
+functions_right (w ∷ ws) (f ∷ fs) zip =
+    let first = function_right w f zip.0 in
+    let rest = functions_right ws fs zip.1 in
+    record { same = ap (λ g. g ∷ fs) first.same ∙ ap (λ gs. function_of w ∷ gs) rest.same; right = (first.right, rest.right); few = (first.few, rest.few) }
+
+no_fault_of : (items : List Item) → AllByRecursion IsRightItem items → (f : Fault) → HasFault items f → ⊥
+no_fault_of items right f has =
+    let item = has.0 in
+    let claims = all_to IsRightItem items right item has.1 in
+    let none : fault_at item has.2.0 ≡ None = all_to (IsRight item.definitions) item.claims claims has.2.0 has.2.1 in
+    let some : fault_at item has.2.0 ≡ Some f.reason = has.2.2.2 in
+    cc
+
+module_same : (m : Module) (fs : List Function) → m.functions ≡ fs → m ≡ record { functions = fs }
+module_same m fs e = let of : List Function → Module = λ gs. record { functions = gs } in ap of e
+
+pub module_right : (w : ModuleText) (m : Module) → NamesModule w m → IsFaultless w × IsWithinLines w × (m ≡ module_of w)
+module_right w m n =
+    let functions = functions_right w.definitions m.functions n.functions in
+    let things = map function_thing w.definitions in
+    let ds = definitions_from 0 things in
+    let names : function_names m ≡ defined_names ds = ap (map (λ (f : Function). f.name)) functions.same ∙ functions_names 0 w.definitions in
+    let order : AreInOrder (defined_names ds) = subst AreInOrder names n.order in
+    let last : IsRightItem (module_item w) = names_right ds [] things 0 0 order.1 refl refl order.0 order.2 in (
+      no_fault_of (claims_of w) (all_append IsRightItem (map item_of w.definitions) (module_item w ∷ []) functions.right (last, tt)),
+      functions.few,
+      module_same m (map function_of w.definitions) functions.same,
+    )

@@ -1,0 +1,26 @@
+-- A text names a module exactly where none of its claims is at fault: the module that is built of it, and no other.
+use Rattle.std.specs.Prelude.{◌+◌, ◌≤◌, ◌≡◌, length}
+use Rattle.std.specs.List.{AllByRecursion}
+use Rattle.ir_core.specs.declared.functions.Module.{Module}
+use Rattle.ir_core.specs.Limits.{line_limit}
+use Rattle.ir_grammar.specs.declared.trees.DefinitionText.{DefinitionText}
+use Rattle.ir_grammar.specs.declared.trees.ModuleText.{ModuleText}
+use Rattle.name_claims.specs.declared.claims.Fault.{Fault}
+use Rattle.name_claims.specs.Faults.{HasFault}
+use Rattle.ir_naming.specs.Modules.{module_of}
+use Rattle.ir_naming.specs.Naming.{claims_of}
+use Rattle.ir_naming.specs.Spells.{NamesModule}
+
+-- no claim is at fault
+abbrev pub IsFaultless : ModuleText → Type 0
+IsFaultless w = (f : Fault) → HasFault (claims_of w) f → ⊥
+
+-- no function has more lines than the limit, `ret` among them
+abbrev pub IsWithinLines : ModuleText → Type 0
+IsWithinLines w = AllByRecursion (λ (d : DefinitionText). length d.block.lines + 1 ≤ line_limit) w.definitions
+
+abbrev pub FaultlessTextsNameWhatIsBuilt : Type 0
+FaultlessTextsNameWhatIsBuilt = (w : ModuleText) → IsFaultless w → IsWithinLines w → NamesModule w (module_of w)
+
+abbrev pub NamedTextsAreFaultless : Type 0
+NamedTextsAreFaultless = (w : ModuleText) (m : Module) → NamesModule w m → IsFaultless w × IsWithinLines w × (m ≡ module_of w)

@@ -1,0 +1,5 @@
+pub mod Grammars
+pub mod Lexed
+pub mod Named
+pub mod Spans
+pub mod Whole

@@ -1,0 +1,9 @@
+-- The place decides, and at one place the rank.
+use Rattle.std.proofs.Common.{rules}
+use Rattle.name_claims.proofs.judge.before.Goals as goal
+
+pub returns-then-a-b : goal.returns-then-a-b
+returns-then-a-b c = search rules
+
+pub returns-else-a-b-2 : goal.returns-else-a-b-2
+returns-else-a-b-2 c = search rules

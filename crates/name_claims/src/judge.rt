@@ -1,0 +1,178 @@
+ghost use Rattle.std.specs.Prelude.{◌≡◌, IfOk, IfNone, IfSome, None, slice_get, take};
+ghost use Rattle.std.specs.Option.{option_copied};
+ghost use Rattle.name_claims.specs.declared.claims.Fault.{Fault};
+ghost use Rattle.name_claims.specs.Faults.{find, twice, counted, repeats, typed, suits, register, says_wrong, fault_at, rank, before, HasFault, IsFirst};
+ghost use Rattle.name_claims.specs.Indexes.{Indexes, fault_of, sooner, first_in, first_of};
+
+use crate::claims::{Claim, Count, Definition, Fault, Item, Meaning, Reason, Says};
+use crate::index::{Index, index_of};
+use contents::Seq;
+use ir_core::{Name, Ty, same_ty};
+use std::alloc::{AllocError, Global};
+
+/// The first definition of the name.
+#[tactic(auto, using(crate::proofs::Found::found_some, crate::proofs::Found::found_none))]
+fn find<'a>(definitions: &'a Seq<Definition>, index: &Index, name: &Name) -> Option<&'a Definition>
+    requires { Indexes index.now definitions.now }
+    ensures { option_copied result ≡ find name.now definitions.now }
+{
+    match index.position(name) {
+        Some(at) => definitions.get(at),
+        None => None,
+    }
+}
+
+#[tactic(auto, using(crate::proofs::Found::repeated_none, crate::proofs::Found::repeated_some))]
+fn is_repeated(definitions: &Seq<Definition>, index: &Index, at: usize) -> bool
+    requires { Indexes index.now definitions.now }
+    ensures { result ≡ repeats (slice_get definitions.now at) (take at definitions.now) }
+{
+    match definitions.get(at) {
+        None => false,
+        Some(definition) => match index.position(&definition.name) {
+            None => false,
+            Some(first) => first < at,
+        },
+    }
+}
+
+/// Whether a definition before it has the name of the definition of this index.
+fn twice(definitions: &Seq<Definition>, index: &Index, at: usize) -> Option<Reason>
+    requires { Indexes index.now definitions.now }
+    ensures { result ≡ twice definitions.now at }
+{
+    if is_repeated(definitions, index, at) {
+        Some(Reason::Twice)
+    } else {
+        None
+    }
+}
+
+fn counted(count: Count) -> Option<Reason>
+    ensures { result ≡ counted count }
+{
+    if u64::from(count.written) == count.due {
+        None
+    } else {
+        Some(Reason::WrongNumber(count.due))
+    }
+}
+
+fn typed(same: bool) -> Option<Reason>
+    ensures { result ≡ typed same }
+{
+    if same { None } else { Some(Reason::WrongType) }
+}
+
+/// Why what this stands for is no register of the type, if it is not.
+fn suits(ty: &Ty, meaning: &Meaning) -> Option<Reason>
+    ensures { result ≡ suits ty.now meaning.now }
+{
+    match meaning {
+        Meaning::Register(known) => typed(same_ty(known, ty)),
+        Meaning::Block => Some(Reason::WrongType),
+        Meaning::Function => Some(Reason::WrongType),
+    }
+}
+
+/// Why the name that is defined so, if it is, is no register of the type.
+fn register(ty: &Ty, definition: Option<&Definition>) -> Option<Reason>
+    ensures { result ≡ register ty.now (option_copied definition.entry) }
+{
+    match definition {
+        None => Some(Reason::Unknown),
+        Some(definition) => suits(ty, &definition.meaning),
+    }
+}
+
+/// Why what is said is at fault, if it is.
+fn says_wrong(definitions: &Seq<Definition>, index: &Index, says: &Says) -> Option<Reason>
+    requires { Indexes index.now definitions.now }
+    ensures { result ≡ says_wrong definitions.now says.now }
+{
+    match says {
+        Says::New(at) => twice(definitions, index, *at),
+        Says::Counted(count) => counted(*count),
+        Says::Register(used) => register(&used.ty, find(definitions, index, &used.name)),
+        Says::Wrong => Some(Reason::WrongType),
+    }
+}
+
+fn fault_of(claim: &Claim, reason: Option<Reason>) -> Option<Fault>
+    ensures { result ≡ fault_of claim.now reason }
+{
+    match reason {
+        None => None,
+        Some(reason) => Some(Fault {
+            start: claim.start,
+            end: claim.end,
+            reason,
+        }),
+    }
+}
+
+/// The order of faults at one place.
+fn rank(reason: Reason) -> u8
+    ensures { result ≡ rank reason }
+{
+    match reason {
+        Reason::Twice => 0,
+        Reason::WrongNumber(_) => 1,
+        Reason::Unknown => 2,
+        Reason::LeftOut => 3,
+        Reason::WrongType => 4,
+    }
+}
+
+fn before(a: Fault, b: Fault) -> bool
+    ensures { result ≡ before a b }
+{
+    a.start < b.start || (a.start == b.start && rank(a.reason) < rank(b.reason))
+}
+
+/// The first fault unless the second is before it.
+fn sooner(first: Option<Fault>, second: Option<Fault>) -> Option<Fault>
+    ensures { result ≡ sooner first second }
+{
+    match (first, second) {
+        (None, second) => second,
+        (first, None) => first,
+        (Some(a), Some(b)) => Some(if before(b, a) { b } else { a }),
+    }
+}
+
+/// The first of this fault and the item's.
+fn first_in(item: &Item, index: &Index, best: Option<Fault>) -> Option<Fault>
+    requires { Indexes index.now item.now.definitions }
+    ensures { result ≡ first_in item.now best item.now.claims }
+{
+    let mut best = best;
+    for claim in item.claims.as_slice() {
+        let reason = says_wrong(&item.definitions, index, &claim.says);
+        best = sooner(best, fault_of(claim, reason));
+    }
+    best
+}
+
+fn first_from_left(alloc: Global, items: &[Item]) -> Result<Option<Fault>, AllocError>
+    ensures { IfOk result (λ found. found ≡ first_of None items.now) }
+{
+    let mut best = None;
+    for item in items {
+        let index = index_of(alloc, item.definitions.as_slice())?;
+        best = first_in(item, &index, best);
+    }
+    Ok(best)
+}
+
+/// The first fault of the items: by place, and at one place by `rank`.
+///
+/// # Errors
+///
+/// Where memory runs out.
+pub fn first_fault(alloc: Global, items: &[Item]) -> Result<Option<Fault>, AllocError>
+    ensures none { IfOk result (λ found. IfNone found ((f : Fault) → HasFault items.now f → ⊥)) }
+    ensures first { IfOk result (λ found. IfSome found (λ f. IsFirst items.now f)) }
+{
+    first_from_left(alloc, items)
+}

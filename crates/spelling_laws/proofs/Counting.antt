@@ -1,0 +1,282 @@
+-- A text of definitions passes the limit on lines exactly where one of them has too many.
+use Rattle.std.proofs.Common.{◌≡◌, ◌<◌, ◌≤◌, ℕ, zero, suc, ◌+◌, Bool, true, false, cond, List, [], ◌∷◌, ◌++◌, length, get_or, map, reverse, take, Option, Some, None, ⊎_elim, refl, ap, sym, ◌∙◌, subst, append_assoc, arith}
+use Rattle.std.specs.List.{AllByRecursion, filter, flat_map, take_while}
+use Rattle.std.proofs.lemmas.List.{append-nil, reverse-append}
+use Rattle.std.proofs.lemmas.List.Sums.{take_while-cons}
+use Rattle.std.proofs.lemmas.Bool.Decides.{eqb_tells}
+use Rattle.ir_core.specs.declared.names.Name.{Name}
+use Rattle.ir_core.specs.declared.operands.BinOp.{BinOp}
+use Rattle.ir_core.specs.declared.operands.BinOp.TheVariants.{Add, Sub}
+use Rattle.ir_core.specs.Limits.{line_limit}
+use Rattle.ir_grammar.specs.declared.trees.BlockText.{BlockText}
+use Rattle.ir_grammar.specs.declared.trees.DefinitionText.{DefinitionText}
+use Rattle.ir_grammar.specs.declared.trees.FlagWord.{FlagWord}
+use Rattle.ir_grammar.specs.declared.trees.FlagWord.TheVariants.{Nuw, Nsw}
+use Rattle.ir_grammar.specs.declared.trees.LineText.{LineText}
+use Rattle.ir_grammar.specs.declared.trees.OperationText.{OperationText}
+use Rattle.ir_grammar.specs.declared.trees.ParamText.{ParamText}
+use Rattle.ir_grammar.specs.declared.trees.Placed.{Placed}
+use Rattle.ir_grammar.specs.declared.trees.ValueText.{ValueText}
+use Rattle.ir_grammar.specs.declared.trees.ValueText.TheVariants as text
+use Rattle.ir_grammar.specs.Symbols.{Symbol, close_brace, close_paren, comma, i32, kind_of, open_brace, open_paren, ret}
+use Rattle.ir_grammar.specs.Symbols as symbols
+use Rattle.ir_grammar.specs.Written as write
+use Rattle.tree_reader.specs.Lines.{IsPastLimit, heads_line, is_no_define, lines_after, lines_back}
+use Rattle.spelling_laws.proofs.Lists.{all_append}
+
+-- the word of a line
+abbrev is_line : Symbol → Bool
+is_line s = heads_line (kind_of s)
+
+-- the lines of the function behind a symbol, where these stand before it
+abbrev lines_behind : ℕ → Symbol → ℕ
+lines_behind lines s = lines_after (kind_of s) lines
+
+-- the symbol of this index begins the line that is one too many, where these lines stand before the first of them
+abbrev pub PassesFrom : ℕ → List Symbol → ℕ → Type 0
+PassesFrom lines [] index = ⊥
+PassesFrom lines (s ∷ ss) zero = (is_line s ≡ true) × (lines ≡ line_limit)
+PassesFrom lines (s ∷ ss) (suc index) = PassesFrom (lines_behind lines s) ss index
+
+-- ---- the same by tokens back to the last `define`
+
+counted : (k : ℕ) (before : List ℕ) (b : Bool) → length (filter heads_line (cond b (k ∷ before) [])) ≡ cond b (length (filter heads_line (k ∷ before))) 0
+counted k before true = refl
+counted k before false = refl
+
+headed : (b : Bool) (k : ℕ) (before : List ℕ) → length (cond b (k ∷ before) before) ≡ cond b (suc (length before)) (length before)
+headed true k before = refl
+headed false k before = refl
+
+one_more_back : (done : List ℕ) (k : ℕ) → lines_back (done ++ (k ∷ [])) ≡ lines_after k (lines_back done)
+one_more_back done k =
+    ap (λ l. length (filter heads_line (take_while is_no_define l))) (reverse-append done (k ∷ []))
+    ∙ ap (λ l. length (filter heads_line l)) (take_while-cons is_no_define k (reverse done))
+    ∙ counted k (take_while is_no_define (reverse done)) (is_no_define k)
+    ∙ ap (λ n. cond (is_no_define k) n 0) (headed (heads_line k) k (filter heads_line (take_while is_no_define (reverse done))))
+
+passes_from : (done : List ℕ) (ss : List Symbol) (k : ℕ) → k < length (map kind_of ss) → heads_line (get_or (map kind_of ss) k 0) ≡ true → lines_back (done ++ take k (map kind_of ss)) ≡ line_limit → PassesFrom (lines_back done) ss k
+passes_from done [] k inside heads back = absurd (omega (arith, inside))
+passes_from done (s ∷ ss) zero inside heads back = (heads, ap lines_back (sym (append-nil done)) ∙ back)
+passes_from done (s ∷ ss) (suc k) inside heads back =
+    let on : lines_back ((done ++ (kind_of s ∷ [])) ++ take k (map kind_of ss)) ≡ line_limit = ap lines_back (append_assoc done (kind_of s ∷ []) (take k (map kind_of ss))) ∙ back in
+    subst (λ n. PassesFrom n ss k) (one_more_back done (kind_of s)) (passes_from (done ++ (kind_of s ∷ [])) ss k (omega (arith, inside)) heads on)
+
+pub passes : (ss : List Symbol) (k : ℕ) → IsPastLimit (map kind_of ss) k → PassesFrom 0 ss k
+passes ss k past = passes_from [] ss k past.0 past.1 past.2
+
+past_from : (done : List ℕ) (ss : List Symbol) (k : ℕ) → PassesFrom (lines_back done) ss k → (k < length (map kind_of ss)) × (heads_line (get_or (map kind_of ss) k 0) ≡ true) × (lines_back (done ++ take k (map kind_of ss)) ≡ line_limit)
+past_from done [] k past = absurd past
+past_from done (s ∷ ss) zero past = (omega arith, past.0, ap lines_back (append-nil done) ∙ past.1)
+past_from done (s ∷ ss) (suc k) past =
+    let rest = past_from (done ++ (kind_of s ∷ [])) ss k (subst (λ n. PassesFrom n ss k) (sym (one_more_back done (kind_of s))) past) in
+    (omega (arith, rest.0), rest.1, ap lines_back (sym (append_assoc done (kind_of s ∷ []) (take k (map kind_of ss)))) ∙ rest.2)
+
+pub is_past : (ss : List Symbol) (k : ℕ) → PassesFrom 0 ss k → IsPastLimit (map kind_of ss) k
+is_past ss k past = past_from [] ss k past
+
+-- ---- runs of symbols
+
+-- none of the symbols is a line past the limit
+abbrev pub IsWithin : ℕ → List Symbol → Type 0
+IsWithin lines ss = (index : ℕ) → PassesFrom lines ss index → ⊥
+
+abbrev behind : ℕ → List Symbol → ℕ
+behind lines [] = lines
+behind lines (s ∷ ss) = behind (lines_behind lines s) ss
+
+behind_append : (n : ℕ) (xs ys : List Symbol) → behind n (xs ++ ys) ≡ behind (behind n xs) ys
+behind_append n [] ys = refl
+behind_append n (x ∷ xs) ys = behind_append (lines_behind n x) xs ys
+
+within_both : (n : ℕ) (xs ys : List Symbol) → IsWithin n xs → IsWithin (behind n xs) ys → IsWithin n (xs ++ ys)
+within_both n [] ys first second k past = second k past
+within_both n (x ∷ xs) ys first second zero past = first zero past
+within_both n (x ∷ xs) ys first second (suc k) past = within_both (lines_behind n x) xs ys (λ j. first (suc j)) second k past
+
+past_left : (n : ℕ) (xs ys : List Symbol) (k : ℕ) → PassesFrom n xs k → PassesFrom n (xs ++ ys) k
+past_left n [] ys k past = absurd past
+past_left n (x ∷ xs) ys zero past = past
+past_left n (x ∷ xs) ys (suc k) past = past_left (lines_behind n x) xs ys k past
+
+-- the index behind these symbols
+abbrev index_past : List Symbol → ℕ → ℕ
+index_past [] k = k
+index_past (x ∷ xs) k = suc (index_past xs k)
+
+past_right : (n : ℕ) (xs ys : List Symbol) (k : ℕ) → PassesFrom (behind n xs) ys k → PassesFrom n (xs ++ ys) (index_past xs k)
+past_right n [] ys k is = is
+past_right n (x ∷ xs) ys k is = past_right (lines_behind n x) xs ys k is
+
+-- symbols behind which there are so many lines more
+record Run (n : ℕ) (ss : List Symbol) (more : ℕ) : Type 0 where
+  counted : behind n ss ≡ n + more
+  within : n + more ≤ line_limit → IsWithin n ss
+  few : IsWithin n ss → n ≤ line_limit → n + more ≤ line_limit
+
+joined : (n a b : ℕ) (xs ys : List Symbol) → Run n xs a → Run (n + a) ys b → Run n (xs ++ ys) (a + b)
+joined n a b xs ys p q = record {
+  counted = behind_append n xs ys ∙ ap (λ m. behind m ys) p.counted ∙ q.counted ∙ omega arith;
+  within = λ small. within_both n xs ys (p.within (omega arith)) (subst (λ m. IsWithin m ys) (sym p.counted) (q.within (omega arith)));
+  few = λ all small.
+      let first = p.few (λ k past. all k (past_left n xs ys k past)) small in
+      let second = q.few (subst (λ m. IsWithin m ys) p.counted (λ k is. all (index_past xs k) (past_right n xs ys k is))) first in
+      omega (arith, second);
+}
+
+-- no line, and no `define`
+abbrev IsQuiet : Symbol → Type 0
+IsQuiet s = (is_line s ≡ false) × (is_no_define (kind_of s) ≡ true)
+
+quiet_behind : (n : ℕ) (s : Symbol) → IsQuiet s → lines_behind n s ≡ n
+quiet_behind n s is = rw (is.1, is.0) refl
+
+quiet_within : (n : ℕ) (ss : List Symbol) → AllByRecursion IsQuiet ss → IsWithin n ss
+quiet_within n [] quiet k past = past
+quiet_within n (s ∷ ss) quiet zero past = let is = quiet.0.0 in let no = past.0 in cc
+quiet_within n (s ∷ ss) quiet (suc k) past = quiet_within (lines_behind n s) ss quiet.1 k past
+
+quiet_counted : (n : ℕ) (ss : List Symbol) → AllByRecursion IsQuiet ss → behind n ss ≡ n
+quiet_counted n [] quiet = refl
+quiet_counted n (s ∷ ss) quiet = ap (λ m. behind m ss) (quiet_behind n s quiet.0) ∙ quiet_counted n ss quiet.1
+
+quiet_run : (n : ℕ) (ss : List Symbol) → AllByRecursion IsQuiet ss → Run n ss 0
+quiet_run n ss quiet = record {
+  counted = quiet_counted n ss quiet ∙ omega arith;
+  within = λ small. quiet_within n ss quiet;
+  few = λ all small. omega (arith, small);
+}
+
+-- a line's word, and quiet symbols behind it
+line_run : (n : ℕ) (s : Symbol) (ss : List Symbol) → is_line s ≡ true → is_no_define (kind_of s) ≡ true → AllByRecursion IsQuiet ss → Run n (s ∷ ss) 1
+line_run n s ss is other quiet =
+    let next : lines_behind n s ≡ n + 1 = rw (other, is) (omega arith) in
+    record {
+      counted = ap (λ m. behind m ss) next ∙ quiet_counted (n + 1) ss quiet;
+      within = λ small. at small;
+      few = λ all small. least all small;
+    }
+  where
+    at : n + 1 ≤ line_limit → IsWithin n (s ∷ ss)
+    at small zero past = absurd (omega (arith, small, past.1))
+    at small (suc k) past = quiet_within (lines_behind n s) ss quiet k past
+
+    least : IsWithin n (s ∷ ss) → n ≤ line_limit → n + 1 ≤ line_limit
+    least all small = ⊎_elim (λ full. absurd (all zero (is, full.1))) (λ less. omega (arith, small, less.1)) (eqb_tells n line_limit)
+
+zero_more : (n : ℕ) → n ≡ n + 0
+zero_more n = omega arith
+
+none_more : (n : ℕ) → 0 + n ≡ n
+none_more n = omega arith
+
+one_more : (n : ℕ) → 1 + n ≡ suc n
+one_more n = omega arith
+
+no_more : (n : ℕ) → n + 0 ≡ n
+no_more n = omega arith
+
+-- ---- what is written
+
+value_quiet : (v : ValueText) → IsQuiet (write.value v)
+value_quiet (text.Number n) = (refl, refl)
+value_quiet text.Undef = (refl, refl)
+value_quiet (text.Local w) = (refl, refl)
+
+flag_quiet : (f : FlagWord) → IsQuiet (write.flag f)
+flag_quiet Nuw = (refl, refl)
+flag_quiet Nsw = (refl, refl)
+
+-- flags, and then what is quiet
+flags_quiet : (fs : List FlagWord) (ss : List Symbol) → AllByRecursion IsQuiet ss → AllByRecursion IsQuiet (map write.flag fs ++ ss)
+flags_quiet [] ss quiet = quiet
+flags_quiet (f ∷ fs) ss quiet = (flag_quiet f, flags_quiet fs ss quiet)
+
+local_quiet : (name : Option (Placed Name)) → AllByRecursion IsQuiet (write.local name)
+local_quiet None = tt
+local_quiet (Some w) = ((refl, refl), tt)
+
+label_quiet : (name : Option (Placed Name)) → AllByRecursion IsQuiet (write.label name)
+label_quiet None = tt
+label_quiet (Some w) = ((refl, refl), tt)
+
+register_quiet : (name : Option (Placed Name)) → AllByRecursion IsQuiet (write.register name)
+register_quiet None = tt
+register_quiet (Some w) = ((refl, refl), ((refl, refl), tt))
+
+both_quiet : (xs ys : List Symbol) → AllByRecursion IsQuiet xs → AllByRecursion IsQuiet ys → AllByRecursion IsQuiet (xs ++ ys)
+both_quiet = all_append IsQuiet
+
+param_quiet : (p : ParamText) → AllByRecursion IsQuiet (write.param p)
+param_quiet p = ((refl, refl), local_quiet p.name)
+
+more_quiet : (ps : List ParamText) → AllByRecursion IsQuiet (flat_map write.next_param ps)
+more_quiet [] = tt
+more_quiet (p ∷ ps) = both_quiet (write.next_param p) (flat_map write.next_param ps) ((refl, refl), param_quiet p) (more_quiet ps)
+
+params_quiet : (ps : List ParamText) → AllByRecursion IsQuiet (write.params ps)
+params_quiet [] = tt
+params_quiet (p ∷ ps) = both_quiet (write.param p) (flat_map write.next_param ps) (param_quiet p) (more_quiet ps)
+
+word_counts : (op : BinOp) → (is_line (write.operator op) ≡ true) × (is_no_define (kind_of (write.operator op)) ≡ true)
+word_counts Add = (refl, refl)
+word_counts Sub = (refl, refl)
+
+operation_run : (n : ℕ) (o : OperationText) → Run n (write.operation o) 1
+operation_run n o =
+    let word = word_counts o.op in
+    line_run n (write.operator o.op) (map write.flag o.flags ++ (i32 ∷ write.value o.left ∷ comma ∷ write.value o.right ∷ [])) word.0 word.1
+    (flags_quiet o.flags (i32 ∷ write.value o.left ∷ comma ∷ write.value o.right ∷ []) ((refl, refl), (value_quiet o.left, ((refl, refl), (value_quiet o.right, tt)))))
+
+-- quiet symbols, and then others
+after_quiet : (n more : ℕ) (xs ys : List Symbol) → AllByRecursion IsQuiet xs → Run n ys more → Run n (xs ++ ys) more
+after_quiet n more xs ys quiet run =
+    subst (Run n (xs ++ ys)) (none_more more) (joined n 0 more xs ys (quiet_run n xs quiet) (subst (λ m. Run m ys more) (zero_more n) run))
+
+lines_run : (n : ℕ) (ls : List LineText) → Run n (flat_map write.line ls) (length ls)
+lines_run n [] = quiet_run n [] tt
+lines_run n (l ∷ ls) =
+    subst (Run n (flat_map write.line (l ∷ ls))) (one_more (length ls)) (joined n 1 (length ls) (write.line l) (flat_map write.line ls)
+    (after_quiet n 1 (write.register l.register) (write.operation l.operation) (register_quiet l.register) (operation_run n l.operation))
+    (lines_run (n + 1) ls))
+
+ending_run : (n : ℕ) (v : ValueText) → Run n (ret ∷ i32 ∷ write.value v ∷ []) 1
+ending_run n v = line_run n ret (i32 ∷ write.value v ∷ []) refl refl ((refl, refl), (value_quiet v, tt))
+
+block_run : (n : ℕ) (b : BlockText) → Run n (write.block b) (length b.lines + 1)
+block_run n b =
+    after_quiet n (length b.lines + 1) (write.label b.label) (flat_map write.line b.lines ++ (ret ∷ i32 ∷ write.value b.result ∷ [])) (label_quiet b.label)
+    (joined n (length b.lines) 1 (flat_map write.line b.lines) (ret ∷ i32 ∷ write.value b.result ∷ []) (lines_run n b.lines) (ending_run (n + length b.lines) b.result))
+
+-- behind `define`
+rest_run : (d : DefinitionText) → Run 0 (i32 ∷ symbols.Global d.name ∷ open_paren ∷ (write.params d.params ++ (close_paren ∷ open_brace ∷ (write.block d.block ++ (close_brace ∷ []))))) (length d.block.lines + 1)
+rest_run d =
+    let count : ℕ = length d.block.lines + 1 in
+    let ends : Run 0 (write.block d.block ++ (close_brace ∷ [])) count = subst (Run 0 (write.block d.block ++ (close_brace ∷ []))) (no_more count) (joined 0 count 0 (write.block d.block) (close_brace ∷ []) (block_run 0 d.block) (quiet_run (0 + count) (close_brace ∷ []) ((refl, refl), tt))) in
+    after_quiet 0 count (i32 ∷ symbols.Global d.name ∷ open_paren ∷ []) _ ((refl, refl), ((refl, refl), ((refl, refl), tt)))
+    (after_quiet 0 count (write.params d.params) _ (params_quiet d.params)
+    (after_quiet 0 count (close_paren ∷ open_brace ∷ []) _ ((refl, refl), ((refl, refl), tt)) ends))
+
+-- not too many lines
+abbrev pub IsFew : DefinitionText → Type 0
+IsFew d = length d.block.lines + 1 ≤ line_limit
+
+pub all_within : (n : ℕ) (ds : List DefinitionText) → AllByRecursion IsFew ds → IsWithin n (flat_map write.definition ds)
+all_within n [] few k past = past
+all_within n (d ∷ ds) few k past =
+    within_both n (write.definition d) (flat_map write.definition ds) one (all_within (behind n (write.definition d)) ds few.1) k past
+  where
+    one : IsWithin n (write.definition d)
+    one zero past = let no = past.0 in cc
+    one (suc k) past = let run = rest_run d in run.within (omega (arith, few.0)) k past
+
+bare : (n : ℕ) → 0 + n ≤ line_limit → n ≤ line_limit
+bare n is = subst (λ m. m ≤ line_limit) (none_more n) is
+
+pub all_few : (n : ℕ) (ds : List DefinitionText) → IsWithin n (flat_map write.definition ds) → AllByRecursion IsFew ds
+all_few n [] all = tt
+all_few n (d ∷ ds) all =
+    let run = rest_run d in (
+      bare (length d.block.lines + 1) (run.few (λ k past. all (suc k) (past_left n (write.definition d) (flat_map write.definition ds) (suc k) past)) (omega arith)),
+      all_few (behind n (write.definition d)) ds (λ k is. all (index_past (write.definition d) k) (past_right n (write.definition d) (flat_map write.definition ds) k is)),
+    )

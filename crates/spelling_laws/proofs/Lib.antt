@@ -1,0 +1,9 @@
+pub mod Counting
+pub mod Excluded
+pub mod Fit
+pub mod Flat
+pub mod Lists
+pub mod Ranges
+pub mod Shaped
+pub mod Spelled
+pub mod WrittenRanges

@@ -1,0 +1,4 @@
+mod Counting
+mod Single
+mod Whole
+mod Wide

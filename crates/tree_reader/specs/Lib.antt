@@ -1,0 +1,7 @@
+pub mod Examples
+pub mod Lawful
+pub mod LeftOut
+pub mod Lines
+pub mod OperationWords
+pub mod Reading
+pub mod Tables

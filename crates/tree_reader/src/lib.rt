@@ -1,0 +1,15 @@
+//! Tokens of textual LLVM IR read as trees of what is written, by a predictive parser: exactly the tree that is written so, or the
+//! place of the first unexpected token.
+#![tactic(auto)]
+
+mod laws;
+mod left_out;
+mod lines;
+mod reader;
+mod tables;
+mod tokens;
+
+pub use laws::{examples, one_answer, written_once};
+pub use left_out::is_left_out;
+pub use lines::line_past_limit;
+pub use reader::{read_definitions, read_expression, read_name};

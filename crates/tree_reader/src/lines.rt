@@ -1,0 +1,53 @@
+ghost use Rattle.std.specs.Prelude.{◌≡◌, ◌≤◌, ◌&&◌, MatchOption, map, nat_eq};
+ghost use Rattle.ir_core.specs.Limits.{line_limit};
+ghost use Rattle.ir_grammar.specs.Symbols.{kind_in};
+ghost use Rattle.tree_reader.specs.Lines.{IsFirstPast, IsPastLimit, heads_line, lines_after};
+
+use crate::tokens::kind_of;
+use ir_core::Limit;
+use ir_lexer::Token;
+
+/// Whether a token of this kind is the first word of a line: `add`, `sub` or `ret`.
+fn heads_line(kind: u8) -> bool
+    ensures { result ≡ heads_line kind }
+{
+    kind == 9 || kind == 10 || kind == 8
+}
+
+/// Whether one more line is one too many.
+fn is_past_limit(kind: u8, lines: u64) -> bool
+    ensures { result ≡ (heads_line kind && nat_eq lines line_limit) }
+{
+    heads_line(kind) && lines == Limit::Lines.number()
+}
+
+/// The lines of the function so far, after one more token: none after `define`.
+fn lines_after(kind: u8, lines: u64) -> u64
+    requires { lines ≤ line_limit }
+    ensures { result ≡ lines_after kind lines }
+{
+    if kind == 5 {
+        0
+    } else if heads_line(kind) {
+        lines + 1
+    } else {
+        lines
+    }
+}
+
+/// The place of the first token of the text that begins a line above the limit of its function's lines, counted from 0.
+pub fn line_past_limit(text: &[u8], tokens: &[Token]) -> Option<usize>
+    ensures { MatchOption result
+        ((place : _) → IsPastLimit (map (kind_in text.now) tokens.now) place → ⊥)
+        (λ place. IsFirstPast (map (kind_in text.now) tokens.now) place) }
+{
+    let mut lines: u64 = 0;
+    for (place, token) in tokens.iter().enumerate() {
+        let kind = kind_of(text, token);
+        if is_past_limit(kind, lines) {
+            return Some(place);
+        }
+        lines = lines_after(kind, lines);
+    }
+    None
+}
