@@ -1,0 +1,2 @@
+pub mod Undefined
+pub mod Along

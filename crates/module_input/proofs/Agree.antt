@@ -1,0 +1,77 @@
+-- The first faults of a text are of one kind, and where there is one no well-formed module is spelled.
+use Rattle.std.proofs.Common.{◌≡◌, ◌≢◌, ◌∙◌, ◌≤◌, ℕ, List, [], ◌∷◌, ◌++◌, length, refl, sym, ap, subst}
+use Rattle.std.specs.List.{AllByRecursion}
+use Rattle.ir_core.specs.declared.functions.Function.{Function}
+use Rattle.ir_core.specs.declared.functions.Module.{Module}
+use Rattle.ir_core.specs.declared.limits.Limit.{Limit}
+use Rattle.ir_core.specs.Limits.{text_limit}
+use Rattle.ir_core.specs.WellFormed.{HasFunctionShape}
+use Rattle.ir_spelling.specs.declared.fault.TextFault.{TextFault}
+use Rattle.ir_spelling.specs.declared.fault.TextFault.TheVariants as text
+use Rattle.ir_spelling.specs.Faults.{IsTextFault, module_form}
+use Rattle.ir_spelling.specs.Spells.{Spells, SpellsWellFormed}
+use Rattle.spelling_laws.specs.Laws.{FaultsExcludeSpelling, ModulesAreOne}
+use Rattle.module_input.specs.declared.fault.ModuleFault.{ModuleFault}
+use Rattle.module_input.specs.declared.fault.ModuleFault.TheVariants as fault
+use Rattle.module_input.specs.Faults.{FirstWithout, HasPlainName, IsModuleFault}
+use Rattle.module_input.specs.Laws.{FaultKind, PastLimit, Misspelled, IllFormed, Silent, text_kind, fault_kind}
+use Rattle.module_input.proofs.Limits.{limit_alone}
+use Rattle.module_input.proofs.NotDefined.{of_all}
+
+-- a fault of a text that isn't want of memory passes a limit or is misspelled
+by_kind : (P : TextFault → Type 0) → ((l : Limit) → P (text.Limit l)) → ((f : TextFault) → text_kind f ≡ Misspelled → P f) → (f : TextFault) → f ≢ text.Memory → P f
+by_kind P limits others (text.Limit l) said = limits l
+by_kind P limits others (text.BadByte place) said = others (text.BadByte place) refl
+by_kind P limits others (text.BadString place) said = others (text.BadString place) refl
+by_kind P limits others (text.BadNumber place) said = others (text.BadNumber place) refl
+by_kind P limits others (text.Expected place) said = others (text.Expected place) refl
+by_kind P limits others (text.LeftOut place size) said = others (text.LeftOut place size) refl
+by_kind P limits others (text.Unknown place size) said = others (text.Unknown place size) refl
+by_kind P limits others (text.Twice place size) said = others (text.Twice place size) refl
+by_kind P limits others (text.WrongNumber place expected) said = others (text.WrongNumber place expected) refl
+by_kind P limits others (text.WrongType place) said = others (text.WrongType place) refl
+by_kind P limits others text.Memory said = absurd (said refl)
+
+text_kinds : (bytes : List ℕ) → length bytes ≤ text_limit → (f : TextFault) → f ≢ text.Memory → (g : TextFault) → g ≢ text.Memory
+    → IsTextFault module_form bytes f → IsTextFault module_form bytes g → text_kind f ≡ text_kind g
+text_kinds bytes short =
+    by_kind (λ f. (g : TextFault) → g ≢ text.Memory → IsTextFault module_form bytes f → IsTextFault module_form bytes g → text_kind f ≡ text_kind g)
+    (λ l. by_kind (λ g. IsTextFault module_form bytes (text.Limit l) → IsTextFault module_form bytes g → PastLimit ≡ text_kind g)
+    (λ m p q. refl)
+    (λ g kind p q. absurd (limit_alone bytes l g short p kind q)))
+    (λ f kind. by_kind (λ g. IsTextFault module_form bytes f → IsTextFault module_form bytes g → text_kind f ≡ text_kind g)
+    (λ l p q. absurd (limit_alone bytes l f short q kind p))
+    (λ g also p q. kind ∙ sym also))
+
+module _ (excludes : FaultsExcludeSpelling) (one : ModulesAreOne) (bytes : List ℕ) (short : length bytes ≤ text_limit) where
+  pub kinds : (f g : ModuleFault) → IsModuleFault bytes f → f ≢ fault.Memory → IsModuleFault bytes g → g ≢ fault.Memory → fault_kind f ≡ fault_kind g
+  kinds fault.Memory g p said q also = absurd (said refl)
+  kinds (fault.Text f) fault.Memory p said q also = absurd (also refl)
+  kinds (fault.Text f) (fault.Text g) p said q also = text_kinds bytes short f p.1 g q.1 p.0 q.0
+  kinds (fault.Text f) (fault.Name name) p said q also = absurd (excludes bytes f q.0 short p.0 p.1 q.1)
+  kinds (fault.Text f) (fault.Undefined function u) p said q also = absurd (excludes bytes f q.0 short p.0 p.1 q.1)
+  kinds (fault.Name name) fault.Memory p said q also = absurd (also refl)
+  kinds (fault.Name name) (fault.Text g) p said q also = absurd (excludes bytes g p.0 short q.0 q.1 p.1)
+  kinds (fault.Name name) (fault.Name other) p said q also = refl
+  kinds (fault.Name name) (fault.Undefined function u) p said q also = refl
+  kinds (fault.Undefined function u) fault.Memory p said q also = absurd (also refl)
+  kinds (fault.Undefined function u) (fault.Text g) p said q also = absurd (excludes bytes g p.0 short q.0 q.1 p.1)
+  kinds (fault.Undefined function u) (fault.Name name) p said q also = refl
+  kinds (fault.Undefined function u) (fault.Undefined other v) p said q also = refl
+
+  all_plain : (fs : List Function) → AllByRecursion HasFunctionShape fs → AllByRecursion HasPlainName fs
+  all_plain [] all = tt
+  all_plain (f ∷ fs) all = (all.0.name, all_plain fs all.1)
+
+  none_without : (P : Function → Type 0) (m other : Module) (f : Function) → other ≡ m → AllByRecursion P m.functions → FirstWithout P other.functions f → ⊥
+  none_without P m other f same all first =
+      let here : AllByRecursion P (first.before ++ (f ∷ first.after)) = subst (AllByRecursion P) (ap (λ (x : Module). x.functions) (sym same) ∙ first.functions) all in
+      first.not_such (of_all P first.before f first.after here)
+
+  pub no_module : (f : ModuleFault) (m : Module) → IsModuleFault bytes f → f ≢ fault.Memory → SpellsWellFormed bytes m → ⊥
+  no_module fault.Memory m p said s = said refl
+  no_module (fault.Text f) m p said s = excludes bytes f m short p.0 p.1 s.0
+  no_module (fault.Name name) m (other, spells, (f, first, e)) said s =
+      none_without HasPlainName m other f (one bytes other m spells s.0) (all_plain m.functions s.1.shape.functions) first
+  no_module (fault.Undefined function u) m (other, spells, plain, (f, first, undefined, e)) said s =
+      none_without _ m other f (one bytes other m spells s.0) s.1.defined first

@@ -1,0 +1,5 @@
+pub mod Agree
+pub mod First
+pub mod Limits
+pub mod NotDefined
+pub mod Told

@@ -1,0 +1,23 @@
+use Rattle.std.proofs.Common.{rules, ◌≡◌, ◌+◌, ℕ, suc, subst, take, arith}
+use Rattle.std.specs.List.{AllByRecursion}
+use Rattle.ir_core.specs.WellFormed.{IsFunctionDefined}
+use Rattle.module_input.proofs.First.{first_at, one_more_such}
+use Rattle.module_input.proofs.NotDefined.{not_defined}
+use Rattle.module_input.proofs.read.all_defined.Goals as goal
+
+pub returns-in-Err-Undefined-clause-undefined : goal.returns-in-Err-Undefined-clause-undefined
+returns-in-Err-Undefined-clause-undefined c =
+    let f = c.function-item.result in
+    let found = c.in-Err-Undefined.ensures.undefined c.in-Err-Undefined.undefined c.in-Err-Undefined.field-0-is in (
+      f,
+      first_at IsFunctionDefined c.args.functions.now c.loop-function.function-index f c.loop-function-test.true c.function-item.is c.loop-function.invariant (not_defined f _ found),
+      c.in-Err-Undefined.ensures.undefined _ (search rules),
+      c.in_ok-copy-in-Err-Undefined.ensures,
+    )
+
+pub loop-function-preserved : goal.loop-function-preserved
+loop-function-preserved c =
+    let k = c.loop-function.function-index in
+    let next : suc k ≡ k + 1 = omega arith in
+    subst (λ n. AllByRecursion IsFunctionDefined (take n c.args.functions.now)) next
+    (one_more_such IsFunctionDefined c.args.functions.now k c.function-item.result c.loop-function-test.true c.function-item.is c.loop-function.invariant c.in-Ok.ensures.defined)

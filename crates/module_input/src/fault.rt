@@ -1,0 +1,30 @@
+ghost use Rattle.std.specs.Prelude.{◌≡◌};
+ghost use Rattle.module_input.specs.declared.fault.ModuleFault.TheVariants as fault;
+
+use definedness::Undefined;
+use ir_core::Name;
+use ir_spelling::TextFault;
+use std::alloc::AllocError;
+
+/// Why a text holds no module that can be used: its first fault.
+#[derive(Drop)]
+pub enum ModuleFault {
+    /// The text spells no module, or passes a limit.
+    Text(TextFault),
+    /// A function has a name that begins with `llvm.dbg.`.
+    Name(Name),
+    /// In the function of that name a register is used where it isn't defined on a path.
+    Undefined {
+        function: Name,
+        undefined: Undefined,
+    },
+    Memory,
+}
+
+impl From<AllocError> for ModuleFault {
+    ghost from_gives = { λ _ e. e ≡ fault.Memory };
+
+    fn from(_error: AllocError) -> ModuleFault {
+        ModuleFault::Memory
+    }
+}

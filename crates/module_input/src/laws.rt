@@ -1,0 +1,14 @@
+ghost use Rattle.module_input.specs.Laws.{FaultsAreOfOneKind, FaultsExcludeModules};
+
+use spelling_laws::{faults_and_spelling_exclude, texts_spell_one};
+
+/// The body calls laws alone, since the clauses are laws.
+///
+/// The first faults of a text of at most 2 to the 24 bytes are of one kind, and a text that has one spells no well-formed module.
+pub fn first_faults_agree()
+    ensures kinds { FaultsAreOfOneKind }
+    ensures spelled { FaultsExcludeModules }
+{
+    texts_spell_one();
+    faults_and_spelling_exclude();
+}
