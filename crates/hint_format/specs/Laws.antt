@@ -1,12 +1,17 @@
--- What is read of a JSON value is what the form says; and a text has one list of hints.
-use Rattle.std.specs.Prelude.{◌≡◌, ◌↔◌, ℕ, List, Some}
-use Rattle.serde_json.specs.Data.{Data}
+-- The texts of a file are read as the form wants it; and a file's bytes are read as one thing.
+use Rattle.std.specs.Prelude.{◌≡◌, ℕ, List}
 use Rattle.erhl_assert.specs.declared.hints.Hints.{Hints}
-use Rattle.hint_format.specs.Form.{IsHints, HintsOf}
-use Rattle.hint_format.specs.Reading.{hints_of}
+use Rattle.json_forms.specs.Forms.{Reading}
+use Rattle.hint_format.specs.Form.{Leaves, AreLeaves, IsHintReading}
+use Rattle.hint_format.specs.Reading.{read_leaves}
 
-abbrev pub HintsAreRead : Type 0
-HintsAreRead = (d : Data) (h : Hints) → (hints_of d ≡ Some h) ↔ IsHints d h
+abbrev pub TextsAreRead : Type 0
+TextsAreRead = AreLeaves read_leaves
 
-abbrev pub HintsAreOne : Type 0
-HintsAreOne = (bytes : List ℕ) (a b : Hints) → HintsOf bytes a → HintsOf bytes b → a ≡ b
+-- what texts are read as doesn't depend on who reads
+abbrev pub LeavesAreOne : Type 0
+LeavesAreOne = (a b : Leaves) → AreLeaves a → AreLeaves b → a ≡ b
+
+-- no file has two lists of hints, none two first faults, and none both
+abbrev pub ReadingsAreOne : Type 0
+ReadingsAreOne = (bytes : List ℕ) (a b : Reading Hints) → IsHintReading bytes a → IsHintReading bytes b → a ≡ b

@@ -1,5 +1,4 @@
-pub mod Answers
+pub mod Faults
 pub mod Form
 pub mod Laws
-pub mod Parts
 pub mod Reading

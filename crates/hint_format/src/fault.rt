@@ -1,21 +1,28 @@
-use std::alloc::AllocError;
+ghost use Rattle.std.specs.Prelude.{◌≡◌};
+ghost use Rattle.json_forms.specs.declared.failure.Failure.{Failure};
+ghost use Rattle.hint_format.specs.Faults.{fault_of_failure};
+
+use contents::Seq;
+use ir_core::Limit;
+use json_forms::{Failure, Fault};
 
 /// Why no hints were read.
-#[derive(Debug, Drop, Clone, Copy, PartialEq, Eq)]
+#[derive(Drop)]
 pub enum HintFault {
-    /// The text isn't of the form that is read.
-    NotOfTheFirstForm,
+    /// The file doesn't have the form. What is first at fault stands there, a JSON pointer.
+    Unfit(Seq<u8>),
+    /// A text in the file passes this limit, before anything is at fault.
+    Limit(Limit),
     /// Memory could not be had.
     Memory,
 }
 
-impl From<AllocError> for HintFault {
-    ghost use Rattle.std.specs.Prelude.{◌≡◌};
-    ghost use Rattle.hint_format.specs.declared.fault.HintFault.TheVariants.{Memory};
-
-    ghost from_gives = { λ _ fault. fault ≡ Memory };
-
-    fn from(_refused: AllocError) -> HintFault {
-        HintFault::Memory
+pub(crate) fn hint_fault(failure: Failure) -> HintFault
+    ensures { result ≡ fault_of_failure failure }
+{
+    match failure {
+        Failure::Form(Fault::At(path)) => HintFault::Unfit(path),
+        Failure::Form(Fault::Past(limit)) => HintFault::Limit(limit),
+        Failure::Memory => HintFault::Memory,
     }
 }

@@ -1,131 +1,102 @@
-ghost use Rattle.std.specs.Prelude.{◌≡◌, codes, Some, None, IfOk, IfErr, IsUtf8};
-ghost use Rattle.serde_json.specs.Read.{read};
-ghost use Rattle.serde_json.specs.View.{view, members_view};
+ghost use Rattle.std.specs.Prelude.{◌≡◌, IfOk, IfErr};
 ghost use Rattle.erhl_assert.specs.declared.hints.Hints.{Hints};
-ghost use Rattle.hint_format.specs.Answers.{Answers};
-ghost use Rattle.hint_format.specs.Form.{HintsOf};
-ghost use Rattle.hint_format.specs.Parts.{members_list};
-ghost use Rattle.hint_format.specs.Reading.{all_of, member_of, blocks_of, function_of, functions_of, is_first_format, hints_of};
+ghost use Rattle.json_forms.specs.Answers.{Answers, AnswersBytes};
+ghost use Rattle.json_forms.specs.declared.failure.Fault.{Fault};
+ghost use Rattle.hint_format.specs.Faults.{told_fault};
+ghost use Rattle.hint_format.specs.Form.{HintsOf, IsHintFault, first_format, format_form, function_form, hints_form, key_form};
+ghost use Rattle.hint_format.specs.Reading.{read_leaves};
 
 use crate::HintFault;
-use crate::blocks::{exact, stand_apart};
-use crate::parts::{FromJson, is_object_of, member};
-use contents::Seq;
-use erhl_assert::{FunctionHint, Hint, HintBlock, Hints};
+use crate::blocks::BlockForm;
+use crate::fault::hint_fault;
+use crate::texts::NameText;
+use erhl_assert::{FunctionHint, Hint, Hints};
 use ir_core::Sigil;
-use serde_json::{Category, Map, Value};
+use json_forms::{
+    EntryForm, Failure, Form, MapOf, RowsOf, TextForm, has_members, member, read_bytes, unfit,
+};
+use serde_json::Value;
 use std::alloc::Global;
 
-/// The hints of a text that has the form that is read.
+/// The hints of a file that has the form, or what is first at fault in it.
 pub fn read_hints(alloc: Global, text: &[u8]) -> Result<Hints, HintFault>
     ensures ok { IfOk result (HintsOf text.now) }
-    // The text has no other hints.
+    // The file has no other hints.
     ensures only { IfOk result (λ hints. (other : Hints) → HintsOf text.now other → other ≡ hints) }
-    ensures refused { result ≡ Err HintFault.NotOfTheFirstForm → (hints : Hints) → ¬ HintsOf text.now hints }
+    ensures fault { IfErr result (λ it. (fault : Fault) → it ≡ told_fault fault → IsHintFault text.now fault) }
+    // A file with a fault has no hints, and no other fault is first.
+    ensures refused { IfErr result (λ it. (fault : Fault) → it ≡ told_fault fault
+        → (hints : Hints) → ¬ HintsOf text.now hints) }
 {
-    let value = parse(alloc, text)?;
-    hints(alloc, &value.json)
-}
-
-/// A value that is let go by one call.
-struct Parsed {
-    json: Value,
-}
-
-impl Drop for Parsed {
-    fn drop(self) {
-        let Parsed { json: _ } = self;
+    match read_bytes(alloc, text, &HintsForm) {
+        Ok(hints) => Ok(hints),
+        Err(failure) => Err(hint_fault(failure)),
     }
 }
 
-fn parse(alloc: Global, text: &[u8]) -> Result<Parsed, HintFault>
-    ensures ok { IfOk result (λ value. IsUtf8 text.now × (read text.now ≡ Some (view value.json))) }
-    ensures refused { result ≡ Err HintFault.NotOfTheFirstForm → IsUtf8 text.now → read text.now ≡ None }
-{
-    match Value::from_slice(alloc, text) {
-        Ok(json) => Ok(Parsed { json }),
-        Err(error) => match error.classify() {
-            Category::Memory => Err(HintFault::Memory),
-            _ => Err(HintFault::NotOfTheFirstForm),
-        },
+/// A whole file.
+#[derive(Drop)]
+struct HintsForm;
+
+impl Form for HintsForm {
+    type Value = Hints;
+
+    ghost form = { λ _. hints_form read_leaves };
+
+    fn read(&self, alloc: Global, value: &Value) -> Result<Hints, Failure> {
+        if !has_members(value, &["format", "functions"], &[]) {
+            return Err(unfit(alloc));
+        }
+        member(alloc, value, "format", &FirstFormat)?;
+        let functions = member(alloc, value, "functions", &MapOf(FunctionForm))?;
+        Ok(Hints { functions })
     }
 }
 
-fn hints(alloc: Global, value: &Value) -> Result<Hints, HintFault>
-    ensures { Answers result (hints_of (view value.now)) }
-{
-    if !is_object_of(value, 2) || !has_first_format(value) {
-        return Err(HintFault::NotOfTheFirstForm);
-    }
-    let functions = functions(alloc, value)?;
-    Ok(Hints { functions })
-}
+/// The number 1.
+#[derive(Drop)]
+struct FirstFormat;
 
-fn has_first_format(value: &Value) -> bool
-    ensures { result ≡ is_first_format (view value.now) }
-{
-    match value.get("format") {
-        Some(format) => match format.as_u64() {
-            Some(number) => number == 1,
-            None => false,
-        },
-        None => false,
+impl Form for FirstFormat {
+    type Value = ();
+
+    ghost form = { λ _. format_form };
+
+    fn read(&self, alloc: Global, value: &Value) -> Result<(), Failure> {
+        match value.as_u64() {
+            Some(1) => Ok(()),
+            _ => Err(unfit(alloc)),
+        }
     }
 }
 
-fn functions(alloc: Global, value: &Value) -> Result<Seq<FunctionHint>, HintFault>
-    ensures { Answers result (member_of (codes "functions") functions_of (view value.now)) }
-{
-    match value.get("functions") {
-        Some(found) => functions_in(alloc, found),
-        None => Err(HintFault::NotOfTheFirstForm),
-    }
-}
+/// A function's name, and the hints of its blocks.
+#[derive(Drop)]
+struct FunctionForm;
 
-fn functions_in(alloc: Global, value: &Value) -> Result<Seq<FunctionHint>, HintFault>
-    ensures { Answers result (functions_of (view value.now)) }
-{
-    match value.as_object() {
-        Some(members) => each_function(alloc, members),
-        None => Err(HintFault::NotOfTheFirstForm),
-    }
-}
+impl EntryForm for FunctionForm {
+    type Value = FunctionHint;
 
-fn each_function(
-    alloc: Global,
-    members: &Map<String, Value>,
-) -> Result<Seq<FunctionHint>, HintFault>
-    ensures { Answers result
-        (all_of function_of (members_list (members_view members.now.entries))) }
-{
-    let mut functions = Seq::new(alloc);
-    for (key, member) in members.iter() {
-        functions.push(function(alloc, key.as_str(), member)?)?;
-    }
-    Ok(functions)
-}
+    ghost key_form = { λ _. key_form read_leaves };
 
-fn function(alloc: Global, key: &str, value: &Value) -> Result<FunctionHint, HintFault>
-    ensures { Answers result (function_of (key.now, view value.now)) }
-{
-    let function = exact(alloc, Sigil::Global, key)?;
-    let blocks = blocks(alloc, value)?;
-    Ok(FunctionHint {
-        function,
-        hint: Hint { blocks },
-    })
-}
+    ghost entry_form = { λ _. function_form read_leaves };
 
-fn blocks(alloc: Global, value: &Value) -> Result<Seq<HintBlock>, HintFault>
-    ensures { Answers result (blocks_of (view value.now)) }
-{
-    if !is_object_of(value, 1) {
-        return Err(HintFault::NotOfTheFirstForm);
+    fn test_key(&self, alloc: Global, key: &str) -> Result<(), Failure> {
+        let sigil = Sigil::Global;
+        NameText { sigil }.read_text(alloc, key)?;
+        Ok(())
     }
-    let blocks: Seq<HintBlock> = member(alloc, value, "blocks")?;
-    if stand_apart(alloc, blocks.as_slice())? {
-        Ok(blocks)
-    } else {
-        Err(HintFault::NotOfTheFirstForm)
+
+    fn read_entry(&self, alloc: Global, key: &str, value: &Value) -> Result<FunctionHint, Failure> {
+        let sigil = Sigil::Global;
+        let function = NameText { sigil }.read_text(alloc, key)?;
+        if !has_members(value, &["blocks"], &[]) {
+            return Err(unfit(alloc));
+        }
+        let blocks = member(alloc, value, "blocks", &RowsOf(BlockForm))?;
+        Ok(FunctionHint {
+            function,
+            hint: Hint { blocks },
+        })
     }
 }

@@ -1,10 +1,12 @@
 //! The laws of the form.
-ghost use Rattle.hint_format.specs.Laws.{HintsAreRead, HintsAreOne};
+ghost use Rattle.hint_format.specs.Laws.{TextsAreRead, LeavesAreOne, ReadingsAreOne};
 
 /// Empty on purpose: its contract is the law.
 ///
-/// What is read of a JSON value from the left is exactly the hints that it is, and a text has one list of hints.
+/// Expressions and names are read as the form wants it, which leaves no choice; so a file's bytes are read as one list of hints or as
+/// one fault.
 pub fn hint_files_are_read()
-    ensures read { HintsAreRead }
-    ensures one { HintsAreOne }
+    ensures texts { TextsAreRead }
+    ensures leaves { LeavesAreOne }
+    ensures one { ReadingsAreOne }
 {}

@@ -1,106 +1,78 @@
-ghost use Rattle.std.specs.Prelude.{◌≡◌, codes, Some, None};
-ghost use Rattle.serde_json.specs.Find.{as_str};
-ghost use Rattle.serde_json.specs.View.{view};
-ghost use Rattle.hint_format.specs.Answers.{Answers};
-ghost use Rattle.hint_format.specs.Reading.{member_of, expression_in, is_ge, fact_of, side_named, side_of, schema_of, rule_step_of, step_of};
+ghost use Rattle.std.specs.Prelude.{◌≡◌, IfOk};
+ghost use Rattle.json_forms.specs.Answers.{Answers};
+ghost use Rattle.hint_format.specs.Form.{any_text, side_of_text, step_form};
+ghost use Rattle.hint_format.specs.Reading.{read_leaves};
 
-use crate::HintFault;
-use crate::parts::{FromJson, is_array_of, is_object_of, item, member, text};
+use crate::facts::FactForm;
 use contents::Seq;
 use erhl_assert::{Fact, HintStep, PlacedStep, RuleStep, Schema, Side};
-use ir_core::Expr0;
-use ir_reader::{TextFault, read_expr};
+use json_forms::{Failure, Form, ListOf, Text, TextForm, U64, has_members, member, unfit};
 use serde_json::Value;
 use std::alloc::Global;
 
-impl FromJson for Expr0 {
-    ghost form = { expression_in };
+/// A step of a block, which names a rule.
+#[derive(Drop)]
+pub(crate) struct StepForm;
 
-    fn from_json(alloc: Global, value: &Value) -> Result<Expr0, HintFault> {
-        match read_expr(alloc, text(value)?.as_bytes()) {
-            Ok(expr) => Ok(expr),
-            Err(TextFault::Memory) => Err(HintFault::Memory),
-            Err(TextFault::NotOfTheFirstForm) => Err(HintFault::NotOfTheFirstForm),
+impl Form for StepForm {
+    type Value = PlacedStep;
+
+    ghost form = { λ _. step_form read_leaves };
+
+    fn read(&self, alloc: Global, value: &Value) -> Result<PlacedStep, Failure> {
+        if !has_members(value, &["at", "from", "rule", "side", "to"], &[]) {
+            return Err(unfit(alloc));
         }
+        let at = member(alloc, value, "at", &U64)?;
+        let from = member(alloc, value, "from", &ListOf(FactForm))?;
+        let rule = member(alloc, value, "rule", &Text(AnyText))?;
+        let side = member(alloc, value, "side", &Text(SideText))?;
+        let to = member(alloc, value, "to", &FactForm)?;
+        Ok(placed_step(at, from, rule, side, to))
     }
 }
 
-impl FromJson for Fact {
-    ghost form = { fact_of };
-
-    fn from_json(alloc: Global, value: &Value) -> Result<Fact, HintFault> {
-        if !is_array_of(value, 3) || !begins_with_ge(value) {
-            return Err(HintFault::NotOfTheFirstForm);
-        }
-        let greater = item(alloc, value, 1)?;
-        let lesser = item(alloc, value, 2)?;
-        Ok(Fact::LessDef(greater, lesser))
-    }
-}
-
-impl FromJson for Side {
-    ghost form = { side_of };
-
-    fn from_json(_alloc: Global, value: &Value) -> Result<Side, HintFault> {
-        match text(value)? {
-            "src" => Ok(Side::Src),
-            "tgt" => Ok(Side::Tgt),
-            _ => Err(HintFault::NotOfTheFirstForm),
-        }
-    }
-}
-
-impl FromJson for PlacedStep {
-    ghost form = { step_of };
-
-    fn from_json(alloc: Global, value: &Value) -> Result<PlacedStep, HintFault> {
-        if !is_object_of(value, 5) {
-            return Err(HintFault::NotOfTheFirstForm);
-        }
-        let at = member(alloc, value, "at")?;
-        let step = rule_step(alloc, value)?;
-        Ok(PlacedStep {
-            at,
-            step: HintStep::Rule(step),
-        })
-    }
-}
-
-fn begins_with_ge(value: &Value) -> bool
-    ensures { result ≡ is_ge (view value.now) }
+fn placed_step(at: u64, from: Seq<Fact>, rule: Seq<u8>, side: Side, to: Fact) -> PlacedStep
+    ensures { result ≡ record {
+      at = at;
+      step = HintStep.Rule (record { rule = rule; side = side; schema = record { from = from; to = to } });
+    } }
 {
-    match value.get(0) {
-        Some(first) => match first.as_str() {
-            Some(word) => word == "ge",
-            None => false,
-        },
-        None => false,
+    let schema = Schema { from, to };
+    PlacedStep {
+        at,
+        step: HintStep::Rule(RuleStep { rule, side, schema }),
     }
-}
-
-fn rule_step(alloc: Global, value: &Value) -> Result<RuleStep, HintFault>
-    ensures { Answers result (rule_step_of (view value.now)) }
-{
-    let rule = rule_name(alloc, value)?;
-    let side = member(alloc, value, "side")?;
-    let schema = schema(alloc, value)?;
-    Ok(RuleStep { rule, side, schema })
 }
 
 /// Any text, since only the checker knows which rules there are.
-fn rule_name(alloc: Global, value: &Value) -> Result<Seq<u8>, HintFault>
-    ensures { Answers result (member_of (codes "rule") as_str (view value.now)) }
-{
-    match value.get("rule") {
-        Some(found) => Ok(Seq::from_vec(Vec::from_slice(alloc, text(found)?.as_bytes())?)),
-        None => Err(HintFault::NotOfTheFirstForm),
+#[derive(Drop)]
+struct AnyText;
+
+impl TextForm for AnyText {
+    type Value = Seq<u8>;
+
+    ghost text_form = { λ _. any_text };
+
+    fn read_text(&self, alloc: Global, text: &str) -> Result<Seq<u8>, Failure> {
+        Ok(Seq::from_vec(Vec::from_slice(alloc, text.as_bytes())?))
     }
 }
 
-fn schema(alloc: Global, value: &Value) -> Result<Schema, HintFault>
-    ensures { Answers result (schema_of (view value.now)) }
-{
-    let from = member(alloc, value, "from")?;
-    let to = member(alloc, value, "to")?;
-    Ok(Schema { from, to })
+/// `src` or `tgt`.
+#[derive(Drop)]
+struct SideText;
+
+impl TextForm for SideText {
+    type Value = Side;
+
+    ghost text_form = { λ _. side_of_text };
+
+    fn read_text(&self, alloc: Global, text: &str) -> Result<Side, Failure> {
+        match text {
+            "src" => Ok(Side::Src),
+            "tgt" => Ok(Side::Tgt),
+            _ => Err(unfit(alloc)),
+        }
+    }
 }

@@ -7,12 +7,12 @@ use Rattle.std.proofs.Math.Seq.{drop-append_seam}
 use Rattle.ir_core.specs.declared.names.Sigil.{Sigil}
 use Rattle.ir_core.specs.declared.names.Sigil.TheVariants.{Local, Global}
 use Rattle.ir_core.specs.declared.names.Name.{Name}
-use Rattle.ir_lexer.specs.declared.names.NameAt.TheVariants.{Found}
-use Rattle.ir_lexer.specs.declared.pieces.Piece.TheVariants.{Gap, Token}
 use Rattle.ir_lexer.specs.declared.token.TokenKind.{TokenKind}
 use Rattle.ir_lexer.specs.Cut.{Cut, token, behind, cut}
 use Rattle.ir_lexer.specs.Names.{name_at}
+use Rattle.ir_lexer.specs.Names.NameAt.{Found}
 use Rattle.ir_lexer.specs.Pieces.{piece}
+use Rattle.ir_lexer.specs.Pieces.Piece.{Gap, Token}
 use Rattle.ir_lexer.proofs.Cuts.{front}
 use Rattle.ir_spelling.specs.Grammar as grammar
 use Rattle.ir_spelling.specs.Reading.{kinds_cut}

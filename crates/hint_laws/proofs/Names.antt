@@ -8,8 +8,8 @@ use Rattle.std.proofs.lemmas.Bool.Decides.{nat_tests}
 use Rattle.ir_core.specs.declared.names.Name.{Name}
 use Rattle.ir_core.specs.declared.names.Name.TheVariants.{Text, Number}
 use Rattle.ir_core.specs.Names.{is_name_byte, is_plain}
-use Rattle.ir_lexer.specs.declared.names.NameAt.TheVariants.{Found}
 use Rattle.ir_lexer.specs.Names.{name_at, numbered, quoted_name}
+use Rattle.ir_lexer.specs.Names.NameAt.{Found}
 use Rattle.ir_lexer.specs.Numbers.{value_of, if_below}
 use Rattle.ir_lexer.specs.Runs.{run_at, digits_at, quoted_at, is_no_quote}
 use Rattle.ir_lexer.specs.Strings.{unescaped}

@@ -15,6 +15,7 @@ use Rattle.serde_json.specs.Written.{compact_text, outline}
 use Rattle.serde_json.proofs.Texts.{print-outline}
 use Rattle.ir_printer.specs.Printed.{printed_expr, printed_register}
 use Rattle.erhl_assert.specs.declared.facts.Fact.TheVariants.{LessDef}
+use Rattle.hint_format.proofs.Readings.{expression_read}
 use Rattle.hint_laws.specs.Laws.{PrintedFactsAreRead}
 use Rattle.hint_laws.proofs.PrintedExpressions.{printed_expressions_are_read}
 
@@ -47,16 +48,9 @@ three_read a b c =
     ap of_tokens cut ∙ three_tokens a b c
 
 pub printed_facts_are_read : PrintedFactsAreRead
-printed_facts_are_read (LessDef a b) writable =
+printed_facts_are_read leaves are (LessDef a b) writable =
     let left = printed_expr printed_register a in
-    let right = printed_expr printed_register b in (
-      three (codes "ge") left right,
-      three_read (codes "ge") left right,
-      (
-        string left,
-        string right,
-        refl,
-        (left, refl, (writable.0.1, printed_expressions_are_read a writable.0.0)),
-        (right, refl, (writable.1.1, printed_expressions_are_read b writable.1.0)),
-      ),
-    )
+    let right = printed_expr printed_register b in
+    let left_read = expression_read leaves are left a writable.0.1 (printed_expressions_are_read a writable.0.0) in
+    let right_read = expression_read leaves are right b writable.1.1 (printed_expressions_are_read b writable.1.0) in
+    (three (codes "ge") left right, three_read (codes "ge") left right, rw (left_read, right_read) refl)

@@ -5,6 +5,7 @@ use Rattle.ir_spelling.specs.Names.{SpellsName}
 use Rattle.ir_spelling.specs.Reading.{tokens_of}
 use Rattle.ir_printer.specs.Printed.{name_text, sigil_byte, printed_name}
 use Rattle.ir_spelling.proofs.Alone.{name_once}
+use Rattle.hint_format.proofs.Readings.{name_read}
 use Rattle.hint_laws.specs.Laws.{PrintedNamesAreRead, PrintedNamesAreApart, PrintedNamesAreKeys}
 use Rattle.hint_laws.proofs.Lexed as lexed
 use Rattle.hint_laws.proofs.Names.{name_found}
@@ -21,4 +22,6 @@ printed_names_are_apart sigil a b a_writable b_writable same =
     (printed_names_are_read sigil b b_writable)
 
 pub printed_names_are_keys : PrintedNamesAreKeys
-printed_names_are_keys sigil name writable short = (short, printed_names_are_read sigil name writable, refl)
+printed_names_are_keys leaves are sigil name writable short =
+    let text = printed_name sigil name in
+    name_read leaves are sigil text name short (printed_names_are_read sigil name writable, refl)

@@ -8,12 +8,12 @@ use Rattle.std.proofs.lemmas.Bool.{and_parts, and_from, and_left, or_parts, not-
 use Rattle.std.proofs.lemmas.Bool.Decides.{nat_tests}
 use Rattle.std.proofs.Math.Seq.{drop-append_seam}
 use Rattle.ir_core.specs.Names.{is_name_byte}
-use Rattle.ir_lexer.specs.declared.pieces.Piece.TheVariants.{Token}
 use Rattle.ir_lexer.specs.declared.token.TokenKind.{TokenKind}
 use Rattle.ir_lexer.specs.declared.token.TokenKind.TheVariants as kind
 use Rattle.ir_lexer.specs.Bytes.{is_blank, are_digits, begins_with_colon}
 use Rattle.ir_lexer.specs.Numbers.{value_of, if_below}
 use Rattle.ir_lexer.specs.Pieces.{number, piece, plain, run}
+use Rattle.ir_lexer.specs.Pieces.Piece.{Token}
 use Rattle.ir_lexer.specs.Runs.{run_at}
 use Rattle.hint_laws.proofs.Decimals.{IsDecimal}
 use Rattle.hint_laws.proofs.Lexed.{Lexes, begun, stops, taken}

@@ -1,5 +1,5 @@
 -- The laws that tie printing to reading.
-use Rattle.std.specs.Prelude.{◌≡◌, ◌≤◌, true, length, Some}
+use Rattle.std.specs.Prelude.{◌≡◌, ◌≤◌, true, length, Some, Ok}
 use Rattle.std.specs.List.{AllByRecursion}
 use Rattle.serde_json.specs.Data.{Data}
 use Rattle.serde_json.specs.Read.{read}
@@ -20,7 +20,7 @@ use Rattle.ir_spelling.specs.Values.{i32}
 use Rattle.ir_printer.specs.Printed.{printed_name, printed_register, printed_expr}
 use Rattle.erhl_assert.specs.declared.facts.Fact.{Fact}
 use Rattle.erhl_assert.specs.declared.facts.Fact.TheVariants.{LessDef}
-use Rattle.hint_format.specs.Form.{IsNameText, IsFact, printed_fact}
+use Rattle.hint_format.specs.Form.{Leaves, AreLeaves, fact_form, printed_fact}
 
 -- A printed name spells that name, and nothing else.
 abbrev pub PrintedNamesAreRead : Type 0
@@ -30,10 +30,11 @@ PrintedNamesAreRead = (sigil : Sigil) (name : Name) → IsNameInRange name → S
 abbrev pub PrintedNamesAreApart : Type 0
 PrintedNamesAreApart = (sigil : Sigil) (a b : Name) → IsNameInRange a → IsNameInRange b → printed_name sigil a ≡ printed_name sigil b → a ≡ b
 
--- A printed name that isn't too long for a text is a key of a hint file, for that name.
+-- A printed name that isn't too long for a text is that name in a hint file, by whatever leaves the file is read.
 abbrev pub PrintedNamesAreKeys : Type 0
-PrintedNamesAreKeys = (sigil : Sigil) (name : Name) → IsNameInRange name → length (printed_name sigil name) ≤ text_limit
-    → IsNameText sigil (printed_name sigil name) name
+PrintedNamesAreKeys = (leaves : Leaves) → AreLeaves leaves
+    → (sigil : Sigil) (name : Name) → IsNameInRange name → length (printed_name sigil name) ≤ text_limit
+    → leaves.name sigil (printed_name sigil name) ≡ Ok name
 
 -- ---- expressions
 
@@ -69,6 +70,7 @@ IsShort e = IsWritableExpression e × (length (printed_expr printed_register e) 
 abbrev pub IsWritableFact : Fact → Type 0
 IsWritableFact (LessDef a b) = IsShort a × IsShort b
 
--- A printed fact is JSON, which is that fact.
+-- A printed fact is JSON, which is read as that fact.
 abbrev pub PrintedFactsAreRead : Type 0
-PrintedFactsAreRead = (fact : Fact) → IsWritableFact fact → (d : Data) × (read (printed_fact fact) ≡ Some d) × IsFact d fact
+PrintedFactsAreRead = (leaves : Leaves) → AreLeaves leaves
+    → (fact : Fact) → IsWritableFact fact → (d : Data) × (read (printed_fact fact) ≡ Some d) × (fact_form leaves d ≡ Ok fact)

@@ -1,13 +1,17 @@
-use Rattle.std.proofs.Common.{refl}
-use Rattle.hint_format.proofs.Form.{holds, holds_only, holds_none, has_no_value}
+-- The reader's own leaves are such as the form wants.
+use Rattle.std.proofs.Common.{sym, ◌∙◌}
+use Rattle.hint_format.proofs.Readings.{read_by_leaves, no_other_hints, no_hints, fault_held}
 use Rattle.hint_format.proofs.hints.read_hints.Goals as goal
 
-pub returns-clause-ok : goal.returns-clause-ok
-returns-clause-ok c = holds c.args.text.now _ c.in_ok-value.ensures.ok.1 c.in_ok-value.ensures.ok.0 c.hints.result c.hints.ensures
+pub returns-in-Ok-clause-ok : goal.returns-in-Ok-clause-ok
+returns-in-Ok-clause-ok c = read_by_leaves c.args.text.now _ c.in-Ok.ensures
 
-pub returns-clause-only : goal.returns-clause-only
-returns-clause-only c = holds_only c.args.text.now _ c.in_ok-value.ensures.ok.1 c.in_ok-value.ensures.ok.0 c.hints.result c.hints.ensures
+pub returns-in-Ok-clause-only : goal.returns-in-Ok-clause-only
+returns-in-Ok-clause-only c = λ other is. no_other_hints c.args.text.now c.in-Ok.hints other (read_by_leaves c.args.text.now _ c.in-Ok.ensures) is
 
--- a text that has hints is read as a value that has them, and such a value is not refused
-pub returns-clause-refused : goal.returns-clause-refused
-returns-clause-refused c = holds_none c.args.text.now _ c.in_ok-value.ensures.ok.1 c.hints.result c.hints.ensures
+pub returns-in-Err-clause-fault : goal.returns-in-Err-clause-fault
+returns-in-Err-clause-fault c = λ fault told. fault_held c.args.text.now c.in-Err.failure c.in-Err.ensures fault (sym c.hint_fault.ensures ∙ told)
+
+pub returns-in-Err-clause-refused : goal.returns-in-Err-clause-refused
+returns-in-Err-clause-refused c = λ fault told hints is.
+    no_hints c.args.text.now fault hints (fault_held c.args.text.now c.in-Err.failure c.in-Err.ensures fault (sym c.hint_fault.ensures ∙ told)) is

@@ -1,0 +1,47 @@
+ghost use Rattle.std.specs.Prelude.{◌≡◌};
+ghost use Rattle.json_forms.specs.Answers.{Answers};
+ghost use Rattle.hint_format.specs.Form.{fact_form, ge_of_text};
+ghost use Rattle.hint_format.specs.Reading.{read_leaves};
+
+use crate::texts::ExpressionText;
+use erhl_assert::Fact;
+use json_forms::{Failure, Form, Text, TextForm, item, item_count, unfit};
+use serde_json::Value;
+use std::alloc::Global;
+
+/// A fact, `["ge", E, E]`.
+#[derive(Drop)]
+pub(crate) struct FactForm;
+
+impl Form for FactForm {
+    type Value = Fact;
+
+    ghost form = { λ _. fact_form read_leaves };
+
+    fn read(&self, alloc: Global, value: &Value) -> Result<Fact, Failure> {
+        if item_count(value) != 3 {
+            return Err(unfit(alloc));
+        }
+        item(alloc, value, 0, &Text(GeText))?;
+        let greater = item(alloc, value, 1, &Text(ExpressionText))?;
+        let lesser = item(alloc, value, 2, &Text(ExpressionText))?;
+        Ok(Fact::LessDef(greater, lesser))
+    }
+}
+
+/// What a fact begins with.
+#[derive(Drop)]
+struct GeText;
+
+impl TextForm for GeText {
+    type Value = ();
+
+    ghost text_form = { λ _. ge_of_text };
+
+    fn read_text(&self, alloc: Global, text: &str) -> Result<(), Failure> {
+        match text {
+            "ge" => Ok(()),
+            _ => Err(unfit(alloc)),
+        }
+    }
+}
