@@ -1,36 +1,46 @@
 -- What each status says of the words, the files and the sinks.
-use Rattle.std.proofs.Common.{◌≡◌, ◌≢◌, ◌⊎◌, ◌++◌, ℕ, zero, suc, List, [], ◌∷◌, Option, None, Some, refl, sym, ◌∙◌, ap, subst, inl, inr}
+use Rattle.std.proofs.Common.{◌≡◌, ◌≢◌, ◌⊎◌, ◌++◌, ℕ, zero, suc, List, [], ◌∷◌, Option, None, Some, Ok, refl, sym, ◌∙◌, ap, subst, inl, inr}
 use Rattle.std.proofs.lemmas.List.{append-nil}
+use Rattle.ir_core.specs.declared.functions.Module.{Module}
+use Rattle.erhl_assert.specs.declared.hints.Hints.{Hints}
 use Rattle.erhl_assert.specs.declared.verdict.ModuleVerdict.{ModuleVerdict}
 use Rattle.erhl_assert.specs.declared.verdict.ModuleVerdict.TheVariants as modules
 use Rattle.erhl_assert.specs.Steps.{Rules}
-use Rattle.erhl_assert.specs.Acceptance.{module_verdict}
+use Rattle.erhl_assert.specs.Acceptance.{module_answer}
+use Rattle.ir_spelling.specs.declared.fault.TextFault.{TextFault}
+use Rattle.ir_spelling.specs.declared.fault.TextFault.TheVariants as text
+use Rattle.module_input.specs.declared.fault.ModuleFault.{ModuleFault}
+use Rattle.module_input.specs.declared.fault.ModuleFault.TheVariants as faults
+use Rattle.json_forms.specs.declared.failure.Fault.{Fault}
+use Rattle.json_forms.specs.declared.failure.Fault.TheVariants.{At, Past}
 use Rattle.crell_io.specs.Count.{HasRisen}
 use Rattle.crell_io.specs.Shelf.{IfTold}
 use Rattle.crell_io.specs.Sink.{appended}
-use Rattle.crell_program.specs.declared.answer.Answer.{Answer}
-use Rattle.crell_program.specs.Answer.{usage, usage_text, not_of_the_first_form, read_failed, past_limit, absent}
+use Rattle.crell_answers.specs.declared.answer.Answer.{Answer}
+use Rattle.crell_answers.specs.Answer.{usage, usage_text, module_fault, text_fault, at_fault, read_failed, past_limit, absent}
 use Rattle.crell_program.specs.declared.command.Form.TheVariants.{ModuleText, HintFile}
 use Rattle.crell_program.specs.Command.{File, limit_of, CheckFiles, Command, Check, files_of}
-use Rattle.crell_program.specs.VerdictText.{verdict_answer}
-use Rattle.crell_program.specs.Due.{ShelfSeen, Held, Missing, Long, Broken, MayCome, DueOfFile, DueOfFiles, DueOfCheck, DueOfTexts, NamesNoModule, HoldsNoHints}
+use Rattle.crell_answers.specs.VerdictText.{verdict_answer}
+use Rattle.crell_program.specs.Due.{ShelfSeen, Held, Missing, Long, Broken, MayCome, DueOfFile, DueOfFiles, DueOfCheck, DueOfTexts, IsAtFault, IsReadOnlyAs, SpellsOnly, checked}
 use Rattle.crell_program.specs.Delivery.{SinkSeen, GotAll, GotPart, GotNothing, IsDelivered}
 use Rattle.crell_program.specs.Rows.{Run, IsAnswered, WritingFailed}
-use Rattle.crell_program.specs.Statuses.{SomeOf, IsFit, IsRefusal, AreJudged, NoneIsAbsent, SomeFileIsUnfit, SomeFileIsLonger, SomeFileIsMissing, IsStatus}
+use Rattle.crell_program.specs.Statuses.{SomeOf, IsFit, HasFault, IsPlace, IsPassedLimit, HintsAreAtFault, IsAnswer, IsInvalid, HasNoVerdict, IsUnfit, module_status, text_status, AreJudged, NoneIsAbsent, SomeFileIsUnfit, SomeFileIsLonger, SomeFileIsMissing, IsStatus}
 use Rattle.crell_program.proofs.Bytes.{if_told, TellsAll, if_all_told, none_absent}
 
 -- what is said at a status
 abbrev pub Says : Run → ℕ → Type 0
 Says run zero = Unit {0}
-Says run (suc zero) = IsRefusal run.rules run.shelf.told run.command
+Says run (suc zero) = IsAnswer IsInvalid run.rules run.shelf.told run.command
 Says run (suc (suc zero)) = (run.command ≡ None) × GotNothing run.out × GotAll run.err usage_text
-Says run (suc (suc (suc zero))) = SomeFileIsUnfit run.shelf.told run.command × GotNothing run.out
-Says run (suc (suc (suc (suc zero)))) = ⊥
-Says run (suc (suc (suc (suc (suc zero))))) = ⊥
+Says run (suc (suc (suc zero))) = SomeFileIsUnfit 3 run.shelf.told run.command × GotNothing run.out
+Says run (suc (suc (suc (suc zero)))) = SomeFileIsUnfit 4 run.shelf.told run.command × GotNothing run.out
+Says run (suc (suc (suc (suc (suc zero))))) = HintsAreAtFault IsPlace run.shelf.told run.command × GotNothing run.out
 Says run (suc (suc (suc (suc (suc (suc zero)))))) = HasRisen run.shelf.faults run.shelf.faults_after × GotNothing run.out
 Says run (suc (suc (suc (suc (suc (suc (suc zero))))))) = WritingFailed run
 Says run (suc (suc (suc (suc (suc (suc (suc (suc zero)))))))) = GotNothing run.out
-Says run (suc (suc (suc (suc (suc (suc (suc (suc (suc zero))))))))) = SomeFileIsLonger run.shelf run.command × GotNothing run.out
+Says run (suc (suc (suc (suc (suc (suc (suc (suc (suc zero))))))))) =
+    (SomeFileIsLonger run.shelf run.command ⊎ SomeFileIsUnfit 9 run.shelf.told run.command ⊎ HintsAreAtFault IsPassedLimit run.shelf.told run.command
+    ⊎ IsAnswer HasNoVerdict run.rules run.shelf.told run.command) × GotNothing run.out
 Says run (suc (suc (suc (suc (suc (suc (suc (suc (suc (suc zero)))))))))) = SomeFileIsMissing run.shelf run.command × GotNothing run.out
 Says run (suc (suc (suc (suc (suc (suc (suc (suc (suc (suc (suc n))))))))))) = ⊥
 
@@ -71,14 +81,40 @@ module _ (rules : Rules) (shelf : ShelfSeen) (out err : SinkSeen) (command : Com
   abbrev this : Run
   this = command_run rules shelf out err command
 
-  -- the verdict on the texts
-  says_verdict : (v : ModuleVerdict) → (v ≢ modules.Valid → IsRefusal rules shelf.told (Some command)) → SaysOf this (verdict_answer v)
-  says_verdict modules.Valid refusal = λ to_out to_err. tt
-  says_verdict (modules.Differs what) refusal = λ to_out to_err. refusal (λ e. cc)
-  says_verdict (modules.Refused function block spot reason) refusal = λ to_out to_err. refusal (λ e. cc)
+  -- the verdict on the texts, or none
+  says_checked : (said : Option ModuleVerdict) (source : List ℕ) → (IsInvalid said → IsAnswer IsInvalid rules shelf.told (Some command))
+      → (HasNoVerdict said → IsAnswer HasNoVerdict rules shelf.told (Some command)) → SaysOf this (checked said source)
+  says_checked None source invalid none = λ to_out to_err. (inr (inr (inr (none refl))), nothing_of out to_out)
+  says_checked (Some modules.Valid) source invalid none = λ to_out to_err. tt
+  says_checked (Some (modules.Differs what)) source invalid none = λ to_out to_err. invalid (modules.Differs what, refl, λ e. cc)
+  says_checked (Some (modules.Refused function block spot reason)) source invalid none =
+      λ to_out to_err. invalid (modules.Refused function block spot reason, refl, λ e. cc)
 
-  says_unfit : (file : List ℕ) → SomeFileIsUnfit shelf.told (Some command) → SaysOf this (not_of_the_first_form file)
-  says_unfit file unfit = λ to_out to_err. (unfit, nothing_of out to_out)
+  says_text_fault : (f : TextFault) (bytes file : List ℕ) → f ≢ text.Memory → SomeFileIsUnfit (text_status f) shelf.told (Some command)
+      → SaysOf this (text_fault f bytes file)
+  says_text_fault (text.Limit l) bytes file said unfit = λ to_out to_err. (inr (inl unfit), nothing_of out to_out)
+  says_text_fault text.Memory bytes file said unfit = absurd (said refl)
+  says_text_fault (text.BadByte place) bytes file said unfit = λ to_out to_err. (unfit, nothing_of out to_out)
+  says_text_fault (text.BadString place) bytes file said unfit = λ to_out to_err. (unfit, nothing_of out to_out)
+  says_text_fault (text.BadNumber place) bytes file said unfit = λ to_out to_err. (unfit, nothing_of out to_out)
+  says_text_fault (text.Expected place) bytes file said unfit = λ to_out to_err. (unfit, nothing_of out to_out)
+  says_text_fault (text.LeftOut place size) bytes file said unfit = λ to_out to_err. (unfit, nothing_of out to_out)
+  says_text_fault (text.Unknown place size) bytes file said unfit = λ to_out to_err. (unfit, nothing_of out to_out)
+  says_text_fault (text.Twice place size) bytes file said unfit = λ to_out to_err. (unfit, nothing_of out to_out)
+  says_text_fault (text.WrongNumber place expected) bytes file said unfit = λ to_out to_err. (unfit, nothing_of out to_out)
+  says_text_fault (text.WrongType place) bytes file said unfit = λ to_out to_err. (unfit, nothing_of out to_out)
+
+  -- the first fault of a module's text
+  says_unfit : (f : ModuleFault) (bytes file : List ℕ) → IsAtFault bytes f → SomeFileIsUnfit (module_status f) shelf.told (Some command)
+      → SaysOf this (module_fault f bytes file)
+  says_unfit (faults.Text f) bytes file is unfit = says_text_fault f bytes file is.0.1 unfit
+  says_unfit (faults.Name function) bytes file is unfit = λ to_out to_err. (unfit, nothing_of out to_out)
+  says_unfit (faults.Undefined function u) bytes file is unfit = λ to_out to_err. (unfit, nothing_of out to_out)
+  says_unfit faults.Memory bytes file is unfit = absurd (is.1 refl)
+
+  says_fault : (fault : Fault) (file : List ℕ) → ((P : Fault → Type 0) → P fault → HintsAreAtFault P shelf.told (Some command)) → SaysOf this (at_fault fault file)
+  says_fault (At path) file at = λ to_out to_err. (at IsPlace (path, refl), nothing_of out to_out)
+  says_fault (Past limit) file at = λ to_out to_err. (inr (inr (inl (at IsPassedLimit (limit, refl)))), nothing_of out to_out)
 
   -- a file decides, or leads on with its bytes
   by_file : (answer : Answer) (file : File) (next : List ℕ → Type 0)
@@ -89,7 +125,7 @@ module _ (rules : Rules) (shelf : ShelfSeen) (out err : SinkSeen) (command : Com
   by_file answer file next missing longer leads (Held text, m, d) = leads text m.1 d
   by_file answer file next missing longer leads (Missing, m, d) = along this answer (absent file.name) d (λ to_out to_err. (missing m, nothing_of out to_out))
   by_file answer file next missing longer leads (Long, m, d) =
-      along this answer (past_limit (limit_of file.form) file.name) d (λ to_out to_err. (longer m, nothing_of out to_out))
+      along this answer (past_limit (limit_of file.form) file.name) d (λ to_out to_err. (inl (longer m), nothing_of out to_out))
   by_file answer file next missing longer leads (Broken, m, d) = along this answer (read_failed file.name) d (λ to_out to_err. (m, nothing_of out to_out))
 
   by_files : (answer : Answer) (files : List File) (next : List (List ℕ) → Type 0)
@@ -111,26 +147,40 @@ module _ (rules : Rules) (shelf : ShelfSeen) (out err : SinkSeen) (names : Check
   present = none_absent shelf.told (files_of (Check names)) (source ∷ target ∷ hints ∷ []) told
 
   pub says_check : (answer : Answer) → DueOfCheck rules names answer source target hints → SaysOf checks answer
-  says_check answer (inl (unread, e)) =
-      along checks answer (not_of_the_first_form names.source) e
-      (says_unfit rules shelf out err (Check names) names.source (present, inl (if_told _ source NamesNoModule told.0 unread)))
-  says_check answer (inr (s, sp, inl (unread, e))) =
-      along checks answer (not_of_the_first_form names.target) e
-      (says_unfit rules shelf out err (Check names) names.target (present, inr (inl (if_told _ target NamesNoModule told.1.0 unread))))
-  says_check answer (inr (s, sp, inr (t, tp, inl (unread, e)))) =
-      along checks answer (not_of_the_first_form names.hints) e
-      (says_unfit rules shelf out err (Check names) names.hints (present, inr (inr (inl (if_told _ hints HoldsNoHints told.1.1.0 unread)))))
+  says_check answer (inl (f, is, e)) =
+      let unfit : IsUnfit (module_status f) ModuleText source = (refl, (f, is, refl)) in
+      along checks answer (module_fault f source names.source) e
+      (says_unfit rules shelf out err (Check names) f source names.source is
+      (present, inl (refl, if_told _ source (IsUnfit (module_status f) ModuleText) told.0 unfit)))
+  says_check answer (inr (s, sp, inl (f, is, e))) =
+      let unfit : IsUnfit (module_status f) ModuleText target = (refl, (f, is, refl)) in
+      along checks answer (module_fault f target names.target) e
+      (says_unfit rules shelf out err (Check names) f target names.target is
+      (present, inr (inl (refl, if_told _ target (IsUnfit (module_status f) ModuleText) told.1.0 unfit))))
+  says_check answer (inr (s, sp, inr (t, tp, inl (fault, is, e)))) =
+      along checks answer (at_fault fault names.hints) e
+      (says_fault rules shelf out err (Check names) fault names.hints (λ P p. (
+        present,
+        (
+          if_told _ source (HasFault P ModuleText) told.0 (s, sp.0),
+          (if_told _ target (HasFault P ModuleText) told.1.0 (t, tp.0), (if_told _ hints (HasFault P HintFile) told.1.1.0 (fault, p, is.0), tt)),
+        ),
+      )))
   says_check answer (inr (s, sp, inr (t, tp, inr (h, hp, e)))) =
-      along checks answer (verdict_answer (module_verdict rules s t h)) e
-      (says_verdict rules shelf out err (Check names) (module_verdict rules s t h) (λ other. (
+      along checks answer (checked (module_answer rules s t h) names.source) e
+      (says_checked rules shelf out err (Check names) (module_answer rules s t h) names.source
+      (answered IsInvalid s sp t tp h hp) (answered HasNoVerdict s sp t tp h hp))
+    where
+      answered : (P : Option ModuleVerdict → Type 0) (s : Module) → SpellsOnly source s → (t : Module) → SpellsOnly target t → (h : Hints) → IsReadOnlyAs hints (Ok h)
+          → P (module_answer rules s t h) → IsAnswer P rules shelf.told (Some (Check names))
+      answered P s sp t tp h hp p = (
         present,
         (
           if_told _ source (IsFit ModuleText) told.0 (s, sp.0),
           (if_told _ target (IsFit ModuleText) told.1.0 (t, tp.0), (if_told _ hints (IsFit HintFile) told.1.1.0 (h, hp.0), tt)),
         ),
-        if_all_told shelf.told (files_of (Check names)) (source ∷ target ∷ hints ∷ [])
-            (AreJudged rules (λ v. v ≢ modules.Valid) (Check names)) told (s, t, h, sp.0, tp.0, hp.0, other),
-      )))
+        if_all_told shelf.told (files_of (Check names)) (source ∷ target ∷ hints ∷ []) (AreJudged rules P (Check names)) told (s, t, h, sp.0, tp.0, hp.0, p),
+      )
 
 says_texts : (rules : Rules) (shelf : ShelfSeen) (out err : SinkSeen) (command : Command) (answer : Answer) (texts : List (List ℕ))
     → TellsAll shelf.told (files_of command) texts → DueOfTexts rules command answer texts → SaysOf (command_run rules shelf out err command) answer
@@ -190,8 +240,8 @@ kept run zero s a b d = absurd (a refl)
 kept run (suc zero) s a b d = absurd (b refl)
 kept run (suc (suc zero)) s a b d = s.1
 kept run (suc (suc (suc zero))) s a b d = s.1
-kept run (suc (suc (suc (suc zero)))) s a b d = absurd s
-kept run (suc (suc (suc (suc (suc zero))))) s a b d = absurd s
+kept run (suc (suc (suc (suc zero)))) s a b d = s.1
+kept run (suc (suc (suc (suc (suc zero))))) s a b d = s.1
 kept run (suc (suc (suc (suc (suc (suc zero)))))) s a b d = s.1
 kept run (suc (suc (suc (suc (suc (suc (suc zero))))))) s a b d = absurd (d refl)
 kept run (suc (suc (suc (suc (suc (suc (suc (suc zero)))))))) s a b d = s
@@ -204,8 +254,8 @@ is_status run zero s = refl
 is_status run (suc zero) s = refl
 is_status run (suc (suc zero)) s = refl
 is_status run (suc (suc (suc zero))) s = refl
-is_status run (suc (suc (suc (suc zero)))) s = absurd s
-is_status run (suc (suc (suc (suc (suc zero))))) s = absurd s
+is_status run (suc (suc (suc (suc zero)))) s = refl
+is_status run (suc (suc (suc (suc (suc zero))))) s = refl
 is_status run (suc (suc (suc (suc (suc (suc zero)))))) s = refl
 is_status run (suc (suc (suc (suc (suc (suc (suc zero))))))) s = refl
 is_status run (suc (suc (suc (suc (suc (suc (suc (suc zero)))))))) s = refl

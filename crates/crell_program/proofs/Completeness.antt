@@ -1,25 +1,33 @@
 -- Where all is well the status is the verdict's.
-use Rattle.std.proofs.Common.{◌≡◌, ◌≢◌, ◌⊎◌, ◌≤◌, ◌<◌, ℕ, List, [], ◌∷◌, length, Option, None, Some, refl, sym, ◌∙◌, ap, subst, inl, inr, arith}
+use Rattle.std.proofs.Common.{◌≡◌, ◌≢◌, ◌⊎◌, ◌≤◌, ◌<◌, ℕ, List, [], ◌∷◌, length, Option, None, Some, Ok, Err, refl, sym, ◌∙◌, ap, subst, inl, inr, arith}
 use Rattle.ir_core.specs.declared.functions.Module.{Module}
-use Rattle.ir_reader.specs.Spells.{HasFirstForm}
-use Rattle.hint_format.specs.Form.{HintsOf}
+use Rattle.ir_core.specs.Limits.{text_limit}
+use Rattle.ir_spelling.specs.Spells.{SpellsWellFormed}
+use Rattle.module_input.specs.declared.fault.ModuleFault.{ModuleFault}
+use Rattle.module_input.specs.Laws.{FaultsAreOfOneKind, FaultsExcludeModules}
+use Rattle.json_forms.specs.declared.failure.Fault.{Fault}
+use Rattle.json_forms.specs.declared.failure.Fault.TheVariants.{At, Past}
+use Rattle.json_forms.specs.Forms.{Reading}
+use Rattle.hint_format.specs.Form.{HintsOf, IsHintFault}
 use Rattle.erhl_assert.specs.declared.hints.Hints.{Hints}
 use Rattle.erhl_assert.specs.declared.verdict.ModuleVerdict.{ModuleVerdict}
 use Rattle.erhl_assert.specs.declared.verdict.ModuleVerdict.TheVariants as modules
 use Rattle.erhl_assert.specs.Steps.{Rules}
-use Rattle.erhl_assert.specs.Acceptance.{module_verdict}
+use Rattle.erhl_assert.specs.Acceptance.{module_answer}
 use Rattle.crell_io.specs.Count.{HasRisen}
 use Rattle.crell_io.specs.Shelf.{Told, IfTold}
 use Rattle.crell_io.specs.Shelf.Told.{NoSuch, Bytes}
-use Rattle.crell_program.specs.declared.answer.Answer.{Answer}
-use Rattle.crell_program.specs.Answer.{not_of_the_first_form}
+use Rattle.crell_answers.specs.declared.answer.Answer.{Answer}
+use Rattle.crell_program.specs.declared.command.Form.TheVariants.{ModuleText, HintFile}
+use Rattle.crell_answers.specs.Answer.{module_fault, at_fault}
 use Rattle.crell_program.specs.Command.{File, most_bytes, CheckFiles, Command, Check, files_of}
-use Rattle.crell_program.specs.VerdictText.{verdict_status, verdict_answer}
-use Rattle.crell_program.specs.Due.{ShelfSeen, Held, Missing, Long, Broken, DueOfFile, DueOfFiles, DueOfCheck, DueOfTexts}
+use Rattle.crell_answers.specs.VerdictText.{verdict_status, verdict_answer}
+use Rattle.crell_program.specs.Due.{ShelfSeen, Held, Missing, Long, Broken, DueOfFile, DueOfFiles, DueOfCheck, DueOfTexts, IsAtFault, checked}
 use Rattle.crell_program.specs.Delivery.{SinkSeen, IsDelivered}
 use Rattle.crell_program.specs.Rows.{Run, IsAnswered, NoFault}
-use Rattle.crell_program.specs.Statuses.{HoldsAllOf, HoldsAll, HasVerdict, AreJudged, OneIsUnfit, IsAbsent, IsOverlong, FirstUnheldOf, FirstUnheld}
+use Rattle.crell_program.specs.Statuses.{HoldsAllOf, HoldsAll, HasVerdict, AreJudged, FirstIsUnfit, IsInvalid, HasNoVerdict, module_status, HintsHaveFault, fault_status, IsAbsent, IsOverlong, FirstUnheldOf, FirstUnheld}
 use Rattle.crell_program.proofs.Bytes.{told_bytes}
+use Rattle.crell_program.proofs.FaultStatus.{module_fault_status, one_status}
 
 isnt_missing : (bytes : List ℕ) → Bytes bytes ≡ NoSuch → ⊥
 isnt_missing bytes e = cc
@@ -37,18 +45,38 @@ held shelf file answer next bytes told within fine (Long, m, d) =
     let e : most_bytes file < length bytes = subst P told m.1 in absurd (omega arith)
 held shelf file answer next bytes told within fine (Broken, m, d) = absurd (fine m)
 
-answer_of_texts : (rules : Rules) (names : CheckFiles) (answer : Answer) (source target hints : List ℕ) (s t : Module) (h : Hints)
-    → HasFirstForm source s → HasFirstForm target t → HintsOf hints h → DueOfCheck rules names answer source target hints
-    → answer ≡ verdict_answer (module_verdict rules s t h)
-answer_of_texts rules names answer source target hints s t h sp tp hp (inl (unread, e)) = absurd (unread s sp)
-answer_of_texts rules names answer source target hints s t h sp tp hp (inr (s2, sq, inl (unread, e))) = absurd (unread t tp)
-answer_of_texts rules names answer source target hints s t h sp tp hp (inr (s2, sq, inr (t2, tq, inl (unread, e)))) = absurd (unread h hp)
-answer_of_texts rules names answer source target hints s t h sp tp hp (inr (s2, sq, inr (t2, tq, inr (h2, hq, e)))) =
+-- of hints and faults, as readings
+hints_same : (a b : Hints) → ◌≡◌ {A = Reading Hints} (Ok a) (Ok b) → a ≡ b
+hints_same a b e = cc
+
+faults_same : (a b : Fault) → ◌≡◌ {A = Reading Hints} (Err a) (Err b) → a ≡ b
+faults_same a b e = cc
+
+not_both : (h : Hints) (fault : Fault) → ◌≡◌ {A = Reading Hints} (Ok h) (Err fault) → ⊥
+not_both h fault e = cc
+
+-- the texts of files are within the files' limits
+abbrev pub AreWithin : List File → List (List ℕ) → Type 0
+AreWithin [] [] = Unit {0}
+AreWithin (file ∷ files) (text ∷ texts) = (length text ≤ most_bytes file) × AreWithin files texts
+AreWithin [] (text ∷ texts) = ⊥
+AreWithin (file ∷ files) [] = ⊥
+
+answer_of_texts : FaultsExcludeModules → (rules : Rules) (names : CheckFiles) (answer : Answer) (source target hints : List ℕ) (s t : Module) (h : Hints)
+    → length source ≤ text_limit → length target ≤ text_limit
+    → SpellsWellFormed source s → SpellsWellFormed target t → HintsOf hints h → DueOfCheck rules names answer source target hints
+    → answer ≡ checked (module_answer rules s t h) names.source
+answer_of_texts excludes rules names answer source target hints s t h short also sp tp hp (inl (f, is, e)) = absurd (excludes source f s short is.0 is.1 sp)
+answer_of_texts excludes rules names answer source target hints s t h short also sp tp hp (inr (s2, sq, inl (f, is, e))) =
+    absurd (excludes target f t also is.0 is.1 tp)
+answer_of_texts excludes rules names answer source target hints s t h short also sp tp hp (inr (s2, sq, inr (t2, tq, inl (fault, is, e)))) =
+    absurd (not_both h fault (is.1 (Ok h) hp))
+answer_of_texts excludes rules names answer source target hints s t h short also sp tp hp (inr (s2, sq, inr (t2, tq, inr (h2, hq, e)))) =
     let es : s2 ≡ s = sym (sq.1 s sp.0) in
     let et : t2 ≡ t = sym (tq.1 t tp.0) in
-    let eh : h2 ≡ h = sym (hq.1 h hp) in
-    e ∙ (ap (λ (x : Module). verdict_answer (module_verdict rules x t2 h2)) es
-    ∙ (ap (λ (x : Module). verdict_answer (module_verdict rules s x h2)) et ∙ ap (λ (x : Hints). verdict_answer (module_verdict rules s t x)) eh))
+    let eh : h2 ≡ h = sym (hints_same h h2 (hq.1 (Ok h) hp)) in
+    e ∙ (ap (λ (x : Module). checked (module_answer rules x t2 h2) names.source) es
+    ∙ (ap (λ (x : Module). checked (module_answer rules s x h2) names.source) et ∙ ap (λ (x : Hints). checked (module_answer rules s t x) names.source) eh))
 
 -- no sink counts a fault
 abbrev pub SinksAreFine : SinkSeen → SinkSeen → Type 0
@@ -59,81 +87,147 @@ delivered_well answer out err status fine (inl (e, to_out, to_err)) = e
 delivered_well answer out err status fine (inr (inl (e, part, nothing))) = absurd (fine.0 part.0)
 delivered_well answer out err status fine (inr (inr (e, all, part))) = absurd (fine.1 part.0)
 
--- the texts, and that the answer is due to them
+-- the texts, that the answer is due to them, and that they are within the limits
 pub due_well : (shelf : ShelfSeen) (files : List File) (P : List (List ℕ) → Type 0) (answer : Answer) (next : List (List ℕ) → Type 0)
     → (HasRisen shelf.faults shelf.faults_after → ⊥) → HoldsAllOf shelf.told files P → DueOfFiles shelf files answer next
-    → (texts : List (List ℕ)) × P texts × next texts
-due_well shelf [] P answer next fine has due = ([], has, due)
+    → (texts : List (List ℕ)) × P texts × next texts × AreWithin files texts
+due_well shelf [] P answer next fine has due = ([], has, due, tt)
 due_well shelf (file ∷ files) P answer next fine has due =
     let a = told_bytes (shelf.told file.name) _ has in
     let rest = due_well shelf files (λ texts. P (a.0 ∷ texts)) answer (λ texts. next (a.0 ∷ texts)) fine a.2.1
     (held shelf file answer _ a.0 a.1 a.2.0 fine due) in
-    (a.0 ∷ rest.0, rest.1, rest.2)
+    (a.0 ∷ rest.0, rest.1, rest.2, (a.2.0, rest.3))
 
 -- Where all is well the status is that of an answer that is due to the texts; or memory was refused.
 pub all_well : (rules : Rules) (shelf : ShelfSeen) (out err : SinkSeen) (command : Option Command) (P : Command → List (List ℕ) → Type 0) (known status : ℕ)
-    → ((command : Command) (answer : Answer) (texts : List (List ℕ)) → P command texts → DueOfTexts rules command answer texts → answer.status ≡ known)
+    → ((command : Command) (answer : Answer) (texts : List (List ℕ)) → AreWithin (files_of command) texts → P command texts
+    → DueOfTexts rules command answer texts → answer.status ≡ known)
     → IsAnswered (record { rules = rules; command = command; shelf = shelf; out = out; err = err }) status → HoldsAll shelf.told command P
     → NoFault (record { rules = rules; command = command; shelf = shelf; out = out; err = err }) → (status ≡ known) ⊎ (status ≡ 8)
 all_well rules shelf out err None P known status leads answered has fine = absurd has
 all_well rules shelf out err (Some command) P known status leads (inl (answer, due, delivered)) has fine =
     let well = due_well shelf (files_of command) (P command) answer (DueOfTexts rules command answer) fine.0 has due in
-    inl (delivered_well answer out err status (fine.1, fine.2) delivered ∙ leads command answer well.0 well.1 well.2)
+    inl (delivered_well answer out err status (fine.1, fine.2) delivered ∙ leads command answer well.0 well.3 well.1 well.2)
 all_well rules shelf out err (Some command) P known status leads (inr (some, e, nothing, silent)) has fine = inr e
 
-status_of_valid : (v : ModuleVerdict) → v ≡ modules.Valid → verdict_status v ≡ 0
-status_of_valid v e = ap verdict_status e
+status_of_valid : (said : Option ModuleVerdict) (file : List ℕ) → said ≡ Some modules.Valid → (checked said file).status ≡ 0
+status_of_valid said file e = ap (λ (x : Option ModuleVerdict). (checked x file).status) e
 
 status_of_other : (v : ModuleVerdict) → v ≢ modules.Valid → verdict_status v ≡ 1
 status_of_other modules.Valid other = absurd (other refl)
 status_of_other (modules.Differs what) other = refl
 status_of_other (modules.Refused function block spot reason) other = refl
 
--- what is so of the answer to each verdict of that kind is so of an answer that is due to texts with such a verdict
-pub judged_as : (rules : Rules) (P : ModuleVerdict → Type 0) (Q : Answer → Type 0) → ((v : ModuleVerdict) → P v → Q (verdict_answer v))
-    → (command : Command) (answer : Answer) (texts : List (List ℕ)) → AreJudged rules P command texts → DueOfTexts rules command answer texts
-    → Q answer
-judged_as rules P Q leads (Check names) answer (source ∷ target ∷ hints ∷ []) (s, t, h, sp, tp, hp, p) due =
-    subst Q (sym (answer_of_texts rules names answer source target hints s t h sp tp hp due)) (leads (module_verdict rules s t h) p)
-judged_as rules P Q leads (Check names) answer [] judged due = absurd due
-judged_as rules P Q leads (Check names) answer (source ∷ []) judged due = absurd due
-judged_as rules P Q leads (Check names) answer (source ∷ target ∷ []) judged due = absurd due
-judged_as rules P Q leads (Check names) answer (source ∷ target ∷ hints ∷ text ∷ more) judged due = absurd due
+status_of_invalid : (said : Option ModuleVerdict) (file : List ℕ) → IsInvalid said → (checked said file).status ≡ 1
+status_of_invalid said file (v, e, other) = ap (λ (x : Option ModuleVerdict). (checked x file).status) e ∙ status_of_other v other
 
-pub valid : (run : Run) (status : ℕ) → IsAnswered run status → HasVerdict run.rules run.shelf.told run.command (λ v. v ≡ modules.Valid) → NoFault run → (status ≡ 0) ⊎ (status ≡ 8)
-valid run status =
-    all_well run.rules run.shelf run.out run.err run.command (AreJudged run.rules (λ v. v ≡ modules.Valid)) 0 status
-    (judged_as run.rules (λ v. v ≡ modules.Valid) (λ a. a.status ≡ 0) status_of_valid)
+status_of_none : (said : Option ModuleVerdict) (file : List ℕ) → HasNoVerdict said → (checked said file).status ≡ 9
+status_of_none said file e = ap (λ (x : Option ModuleVerdict). (checked x file).status) e
 
-pub invalid : (run : Run) (status : ℕ) → IsAnswered run status → HasVerdict run.rules run.shelf.told run.command (λ v. v ≢ modules.Valid) → NoFault run → (status ≡ 1) ⊎ (status ≡ 8)
-invalid run status =
-    all_well run.rules run.shelf run.out run.err run.command (AreJudged run.rules (λ v. v ≢ modules.Valid)) 1 status
-    (judged_as run.rules (λ v. v ≢ modules.Valid) (λ a. a.status ≡ 1) status_of_other)
+-- what is so of the answer to what the checker says is so of an answer that is due to texts of which it says such
+pub judged_as : FaultsExcludeModules → (rules : Rules) (P : Option ModuleVerdict → Type 0) (Q : Answer → Type 0)
+    → ((said : Option ModuleVerdict) (file : List ℕ) → P said → Q (checked said file))
+    → (command : Command) (answer : Answer) (texts : List (List ℕ)) → AreWithin (files_of command) texts → AreJudged rules P command texts
+    → DueOfTexts rules command answer texts → Q answer
+judged_as excludes rules P Q leads (Check names) answer (source ∷ target ∷ hints ∷ []) within (s, t, h, sp, tp, hp, p) due =
+    subst Q (sym (answer_of_texts excludes rules names answer source target hints s t h within.0 within.1.0 sp tp hp due))
+    (leads (module_answer rules s t h) names.source p)
+judged_as excludes rules P Q leads (Check names) answer [] within judged due = absurd due
+judged_as excludes rules P Q leads (Check names) answer (source ∷ []) within judged due = absurd due
+judged_as excludes rules P Q leads (Check names) answer (source ∷ target ∷ []) within judged due = absurd due
+judged_as excludes rules P Q leads (Check names) answer (source ∷ target ∷ hints ∷ text ∷ more) within judged due = absurd due
 
-status_of : (answer : Answer) (file : List ℕ) → answer ≡ not_of_the_first_form file → answer.status ≡ 3
-status_of answer file e = ap (λ (a : Answer). a.status) e
+-- where the checker says such, the status is this one
+pub judged_so : FaultsExcludeModules → (P : Option ModuleVerdict → Type 0) (known : ℕ) → ((said : Option ModuleVerdict) (file : List ℕ) → P said → (checked said file).status ≡ known)
+    → (run : Run) (status : ℕ) → IsAnswered run status → HasVerdict run.rules run.shelf.told run.command P → NoFault run → (status ≡ known) ⊎ (status ≡ 8)
+judged_so excludes P known leads run status =
+    all_well run.rules run.shelf run.out run.err run.command (AreJudged run.rules P) known status
+    (judged_as excludes run.rules P (λ a. a.status ≡ known) leads)
 
-unread_check : (rules : Rules) (names : CheckFiles) (answer : Answer) (source target hints : List ℕ)
-    → OneIsUnfit (files_of (Check names)) (source ∷ target ∷ hints ∷ []) → DueOfCheck rules names answer source target hints → answer.status ≡ 3
-unread_check rules names answer source target hints unfit (inl (unread, e)) = status_of answer names.source e
-unread_check rules names answer source target hints unfit (inr (s, sp, inl (unread, e))) = status_of answer names.target e
-unread_check rules names answer source target hints unfit (inr (s, sp, inr (t, tp, inl (unread, e)))) = status_of answer names.hints e
-unread_check rules names answer source target hints (inl unfit) (inr (s, sp, inr (t, tp, inr (h, hp, e)))) = absurd (unfit s sp.0)
-unread_check rules names answer source target hints (inr (inl unfit)) (inr (s, sp, inr (t, tp, inr (h, hp, e)))) = absurd (unfit t tp.0)
-unread_check rules names answer source target hints (inr (inr (inl unfit))) (inr (s, sp, inr (t, tp, inr (h, hp, e)))) = absurd (unfit h hp.0)
-unread_check rules names answer source target hints (inr (inr (inr none))) due = absurd none
+pub valid : FaultsExcludeModules → (run : Run) (status : ℕ) → IsAnswered run status → HasVerdict run.rules run.shelf.told run.command (λ v. v ≡ Some modules.Valid) → NoFault run → (status ≡ 0) ⊎ (status ≡ 8)
+valid excludes = judged_so excludes (λ v. v ≡ Some modules.Valid) 0 status_of_valid
 
-unread_texts : (rules : Rules) (command : Command) (answer : Answer) (texts : List (List ℕ)) → OneIsUnfit (files_of command) texts
-    → DueOfTexts rules command answer texts → answer.status ≡ 3
-unread_texts rules (Check names) answer (source ∷ target ∷ hints ∷ []) unfit due = unread_check rules names answer source target hints unfit due
-unread_texts rules (Check names) answer [] unfit due = absurd due
-unread_texts rules (Check names) answer (source ∷ []) unfit due = absurd due
-unread_texts rules (Check names) answer (source ∷ target ∷ []) unfit due = absurd due
-unread_texts rules (Check names) answer (source ∷ target ∷ hints ∷ text ∷ more) unfit due = absurd due
+pub invalid : FaultsExcludeModules → (run : Run) (status : ℕ) → IsAnswered run status → HasVerdict run.rules run.shelf.told run.command IsInvalid → NoFault run → (status ≡ 1) ⊎ (status ≡ 8)
+invalid excludes = judged_so excludes IsInvalid 1 status_of_invalid
 
-pub unread : (run : Run) (status : ℕ) → IsAnswered run status → HoldsAll run.shelf.told run.command (λ command. OneIsUnfit (files_of command)) → NoFault run
-    → (status ≡ 3) ⊎ (status ≡ 8)
-unread run status = all_well run.rules run.shelf run.out run.err run.command (λ command. OneIsUnfit (files_of command)) 3 status (unread_texts run.rules)
+pub too_many_facts : FaultsExcludeModules → (run : Run) (status : ℕ) → IsAnswered run status → HasVerdict run.rules run.shelf.told run.command HasNoVerdict → NoFault run → (status ≡ 9) ⊎ (status ≡ 8)
+too_many_facts excludes = judged_so excludes HasNoVerdict 9 status_of_none
+
+not_a_module : HintFile ≡ ModuleText → ⊥
+not_a_module e = cc
+
+module _ (kinds : FaultsAreOfOneKind) (excludes : FaultsExcludeModules) where
+  -- the status is that of a first fault of the text
+  by_fault : (text file : List ℕ) (answer : Answer) (f g : ModuleFault) (known : ℕ) → length text ≤ text_limit → IsAtFault text f → answer ≡ module_fault f text file
+      → IsAtFault text g → module_status g ≡ known → answer.status ≡ known
+  by_fault text file answer f g known short is e also same =
+      ap (λ (a : Answer). a.status) e ∙ module_fault_status f text file ∙ one_status kinds text f g short is also ∙ same
+
+  unread_check : (rules : Rules) (names : CheckFiles) (answer : Answer) (source target hints : List ℕ) (known : ℕ) → length source ≤ text_limit → length target ≤ text_limit
+      → FirstIsUnfit known (files_of (Check names)) (source ∷ target ∷ hints ∷ []) → DueOfCheck rules names answer source target hints → answer.status ≡ known
+  unread_check rules names answer source target hints known short also (inl (form, (g, first, same))) (inl (f, is, e)) =
+      by_fault source names.source answer f g known short is e first same
+  unread_check rules names answer source target hints known short also (inl (form, (g, first, same))) (inr (s, sp, due)) =
+      absurd (excludes source g s short first.0 first.1 sp.0)
+  unread_check rules names answer source target hints known short also (inr (form, (m, fit), rest)) (inl (f, is, e)) =
+      absurd (excludes source f m short is.0 is.1 fit)
+  unread_check rules names answer source target hints known short also (inr (form, fit, inl (form_too, (g, first, same)))) (inr (s, sp, inl (f, is, e))) =
+      by_fault target names.target answer f g known also is e first same
+  unread_check rules names answer source target hints known short also (inr (form, fit, inl (form_too, (g, first, same)))) (inr (s, sp, inr (t, tp, due))) =
+      absurd (excludes target g t also first.0 first.1 tp.0)
+  unread_check rules names answer source target hints known short also (inr (form, fit, inr (form_too, (m, fit_too), rest))) (inr (s, sp, inl (f, is, e))) =
+      absurd (excludes target f m also is.0 is.1 fit_too)
+  unread_check rules names answer source target hints known short also (inr (form, fit, inr (form_too, fit_too, inl unfit))) (inr (s, sp, inr (t, tp, due))) =
+      absurd (not_a_module unfit.0)
+  unread_check rules names answer source target hints known short also (inr (form, fit, inr (form_too, fit_too, inr unfit))) (inr (s, sp, inr (t, tp, due))) =
+      absurd (not_a_module unfit.0)
+
+  unread_texts : (rules : Rules) (known : ℕ) (command : Command) (answer : Answer) (texts : List (List ℕ)) → AreWithin (files_of command) texts
+      → FirstIsUnfit known (files_of command) texts → DueOfTexts rules command answer texts → answer.status ≡ known
+  unread_texts rules known (Check names) answer (source ∷ target ∷ hints ∷ []) within unfit due =
+      unread_check rules names answer source target hints known within.0 within.1.0 unfit due
+  unread_texts rules known (Check names) answer [] within unfit due = absurd due
+  unread_texts rules known (Check names) answer (source ∷ []) within unfit due = absurd due
+  unread_texts rules known (Check names) answer (source ∷ target ∷ []) within unfit due = absurd due
+  unread_texts rules known (Check names) answer (source ∷ target ∷ hints ∷ text ∷ more) within unfit due = absurd due
+
+  pub unread : (run : Run) (status : ℕ) → IsAnswered run status → (fault : ℕ)
+      → HoldsAll run.shelf.told run.command (λ command. FirstIsUnfit fault (files_of command)) → NoFault run → (status ≡ fault) ⊎ (status ≡ 8)
+  unread run status answered fault =
+      all_well run.rules run.shelf run.out run.err run.command (λ command. FirstIsUnfit fault (files_of command)) fault status
+      (unread_texts run.rules fault) answered
+
+fault_has_status : (fault : Fault) (answer : Answer) (file : List ℕ) → answer ≡ at_fault fault file → answer.status ≡ fault_status fault
+fault_has_status (At path) answer file e = ap (λ (a : Answer). a.status) e
+fault_has_status (Past limit) answer file e = ap (λ (a : Answer). a.status) e
+
+hints_unread_check : FaultsExcludeModules → (rules : Rules) (fault : Fault) (names : CheckFiles) (answer : Answer) (source target hints : List ℕ) (s t : Module)
+    → length source ≤ text_limit → length target ≤ text_limit
+    → SpellsWellFormed source s → SpellsWellFormed target t → IsHintFault hints fault → DueOfCheck rules names answer source target hints
+    → answer.status ≡ fault_status fault
+hints_unread_check excludes rules fault names answer source target hints s t short also sp tp hp (inl (f, is, e)) = absurd (excludes source f s short is.0 is.1 sp)
+hints_unread_check excludes rules fault names answer source target hints s t short also sp tp hp (inr (s2, sq, inl (f, is, e))) =
+    absurd (excludes target f t also is.0 is.1 tp)
+hints_unread_check excludes rules fault names answer source target hints s t short also sp tp hp (inr (s2, sq, inr (t2, tq, inl (found, is, e)))) =
+    fault_has_status found answer names.hints e ∙ ap fault_status (sym (faults_same fault found (is.1 (Err fault) hp)))
+hints_unread_check excludes rules fault names answer source target hints s t short also sp tp hp (inr (s2, sq, inr (t2, tq, inr (h, hq, e)))) =
+    absurd (not_both h fault (sym (hq.1 (Err fault) hp)))
+
+hints_unread_texts : FaultsExcludeModules → (rules : Rules) (fault : Fault) (command : Command) (answer : Answer) (texts : List (List ℕ))
+    → AreWithin (files_of command) texts → HintsHaveFault fault (files_of command) texts → DueOfTexts rules command answer texts → answer.status ≡ fault_status fault
+hints_unread_texts excludes rules fault (Check names) answer (source ∷ target ∷ hints ∷ []) within (fit_source, (fit_target, ((found, is, first), none))) due =
+    hints_unread_check excludes rules fault names answer source target hints fit_source.0 fit_target.0 within.0 within.1.0 fit_source.1 fit_target.1
+    (subst (λ (f : Fault). IsHintFault hints f) is first) due
+hints_unread_texts excludes rules fault (Check names) answer [] within unfit due = absurd due
+hints_unread_texts excludes rules fault (Check names) answer (source ∷ []) within unfit due = absurd due
+hints_unread_texts excludes rules fault (Check names) answer (source ∷ target ∷ []) within unfit due = absurd due
+hints_unread_texts excludes rules fault (Check names) answer (source ∷ target ∷ hints ∷ text ∷ more) within unfit due = absurd due
+
+pub hints_unread : FaultsExcludeModules → (run : Run) (status : ℕ) → IsAnswered run status → (fault : Fault)
+    → HoldsAll run.shelf.told run.command (λ command. HintsHaveFault fault (files_of command)) → NoFault run → (status ≡ fault_status fault) ⊎ (status ≡ 8)
+hints_unread excludes run status answered fault =
+    all_well run.rules run.shelf run.out run.err run.command (λ command. HintsHaveFault fault (files_of command)) (fault_status fault) status
+    (hints_unread_texts excludes run.rules fault) answered
 
 -- a file that is told to be absent decides, where no fault is counted
 absent_decides : (shelf : ShelfSeen) (answer : Answer) (file : File) (next : List ℕ → Type 0)

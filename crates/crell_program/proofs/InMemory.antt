@@ -1,15 +1,16 @@
 -- A run over texts in memory counts no fault.
-use Rattle.std.proofs.Common.{◌≡◌, ◌⊎◌, ◌≤◌, ◌<◌, ℕ, List, [], length, Option, None, Some, refl, sym, subst, inl, inr, arith}
+use Rattle.std.proofs.Common.{◌≡◌, ◌⊎◌, ◌≤◌, ◌<◌, ℕ, List, [], length, Option, None, Some, refl, sym, ap, ◌∙◌, subst, inl, inr, arith}
 use Rattle.erhl_assert.specs.declared.verdict.ModuleVerdict.{ModuleVerdict}
 use Rattle.erhl_assert.specs.Steps.{Rules}
-use Rattle.crell_io.specs.Count.{HasRisen, last_count}
+use Rattle.module_input.specs.Laws.{FaultsExcludeModules}
+use Rattle.crell_io.specs.Count.{HasRisen}
 use Rattle.crell_io.specs.Shelf.{StaysWell}
 use Rattle.crell_io.specs.MemShelf.{ShelfState, held}
 use Rattle.crell_io.specs.MemSink.{SinkState, sure_room}
-use Rattle.crell_program.specs.declared.answer.Answer.{Answer}
+use Rattle.crell_answers.specs.declared.answer.Answer.{Answer}
 use Rattle.crell_program.specs.Command.{Command, files_of}
-use Rattle.crell_program.specs.VerdictText.{verdict_status, verdict_answer}
-use Rattle.crell_program.specs.Due.{ShelfSeen, shelf_seen, IsDue, DueOfTexts}
+use Rattle.crell_answers.specs.VerdictText.{verdict_status, verdict_answer}
+use Rattle.crell_program.specs.Due.{ShelfSeen, shelf_seen, IsDue, DueOfTexts, checked}
 use Rattle.crell_program.specs.Delivery.{SinkSeen, sink_seen, IsDelivered}
 use Rattle.crell_program.specs.Rows.{Run, IsAnswered, KeepsRows, NoFault}
 use Rattle.crell_program.specs.Statuses.{HasVerdict, AreJudged, IsRefinementOfBytes}
@@ -40,27 +41,30 @@ module _ (rules : Rules) (shelf : ShelfSeen) (out err : SinkSeen) (a : out.fault
   spared command status (inr (some, e, nothing, silent)) fits = (fine, not_risen _ _ nothing.1 a, not_risen _ _ silent.1 b)
 
   -- an answer that is due to texts with such a verdict
-  due_as : (P : ModuleVerdict → Type 0) (Q : Answer → Type 0) → ((v : ModuleVerdict) → P v → Q (verdict_answer v))
+  due_as : FaultsExcludeModules → (P : Option ModuleVerdict → Type 0) (Q : Answer → Type 0) → ((said : Option ModuleVerdict) (file : List ℕ) → P said → Q (checked said file))
       → (command : Option Command) → HasVerdict rules shelf.told command P → (answer : Answer) → IsDue rules shelf command answer → Q answer
-  due_as P Q leads None has answer due = absurd has
-  due_as P Q leads (Some command) has answer due =
+  due_as excludes P Q leads None has answer due = absurd has
+  due_as excludes P Q leads (Some command) has answer due =
       let well = due_well shelf (files_of command) (AreJudged rules P command) answer (DueOfTexts rules command answer) fine has due in
-      judged_as rules P Q leads command answer well.0 well.1 well.2
+      judged_as excludes rules P Q leads command answer well.0 well.3 well.1 well.2
 
-  status_as : (known : ℕ) (P : ModuleVerdict → Type 0) → ((v : ModuleVerdict) → P v → verdict_status v ≡ known) → (command : Option Command) (status : ℕ)
+  status_as : FaultsExcludeModules → (known : ℕ) (P : Option ModuleVerdict → Type 0) → ((said : Option ModuleVerdict) (file : List ℕ) → P said → (checked said file).status ≡ known)
+      → (command : Option Command) (status : ℕ)
       → IsAnswered (run_of command) status → HasVerdict rules shelf.told command P → NoFault (run_of command) → (status ≡ known) ⊎ (status ≡ 8)
-  status_as known P leads command status =
-      all_well rules shelf out err command (AreJudged rules P) known status (judged_as rules P (λ answer. answer.status ≡ known) leads)
+  status_as excludes known P leads command status =
+      all_well rules shelf out err command (AreJudged rules P) known status (judged_as excludes rules P (λ answer. answer.status ≡ known) leads)
 
-  judged : (known : ℕ) (command : Option Command) (status : ℕ) → IsAnswered (run_of command) status
-      → HasVerdict rules shelf.told command (λ v. Fits (run_of command) (verdict_answer v) × (verdict_status v ≡ known))
+  judged : FaultsExcludeModules → (known : ℕ) (command : Option Command) (status : ℕ) → IsAnswered (run_of command) status
+      → HasVerdict rules shelf.told command (λ a. (v : ModuleVerdict) × (a ≡ Some v) × Fits (run_of command) (verdict_answer v) × (verdict_status v ≡ known))
       → NoFault (run_of command) × ((status ≡ known) ⊎ (status ≡ 8))
-  judged known command status answered has =
-      let P : ModuleVerdict → Type 0 = λ v. Fits (run_of command) (verdict_answer v) × (verdict_status v ≡ known) in
-      let room : (v : ModuleVerdict) → P v → Fits (run_of command) (verdict_answer v) = λ v p. p.0 in
-      let same : (v : ModuleVerdict) → P v → verdict_status v ≡ known = λ v p. p.1 in
-      let no_fault = spared command status answered (λ answer due. due_as P (Fits (run_of command)) room command has answer due) in
-      (no_fault, status_as known P same command status answered has no_fault)
+  judged excludes known command status answered has =
+      let P : Option ModuleVerdict → Type 0 = λ a. (v : ModuleVerdict) × (a ≡ Some v) × Fits (run_of command) (verdict_answer v) × (verdict_status v ≡ known) in
+      let room : (said : Option ModuleVerdict) (file : List ℕ) → P said → Fits (run_of command) (checked said file) =
+      λ said file p. subst (λ x. Fits (run_of command) (checked x file)) (sym p.1) p.2 in
+      let same : (said : Option ModuleVerdict) (file : List ℕ) → P said → (checked said file).status ≡ known =
+      λ said file p. ap (λ (x : Option ModuleVerdict). (checked x file).status) p.1 ∙ p.3 in
+      let no_fault = spared command status answered (λ answer due. due_as excludes P (Fits (run_of command)) room command has answer due) in
+      (no_fault, status_as excludes known P same command status answered has no_fault)
 
 module _ (rules : Rules) (command : Option Command) (entries : List (List ℕ × List ℕ)) (room status : ℕ) (shelf_now : ShelfState) (out_now err_now : SinkState) where
   abbrev run_from : ShelfState → SinkState → SinkState → Run
@@ -75,24 +79,24 @@ module _ (rules : Rules) (command : Option Command) (entries : List (List ℕ ×
   abbrev this : Run
   this = memory_run rules command entries room shelf_now out_now err_now
 
-  ends : KeepsRows this status → (status ≡ 0 → IsRefinementOfBytes (held entries) command) → shelf_now.faults ≡ 0 → EndsWell this status
-  ends rows headline well =
+  ends : FaultsExcludeModules → KeepsRows this status → (status ≡ 0 → IsRefinementOfBytes (held entries) command) → shelf_now.faults ≡ 0 → EndsWell this status
+  ends excludes rows headline well =
       let fine : HasRisen 0 shelf_now.faults → ⊥ = not_risen 0 shelf_now.faults well refl in record {
         rows = rows;
         headline = headline;
         shelf_well = well;
         no_fault = spared rules this.shelf this.out this.err refl refl fine command status rows.answered;
-        judged = λ known. judged rules this.shelf this.out this.err refl refl fine known command status rows.answered;
+        judged = λ known. judged rules this.shelf this.out this.err refl refl fine excludes known command status rows.answered;
       }
 
-  pub ends_well : (shelf : ShelfState) (out err : SinkState) → shelf ≡ new_shelf entries → out ≡ new_sink room → err ≡ new_sink room
+  pub ends_well : FaultsExcludeModules → (shelf : ShelfState) (out err : SinkState) → shelf ≡ new_shelf entries → out ≡ new_sink room → err ≡ new_sink room
       → KeepsRows (run_from shelf out err) status → (status ≡ 0 → IsRefinementOfBytes (held shelf.entries) command)
       → StaysWell (λ (s : ShelfState). s.failing ≡ []) (λ (s : ShelfState). s.faults) shelf shelf_now → EndsWell this status
-  ends_well shelf out err a b c rows headline well =
+  ends_well excludes shelf out err a b c rows headline well =
       let R : ShelfState → SinkState → SinkState → Type 0 = λ s o e. KeepsRows (run_from s o e) status in
       let H : ShelfState → Type 0 = λ s. status ≡ 0 → IsRefinementOfBytes (held s.entries) command in
       let W : ShelfState → Type 0 = λ s. StaysWell (λ (x : ShelfState). x.failing ≡ []) (λ (x : ShelfState). x.faults) s shelf_now in
       let kept : R (new_shelf entries) (new_sink room) (new_sink room) =
       subst (λ s. R s (new_sink room) (new_sink room)) a (subst (λ o. R shelf o (new_sink room)) b (subst (λ e. R shelf out e) c rows)) in
       let stays : W (new_shelf entries) = subst W a well in
-      ends kept (subst H a headline) (stays refl).1
+      ends excludes kept (subst H a headline) (stays refl).1

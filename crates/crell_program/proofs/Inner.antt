@@ -1,24 +1,34 @@
 -- What the inner calls owe, from what those that they make ensure.
 use Rattle.std.proofs.Common.{◌≡◌, ◌≢◌, ◌≤◌, ◌<◌, ℕ, List, [], ◌∷◌, length, get_or, IfOk, Result, Ok, Err, Option, None, Some, refl, sym, ◌∙◌, ap, subst, inl, inr, arith}
 use Rattle.ir_core.specs.declared.functions.Module.{Module}
+use Rattle.ir_core.specs.declared.limits.Limit.{Limit}
+use Rattle.ir_core.specs.declared.limits.Limit.TheVariants as limit
+use Rattle.module_input.specs.declared.fault.ModuleFault.{ModuleFault}
+use Rattle.module_input.specs.declared.fault.ModuleFault.TheVariants as faults
+use Rattle.module_input.specs.Faults.{IsModuleFault}
 use Rattle.erhl_assert.specs.declared.hints.Hints.{Hints}
 use Rattle.erhl_assert.specs.Steps.{Rules}
-use Rattle.erhl_assert.specs.Acceptance.{module_verdict}
-use Rattle.crell_program.specs.Answer.{usage, not_of_the_first_form}
+use Rattle.erhl_assert.specs.Acceptance.{module_answer}
+use Rattle.json_forms.specs.declared.failure.Fault.{Fault}
+use Rattle.hint_format.specs.Form.{HintsOf, IsHintFault, IsHintReading}
+use Rattle.hint_format.proofs.Readings.{readings_are_one}
+use Rattle.json_forms.specs.Forms.{Reading}
+use Rattle.crell_answers.specs.Answer.{usage, module_fault, at_fault, past_limit}
 use Rattle.ir_machine.specs.Refinement.{Refines}
 use Rattle.erhl_assert.specs.declared.verdict.ModuleVerdict.{ModuleVerdict}
 use Rattle.erhl_assert.specs.declared.verdict.ModuleVerdict.TheVariants as modules
 use Rattle.crell_io.specs.Shelf.{Told, IfTold}
-use Rattle.crell_program.specs.declared.answer.Answer.{Answer}
+use Rattle.crell_answers.specs.declared.answer.Answer.{Answer}
 use Rattle.crell_program.specs.Command.{File, CheckFiles, Command, Check, files_of}
 use Rattle.crell_program.specs.Fetching.{AreHeld}
-use Rattle.crell_program.specs.VerdictText.{verdict_status, verdict_answer}
-use Rattle.crell_program.specs.Due.{ShelfSeen, Held, Missing, Long, Broken, DueOfFile, DueOfFiles, DueOfCheck, DueOfTexts, NamesNoModule, HoldsNoHints, HoldsOnly, SpellsOnly}
+use Rattle.crell_answers.specs.VerdictText.{verdict_status, verdict_answer}
+use Rattle.crell_program.specs.Due.{ShelfSeen, Held, Missing, Long, Broken, DueOfFile, DueOfFiles, DueOfCheck, DueOfTexts, IsReadOnlyAs, SpellsOnly, checked}
 use Rattle.crell_program.specs.Delivery.{SinkSeen, IsDelivered, Untouched}
 use Rattle.crell_program.specs.Rows.{IsAnswered}
 use Rattle.crell_program.specs.Statuses.{AreRefined, IsRefinement, IsRefinementOfBytes}
 use Rattle.crell_program.proofs.Bytes.{if_told}
 use Rattle.crell_program.proofs.Fetches.{due_of_held}
+use Rattle.crell_program.proofs.FaultStatus.{module_fault_status, fault_status_isnt_zero}
 
 if_ok_then : {A E : Type 0} (r : Result A E) (P Q : A → Type 0) → ((a : A) → P a → Q a) → IfOk r P → IfOk r Q
 if_ok_then (Ok a) P Q f p = f a p
@@ -47,27 +57,31 @@ pub files_arent_zero : (shelf : ShelfSeen) (files : List File) (answer : Answer)
 files_arent_zero shelf [] answer due z = due
 files_arent_zero shelf (file ∷ files) answer due z = file_isnt_zero shelf file answer _ (λ text d. files_arent_zero shelf files answer d z) due z
 
+-- what a hint file's text is read as is all that it is read as
+read_only : (text : List ℕ) (due : Reading Hints) → IsHintReading text due → IsReadOnlyAs text due
+read_only text due is = (is, λ other also. readings_are_one text other due also is)
+
 module _ {E : Type 0} (rules : Rules) (names : CheckFiles) (source target hints : List ℕ) where
-  pub unfit_source : NamesNoModule source → (r : Result Answer E) → IfOk r (λ a. a ≡ not_of_the_first_form names.source)
-      → IfOk r (λ answer. DueOfCheck rules names answer source target hints)
-  unfit_source unread (Ok answer) e = inl (unread, e)
-  unfit_source unread (Err end) e = e
+  pub unfit_source : (fault : ModuleFault) → IsModuleFault source fault → (r : Result Answer E) → IfOk r (λ _. fault ≢ faults.Memory)
+      → IfOk r (λ a. a ≡ module_fault fault source names.source) → IfOk r (λ answer. DueOfCheck rules names answer source target hints)
+  unfit_source fault is (Ok answer) said e = inl (fault, (is, said), e)
+  unfit_source fault is (Err end) said e = e
 
   module _ (s : Module) (sp : SpellsOnly source s) where
-    pub unfit_target : NamesNoModule target → (r : Result Answer E) → IfOk r (λ a. a ≡ not_of_the_first_form names.target)
-        → IfOk r (λ answer. DueOfCheck rules names answer source target hints)
-    unfit_target unread (Ok answer) e = inr (s, sp, inl (unread, e))
-    unfit_target unread (Err end) e = e
+    pub unfit_target : (fault : ModuleFault) → IsModuleFault target fault → (r : Result Answer E) → IfOk r (λ _. fault ≢ faults.Memory)
+        → IfOk r (λ a. a ≡ module_fault fault target names.target) → IfOk r (λ answer. DueOfCheck rules names answer source target hints)
+    unfit_target fault is (Ok answer) said e = inr (s, sp, inl (fault, (is, said), e))
+    unfit_target fault is (Err end) said e = e
 
     module _ (t : Module) (tp : SpellsOnly target t) where
-      pub unfit_hints : HoldsNoHints hints → (r : Result Answer E) → IfOk r (λ a. a ≡ not_of_the_first_form names.hints)
+      pub unfit_hints : (fault : Fault) → IsHintFault hints fault → (r : Result Answer E) → IfOk r (λ a. a ≡ at_fault fault names.hints)
           → IfOk r (λ answer. DueOfCheck rules names answer source target hints)
-      unfit_hints unread (Ok answer) e = inr (s, sp, inr (t, tp, inl (unread, e)))
-      unfit_hints unread (Err end) e = e
+      unfit_hints fault is (Ok answer) e = inr (s, sp, inr (t, tp, inl (fault, read_only hints (Err fault) is, e)))
+      unfit_hints fault is (Err end) e = e
 
-      pub texts_judged : (h : Hints) → HoldsOnly hints h → (r : Result Answer E) → IfOk r (λ a. a ≡ verdict_answer (module_verdict rules s t h))
+      pub texts_judged : (h : Hints) → HintsOf hints h → (r : Result Answer E) → IfOk r (λ a. a ≡ checked (module_answer rules s t h) names.source)
           → IfOk r (λ answer. DueOfCheck rules names answer source target hints)
-      texts_judged h hp (Ok answer) e = inr (s, sp, inr (t, tp, inr (h, hp, e)))
+      texts_judged h hp (Ok answer) e = inr (s, sp, inr (t, tp, inr (h, read_only hints (Ok h) hp, e)))
       texts_judged h hp (Err end) e = e
 
 -- refinement of the two modules that two texts spell alone is refinement of the texts
@@ -90,6 +104,34 @@ pub judged_refined : {E : Type 0} (s t : Module) (v : ModuleVerdict) → (v ≡ 
     → IfOk r (λ a. a ≡ verdict_answer v) → IfOk r (λ a. a.status ≡ 0 → Refines s t)
 judged_refined s t v refines (Ok answer) e = λ z. refines (zero_is_valid v (sym (ap (λ (a : Answer). a.status) e) ∙ z))
 judged_refined s t v refines (Err end) e = e
+
+-- the answer to a verdict is that to what the checker says
+pub verdict_is_checked : {E : Type 0} (said : Option ModuleVerdict) (file : List ℕ) (v : ModuleVerdict) → said ≡ Some v → (r : Result Answer E)
+    → IfOk r (λ a. a ≡ verdict_answer v) → IfOk r (λ a. a ≡ checked said file)
+verdict_is_checked said file v is (Ok answer) e = e ∙ ap (λ (x : Option ModuleVerdict). checked x file) (sym is)
+verdict_is_checked said file v is (Err end) e = e
+
+-- so is the answer to too many facts
+pub limit_is_checked : {E : Type 0} (said : Option ModuleVerdict) (file : List ℕ) (l : Limit) → l ≡ limit.Facts → said ≡ None → (r : Result Answer E)
+    → IfOk r (λ a. a ≡ past_limit l file) → IfOk r (λ a. a ≡ checked said file)
+limit_is_checked said file l facts none (Ok answer) e =
+    e ∙ ap (λ (x : Limit). past_limit x file) facts ∙ ap (λ (x : Option ModuleVerdict). checked x file) (sym none)
+limit_is_checked said file l facts none (Err end) e = e
+
+-- which isn't of status 0
+pub limit_isnt_zero : {E : Type 0} (s t : Module) (file : List ℕ) (l : Limit) → (r : Result Answer E)
+    → IfOk r (λ a. a ≡ past_limit l file) → IfOk r (λ a. a.status ≡ 0 → Refines s t)
+limit_isnt_zero s t file l (Ok answer) e = λ z. let nine = ap (λ (a : Answer). a.status) e in absurd (omega arith)
+limit_isnt_zero s t file l (Err end) e = e
+
+-- an answer because of a module's fault isn't of status 0
+fault_isnt_zero : (fault : ModuleFault) (text file : List ℕ) → (module_fault fault text file).status ≡ 0 → ⊥
+fault_isnt_zero fault text file z = let e = module_fault_status fault text file in fault_status_isnt_zero fault (sym e ∙ z)
+
+pub fault_refined : {E : Type 0} (source target : List ℕ) (fault : ModuleFault) (text file : List ℕ) → (r : Result Answer E)
+    → IfOk r (λ a. a ≡ module_fault fault text file) → IfOk r (λ a. a.status ≡ 0 → AreRefined source target)
+fault_refined source target fault text file (Ok answer) e = λ z. absurd (fault_isnt_zero fault text file (sym (ap (λ (a : Answer). a.status) e) ∙ z))
+fault_refined source target fault text file (Err end) e = e
 
 three_of : (xs : List (List ℕ)) (a b c : List ℕ) → 3 ≤ length xs → length xs < 4 → a ≡ get_or xs 0 a → b ≡ get_or xs 1 b → c ≡ get_or xs 2 c
     → xs ≡ a ∷ b ∷ c ∷ []

@@ -1,19 +1,26 @@
 -- Which answer is due: the words, then the files in their order, then their forms in their order, then the work. The first
 -- cause decides.
-use Rattle.std.specs.Prelude.{◌≡◌, ◌⊎◌, ◌≤◌, ◌<◌, ℕ, List, [], ◌∷◌, length, Option, None, Some}
+use Rattle.std.specs.Prelude.{◌≡◌, ◌≢◌, ◌⊎◌, ◌≤◌, ◌<◌, ℕ, List, [], ◌∷◌, length, Option, None, Some, Ok, Err}
 use Rattle.ir_core.specs.declared.functions.Module.{Module}
-use Rattle.ir_reader.specs.Spells.{Spells, HasFirstForm}
-use Rattle.hint_format.specs.Form.{HintsOf}
+use Rattle.ir_core.specs.declared.limits.Limit.TheVariants as limit
+use Rattle.ir_spelling.specs.Spells.{Spells, SpellsWellFormed}
+use Rattle.module_input.specs.declared.fault.ModuleFault.{ModuleFault}
+use Rattle.module_input.specs.declared.fault.ModuleFault.TheVariants as faults
+use Rattle.module_input.specs.Faults.{IsModuleFault}
+use Rattle.json_forms.specs.declared.failure.Fault.{Fault}
+use Rattle.json_forms.specs.Forms.{Reading}
+use Rattle.hint_format.specs.Form.{IsHintReading}
 use Rattle.erhl_assert.specs.declared.hints.Hints.{Hints}
 use Rattle.erhl_assert.specs.Steps.{Rules}
-use Rattle.erhl_assert.specs.Acceptance.{module_verdict}
+use Rattle.erhl_assert.specs.Acceptance.{module_answer}
+use Rattle.erhl_assert.specs.declared.verdict.ModuleVerdict.{ModuleVerdict}
 use Rattle.crell_io.specs.Count.{HasRisen, HasRisenAbove}
 use Rattle.crell_io.specs.Shelf.{Told, IfTold}
 use Rattle.crell_io.specs.Shelf.Told.{NoSuch}
 use Rattle.crell_program.specs.Command.{File, limit_of, most_bytes, CheckFiles, Command, Check, files_of}
-use Rattle.crell_program.specs.declared.answer.Answer.{Answer}
-use Rattle.crell_program.specs.Answer.{usage, not_of_the_first_form, read_failed, past_limit, absent}
-use Rattle.crell_program.specs.VerdictText.{verdict_answer}
+use Rattle.crell_answers.specs.declared.answer.Answer.{Answer}
+use Rattle.crell_answers.specs.Answer.{usage, module_fault, at_fault, read_failed, past_limit, absent}
+use Rattle.crell_answers.specs.VerdictText.{verdict_answer}
 
 -- what came of asking for a file
 pub data Got : Type 0 where
@@ -60,35 +67,39 @@ DueOfFiles shelf [] answer next = next []
 DueOfFiles shelf (file ∷ files) answer next =
     DueOfFile shelf file answer (λ bytes. DueOfFiles shelf files answer (λ more. next (bytes ∷ more)))
 
--- the text has the first form of no module
-abbrev pub NamesNoModule : List ℕ → Type 0
-NamesNoModule text = (m : Module) → HasFirstForm text m → ⊥
-
--- the text has the first form of this module, and spells no other
+-- the text spells this module, which is well-formed, and no other
 abbrev pub SpellsOnly : List ℕ → Module → Type 0
-SpellsOnly text m = HasFirstForm text m × ((other : Module) → Spells text other → other ≡ m)
+SpellsOnly text m = SpellsWellFormed text m × ((other : Module) → Spells text other → other ≡ m)
 
--- the text holds these hints, and no others
-abbrev pub HoldsOnly : List ℕ → Hints → Type 0
-HoldsOnly text h = HintsOf text h × ((other : Hints) → HintsOf text other → other ≡ h)
+-- the first fault of a module's text, which is more than want of memory
+abbrev pub IsAtFault : List ℕ → ModuleFault → Type 0
+IsAtFault text fault = IsModuleFault text fault × (fault ≢ faults.Memory)
 
-abbrev pub HoldsNoHints : List ℕ → Type 0
-HoldsNoHints text = (h : Hints) → HintsOf text h → ⊥
+-- a hint file's text is read as these hints, or as this first fault, and as nothing else
+abbrev pub IsReadOnlyAs : List ℕ → Reading Hints → Type 0
+IsReadOnlyAs text due = IsHintReading text due × ((other : Reading Hints) → IsHintReading text other → other ≡ due)
 
--- a module's text is judged: without its first form it is the answer's cause, and its module leads on
+-- a module's text is judged: its first fault is the answer's cause, and its module leads on
 abbrev pub DueOfModule : List ℕ → List ℕ → Answer → (Module → Type 0) → Type 0
-DueOfModule name text answer next = (NamesNoModule text × (answer ≡ not_of_the_first_form name)) ⊎ ((m : Module) × SpellsOnly text m × next m)
+DueOfModule name text answer next =
+    ((fault : ModuleFault) × IsAtFault text fault × (answer ≡ module_fault fault text name)) ⊎ ((m : Module) × SpellsOnly text m × next m)
 
--- a hint file's text is judged
+-- a hint file's text is judged: its first fault is the answer's cause, and its hints lead on
 abbrev pub DueOfHints : List ℕ → List ℕ → Answer → (Hints → Type 0) → Type 0
-DueOfHints name text answer next = (HoldsNoHints text × (answer ≡ not_of_the_first_form name)) ⊎ ((h : Hints) × HoldsOnly text h × next h)
+DueOfHints name text answer next =
+    ((fault : Fault) × IsReadOnlyAs text (Err fault) × (answer ≡ at_fault fault name)) ⊎ ((h : Hints) × IsReadOnlyAs text (Ok h) × next h)
+
+-- the checker's verdict, or that too many facts are known for one, which is said of the source's file
+abbrev pub checked : Option ModuleVerdict → List ℕ → Answer
+checked (Some v) source = verdict_answer v
+checked None source = past_limit limit.Facts source
 
 -- the three texts of `check` are judged, and then the pair
 abbrev pub DueOfCheck : Rules → CheckFiles → Answer → List ℕ → List ℕ → List ℕ → Type 0
 DueOfCheck rules names answer source target hints =
     DueOfModule names.source source answer (λ s.
     DueOfModule names.target target answer (λ t.
-    DueOfHints names.hints hints answer (λ h. answer ≡ verdict_answer (module_verdict rules s t h))))
+    DueOfHints names.hints hints answer (λ h. answer ≡ checked (module_answer rules s t h) names.source)))
 
 -- the texts of a command's files are there, one for each
 abbrev pub DueOfTexts : Rules → Command → Answer → List (List ℕ) → Type 0

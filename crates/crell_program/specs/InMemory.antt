@@ -1,15 +1,16 @@
 -- A run over texts in memory, with a shelf that fails nowhere and two sinks that are sure to take so many bytes.
 use Rattle.std.specs.Prelude.{◌≡◌, ◌⊎◌, ◌≤◌, ◌^◌, ◌-◌, ℕ, List, [], length, Option, Some}
+use Rattle.erhl_assert.specs.declared.verdict.ModuleVerdict.{ModuleVerdict}
 use Rattle.erhl_assert.specs.Steps.{Rules}
 use Rattle.crell_io.specs.MemShelf.{ShelfState, held}
 use Rattle.crell_io.specs.MemSink.{SinkState, sure_room}
-use Rattle.crell_program.specs.declared.answer.Answer.{Answer}
+use Rattle.crell_answers.specs.declared.answer.Answer.{Answer}
 use Rattle.crell_program.specs.Command.{Command}
 use Rattle.crell_program.specs.Due.{shelf_seen, IsDue}
 use Rattle.crell_program.specs.Delivery.{sink_seen}
 use Rattle.crell_program.specs.Rows.{Run, KeepsRows, NoFault}
 use Rattle.crell_program.specs.Statuses.{HasVerdict, IsRefinementOfBytes}
-use Rattle.crell_program.specs.VerdictText.{verdict_status, verdict_answer}
+use Rattle.crell_answers.specs.VerdictText.{verdict_status, verdict_answer}
 
 -- a shelf of these entries that wasn't asked yet, and of whose calls none is to fail
 abbrev pub new_shelf : List (List ℕ × List ℕ) → ShelfState
@@ -42,5 +43,5 @@ pub record EndsWell (run : Run) (status : ℕ) : Type 0 where
   pub no_fault : ((answer : Answer) → IsDue run.rules run.shelf run.command answer → Fits run answer) → NoFault run
   -- Where the files are there within their limits, and the sinks are sure to take the verdict's text: no call fails, and the
   -- status is the verdict's, or memory was refused.
-  pub judged : (known : ℕ) → HasVerdict run.rules run.shelf.told run.command (λ v. Fits run (verdict_answer v) × (verdict_status v ≡ known))
+  pub judged : (known : ℕ) → HasVerdict run.rules run.shelf.told run.command (λ a. (v : ModuleVerdict) × (a ≡ Some v) × Fits run (verdict_answer v) × (verdict_status v ≡ known))
       → NoFault run × ((status ≡ known) ⊎ (status ≡ 8))

@@ -1,4 +1,3 @@
-pub mod Answer
 pub mod Command
 pub mod Delivery
 pub mod Due
@@ -6,4 +5,3 @@ pub mod Fetching
 pub mod InMemory
 pub mod Rows
 pub mod Statuses
-pub mod VerdictText

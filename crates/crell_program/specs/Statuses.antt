@@ -1,24 +1,31 @@
 -- What the statuses say of the words and the files.
 use Rattle.std.specs.Prelude.{◌≡◌, ◌≢◌, ◌⊎◌, ◌≤◌, ◌<◌, ◌==◌, ℕ, List, [], ◌∷◌, length, Option, None, Some, IsTrue}
-use Rattle.std.specs.List.{list_any, AllByRecursion}
+use Rattle.std.specs.List.{list_any, AllByRecursion, AllZip}
 use Rattle.ir_core.specs.declared.names.Name.{Name}
 use Rattle.ir_core.specs.declared.functions.Module.{Module}
 use Rattle.ir_machine.specs.declared.items.Item.{Item}
 use Rattle.ir_machine.specs.declared.items.Input.{Input}
 use Rattle.ir_machine.specs.Refinement.{Shows, MayShow}
-use Rattle.ir_reader.specs.Spells.{Spells, HasFirstForm}
-use Rattle.hint_format.specs.Form.{HintsOf}
+use Rattle.ir_spelling.specs.declared.fault.TextFault.{TextFault}
+use Rattle.ir_spelling.specs.declared.fault.TextFault.TheVariants as text
+use Rattle.ir_spelling.specs.Spells.{Spells, SpellsWellFormed}
+use Rattle.module_input.specs.declared.fault.ModuleFault.{ModuleFault}
+use Rattle.module_input.specs.declared.fault.ModuleFault.TheVariants as faults
+use Rattle.ir_core.specs.declared.limits.Limit.{Limit}
+use Rattle.json_forms.specs.declared.failure.Fault.{Fault}
+use Rattle.json_forms.specs.declared.failure.Fault.TheVariants.{At, Past}
+use Rattle.hint_format.specs.Form.{HintsOf, IsHintFault}
 use Rattle.erhl_assert.specs.declared.hints.Hints.{Hints}
 use Rattle.erhl_assert.specs.declared.verdict.ModuleVerdict.{ModuleVerdict}
 use Rattle.erhl_assert.specs.declared.verdict.ModuleVerdict.TheVariants as modules
 use Rattle.erhl_assert.specs.Steps.{Rules}
-use Rattle.erhl_assert.specs.Acceptance.{module_verdict}
+use Rattle.erhl_assert.specs.Acceptance.{module_answer}
 use Rattle.crell_io.specs.Shelf.{Told, IfTold, IsBytesAnd}
 use Rattle.crell_io.specs.Shelf.Told.{NoSuch}
 use Rattle.crell_program.specs.declared.command.Form.{Form}
 use Rattle.crell_program.specs.declared.command.Form.TheVariants.{ModuleText, HintFile}
 use Rattle.crell_program.specs.Command.{File, most_bytes, Command, Check, files_of}
-use Rattle.crell_program.specs.Due.{ShelfSeen, Missing, Long, MayCome, NamesNoModule, HoldsNoHints}
+use Rattle.crell_program.specs.Due.{ShelfSeen, Missing, Long, MayCome, IsAtFault}
 
 -- the text spells a module, and no other
 abbrev pub SpellsOne : List ℕ → Type 0
@@ -58,15 +65,38 @@ SomeFileIsMissing shelf command = SomeFile (λ file. MayCome shelf file Missing)
 abbrev pub SomeFileIsLonger : ShelfSeen → Option Command → Type 0
 SomeFileIsLonger shelf command = SomeFile (λ file. MayCome shelf file Long) command
 
--- the text has no first form of its kind
-abbrev pub IsUnfit : Form → List ℕ → Type 0
-IsUnfit ModuleText text = NamesNoModule text
-IsUnfit HintFile text = HoldsNoHints text
+-- the status that a fault of a module's text has
+abbrev pub text_status : TextFault → ℕ
+text_status (text.Limit limit) = 9
+text_status text.Memory = 8
+text_status _ = 3
 
--- the text has its first form
+abbrev pub module_status : ModuleFault → ℕ
+module_status (faults.Text f) = text_status f
+module_status (faults.Name function) = 4
+module_status (faults.Undefined function u) = 4
+module_status faults.Memory = 8
+
+-- the text is a module's, and its first fault has that status
+abbrev pub IsUnfit : ℕ → Form → List ℕ → Type 0
+IsUnfit status form text = (form ≡ ModuleText) × ((fault : ModuleFault) × IsAtFault text fault × (module_status fault ≡ status))
+
+-- the text is of its form: a module's spells one that is well-formed
 abbrev pub IsFit : Form → List ℕ → Type 0
-IsFit ModuleText text = (m : Module) × HasFirstForm text m
+IsFit ModuleText text = (m : Module) × SpellsWellFormed text m
 IsFit HintFile text = (h : Hints) × HintsOf text h
+
+-- a place is first at fault; a text passes a limit before that
+abbrev pub IsPlace : Fault → Type 0
+IsPlace fault = (path : List ℕ) × (fault ≡ At path)
+
+abbrev pub IsPassedLimit : Fault → Type 0
+IsPassedLimit fault = (limit : Limit) × (fault ≡ Past limit)
+
+-- the text is that of a well-formed module, or that of hints whose first fault is such
+abbrev pub HasFault : (Fault → Type 0) → Form → List ℕ → Type 0
+HasFault P ModuleText text = IsFit ModuleText text
+HasFault P HintFile text = (fault : Fault) × P fault × IsHintFault text fault
 
 -- none of the files is told to be absent
 abbrev pub NoneIsAbsent : (List ℕ → Told) → List File → Type 0
@@ -89,38 +119,66 @@ abbrev pub HoldsAll : (List ℕ → Told) → Option Command → (Command → Li
 HoldsAll told None P = ⊥
 HoldsAll told (Some command) P = HoldsAllOf told (files_of command) (P command)
 
--- of the texts, one for each file, one is unfit
-abbrev pub OneIsUnfit : List File → List (List ℕ) → Type 0
-OneIsUnfit [] texts = ⊥
-OneIsUnfit (file ∷ files) [] = ⊥
-OneIsUnfit (file ∷ files) (text ∷ texts) = IsUnfit file.form text ⊎ OneIsUnfit files texts
+-- Of the texts, one for each file, the first that isn't a well-formed module's is a module's, and its first fault has that status.
+abbrev pub FirstIsUnfit : ℕ → List File → List (List ℕ) → Type 0
+FirstIsUnfit status [] texts = ⊥
+FirstIsUnfit status (file ∷ files) [] = ⊥
+FirstIsUnfit status (file ∷ files) (text ∷ texts) =
+    IsUnfit status file.form text ⊎ ((file.form ≡ ModuleText) × IsFit ModuleText text × FirstIsUnfit status files texts)
 
--- The texts have their first forms, and the checker's verdict on them is such.
-abbrev pub AreJudged : Rules → (ModuleVerdict → Type 0) → Command → List (List ℕ) → Type 0
+-- of the texts, one for each file, those of modules are well-formed modules', and the first fault of the hints is this
+abbrev pub HintsHaveFault : Fault → List File → List (List ℕ) → Type 0
+HintsHaveFault fault files texts = AllZip (λ (file : File). HasFault (λ f. f ≡ fault) file.form) files texts
+
+-- the status that a fault of hints has
+abbrev pub fault_status : Fault → ℕ
+fault_status (At path) = 5
+fault_status (Past limit) = 9
+
+-- The texts are of their forms, and what the checker answers on them is such.
+abbrev pub AreJudged : Rules → (Option ModuleVerdict → Type 0) → Command → List (List ℕ) → Type 0
 AreJudged rules P (Check names) (source ∷ target ∷ hints ∷ []) =
-    (s : Module) × (t : Module) × (h : Hints) × HasFirstForm source s × HasFirstForm target t × HintsOf hints h × P (module_verdict rules s t h)
+    (s : Module) × (t : Module) × (h : Hints) × SpellsWellFormed source s × SpellsWellFormed target t × HintsOf hints h × P (module_answer rules s t h)
 AreJudged rules P (Check names) [] = ⊥
 AreJudged rules P (Check names) (source ∷ []) = ⊥
 AreJudged rules P (Check names) (source ∷ target ∷ []) = ⊥
 AreJudged rules P (Check names) (source ∷ target ∷ hints ∷ text ∷ more) = ⊥
 
--- The words are a command's, and none of its files is told to be absent. One of them, if it is told, has no first form.
-abbrev pub SomeFileIsUnfit : (List ℕ → Told) → Option Command → Type 0
-SomeFileIsUnfit told None = ⊥
-SomeFileIsUnfit told (Some command) =
-    NoneIsAbsent told (files_of command) × SomeOf (λ file. IfTold (told file.name) (IsUnfit file.form)) (files_of command)
+-- The words are a command's, and none of its files is told to be absent. One of them is to hold a module, and if it is told, its
+-- first fault has that status.
+abbrev pub SomeFileIsUnfit : ℕ → (List ℕ → Told) → Option Command → Type 0
+SomeFileIsUnfit status told None = ⊥
+SomeFileIsUnfit status told (Some command) =
+    NoneIsAbsent told (files_of command)
+    × SomeOf (λ file. (file.form ≡ ModuleText) × IfTold (told file.name) (IsUnfit status ModuleText)) (files_of command)
 
--- The words are a command's, and none of its files is told to be absent. Each, if it is told, has its first form. If all are told,
--- the checker's verdict on them isn't that the pair is valid.
-abbrev pub IsRefusal : Rules → (List ℕ → Told) → Option Command → Type 0
-IsRefusal rules told None = ⊥
-IsRefusal rules told (Some command) =
+-- The words are a command's, and none of its files is told to be absent. Each module, if it is told, is well-formed, and the
+-- first fault of the hints, if they are told, is such.
+abbrev pub HintsAreAtFault : (Fault → Type 0) → (List ℕ → Told) → Option Command → Type 0
+HintsAreAtFault P told None = ⊥
+HintsAreAtFault P told (Some command) =
+    NoneIsAbsent told (files_of command)
+    × AllByRecursion (λ file. IfTold (told file.name) (HasFault P file.form)) (files_of command)
+
+-- the checker has a verdict, and refuses
+abbrev pub IsInvalid : Option ModuleVerdict → Type 0
+IsInvalid answer = (v : ModuleVerdict) × (answer ≡ Some v) × (v ≢ modules.Valid)
+
+-- too many facts are known
+abbrev pub HasNoVerdict : Option ModuleVerdict → Type 0
+HasNoVerdict answer = answer ≡ None
+
+-- The words are a command's, and none of its files is told to be absent. Each, if it is told, is of its form. If all are told,
+-- what the checker answers on them is such.
+abbrev pub IsAnswer : (Option ModuleVerdict → Type 0) → Rules → (List ℕ → Told) → Option Command → Type 0
+IsAnswer P rules told None = ⊥
+IsAnswer P rules told (Some command) =
     NoneIsAbsent told (files_of command)
     × AllByRecursion (λ file. IfTold (told file.name) (IsFit file.form)) (files_of command)
-    × IfAllTold told (files_of command) (AreJudged rules (λ v. v ≢ modules.Valid) command)
+    × IfAllTold told (files_of command) (AreJudged rules P command)
 
--- the shelf tells all of the files, they are within their limits, and the checker's verdict on their texts is such
-abbrev pub HasVerdict : Rules → (List ℕ → Told) → Option Command → (ModuleVerdict → Type 0) → Type 0
+-- the shelf tells all of the files, they are within their limits, and what the checker answers on their texts is such
+abbrev pub HasVerdict : Rules → (List ℕ → Told) → Option Command → (Option ModuleVerdict → Type 0) → Type 0
 HasVerdict rules told command P = HoldsAll told command (AreJudged rules P)
 
 -- told to be absent
@@ -147,4 +205,4 @@ FirstUnheld P told (Some command) = FirstUnheldOf P told (files_of command)
 
 -- the statuses that there are
 abbrev pub IsStatus : ℕ → Type 0
-IsStatus status = IsTrue (list_any (λ known. known == status) (0 ∷ 1 ∷ 2 ∷ 3 ∷ 6 ∷ 7 ∷ 8 ∷ 9 ∷ 10 ∷ []))
+IsStatus status = IsTrue (list_any (λ known. known == status) (0 ∷ 1 ∷ 2 ∷ 3 ∷ 4 ∷ 5 ∷ 6 ∷ 7 ∷ 8 ∷ 9 ∷ 10 ∷ []))

@@ -4,9 +4,9 @@ ghost use Rattle.crell_program.specs.Due.{shelf_seen, DueOfFile, DueOfFiles};
 ghost use Rattle.crell_program.specs.Fetching.{IsHeld, AreHeld, IfDue};
 ghost use Rattle.crell_program.specs.Command.{shown_file};
 
-use crate::answer::{self, Answer};
 use crate::command::Wanted;
 use contents::Seq;
+use crell_answers::{Answer, absent, past_limit, read_failed};
 use crell_io::{Shelf, ShelfEnd};
 use std::alloc::{AllocError, Global};
 
@@ -67,13 +67,9 @@ fn fetch<S: Shelf>(alloc: Global, shelf: &mut S, file: &Wanted<'_>) -> Result<Se
 {
     match shelf.get(alloc, file.name, file.most_bytes()) {
         Ok(bytes) => Ok(Seq::from_vec(bytes)),
-        Err(ShelfEnd::Failed) => Err(Stop::Due(answer::read_failed(alloc, file.name)?)),
-        Err(ShelfEnd::Absent) => Err(Stop::Due(answer::absent(alloc, file.name)?)),
-        Err(ShelfEnd::TooLong) => Err(Stop::Due(answer::past_limit(
-            alloc,
-            file.form.limit(),
-            file.name,
-        )?)),
+        Err(ShelfEnd::Failed) => Err(Stop::Due(read_failed(alloc, file.name)?)),
+        Err(ShelfEnd::Absent) => Err(Stop::Due(absent(alloc, file.name)?)),
+        Err(ShelfEnd::TooLong) => Err(Stop::Due(past_limit(alloc, file.form.limit(), file.name)?)),
         Err(ShelfEnd::Memory) => Err(Stop::Memory),
     }
 }

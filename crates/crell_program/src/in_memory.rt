@@ -6,6 +6,7 @@ ghost use Rattle.crell_program.specs.InMemory.{new_shelf, new_sink, memory_run, 
 
 use crate::crell_with_shipped_rules;
 use crell_io::{Entry, MemShelf, MemSink};
+use module_input::first_faults_agree;
 use std::alloc::{AllocError, Global};
 
 /// A run over texts in memory, as it ended.
@@ -41,6 +42,7 @@ pub fn crell_in_memory(
         ended.shelf ended.out ended.err)
         ended.status) }
 {
+    first_faults_agree();
     let mut shelf = new_shelf(alloc, entries);
     let mut out = new_sink(alloc, room)?;
     let mut err = new_sink(alloc, room)?;

@@ -1,13 +1,11 @@
 //! The commands of `crell`, over any shelf and any two sinks: which answer is due to the words and the files, and how it is delivered.
 #![tactic(auto)]
 
-mod answer;
 mod command;
 mod delivery;
 mod fetch;
 mod in_memory;
 mod program;
-mod verdict_text;
 
 pub use in_memory::{MemoryRun, crell_in_memory};
 pub use program::{WANT_OF_MEMORY, crell, crell_with_shipped_rules};

@@ -1,29 +1,26 @@
-ghost use Rattle.std.specs.Prelude.{◌≡◌, ◌≤◌, length, None, Some, IfOk, map, string_bytes};
+ghost use Rattle.std.specs.Prelude.{◌≡◌, ◌≤◌, None, Some, IfOk, map, string_bytes};
 ghost use Rattle.ir_machine.specs.Refinement.{Refines};
-ghost use Rattle.erhl_assert.specs.Acceptance.{module_verdict};
+ghost use Rattle.erhl_assert.specs.Acceptance.{module_answer};
 ghost use Rattle.rule_base.specs.Book.{meanings_of};
 ghost use Rattle.rule_base.specs.Rows.{shipped_rules};
 ghost use Rattle.crell_io.specs.Shelf.{StaysWell};
-ghost use Rattle.crell_program.specs.Answer.{usage};
-ghost use Rattle.ir_core.specs.Limits.{limit_number};
+ghost use Rattle.crell_answers.specs.Answer.{usage};
 ghost use Rattle.crell_program.specs.Command.{command_of, files_of, shown_command, shown_names};
-ghost use Rattle.crell_program.specs.Due.{shelf_seen, DueOfFiles, DueOfCheck, DueOfTexts};
+ghost use Rattle.crell_program.specs.Due.{checked, shelf_seen, DueOfFiles, DueOfCheck, DueOfTexts};
 ghost use Rattle.crell_program.specs.Delivery.{sink_seen, IsDelivered};
 ghost use Rattle.crell_program.specs.Rows.{IsAnswered, KeepsRows};
 ghost use Rattle.crell_program.specs.Statuses.{AreRefined, IsRefinement, IsRefinementOfBytes};
-ghost use Rattle.crell_program.specs.VerdictText.{verdict_answer};
 
-use crate::answer::{self, Answer};
 use crate::command::{FileNames, command_of};
 use crate::delivery::deliver;
 use crate::fetch::{Stop, gather};
-use crate::verdict_text::verdict_answer;
+use crell_answers::{Answer, module_fault, past_limit, unfit, usage_text, verdict_answer};
 use crell_io::{Shelf, Sink};
 use erhl_assert::{Hints, ModuleVerdict};
 use erhl_checker::{CheckEnd, check_module_under};
 use hint_format::{HintFault, read_hints};
 use ir_core::{Limit, Module};
-use ir_reader::{TextFault, read_module};
+use module_input::{first_faults_agree, read_input};
 use rule_base::{InferRule, LentBook, Pass, RuleBook, RuleSet, ShippedRules};
 use std::alloc::{AllocError, Global};
 use std::marker::PhantomData;
@@ -74,6 +71,7 @@ pub fn crell<S: Shelf, O: Sink, E: Sink>(
         book: rules,
         boxes: PhantomData,
     };
+    first_faults_agree();
     run(alloc, words, &lent, shelf, out, err)
 }
 
@@ -107,6 +105,7 @@ pub fn crell_with_shipped_rules<S: Shelf, O: Sink, E: Sink>(
     // Where the words are no command's, the shelf isn't asked.
     ensures unasked { command_of (map string_bytes words.now) ≡ None → shelf.new ≡ shelf.old }
 {
+    first_faults_agree();
     run(alloc, words, &ShippedRules, shelf, out, err)
 }
 
@@ -148,7 +147,7 @@ fn tell_usage<O: Sink, E: Sink>(out: &mut O, err: &mut E) -> u8
     ensures out_faults { O.faults out.old ≤ O.faults out.new }
     ensures err_faults { E.faults err.old ≤ E.faults err.new }
 {
-    deliver(USAGE, b"", answer::usage_text(), out, err)
+    deliver(USAGE, b"", usage_text(), out, err)
 }
 
 /// Finds the answer that is due to the three files, and delivers it.
@@ -232,54 +231,50 @@ fn check_texts<R: RuleSet>(
     target: &[u8],
     hints: &[u8],
 ) -> Result<Answer, AllocError>
-    ensures due { length source.now ≤ limit_number Limit.Text
-        → length target.now ≤ limit_number Limit.Text
-        → IfOk result
+    ensures due { IfOk result
         (λ answer. DueOfCheck (R.rules rules.now) (shown_names files.now) answer source.now target.now hints.now) }
     ensures refines { IfOk result (λ answer. answer.status ≡ 0 → AreRefined source.now target.now) }
 {
-    let source = match read_module(alloc, source) {
+    let source_module = match read_input(alloc, source) {
         Ok(module) => module,
-        Err(TextFault::Memory) => return Err(AllocError),
-        Err(TextFault::NotOfTheFirstForm) => return answer::not_of_the_first_form(
-            alloc,
-            files.source,
-        ),
+        Err(fault) => return module_fault(alloc, &fault, source, files.source),
     };
-    let target = match read_module(alloc, target) {
+    let target_module = match read_input(alloc, target) {
         Ok(module) => module,
-        Err(TextFault::Memory) => return Err(AllocError),
-        Err(TextFault::NotOfTheFirstForm) => return answer::not_of_the_first_form(
-            alloc,
-            files.target,
-        ),
+        Err(fault) => return module_fault(alloc, &fault, target, files.target),
     };
     let hints = match read_hints(alloc, hints) {
         Ok(hints) => hints,
         Err(HintFault::Memory) => return Err(AllocError),
-        Err(HintFault::NotOfTheFirstForm) => return answer::not_of_the_first_form(
-            alloc,
-            files.hints,
-        ),
+        Err(HintFault::Unfit(path)) => return unfit(alloc, path.as_slice(), files.hints),
+        Err(HintFault::Limit(limit)) => return past_limit(alloc, limit, files.hints),
     };
-    judge(alloc, &source, &target, &hints, rules)
+    judge(
+        alloc,
+        files.source,
+        &source_module,
+        &target_module,
+        &hints,
+        rules,
+    )
 }
 
-/// The checker's verdict on two modules.
+/// The checker's verdict on two modules, the first of which stands in that file.
 fn judge<R: RuleSet>(
     alloc: Global,
+    file: &str,
     source: &Module,
     target: &Module,
     hints: &Hints,
     rules: &R,
 ) -> Result<Answer, AllocError>
     ensures verdict { IfOk result
-        (λ answer. answer ≡ verdict_answer (module_verdict
-        (R.rules rules.now) source.now target.now hints.now)) }
+        (λ answer. answer ≡ checked (module_answer (R.rules rules.now) source.now target.now hints.now) file.now) }
     ensures refines { IfOk result (λ answer. answer.status ≡ 0 → Refines source.now target.now) }
 {
     match check_module_under(alloc, source, target, hints, rules) {
         Ok(verdict) => verdict_answer(alloc, &verdict),
+        Err(CheckEnd::Limit(limit)) => past_limit(alloc, limit, file),
         Err(CheckEnd::Memory) => Err(AllocError),
     }
 }

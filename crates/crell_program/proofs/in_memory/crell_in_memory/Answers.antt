@@ -10,4 +10,4 @@ returns c =
     let run = c.crell_with_shipped_rules-status.ensures in
     ends_well shipped_rules (command_of (map string_bytes c.args.words.now)) (map entry_pair c.args.entries.items) c.args.room
     c.crell_with_shipped_rules-status.result c.crell_with_shipped_rules-status.new.shelf c.crell_with_shipped_rules-status.new.out c.crell_with_shipped_rules-status.new.err
-    _ _ _ c.new_shelf-shelf.ensures c.in_ok-out.ensures c.in_ok-err.ensures run.rows run.headline run.well
+    c.first_faults_agree.ensures.spelled _ _ _ c.new_shelf-shelf.ensures c.in_ok-out.ensures c.in_ok-err.ensures run.rows run.headline run.well

@@ -2,4 +2,4 @@ use Rattle.crell_program.proofs.Rows.{rows_follow}
 use Rattle.crell_program.proofs.program.crell.Goals as goal
 
 pub returns-clause-rows : goal.returns-clause-rows
-returns-clause-rows g c = rows_follow _ c.run.result c.run.ensures.answered
+returns-clause-rows g c = rows_follow c.first_faults_agree.ensures.kinds c.first_faults_agree.ensures.spelled _ c.run.result c.run.ensures.answered

@@ -1,5 +1,5 @@
 ghost use Rattle.std.specs.Prelude.{◌≡◌, ◌++◌, [], IfOk, OnOk, codes};
-ghost use Rattle.crell_program.specs.Answer as answer;
+ghost use Rattle.crell_answers.specs.Answer as answer;
 
 use contents::Seq;
 use ir_core::Limit;
@@ -35,19 +35,24 @@ Exit status:\n  \
 0   valid\n  \
 1   refused: the place and the reason are printed\n  \
 2   the words are no command's\n  \
-3   a file isn't of the first form\n  \
+3   a text spells no module: the place and what is wrong there are printed\n  \
+4   a module isn't well-formed: the place and what is wrong there are printed\n  \
+5   the hints aren't of their form: the place is printed\n  \
 6   a file can't be opened or read\n  \
 7   standard output or standard error can't be written to\n  \
 8   memory was refused\n  \
-9   a file is too long: 16 MiB a module, 64 MiB the hints\n  \
+9   a limit is passed: 16 MiB a module, 64 MiB the hints, 16 MiB a name or an expression in them,\n      \
+1048576 lines a function, 65536 facts at a place\n  \
 10  there is no such file\n"
 }
 
-/// A file's text isn't of the first form.
-pub fn not_of_the_first_form(alloc: Global, file: &str) -> Result<Answer, AllocError>
-    ensures { IfOk result (λ a. a ≡ answer.not_of_the_first_form file.now) }
+/// What is first at fault in a hint file stands at that place.
+pub fn unfit(alloc: Global, path: &[u8], file: &str) -> Result<Answer, AllocError>
+    ensures { IfOk result (λ a. a ≡ answer.unfit path.now file.now) }
 {
-    fault(alloc, 3, file, b": not of the first form")
+    let mut what = Vec::from_slice(alloc, b": at ")?;
+    what.extend_from_slice(path)?;
+    fault(alloc, 5, file, what.as_slice())
 }
 
 /// Reading a file failed.
@@ -57,7 +62,7 @@ pub fn read_failed(alloc: Global, file: &str) -> Result<Answer, AllocError>
     fault(alloc, 6, file, b": read failed")
 }
 
-/// A file passes a limit.
+/// A file, or a text in it, passes a limit.
 pub fn past_limit(alloc: Global, limit: Limit, file: &str) -> Result<Answer, AllocError>
     ensures { IfOk result (λ a. a ≡ answer.past_limit limit file.now) }
 {
@@ -73,7 +78,8 @@ pub fn absent(alloc: Global, file: &str) -> Result<Answer, AllocError>
     fault(alloc, 10, file, b": absent")
 }
 
-fn fault(alloc: Global, status: u8, file: &str, what: &[u8]) -> Result<Answer, AllocError>
+/// A refusal: nothing on out, and on err the file and what is wrong with it.
+pub fn fault(alloc: Global, status: u8, file: &str, what: &[u8]) -> Result<Answer, AllocError>
     ensures { IfOk result (λ a. a ≡ answer.fault_of status file.now what.now) }
 {
     let mut err = Vec::from_slice(alloc, file.as_bytes())?;

@@ -1,7 +1,7 @@
 ghost use Rattle.std.specs.Prelude.{◌≡◌, ◌++◌, IfOk, OnOk};
 ghost use Rattle.ir_printer.specs.Printed.{printed_name};
 ghost use Rattle.hint_format.specs.Form.{printed_fact};
-ghost use Rattle.crell_program.specs.VerdictText as spec;
+ghost use Rattle.crell_answers.specs.VerdictText as spec;
 
 use crate::answer::Answer;
 use contents::Seq;
@@ -109,7 +109,13 @@ fn push_at_spot(
     push_reason(alloc, text, reason)
 }
 
-fn push_name(alloc: Global, text: &mut Vec<u8>, sigil: Sigil, name: &Name) -> Result<(), AllocError>
+/// The name behind its sigil.
+pub fn push_name(
+    alloc: Global,
+    text: &mut Vec<u8>,
+    sigil: Sigil,
+    name: &Name,
+) -> Result<(), AllocError>
     ensures { OnOk result (text.new.items ≡ text.old.items ++ printed_name sigil name.now) }
 {
     let printed = print_name(alloc, sigil, name)?;

@@ -14,8 +14,8 @@ use Rattle.erhl_assert.specs.declared.verdict.Difference.{Difference}
 use Rattle.erhl_assert.specs.declared.verdict.Difference.TheVariants.{Functions}
 use Rattle.erhl_assert.specs.declared.verdict.ModuleVerdict.{ModuleVerdict}
 use Rattle.erhl_assert.specs.declared.verdict.ModuleVerdict.TheVariants as modules
-use Rattle.crell_program.specs.declared.answer.Answer.{Answer}
-use Rattle.crell_program.specs.Answer.{line}
+use Rattle.crell_answers.specs.declared.answer.Answer.{Answer}
+use Rattle.crell_answers.specs.Answer.{line}
 
 abbrev pub spot_text : Spot → List ℕ
 spot_text Start = codes "start"

@@ -1,0 +1,115 @@
+-- What the program answers, for each cause.
+use Rattle.std.specs.Prelude.{ℕ, List, [], ◌∷◌, ◌++◌, take, drop, codes}
+use Rattle.std.specs.List.{flat_map}
+use Rattle.std.specs.Fmt.{decimal}
+use Rattle.ir_core.specs.declared.limits.Limit.{Limit}
+use Rattle.ir_core.specs.Limits.{limit_name}
+use Rattle.ir_core.specs.declared.names.Name.{Name}
+use Rattle.ir_core.specs.declared.names.Sigil.TheVariants as sigil
+use Rattle.ir_printer.specs.Printed.{printed_name}
+use Rattle.ir_spelling.specs.declared.fault.TextFault.{TextFault}
+use Rattle.ir_spelling.specs.declared.fault.TextFault.TheVariants as text
+use Rattle.definedness.specs.declared.paths.Undefined.{Undefined}
+use Rattle.module_input.specs.declared.fault.ModuleFault.{ModuleFault}
+use Rattle.module_input.specs.declared.fault.ModuleFault.TheVariants as fault
+use Rattle.json_forms.specs.declared.failure.Fault.{Fault}
+use Rattle.json_forms.specs.declared.failure.Fault.TheVariants.{At, Past}
+use Rattle.crell_answers.specs.declared.answer.Answer.{Answer}
+
+-- a text on a line of its own
+abbrev pub line : List ℕ → List ℕ
+line text = text ++ 10 ∷ []
+
+-- a refusal: nothing on out, and on err the file and what is wrong with it
+abbrev pub fault_of : ℕ → List ℕ → List ℕ → Answer
+fault_of status file what = record { status = status; out = []; err = line (file ++ what) }
+
+-- what other words than a command's get
+unfoldable pub usage_text : List ℕ
+usage_text =
+    line (codes "usage: crell check SRC TGT HINTS")
+    ++ line (codes "")
+    ++ line (codes "Says whether the module in the file TGT refines the one in the file SRC, both textual LLVM IR, by the")
+    ++ line (codes "hints in the JSON file HINTS. A file's name doesn't begin with `-`.")
+    ++ line (codes "")
+    ++ line (codes "Exit status:")
+    ++ line (codes "  0   valid")
+    ++ line (codes "  1   refused: the place and the reason are printed")
+    ++ line (codes "  2   the words are no command's")
+    ++ line (codes "  3   a text spells no module: the place and what is wrong there are printed")
+    ++ line (codes "  4   a module isn't well-formed: the place and what is wrong there are printed")
+    ++ line (codes "  5   the hints aren't of their form: the place is printed")
+    ++ line (codes "  6   a file can't be opened or read")
+    ++ line (codes "  7   standard output or standard error can't be written to")
+    ++ line (codes "  8   memory was refused")
+    ++ line (codes "  9   a limit is passed: 16 MiB a module, 64 MiB the hints, 16 MiB a name or an expression in them,")
+    ++ line (codes "      1048576 lines a function, 65536 facts at a place")
+    ++ line (codes "  10  there is no such file")
+
+-- the words are no command's
+abbrev pub usage : Answer
+usage = record { status = 2; out = []; err = usage_text }
+
+abbrev pub read_failed : List ℕ → Answer
+read_failed file = fault_of 6 file (codes ": read failed")
+
+-- the file passes the limit
+abbrev pub past_limit : Limit → List ℕ → Answer
+past_limit limit file = fault_of 9 file (codes ": limit " ++ limit_name limit)
+
+-- what is first at fault in a hint file stands there: `h.json: at /functions/@f/blocks/0/at`
+abbrev pub unfit : List ℕ → List ℕ → Answer
+unfit path file = fault_of 5 file (codes ": at " ++ path)
+
+-- a hint file's first fault is told by its place, or by the limit that a text in it passes
+abbrev pub at_fault : Fault → List ℕ → Answer
+at_fault (At path) file = unfit path file
+at_fault (Past limit) file = past_limit limit file
+
+abbrev pub absent : List ℕ → Answer
+absent file = fault_of 10 file (codes ": absent")
+
+-- ---- what is first at fault in a module's text
+
+-- the bytes of a text from this place on, so many
+abbrev pub bytes_at : List ℕ → ℕ → ℕ → List ℕ
+bytes_at text place size = take size (drop place text)
+
+-- `a.ll:27: expected other`, for the text's file
+abbrev pub misspelled : List ℕ → ℕ → List ℕ → Answer
+misspelled file place what = fault_of 3 file (58 ∷ (decimal place ++ codes ": " ++ what))
+
+-- a name, a word or a label is shown as it is written, a label without its `:`
+abbrev pub text_fault : TextFault → List ℕ → List ℕ → Answer
+text_fault (text.BadByte place) bytes file = misspelled file place (codes "bad byte")
+text_fault (text.BadString place) bytes file = misspelled file place (codes "bad string")
+text_fault (text.BadNumber place) bytes file = misspelled file place (codes "bad number")
+text_fault (text.Expected place) bytes file = misspelled file place (codes "expected other")
+text_fault (text.LeftOut place size) bytes file = misspelled file place (codes "left out: " ++ bytes_at bytes place size)
+text_fault (text.Unknown place size) bytes file = misspelled file place (codes "unknown: " ++ bytes_at bytes place size)
+text_fault (text.Twice place size) bytes file = misspelled file place (codes "twice: " ++ bytes_at bytes place size)
+text_fault (text.WrongNumber place expected) bytes file = misspelled file place (codes "wrong number: expected " ++ decimal expected)
+text_fault (text.WrongType place) bytes file = misspelled file place (codes "wrong type")
+text_fault (text.Limit limit) bytes file = past_limit limit file
+text_fault text.Memory bytes file = fault_of 8 file []
+
+-- names of blocks, each behind a blank: ` %a %b`
+abbrev pub path_text : List Name → List ℕ
+path_text names = flat_map (λ name. 32 ∷ printed_name sigil.Local name) names
+
+-- `a.ll: @f %0 0: %x not defined on path %0`
+abbrev pub undefined : Name → Undefined → List ℕ → Answer
+undefined function u file = fault_of 4 file
+    (codes ": " ++ printed_name sigil.Global function ++ codes " " ++ printed_name sigil.Local u.block ++ codes " " ++ decimal u.line ++ codes ": "
+    ++ printed_name sigil.Local u.name ++ codes " not defined on path" ++ path_text u.path)
+
+-- `a.ll: @llvm.dbg.x: name`
+abbrev pub bad_name : Name → List ℕ → Answer
+bad_name function file = fault_of 4 file (codes ": " ++ printed_name sigil.Global function ++ codes ": name")
+
+-- the text of a module, in that file, has this first fault
+abbrev pub module_fault : ModuleFault → List ℕ → List ℕ → Answer
+module_fault (fault.Text f) bytes file = text_fault f bytes file
+module_fault (fault.Name function) bytes file = bad_name function file
+module_fault (fault.Undefined function u) bytes file = undefined function u file
+module_fault fault.Memory bytes file = fault_of 8 file []

@@ -1,0 +1,196 @@
+//! What is first at fault in a module's text.
+ghost use Rattle.std.specs.Prelude.{◌≡◌, ◌≢◌, ◌++◌, IfOk, OnOk, codes};
+ghost use Rattle.std.specs.Fmt.{decimal};
+ghost use Rattle.module_input.specs.declared.fault.ModuleFault.TheVariants as fault;
+ghost use Rattle.crell_answers.specs.Answer as answer;
+ghost use Rattle.crell_answers.specs.Private.{use_behind};
+
+use crate::answer::{Answer, fault, past_limit};
+use crate::verdict_text::push_name;
+use definedness::Undefined;
+use ir_core::{Name, Sigil};
+use ir_spelling::TextFault;
+use module_input::ModuleFault;
+use std::alloc::{AllocError, Global};
+
+/// The status where a text spells no module.
+const MISSPELLED: u8 = 3;
+
+/// The status where a module isn't well-formed.
+const ILL_FORMED: u8 = 4;
+
+/// The bytes from this place on, so many, as far as there are such.
+fn bytes_at(text: &[u8], place: usize, size: usize) -> &[u8]
+    ensures { result.now ≡ answer.bytes_at text.now place size }
+{
+    let (_, rest) = text.split_at(place.min(text.len()));
+    let (word, _) = rest.split_at(size.min(rest.len()));
+    word
+}
+
+fn push_number(alloc: Global, text: &mut Vec<u8>, number: u64) -> Result<(), AllocError>
+    ensures { OnOk result (text.new.items ≡ text.old.items ++ decimal number) }
+{
+    let printed = format!(in alloc; "{number}")?;
+    text.extend_from_slice(printed.as_bytes())
+}
+
+fn push_place(alloc: Global, text: &mut Vec<u8>, place: usize) -> Result<(), AllocError>
+    ensures { OnOk result (text.new.items ≡ text.old.items ++ decimal place) }
+{
+    let printed = format!(in alloc; "{place}")?;
+    text.extend_from_slice(printed.as_bytes())
+}
+
+/// The text spells no module; this is wrong at that place.
+fn misspelled(alloc: Global, file: &str, place: usize, what: &[u8]) -> Result<Answer, AllocError>
+    ensures { IfOk result (λ a. a ≡ answer.misspelled file.now place what.now) }
+{
+    let mut told = Vec::from_slice(alloc, b":")?;
+    push_place(alloc, &mut told, place)?;
+    told.extend_from_slice(b": ")?;
+    told.extend_from_slice(what)?;
+    fault(alloc, MISSPELLED, file, told.as_slice())
+}
+
+/// The same, where a word of the text is shown behind what is wrong.
+fn misspelled_word(
+    alloc: Global,
+    file: &str,
+    place: usize,
+    what: &[u8],
+    word: &[u8],
+) -> Result<Answer, AllocError>
+    ensures { IfOk result (λ a. a ≡ answer.misspelled file.now place (what.now ++ word.now)) }
+{
+    let mut told = Vec::from_slice(alloc, what)?;
+    told.extend_from_slice(word)?;
+    misspelled(alloc, file, place, told.as_slice())
+}
+
+fn wrong_number(
+    alloc: Global,
+    file: &str,
+    place: usize,
+    expected: u64,
+) -> Result<Answer, AllocError>
+    ensures { IfOk result (λ a. a ≡ answer.misspelled file.now place (codes "wrong number: expected " ++ decimal expected)) }
+{
+    let mut told = Vec::from_slice(alloc, b"wrong number: expected ")?;
+    push_number(alloc, &mut told, expected)?;
+    misspelled(alloc, file, place, told.as_slice())
+}
+
+fn text_fault(
+    alloc: Global,
+    found: TextFault,
+    text: &[u8],
+    file: &str,
+) -> Result<Answer, AllocError>
+    ensures { IfOk result (λ a. a ≡ answer.text_fault found text.now file.now) }
+{
+    match found {
+        TextFault::BadByte(place) => misspelled(alloc, file, place, b"bad byte"),
+        TextFault::BadString(place) => misspelled(alloc, file, place, b"bad string"),
+        TextFault::BadNumber(place) => misspelled(alloc, file, place, b"bad number"),
+        TextFault::Expected(place) => misspelled(alloc, file, place, b"expected other"),
+        TextFault::LeftOut { place, length } => {
+            misspelled_word(
+                alloc,
+                file,
+                place,
+                b"left out: ",
+                bytes_at(text, place, length),
+            )
+        }
+        TextFault::Unknown { place, length } => {
+            misspelled_word(
+                alloc,
+                file,
+                place,
+                b"unknown: ",
+                bytes_at(text, place, length),
+            )
+        }
+        TextFault::Twice { place, length } => {
+            misspelled_word(
+                alloc,
+                file,
+                place,
+                b"twice: ",
+                bytes_at(text, place, length),
+            )
+        }
+        TextFault::WrongNumber { place, expected } => wrong_number(alloc, file, place, expected),
+        TextFault::WrongType(place) => misspelled(alloc, file, place, b"wrong type"),
+        TextFault::Limit(limit) => past_limit(alloc, limit, file),
+        TextFault::Memory => Err(AllocError),
+    }
+}
+
+fn bad_name(alloc: Global, function: &Name, file: &str) -> Result<Answer, AllocError>
+    ensures { IfOk result (λ a. a ≡ answer.bad_name function.now file.now) }
+{
+    let mut told = Vec::from_slice(alloc, b": ")?;
+    push_name(alloc, &mut told, Sigil::Global, function)?;
+    told.extend_from_slice(b": name")?;
+    fault(alloc, ILL_FORMED, file, told.as_slice())
+}
+
+fn push_path(alloc: Global, text: &mut Vec<u8>, names: &[Name]) -> Result<(), AllocError>
+    ensures { OnOk result (text.new.items ≡ text.old.items ++ answer.path_text names.now) }
+{
+    for name in names {
+        text.push(b' ')?;
+        push_name(alloc, text, Sigil::Local, name)?;
+    }
+    Ok(())
+}
+
+fn push_use(alloc: Global, text: &mut Vec<u8>, found: &Undefined) -> Result<(), AllocError>
+    ensures { OnOk result (text.new.items ≡ use_behind text.old.items found.now) }
+{
+    text.push(b' ')?;
+    push_name(alloc, text, Sigil::Local, &found.block)?;
+    text.push(b' ')?;
+    push_place(alloc, text, found.line)?;
+    text.extend_from_slice(b": ")?;
+    push_name(alloc, text, Sigil::Local, &found.name)?;
+    text.extend_from_slice(b" not defined on path")?;
+    push_path(alloc, text, found.path.as_slice())
+}
+
+fn undefined(
+    alloc: Global,
+    function: &Name,
+    found: &Undefined,
+    file: &str,
+) -> Result<Answer, AllocError>
+    ensures { IfOk result (λ a. a ≡ answer.undefined function.now found.now file.now) }
+{
+    let mut told = Vec::from_slice(alloc, b": ")?;
+    push_name(alloc, &mut told, Sigil::Global, function)?;
+    push_use(alloc, &mut told, found)?;
+    fault(alloc, ILL_FORMED, file, told.as_slice())
+}
+
+/// The answer to a module's text whose first fault this is: the file, the place and what is wrong there. Want of memory has none.
+pub fn module_fault(
+    alloc: Global,
+    found: &ModuleFault,
+    text: &[u8],
+    file: &str,
+) -> Result<Answer, AllocError>
+    ensures answer { IfOk result (λ a. a ≡ answer.module_fault found.now text.now file.now) }
+    ensures said { IfOk result (λ _. found.now ≢ fault.Memory) }
+{
+    match found {
+        ModuleFault::Text(told) => text_fault(alloc, *told, text, file),
+        ModuleFault::Name(function) => bad_name(alloc, function, file),
+        ModuleFault::Undefined {
+            function,
+            undefined: used,
+        } => undefined(alloc, function, used, file),
+        ModuleFault::Memory => Err(AllocError),
+    }
+}

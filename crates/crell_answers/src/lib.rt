@@ -1,0 +1,11 @@
+//! What `crell` answers, as texts for its two sinks: the usage, what is wrong with a file, what is first at fault in a module's text,
+//! and the checker's verdict.
+#![tactic(auto)]
+
+mod answer;
+mod faults;
+mod verdict_text;
+
+pub use answer::{Answer, absent, past_limit, read_failed, unfit, usage_text};
+pub use faults::module_fault;
+pub use verdict_text::verdict_answer;
