@@ -1,0 +1,4 @@
+pub mod Rows
+pub mod Openings
+pub mod Decision
+pub mod Examples
