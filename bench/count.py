@@ -5,8 +5,8 @@ usage: bench/count.py [--program PATH] [--only WORD] [--write FILE]
 
 A row of budgets.tsv has, between tabs: its name, an input, a command, a unit (byte or line), a budget (instructions a unit), the peak of
 memory in MB, and whether the count has to grow linearly (yes or no). In a command {} stands for the input's file, NONE for hints that
-say nothing, BASE for a module of one line. An input is made by rule: chain:N is a function of N lines, steps:N a hint file of N steps,
-blocks:N one of N blocks.
+say nothing, BASE for a module of one line. An input is made by rule: chain:N is a function of N lines of i32, mixed:N one of all operators
+over integers of several widths, steps:N a hint file of N steps, blocks:N one of N blocks.
 
 Counts are callgrind's totals less those of the same command on an empty input, so they don't depend on the machine's load; two runs
 differ by less than 0.2 %. Peak memory is that of a run of its own. Where growth has to be linear the input is made at half its size too,
@@ -44,6 +44,37 @@ def chain(count):
     return "\n".join(lines + [f"  ret i32 {names[-1]}", "}", ""])
 
 
+def mixed(count):
+    """A function of so many lines of all operators over i8, i32 and i64, each over some of the last registers of its type."""
+    state = 11
+
+    def pick(among):
+        nonlocal state
+        state = (state * 6364136223846793005 + 1442695040888963407) % 2**64
+        return (state >> 33) % among
+
+    known = {"i1": ["%c"], "i8": ["%a"], "i32": ["%x", "%y"], "i64": ["%z"]}
+    binary = ["add nsw", "sub", "mul nuw", "shl", "udiv exact", "sdiv", "lshr", "ashr exact", "urem", "srem", "and", "or", "xor"]
+    predicates = ["eq", "ne", "ugt", "uge", "ult", "ule", "sgt", "sge", "slt", "sle"]
+    last = lambda ty: known[ty][-1 - pick(min(50, len(known[ty])))]
+    lines = ["define i32 @f(i1 %c, i8 %a, i32 %x, i32 %y, i64 %z) {", "entry:"]
+    for k in range(count):
+        ty, form = ("i8", "i32", "i64")[pick(3)], pick(8)
+        made = ty
+        if form < 5:
+            right = last(ty) if pick(2) else str(pick(100))
+            line = f"{binary[pick(len(binary))]} {ty} {last(ty)}, {right}"
+        elif form == 5:
+            made, line = "i1", f"icmp {predicates[pick(10)]} {ty} {last(ty)}, {last(ty)}"
+        elif form == 6:
+            line = f"select i1 {last('i1')}, {ty} {last(ty)}, {ty} {pick(100)}"
+        else:
+            made, line = ("i64", f"{('zext', 'sext')[pick(2)]} i32 {last('i32')} to i64") if pick(2) else ("i8", f"trunc i32 {last('i32')} to i8")
+        lines.append(f"  %v{k} = {line}")
+        known[made].append(f"%v{k}")
+    return "\n".join(lines + [f"  ret i32 {known['i32'][-1]}", "}", ""])
+
+
 def hints(blocks):
     return '{"format":1,"functions":{"@f":{"blocks":[%s]}}}' % ",".join(blocks)
 
@@ -57,8 +88,8 @@ def blocks(count):
     return hints([f'{{"at":"%{k}"}}' for k in range(count)])
 
 
-MAKERS = {"chain": chain, "steps": steps, "blocks": blocks}
-EMPTY = {"chain": "define i32 @f() {\n  ret i32 0\n}\n", "steps": steps(0), "blocks": blocks(0)}
+MAKERS = {"chain": chain, "mixed": mixed, "steps": steps, "blocks": blocks}
+EMPTY = {"chain": "define i32 @f() {\n  ret i32 0\n}\n", "mixed": "define i32 @f() {\n  ret i32 0\n}\n", "steps": steps(0), "blocks": blocks(0)}
 
 
 class Bench:

@@ -1,5 +1,5 @@
 -- What the program answers, for each cause.
-use Rattle.std.specs.Prelude.{ℕ, List, [], ◌∷◌, ◌++◌, take, drop, codes}
+use Rattle.std.specs.Prelude.{ℕ, List, [], ◌∷◌, ◌++◌, take, drop, codes, Option, None, Some}
 use Rattle.std.specs.List.{flat_map}
 use Rattle.std.specs.Fmt.{decimal}
 use Rattle.ir_core.specs.declared.limits.Limit.{Limit}
@@ -9,6 +9,9 @@ use Rattle.ir_core.specs.declared.names.Sigil.TheVariants as sigil
 use Rattle.ir_printer.specs.Printed.{printed_name}
 use Rattle.ir_spelling.specs.declared.fault.TextFault.{TextFault}
 use Rattle.ir_spelling.specs.declared.fault.TextFault.TheVariants as text
+use Rattle.ir_shape.specs.declared.fault.LinePlace.{LinePlace}
+use Rattle.ir_shape.specs.declared.fault.ShapeFault.{ShapeFault}
+use Rattle.ir_shape.specs.Shape.{kind_text}
 use Rattle.definedness.specs.declared.paths.Undefined.{Undefined}
 use Rattle.module_input.specs.declared.fault.ModuleFault.{ModuleFault}
 use Rattle.module_input.specs.declared.fault.ModuleFault.TheVariants as fault
@@ -97,19 +100,29 @@ text_fault text.Memory bytes file = fault_of 8 file []
 abbrev pub path_text : List Name → List ℕ
 path_text names = flat_map (λ name. 32 ∷ printed_name sigil.Local name) names
 
+-- ` %0 1` for the line 1 of the block `%0`
+abbrev pub line_text : Name → ℕ → List ℕ
+line_text block line = 32 ∷ (printed_name sigil.Local block ++ (32 ∷ decimal line))
+
+-- a function's own name is no line
+abbrev pub place_text : Option LinePlace → List ℕ
+place_text None = []
+place_text (Some place) = line_text place.block place.line
+
+-- `a.ll: @f %0 0: cast width`, and `a.ll: @llvm.dbg.x: name` of a function's own name
+abbrev pub shape_fault : ShapeFault → List ℕ → Answer
+shape_fault f file = fault_of 4 file
+    (codes ": " ++ printed_name sigil.Global f.function ++ place_text f.place ++ codes ": " ++ kind_text f.kind)
+
 -- `a.ll: @f %0 0: %x not defined on path %0`
 abbrev pub undefined : Name → Undefined → List ℕ → Answer
 undefined function u file = fault_of 4 file
-    (codes ": " ++ printed_name sigil.Global function ++ codes " " ++ printed_name sigil.Local u.block ++ codes " " ++ decimal u.line ++ codes ": "
-    ++ printed_name sigil.Local u.name ++ codes " not defined on path" ++ path_text u.path)
-
--- `a.ll: @llvm.dbg.x: name`
-abbrev pub bad_name : Name → List ℕ → Answer
-bad_name function file = fault_of 4 file (codes ": " ++ printed_name sigil.Global function ++ codes ": name")
+    (codes ": " ++ printed_name sigil.Global function ++ line_text u.block u.line ++ codes ": " ++ printed_name sigil.Local u.name
+    ++ codes " not defined on path" ++ path_text u.path)
 
 -- the text of a module, in that file, has this first fault
 abbrev pub module_fault : ModuleFault → List ℕ → List ℕ → Answer
 module_fault (fault.Text f) bytes file = text_fault f bytes file
-module_fault (fault.Name function) bytes file = bad_name function file
+module_fault (fault.Shape f) bytes file = shape_fault f file
 module_fault (fault.Undefined function u) bytes file = undefined function u file
 module_fault fault.Memory bytes file = fault_of 8 file []

@@ -1,6 +1,7 @@
 //! What is first at fault in a module's text.
-ghost use Rattle.std.specs.Prelude.{◌≡◌, ◌≢◌, ◌++◌, IfOk, OnOk, codes};
+ghost use Rattle.std.specs.Prelude.{◌≡◌, ◌≢◌, ◌∷◌, ◌++◌, IfOk, OnOk, codes};
 ghost use Rattle.std.specs.Fmt.{decimal};
+ghost use Rattle.ir_printer.specs.Printed.{printed_name};
 ghost use Rattle.module_input.specs.declared.fault.ModuleFault.TheVariants as fault;
 ghost use Rattle.crell_answers.specs.Answer as answer;
 ghost use Rattle.crell_answers.specs.Private.{use_behind};
@@ -9,6 +10,7 @@ use crate::answer::{Answer, fault, past_limit};
 use crate::verdict_text::push_name;
 use definedness::Undefined;
 use ir_core::{Name, Sigil};
+use ir_shape::{LinePlace, ShapeFault};
 use ir_spelling::TextFault;
 use module_input::ModuleFault;
 use std::alloc::{AllocError, Global};
@@ -128,12 +130,44 @@ fn text_fault(
     }
 }
 
-fn bad_name(alloc: Global, function: &Name, file: &str) -> Result<Answer, AllocError>
-    ensures { IfOk result (λ a. a ≡ answer.bad_name function.now file.now) }
+/// A block's name behind a blank.
+fn push_block(alloc: Global, text: &mut Vec<u8>, block: &Name) -> Result<(), AllocError>
+    ensures { OnOk result (text.new.items ≡ text.old.items ++ (32 ∷ printed_name Sigil.Local block.now)) }
+{
+    text.push(b' ')?;
+    push_name(alloc, text, Sigil::Local, block)
+}
+
+fn push_line(alloc: Global, text: &mut Vec<u8>, block: &Name, line: usize) -> Result<(), AllocError>
+    ensures { OnOk result (text.new.items ≡ text.old.items ++ answer.line_text block.now line) }
+{
+    push_block(alloc, text, block)?;
+    text.push(b' ')?;
+    push_place(alloc, text, line)
+}
+
+/// Nothing for a function's own name.
+fn push_line_place(
+    alloc: Global,
+    text: &mut Vec<u8>,
+    place: &Option<LinePlace>,
+) -> Result<(), AllocError>
+    ensures { OnOk result (text.new.items ≡ text.old.items ++ answer.place_text place.now) }
+{
+    match place {
+        None => Ok(()),
+        Some(place) => push_line(alloc, text, &place.block, place.line),
+    }
+}
+
+fn shape_fault(alloc: Global, found: &ShapeFault, file: &str) -> Result<Answer, AllocError>
+    ensures { IfOk result (λ a. a ≡ answer.shape_fault found.now file.now) }
 {
     let mut told = Vec::from_slice(alloc, b": ")?;
-    push_name(alloc, &mut told, Sigil::Global, function)?;
-    told.extend_from_slice(b": name")?;
+    push_name(alloc, &mut told, Sigil::Global, &found.function)?;
+    push_line_place(alloc, &mut told, &found.place)?;
+    told.extend_from_slice(b": ")?;
+    told.extend_from_slice(found.kind.text().as_bytes())?;
     fault(alloc, ILL_FORMED, file, told.as_slice())
 }
 
@@ -141,8 +175,7 @@ fn push_path(alloc: Global, text: &mut Vec<u8>, names: &[Name]) -> Result<(), Al
     ensures { OnOk result (text.new.items ≡ text.old.items ++ answer.path_text names.now) }
 {
     for name in names {
-        text.push(b' ')?;
-        push_name(alloc, text, Sigil::Local, name)?;
+        push_block(alloc, text, name)?;
     }
     Ok(())
 }
@@ -150,10 +183,7 @@ fn push_path(alloc: Global, text: &mut Vec<u8>, names: &[Name]) -> Result<(), Al
 fn push_use(alloc: Global, text: &mut Vec<u8>, found: &Undefined) -> Result<(), AllocError>
     ensures { OnOk result (text.new.items ≡ use_behind text.old.items found.now) }
 {
-    text.push(b' ')?;
-    push_name(alloc, text, Sigil::Local, &found.block)?;
-    text.push(b' ')?;
-    push_place(alloc, text, found.line)?;
+    push_line(alloc, text, &found.block, found.line)?;
     text.extend_from_slice(b": ")?;
     push_name(alloc, text, Sigil::Local, &found.name)?;
     text.extend_from_slice(b" not defined on path")?;
@@ -186,7 +216,7 @@ pub fn module_fault(
 {
     match found {
         ModuleFault::Text(told) => text_fault(alloc, *told, text, file),
-        ModuleFault::Name(function) => bad_name(alloc, function, file),
+        ModuleFault::Shape(broken) => shape_fault(alloc, broken, file),
         ModuleFault::Undefined {
             function,
             undefined: used,

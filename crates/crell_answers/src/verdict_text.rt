@@ -150,6 +150,8 @@ fn push_reason(alloc: Global, text: &mut Vec<u8>, reason: &Reason) -> Result<(),
 {
     match reason {
         Reason::AlignmentDiffers => text.extend_from_slice(b"alignment differs"),
+        Reason::KindsDiffer => text.extend_from_slice(b"kinds differ"),
+        Reason::TargetMayTrap => text.extend_from_slice(b"target may trap"),
         Reason::Unmatched(source, target) => {
             text.extend_from_slice(b"unmatched ")?;
             push_operand(alloc, text, source)?;

@@ -108,7 +108,7 @@ module _ (rules : Rules) (shelf : ShelfSeen) (out err : SinkSeen) (command : Com
   says_unfit : (f : ModuleFault) (bytes file : List ℕ) → IsAtFault bytes f → SomeFileIsUnfit (module_status f) shelf.told (Some command)
       → SaysOf this (module_fault f bytes file)
   says_unfit (faults.Text f) bytes file is unfit = says_text_fault f bytes file is.0.1 unfit
-  says_unfit (faults.Name function) bytes file is unfit = λ to_out to_err. (unfit, nothing_of out to_out)
+  says_unfit (faults.Shape f) bytes file is unfit = λ to_out to_err. (unfit, nothing_of out to_out)
   says_unfit (faults.Undefined function u) bytes file is unfit = λ to_out to_err. (unfit, nothing_of out to_out)
   says_unfit faults.Memory bytes file is unfit = absurd (is.1 refl)
 

@@ -32,7 +32,7 @@ by_text_kind (text.WrongType place) = refl
 
 by_kind : (f : ModuleFault) → module_status f ≡ kind_status (fault_kind f)
 by_kind (faults.Text f) = by_text_kind f
-by_kind (faults.Name function) = refl
+by_kind (faults.Shape f) = refl
 by_kind (faults.Undefined function u) = refl
 by_kind faults.Memory = refl
 
@@ -60,7 +60,7 @@ text_fault_status (text.WrongType place) bytes file = refl
 
 pub module_fault_status : (f : ModuleFault) (bytes file : List ℕ) → (module_fault f bytes file).status ≡ module_status f
 module_fault_status (faults.Text f) bytes file = text_fault_status f bytes file
-module_fault_status (faults.Name function) bytes file = refl
+module_fault_status (faults.Shape f) bytes file = refl
 module_fault_status (faults.Undefined function u) bytes file = refl
 module_fault_status faults.Memory bytes file = refl
 

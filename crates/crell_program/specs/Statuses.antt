@@ -73,7 +73,7 @@ text_status _ = 3
 
 abbrev pub module_status : ModuleFault → ℕ
 module_status (faults.Text f) = text_status f
-module_status (faults.Name function) = 4
+module_status (faults.Shape f) = 4
 module_status (faults.Undefined function u) = 4
 module_status faults.Memory = 8
 

@@ -18,8 +18,9 @@ use Rattle.erhl_assert.specs.declared.verdict.Verdict.TheVariants as verdict
 use Rattle.erhl_assert.specs.Facts.{with_fact, expr_names, without_naming}
 use Rattle.erhl_assert.specs.Alignment.{Line}
 use Rattle.erhl_assert.specs.Postcondition.{right_side, left_side, facts_after, diff_after, after_line}
-use Rattle.erhl_assert.specs.Course.{Ends, Refuses, Gives, Course, gives, after_ends, and_then, tested, Judged, Good, Bad, with_sizes, placed_end, placed, sizes_of, verdict_of, are_too_many, within, judged_answer, answer_at, IsGood}
-use Rattle.erhl_assert.specs.Growth.{adds, forgetting, over_calm, over_side, over_line}
+use Rattle.erhl_assert.specs.Course.{Ends, Refuses, Gives, Course, gives, refuses, after_ends, and_then, tested, Judged, Good, Bad, with_sizes, placed_end, placed, sizes_of, verdict_of, are_too_many, within, judged_answer, answer_at, IsGood}
+use Rattle.erhl_assert.specs.Allowed.{line_fault}
+use Rattle.erhl_assert.specs.Growth.{adds, forgetting, over_calm, over_side, over_allowed, over_line}
 
 pub bad_is_not_good : (sizes : List ℕ) (block : Name) (where_ : Spot) (why : Reason) → IsGood (Bad sizes block where_ why) → ⊥
 bad_is_not_good sizes block where_ why h = let e = h.1 in cc
@@ -176,13 +177,32 @@ side_ends side (Some (line.Calm l)) known = calm_ends side l known
 then_ends : {A B : Type 0} (c : Course A) (a : A) (next : A → Course B) → c.ends ≡ Gives a → (and_then c next).ends ≡ (next a).ends
 then_ends c a next h = ap (λ e. (after_ends c.sizes e next).ends) h
 
--- over an aligned line a course comes to what is known after it
-pub line_ends : (l : Line) (known : Assertion) → (over_line l known).ends ≡ Gives (after_line known l)
-line_ends l known =
+-- over an aligned line that is allowed a course comes to what is known after it
+pub allowed_ends : (l : Line) (known : Assertion) → (over_allowed l known).ends ≡ Gives (after_line known l)
+allowed_ends l known =
     let half = known_after Src l.source known in
     let last : Assertion → Course Assertion = λ after. gives (record after { diff = diff_after known l.source l.target }) in
     then_ends (over_side Src l.source known) half (λ k. and_then (over_side Tgt l.target k) last) (side_ends Src l.source known)
     ∙ then_ends (over_side Tgt l.target half) (known_after Tgt l.target half) last (side_ends Tgt l.target half)
 
-pub line_gives : (l : Line) (known after : Assertion) → (over_line l known).ends ≡ Gives after → after ≡ after_line known l
-line_gives l known after h = let e : Gives after ≡ Gives (after_line known l) = sym h ∙ line_ends l known in cc
+module _ (l : Line) (known : Assertion) where
+  abbrev over_tested : Option Reason → Course Assertion
+  over_tested o = and_then (tested o known) (over_allowed l)
+
+  pub line_allowed : line_fault known l ≡ None → over_line l known ≡ over_allowed l known
+  line_allowed h = ap over_tested h
+
+  -- one that isn't allowed is refused before anything is added
+  pub line_refused : (r : Reason) → line_fault known l ≡ Some r → over_line l known ≡ refuses r
+  line_refused r h = ap over_tested h
+
+  pub line_ends : line_fault known l ≡ None → (over_line l known).ends ≡ Gives (after_line known l)
+  line_ends h = ap (λ (c : Course Assertion). c.ends) (line_allowed h) ∙ allowed_ends l known
+
+  -- what a line gives is known after it, and the line is allowed
+  pub line_gives : (after : Assertion) → (over_line l known).ends ≡ Gives after → (line_fault known l ≡ None) × (after ≡ after_line known l)
+  line_gives after h =
+      let parts = gives_parts (tested (line_fault known l) known) (over_allowed l) after h in
+      let test = no_fault (line_fault known l) known parts.0 parts.1 in
+      let e : Gives after ≡ Gives (after_line known l) = sym h ∙ line_ends test.0 in
+      (test.0, cc)

@@ -2,7 +2,7 @@
 use Rattle.std.specs.Prelude.{◌≡◌, ℕ, ◌+◌, Bool, true, ◌&&◌, cond, List, [], ◌∷◌, ◌++◌, map, Option, None, Some, find}
 use Rattle.ir_core.specs.declared.names.Name.{Name}
 use Rattle.ir_core.specs.declared.functions.Term.{Term}
-use Rattle.ir_core.specs.declared.functions.Term.TheVariants.{Ret}
+use Rattle.ir_core.specs.declared.functions.Term.TheVariants.{Ret, RetVoid}
 use Rattle.ir_core.specs.declared.functions.Function.{Function}
 use Rattle.ir_core.specs.declared.functions.Module.{Module}
 use Rattle.ir_core.specs.Same.{same_list, same_name, same_ty}
@@ -15,7 +15,7 @@ use Rattle.erhl_assert.specs.declared.hints.Hint.{Hint}
 use Rattle.erhl_assert.specs.declared.hints.FunctionHint.{FunctionHint}
 use Rattle.erhl_assert.specs.declared.hints.Hints.{Hints}
 use Rattle.erhl_assert.specs.declared.verdict.Reason.{Reason}
-use Rattle.erhl_assert.specs.declared.verdict.Reason.TheVariants.{AlignmentDiffers, Unmatched, MissingFact}
+use Rattle.erhl_assert.specs.declared.verdict.Reason.TheVariants.{AlignmentDiffers, KindsDiffer, Unmatched, MissingFact}
 use Rattle.erhl_assert.specs.declared.verdict.Spot.TheVariants as spot
 use Rattle.erhl_assert.specs.declared.verdict.Verdict.{Verdict}
 use Rattle.erhl_assert.specs.declared.verdict.Verdict.TheVariants as verdict
@@ -28,9 +28,12 @@ use Rattle.erhl_assert.specs.Course.{and_then, tested, Judged, Good, Bad, placed
 use Rattle.erhl_assert.specs.Growth.{over_line}
 use Rattle.erhl_assert.specs.Steps.{Rules, Beside, beside, after_steps, steps_at}
 
--- both return, so their operands must be matched
+-- Both return a value, and the two are matched, or neither returns one: `ret void` beside `ret i32 %x` is `kinds differ`.
 abbrev pub term_fault : Assertion → Term → Term → Option Reason
 term_fault known (Ret a) (Ret b) = cond (matched known a b) None (Some (Unmatched a b))
+term_fault known RetVoid RetVoid = None
+term_fault known (Ret a) RetVoid = Some KindsDiffer
+term_fault known RetVoid (Ret b) = Some KindsDiffer
 
 abbrev pub term_judged : Name → ℕ → Term → Term → Assertion → Judged
 term_judged block k s t known = placed block (spot.Line k) (tested (term_fault known s t) known) (λ done. Good [])

@@ -1,19 +1,13 @@
 -- When facts and assertions hold, and when a schema of an inference rule is sound.
-use Rattle.std.specs.Prelude.{◌≡◌, Bool, true, false, ◌&&◌, ◌||◌, cond, not, filter, List, [], ◌∷◌, ◌++◌, Option}
+use Rattle.std.specs.Prelude.{◌≡◌, Bool, ◌&&◌, ◌||◌, cond, not, filter, List, [], ◌∷◌, ◌++◌, Option}
 use Rattle.std.specs.List.{list_any, AllByRecursion}
 use Rattle.ir_core.specs.declared.values.Kind.{Kind}
-use Rattle.ir_core.specs.declared.operands.Ty.{Ty}
-use Rattle.ir_core.specs.declared.operands.Ty.TheVariants as ty
-use Rattle.ir_core.specs.declared.operands.Atom.{Atom}
-use Rattle.ir_core.specs.declared.operands.Atom.TheVariants as atom
 use Rattle.ir_core.specs.declared.expressions.Reg.{Reg}
-use Rattle.ir_core.specs.declared.expressions.Expr.TheVariants.{Plain, Binary}
 use Rattle.ir_core.specs.Same.{same_reg, same_expr}
 use Rattle.ir_core.specs.Expressions.{Expr0, type_of, expr_has}
 use Rattle.ir_core.specs.Modules.{Scope}
 use Rattle.ir_values.specs.Operations.{IsOutcomeLessDefined}
-use Rattle.ir_core.specs.Types.{is_width, kind_of}
-pub use Rattle.ir_core.specs.Types.{constant_fits}
+use Rattle.ir_core.specs.Types.{kind_of}
 use Rattle.erhl_assert.specs.declared.facts.Fact.{Fact}
 use Rattle.erhl_assert.specs.declared.facts.Fact.TheVariants.{LessDef}
 use Rattle.erhl_assert.specs.declared.facts.Assertion.{Assertion}
@@ -26,26 +20,6 @@ use Rattle.erhl_assert.specs.Sides.{SideState, IsSideInKind, worth, AreRelated}
 
 abbrev pub kind_of_expr : Expr0 → Option Kind
 kind_of_expr e = kind_of (type_of e)
-
--- the type has values
-abbrev pub has_values : Ty → Bool
-has_values (ty.Int width) = is_width width
-has_values ty.Void = false
-
--- the expression has a type: the types that it states have values
-abbrev pub has_type : Expr0 → Bool
-has_type (Plain o) = has_values o.ty
-has_type (Binary b) = has_values b.ty
-
--- a number lies among those of its stated type
-abbrev pub atom_fits : Ty → Atom Reg → Bool
-atom_fits t (atom.Constant c) = constant_fits t c
-atom_fits t (atom.Register r) = true
-
--- its constants fit their stated types; one that doesn't is worth poison
-abbrev pub fits_constants : Expr0 → Bool
-fits_constants (Plain o) = atom_fits o.ty o.atom
-fits_constants (Binary b) = atom_fits b.ty b.left && atom_fits b.ty b.right
 
 -- A lessdef fact says that the first expression is less defined than the second; between two kinds it holds nowhere.
 abbrev pub Holds : SideState → Fact → Type 0

@@ -13,7 +13,8 @@ use Rattle.erhl_assert.specs.declared.facts.Side.TheVariants.{Src, Tgt}
 use Rattle.erhl_assert.specs.Facts.{has_fact, with_fact, expr_names, without_naming}
 use Rattle.erhl_assert.specs.Alignment.{Line}
 use Rattle.erhl_assert.specs.Postcondition.{right_side, left_side, diff_after}
-use Rattle.erhl_assert.specs.Course.{Course, Gives, gives, and_then}
+use Rattle.erhl_assert.specs.Allowed.{line_fault}
+use Rattle.erhl_assert.specs.Course.{Course, Gives, gives, and_then, tested}
 
 -- how many facts are known, of both sides together
 abbrev pub size : Assertion → ℕ
@@ -50,9 +51,13 @@ abbrev pub over_side : Side → Option Instr → Assertion → Course Assertion
 over_side side None known = gives known
 over_side side (Some (line.Calm l)) known = over_calm side l known
 
--- Over an aligned line: first the source's facts, then the target's, and at last the registers that may differ. So the
+-- Over an aligned line that is allowed: first the source's facts, then the target's, and at last the registers that may differ. So the
 -- source's are added while those of the target that go are still there. What it gives is `after_line`.
-abbrev pub over_line : Line → Assertion → Course Assertion
-over_line l known =
+abbrev pub over_allowed : Line → Assertion → Course Assertion
+over_allowed l known =
     and_then (over_side Src l.source known) (λ half.
     and_then (over_side Tgt l.target half) (λ after. gives (record after { diff = diff_after known l.source l.target })))
+
+-- Over an aligned line: one that isn't allowed is refused before anything is added. Beside no line of the source, `%x = udiv i8 1, %y` is.
+abbrev pub over_line : Line → Assertion → Course Assertion
+over_line l known = and_then (tested (line_fault known l) known) (over_allowed l)

@@ -1,5 +1,6 @@
 pub mod Acceptance
 pub mod Alignment
+pub mod Allowed
 pub mod Course
 pub mod FactLaws
 pub mod Facts
@@ -10,3 +11,4 @@ pub mod Named
 pub mod Postcondition
 pub mod Sides
 pub mod Steps
+pub mod Typed

@@ -1,5 +1,5 @@
 -- When the source's operand a and the target's operand b are known to be related.
-use Rattle.std.specs.Prelude.{Bool, false, ◌&&◌, ◌||◌, not, List, Option, None, Some}
+use Rattle.std.specs.Prelude.{Bool, true, false, ◌&&◌, ◌||◌, not, List, [], ◌∷◌, Option, None, Some}
 use Rattle.std.specs.List.{list_any}
 use Rattle.ir_core.specs.declared.names.Name.{Name}
 use Rattle.ir_core.specs.declared.values.Kind.{Kind}
@@ -9,7 +9,7 @@ use Rattle.ir_core.specs.declared.operands.Atom.TheVariants as atom
 use Rattle.ir_core.specs.declared.operands.Operand.{Operand}
 use Rattle.ir_core.specs.declared.expressions.Reg.{Reg}
 use Rattle.ir_core.specs.declared.expressions.Reg.TheVariants.{Now}
-use Rattle.ir_core.specs.declared.expressions.Expr.TheVariants.{Plain, Binary}
+use Rattle.ir_core.specs.declared.expressions.Expr.TheVariants.{Plain}
 use Rattle.ir_core.specs.Same.{same_ty, same_const, same_reg, same_expr}
 use Rattle.ir_core.specs.Expressions.{Expr0, map_operand}
 use Rattle.ir_values.specs.Values.{same_kind}
@@ -25,7 +25,7 @@ now_operand o = map_operand Now o
 
 abbrev pub of_plain : (Operand Reg → Bool) → Expr0 → Bool
 of_plain p (Plain o) = p o
-of_plain p (Binary e) = false
+of_plain p e = false
 
 -- p of the operand c of a fact that says a is less defined than c
 abbrev pub from_fact : (Operand Reg → Bool) → Operand Reg → Fact → Bool
@@ -75,3 +75,10 @@ matched known a b = matched_reg known (now_operand a) (now_operand b)
 -- the same, of two atoms at their types
 abbrev pub atoms_matched : Assertion → Ty → Atom Name → Ty → Atom Name → Bool
 atoms_matched known s a t b = matched known (record { ty = s; atom = a }) (record { ty = t; atom = b })
+
+-- Operands are matched, each of the source's with the one of the target's that stands in its place.
+abbrev pub are_matched : Assertion → List (Operand Name) → List (Operand Name) → Bool
+are_matched known [] [] = true
+are_matched known (a ∷ xs) (b ∷ ys) = matched known a b && are_matched known xs ys
+are_matched known [] (b ∷ ys) = false
+are_matched known (a ∷ xs) [] = false

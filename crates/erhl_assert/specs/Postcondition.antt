@@ -1,5 +1,5 @@
 -- What is known after an aligned line, from what was known before it.
-use Rattle.std.specs.Prelude.{Bool, false, ◌&&◌, cond, not, filter, List, [], ◌∷◌, ◌++◌, Option, None, Some}
+use Rattle.std.specs.Prelude.{Bool, true, ◌&&◌, cond, not, filter, List, [], ◌∷◌, ◌++◌, Option, None, Some}
 use Rattle.ir_core.specs.declared.names.Name.{Name}
 use Rattle.ir_core.specs.declared.operands.Atom.TheVariants as atom
 use Rattle.ir_core.specs.declared.functions.Calm.{Calm}
@@ -9,15 +9,16 @@ use Rattle.ir_core.specs.declared.expressions.Reg.{Reg}
 use Rattle.ir_core.specs.declared.expressions.Reg.TheVariants.{Now}
 use Rattle.ir_core.specs.declared.expressions.Expr.{Expr}
 use Rattle.ir_core.specs.declared.expressions.Expr.TheVariants as expr
-use Rattle.ir_core.specs.Same.{same_name, same_ty, same_op, same_reg}
-use Rattle.ir_core.specs.Expressions.{Expr0, type_of, map_expr}
+use Rattle.ir_core.specs.Same.{same_name, same_reg}
+use Rattle.ir_core.specs.Expressions.{Expr0, type_of, operands_in, map_expr}
 use Rattle.ir_values.specs.Laws.{flags_among}
 use Rattle.erhl_assert.specs.declared.facts.Fact.{Fact}
 use Rattle.erhl_assert.specs.declared.facts.Fact.TheVariants.{LessDef}
 use Rattle.erhl_assert.specs.declared.facts.Assertion.{Assertion}
 use Rattle.erhl_assert.specs.Sides.{has_reg}
 use Rattle.erhl_assert.specs.Facts.{with_fact, expr_names, without_naming}
-use Rattle.erhl_assert.specs.Matched.{matched, atoms_matched}
+use Rattle.erhl_assert.specs.Matched.{are_matched}
+use Rattle.erhl_assert.specs.Allowed.{same_operator}
 use Rattle.erhl_assert.specs.Alignment.{Line}
 
 -- the right side of a line, as an expression
@@ -39,14 +40,15 @@ abbrev pub facts_after : Option Instr → List Fact → List Fact
 facts_after None fs = fs
 facts_after (Some (line.Calm l)) fs = facts_after_line l fs
 
+-- The target's flags are among the source's: beside `add nuw nsw` the target may have `add nuw`, and not the other way round. Right sides
+-- without flags agree so.
+abbrev pub flags_agree : {R S : Type 0} → Expr R → Expr S → Bool
+flags_agree (expr.Binary s) (expr.Binary t) = flags_among t.flags s.flags
+flags_agree s t = true
+
 -- Right sides agree: one operator, one type, flags of the target among the source's, and operands that are matched.
 abbrev pub rights_agree : Assertion → Expr Name → Expr Name → Bool
-rights_agree known (expr.Plain a) (expr.Plain b) = matched known a b
-rights_agree known (expr.Binary s) (expr.Binary t) =
-    same_op s.op t.op && same_ty s.ty t.ty && flags_among t.flags s.flags
-    && atoms_matched known s.ty s.left t.ty t.left && atoms_matched known s.ty s.right t.ty t.right
-rights_agree known (expr.Plain a) (expr.Binary t) = false
-rights_agree known (expr.Binary s) (expr.Plain b) = false
+rights_agree known s t = same_operator s t && flags_agree s t && are_matched known (operands_in s) (operands_in t)
 
 -- one register, and right sides that agree
 abbrev pub lines_agree : Assertion → Calm → Calm → Bool
@@ -67,7 +69,7 @@ diff_after known (Some (line.Calm s)) None = with_reg (Now s.name) known.diff
 diff_after known None (Some (line.Calm t)) = with_reg (Now t.name) known.diff
 diff_after known None None = known.diff
 
--- Neither operator can trap, so a line of these is allowed beside every line, and after it this is known.
+-- After an aligned line that is allowed this is known.
 abbrev pub after_line : Assertion → Line → Assertion
 after_line known l = record {
   src = facts_after l.source known.src;

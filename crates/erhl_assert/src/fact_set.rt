@@ -71,6 +71,13 @@ fn expr_names(register: &Reg, expr: &Expr0) -> bool
         Expr::Binary(binary) => {
             atom_names(register, &binary.left) || atom_names(register, &binary.right)
         }
+        Expr::Icmp(icmp) => atom_names(register, &icmp.left) || atom_names(register, &icmp.right),
+        Expr::Cast(cast) => atom_names(register, &cast.operand.atom),
+        Expr::Select(select) => {
+            atom_names(register, &select.condition.atom)
+                || atom_names(register, &select.left.atom)
+                || atom_names(register, &select.right.atom)
+        }
     }
 }
 

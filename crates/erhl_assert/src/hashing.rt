@@ -26,6 +26,16 @@ fn feed_expr<H: Hasher>(expr: &Expr0, state: &mut H)
             feed_atom(&binary.left, state);
             feed_atom(&binary.right, state);
         }
+        Expr::Icmp(icmp) => {
+            feed_atom(&icmp.left, state);
+            feed_atom(&icmp.right, state);
+        }
+        Expr::Cast(cast) => feed_atom(&cast.operand.atom, state),
+        Expr::Select(select) => {
+            feed_atom(&select.condition.atom, state);
+            feed_atom(&select.left.atom, state);
+            feed_atom(&select.right.atom, state);
+        }
     }
 }
 

@@ -23,8 +23,12 @@ impl Drop for Spot {
 pub enum Reason {
     /// The headers, the numbers of blocks or the names of blocks differ, or a block's lines don't give back both bodies.
     AlignmentDiffers,
+    /// The terminators are of two kinds.
+    KindsDiffer,
     /// These operands, the source's and the target's, aren't known to be related.
     Unmatched(Operand<Name>, Operand<Name>),
+    /// The target's line may have undefined behaviour, and isn't known to have it only where the source's has.
+    TargetMayTrap,
     /// The book has no rule of that name.
     UnknownRule(Seq<u8>),
     /// The rule of that name doesn't take the step.
@@ -39,6 +43,8 @@ impl Drop for Reason {
     fn drop(self) {
         match self {
             Reason::AlignmentDiffers => {}
+            Reason::KindsDiffer => {}
+            Reason::TargetMayTrap => {}
             Reason::Unmatched(_, _) => {}
             Reason::UnknownRule(_) => {}
             Reason::RuleUnfit(_) => {}

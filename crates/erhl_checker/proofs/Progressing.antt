@@ -25,12 +25,13 @@ use Rattle.erhl_assert.specs.Alignment.{Line, AlignedBlock, no_facts, entry_or_e
 use Rattle.ir_core.specs.Modules.{Scope}
 use Rattle.erhl_assert.specs.Facts.{with_facts, each_once}
 use Rattle.erhl_assert.specs.Course.{Ends, Refuses, Gives, Course, gives, and_then, tested, Judged, placed, are_too_many, within, answer_at, judged_answer}
+use Rattle.erhl_assert.specs.Allowed.{line_fault}
 use Rattle.erhl_assert.specs.Growth.{over_line}
 use Rattle.erhl_assert.specs.Postcondition.{after_line}
 use Rattle.erhl_checker.specs.declared.ends.CheckEnd.{CheckEnd}
 use Rattle.erhl_assert.specs.Steps.{Beside, Meaning, after_rule, after_step, after_steps, steps_at}
 use Rattle.erhl_assert.specs.Acceptance.{term_judged, lines_judged, first_missing_of, entry_judged}
-use Rattle.erhl_assert.proofs.Courses.{within_more, within_none, within_refused, answer_placed, answer_with_sizes, line_ends}
+use Rattle.erhl_assert.proofs.Courses.{within_more, within_none, within_refused, answer_placed, answer_with_sizes, line_ends, line_refused}
 use Rattle.rule_base.specs.Book.{answer_of}
 use Rattle.rule_base.specs.declared.rule_book.Fitness.TheVariants.{Unfit, Fits}
 use Rattle.line_align.specs.Cursor.{on_source, on_target, left, aligned_line}
@@ -54,9 +55,13 @@ module _ (w : Beside) (s : PlacedStep) (ss : List PlacedStep) (known : Assertion
   steps_none h = within_none (after_step w s.step known) (after_steps w ss) h
 
 -- a line, within the limit on facts
-pub line_within : (l : Line) (known : Assertion) → are_too_many (over_line l known).sizes ≡ false → within (over_line l known) ≡ Some (Gives (after_line known l))
-line_within l known few =
-    ap (λ b. cond b None (Some (over_line l known).ends)) few ∙ ap (λ e. Some e) (line_ends l known)
+pub line_within : (l : Line) (known : Assertion) → line_fault known l ≡ None → are_too_many (over_line l known).sizes ≡ false
+    → within (over_line l known) ≡ Some (Gives (after_line known l))
+line_within l known allowed few =
+    ap (λ b. cond b None (Some (over_line l known).ends)) few ∙ ap (λ e. Some e) (line_ends l known allowed)
+
+pub line_refuses_so : (l : Line) (known : Assertion) (r : Reason) → line_fault known l ≡ Some r → within (over_line l known) ≡ Some (Refuses r)
+line_refuses_so l known r fault = ap (λ (c : Course Assertion). within c) (line_refused l known r fault)
 
 pub line_over : (l : Line) (known : Assertion) → are_too_many (over_line l known).sizes ≡ true → within (over_line l known) ≡ None
 line_over l known many = ap (λ b. cond b None (Some (over_line l known).ends)) many

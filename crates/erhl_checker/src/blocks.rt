@@ -15,7 +15,7 @@ use crate::CheckEnd;
 use crate::steps::after_steps;
 use contents::Exact;
 use erhl_assert::{Assertion, Fact, Hint, HintBlock, Letter, PlacedStep, Reason, Spot, Verdict};
-use erhl_sides::{Sides, matched};
+use erhl_sides::{Sides, matched, sides_for};
 use fact_sets::IndexedSet;
 use ir_core::{Block, Instr, Module, Name, Operand, Term};
 use line_align::{AlignedBlock, StepsByLine, hint_of, left, on_source, on_target, taken};
@@ -33,11 +33,22 @@ fn refused(alloc: Global, block: &Name, spot: Spot, reason: Reason) -> Result<Ve
     })
 }
 
-fn returned(term: &Term) -> &Operand<Name>
-    ensures { term.now ≡ Ret result.now }
+fn at_returns(
+    alloc: Global,
+    block: &Name,
+    k: u64,
+    a: &Operand<Name>,
+    b: &Operand<Name>,
+    known: &Sides<IndexedSet>,
+) -> Result<Verdict, AllocError>
+    ensures { IfOk result (λ v. term_answer block.now k (Ret a.now) (Ret b.now) known.now ≡ Some v) }
 {
-    let Term::Ret(operand) = term;
-    operand
+    if matched(a, b, known) {
+        return Ok(Verdict::Valid);
+    }
+    let a = a.copy(alloc)?;
+    let reason = Reason::Unmatched(a, b.copy(alloc)?);
+    refused(alloc, block, Spot::Line(k), reason)
 }
 
 fn at_terms(
@@ -50,14 +61,11 @@ fn at_terms(
 ) -> Result<Verdict, AllocError>
     ensures { IfOk result (λ v. term_answer block.now k source.now target.now known.now ≡ Some v) }
 {
-    let a = returned(source);
-    let b = returned(target);
-    if matched(a, b, known) {
-        return Ok(Verdict::Valid);
+    match (source, target) {
+        (Term::Ret(a), Term::Ret(b)) => at_returns(alloc, block, k, a, b, known),
+        (Term::RetVoid, Term::RetVoid) => Ok(Verdict::Valid),
+        _ => refused(alloc, block, Spot::Line(k), Reason::KindsDiffer),
     }
-    let a = a.copy(alloc)?;
-    let reason = Reason::Unmatched(a, b.copy(alloc)?);
-    refused(alloc, block, Spot::Line(k), reason)
 }
 
 /// The steps before the terminators, and then the terminators.
@@ -88,7 +96,7 @@ fn at_end<B: RuleSet>(
     }
 }
 
-#[tactic(auto, using(crate::proofs::Progressing::line_within, crate::proofs::Progressing::line_over))]
+#[tactic(auto, using(crate::proofs::Progressing::line_within, crate::proofs::Progressing::line_refuses_so, crate::proofs::Progressing::line_over))]
 fn over_line(
     alloc: Global,
     module: &Module,
@@ -105,6 +113,7 @@ fn over_line(
     };
     match after_line(alloc, module, known, &line) {
         Ok(()) => Ok(None),
+        Err(LineEnd::Refused(reason)) => Ok(Some(reason)),
         Err(LineEnd::Limit(limit)) => Err(CheckEnd::Limit(limit)),
         Err(LineEnd::Memory) => Err(CheckEnd::Memory),
     }
@@ -236,7 +245,7 @@ pub(crate) fn entry_verdict<B: RuleSet>(
     match hint_of(hint, &block.source.name) {
         Some(entry) => hinted(alloc, module, book, entry, block),
         None => {
-            let entry = Sides::empty(alloc)?;
+            let entry = sides_for(alloc, block.source.body.len(), block.target.body.len())?;
             along(alloc, module, book, &[], block, entry)
         }
     }

@@ -7,4 +7,4 @@ mod matching;
 mod sides;
 
 pub use matching::{atoms_matched, matched};
-pub use sides::Sides;
+pub use sides::{Sides, sides_for};

@@ -83,7 +83,7 @@ fn meets_plain<R: InLogic>(
 {
     match expr {
         Expr::Plain(d) => is_kind(s, kind) && is_kind(&d.ty, kind) && is_one(diff, s, c, d),
-        Expr::Binary(_) => false,
+        _ => false,
     }
 }
 
@@ -103,7 +103,7 @@ fn is_plain_now(expr: &Expr0, ty: &Ty, atom: &Atom<Name>) -> bool
 {
     match expr {
         Expr::Plain(operand) => is_now_atom(&operand.atom, atom) && same_ty(&operand.ty, ty),
-        Expr::Binary(_) => false,
+        _ => false,
     }
 }
 
@@ -204,7 +204,7 @@ fn plain_reaches<S: FactSet>(
 {
     match expr {
         Expr::Plain(c) => reaches(known, kind, &c.ty, &c.atom, t, b),
-        Expr::Binary(_) => false,
+        _ => false,
     }
 }
 

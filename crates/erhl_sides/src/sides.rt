@@ -9,7 +9,7 @@ ghost use Rattle.erhl_assert.specs.Growth.{adds, facts_of, size, with_conclusion
 
 use contents::{Exact, Seq};
 use erhl_assert::{Assertion, Fact, FactSet, Kill, Side};
-use fact_sets::RegisterSet;
+use fact_sets::{IndexedSet, RegisterSet};
 use ir_core::{Limit, Reg};
 use std::alloc::{AllocError, Global};
 use std::marker::Model;
@@ -49,6 +49,28 @@ fn set_of<S: FactSet>(alloc: Global, facts: &[Fact]) -> Result<S, AllocError>
         set.add(fact.copy(alloc)?)?;
     }
     Ok(set)
+}
+
+/// No facts, and room for those of so many lines, of which each leaves two, as far as the limit on facts goes.
+fn facts_for(alloc: Global, lines: usize) -> Result<IndexedSet, AllocError>
+    ensures { IfOk result (λ set. set ≡ []) }
+{
+    let most = Limit::Facts.number() as usize;
+    IndexedSet::with_room(alloc, lines.saturating_mul(2).min(most), lines.min(most))
+}
+
+/// Nothing is known, and no register may differ. There is room for what so many lines of each side leave known.
+pub fn sides_for(
+    alloc: Global,
+    source: usize,
+    target: usize,
+) -> Result<Sides<IndexedSet>, AllocError>
+    ensures { IfOk result (λ sides. sides ≡ no_facts) }
+{
+    let src = facts_for(alloc, source)?;
+    let tgt = facts_for(alloc, target)?;
+    let diff = RegisterSet::of(alloc, Seq::new(alloc))?;
+    Ok(Sides { src, tgt, diff })
 }
 
 impl<S: FactSet> Sides<S> {
@@ -130,10 +152,11 @@ impl<S: FactSet> Sides<S> {
         ensures { IfOk result
             (λ few. within (adds side fact self.old) ≡ cond few (Some (Gives self.new)) None) }
     {
-        if self.has_fact(side, &fact) {
+        let before = self.facts(side).len();
+        self.add_fact(side, fact)?;
+        if self.facts(side).len() == before {
             return Ok(true);
         }
-        self.add_fact(side, fact)?;
         Ok(self.is_within_limit())
     }
 

@@ -16,12 +16,14 @@ use Rattle.erhl_assert.specs.declared.hints.RuleStep.{RuleStep}
 use Rattle.erhl_assert.specs.declared.hints.HintStep.{HintStep}
 use Rattle.erhl_assert.specs.declared.hints.HintStep.TheVariants.{Rule}
 use Rattle.erhl_assert.specs.declared.hints.PlacedStep.{PlacedStep}
+use Rattle.erhl_assert.specs.declared.verdict.Reason.{Reason}
 use Rattle.erhl_assert.specs.declared.verdict.Reason.TheVariants.{RuleUnfit}
 use Rattle.erhl_assert.specs.Facts.{has_fact, expr_names, fact_names}
 use Rattle.erhl_assert.specs.Alignment.{Line}
+use Rattle.erhl_assert.specs.Allowed.{line_fault}
 use Rattle.erhl_assert.specs.Postcondition.{right_side, left_side, diff_after}
-use Rattle.erhl_assert.specs.Course.{Ends, Refuses, Gives, Course, gives, refuses, after_ends, and_then}
-use Rattle.erhl_assert.specs.Growth.{size, facts_of, adds, forgetting, over_calm, over_side, over_line}
+use Rattle.erhl_assert.specs.Course.{Ends, Refuses, Gives, Course, gives, refuses, after_ends, and_then, tested}
+use Rattle.erhl_assert.specs.Growth.{size, facts_of, adds, forgetting, over_calm, over_side, over_allowed, over_line}
 use Rattle.erhl_assert.specs.Steps.{Meaning, Beside, rule_named, first_missing, concluded, after_rule, after_step, after_steps}
 use Rattle.erhl_soundness.specs.Laws.{SizesBoundWhatIsKnown}
 
@@ -98,11 +100,19 @@ module _ (n : ℕ) where
   side_bounded side None known h = λ all. h
   side_bounded side (Some (line.Calm l)) known h = calm_bounded side l known h
 
-  line_bounded : (l : Line) (known : Assertion) → size known ≤ n → IsBounded (over_line l known)
-  line_bounded l known h =
+  allowed_bounded : (l : Line) (known : Assertion) → size known ≤ n → IsBounded (over_allowed l known)
+  allowed_bounded l known h =
       let last : Assertion → Course Assertion = λ after. gives (record after { diff = diff_after known l.source l.target }) in
       and_then_bounded (over_side Src l.source known) (λ half. and_then (over_side Tgt l.target half) last) (side_bounded Src l.source known h)
       (λ half less. and_then_bounded (over_side Tgt l.target half) last (side_bounded Tgt l.target half less) (λ after less' all. less'))
+
+  tested_bounded : (o : Option Reason) (known : Assertion) → size known ≤ n → IsBounded (tested o known)
+  tested_bounded None known h = λ all. h
+  tested_bounded (Some r) known h = λ all. tt
+
+  line_bounded : (l : Line) (known : Assertion) → size known ≤ n → IsBounded (over_line l known)
+  line_bounded l known h =
+      and_then_bounded (tested (line_fault known l) known) (over_allowed l) (tested_bounded (line_fault known l) known h) (λ known' less. allowed_bounded l known' less)
 
   concluded_bounded : (o : Option Fact) (step : RuleStep) (known : Assertion) → size known ≤ n → IsBounded (concluded o step known)
   concluded_bounded (Some f) step known h = λ all. tt

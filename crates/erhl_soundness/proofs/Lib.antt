@@ -1,6 +1,9 @@
 mod Bounding
 mod Counting
+mod Coming
 mod Readings
+mod Trapping
+mod Operators
 mod Lines
 mod Facts
 mod Matched

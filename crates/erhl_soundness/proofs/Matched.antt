@@ -11,7 +11,7 @@ use Rattle.ir_core.specs.declared.operands.Atom.TheVariants as atom
 use Rattle.ir_core.specs.declared.operands.Operand.{Operand}
 use Rattle.ir_core.specs.declared.expressions.Reg.{Reg}
 use Rattle.ir_core.specs.declared.expressions.Reg.TheVariants.{Now}
-use Rattle.ir_core.specs.declared.expressions.Expr.TheVariants.{Plain, Binary}
+use Rattle.ir_core.specs.declared.expressions.Expr.TheVariants.{Plain}
 use Rattle.ir_core.specs.Expressions.{Expr0}
 use Rattle.ir_core.specs.Same.{same_ty, same_const, same_reg, same_expr}
 use Rattle.ir_core.proofs.SameLaws.{left_true, right_true, same_ty_true, same_const_true, same_reg_true, same_reg_expr_true}
@@ -44,7 +44,7 @@ module _ (side : SideState) (p : Operand Reg → Bool) where
       let same = same_reg_expr_true x (Plain a) (left_true (same_expr same_reg x (Plain a)) (p c) h) in
       let fact = subst (λ z. Holds side (LessDef z (Plain c))) same known in
       (c, right_true (same_expr same_reg x (Plain a)) (p c) h, fact.1)
-  above_by_fact a x (Binary e) h known = absurd (false≢true (right_true (same_expr same_reg x (Plain a)) false h))
+  above_by_fact a x e h known = absurd (false≢true (right_true (same_expr same_reg x (Plain a)) false h))
 
   above_by_facts : (a : Operand Reg) (fs : List Fact) → list_any (from_fact p a) fs ≡ true → AllByRecursion (Holds side) fs → SomeAbove side p a
   above_by_facts a [] h all = absurd (false≢true h)
@@ -60,7 +60,7 @@ module _ (side : SideState) (p : Operand Reg → Bool) where
       let same = same_reg_expr_true y (Plain b) (left_true (same_expr same_reg y (Plain b)) (p c) h) in
       let fact = subst (λ z. Holds side (LessDef (Plain c) z)) same known in
       (c, right_true (same_expr same_reg y (Plain b)) (p c) h, fact.1)
-  below_by_fact b (Binary e) y h known = absurd (false≢true (right_true (same_expr same_reg y (Plain b)) false h))
+  below_by_fact b e y h known = absurd (false≢true (right_true (same_expr same_reg y (Plain b)) false h))
 
   below_by_facts : (b : Operand Reg) (fs : List Fact) → list_any (into_fact p b) fs ≡ true → AllByRecursion (Holds side) fs → SomeBelow side p b
   below_by_facts b [] h all = absurd (false≢true h)

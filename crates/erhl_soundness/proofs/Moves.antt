@@ -1,10 +1,10 @@
 -- Related states make related moves.
-use Rattle.std.proofs.Common.{◌≡◌, ◌⊎◌, ℕ, suc, ◌+◌, Bool, true, false, cond, List, [], ◌∷◌, Option, None, Some, refl, sym, ap, subst, subst₂, inl, inr, ⊎_elim}
+use Rattle.std.proofs.Common.{◌≡◌, ◌⊎◌, ℕ, suc, ◌+◌, Bool, true, false, cond, List, [], ◌∷◌, Option, None, Some, refl, sym, ap, ◌∙◌, subst, subst₂, inl, inr, ⊎_elim}
 use Rattle.ir_core.specs.declared.names.Name.{Name}
 use Rattle.ir_core.specs.declared.operands.Operand.{Operand}
 use Rattle.ir_core.specs.declared.functions.Instr.{Instr}
 use Rattle.ir_core.specs.declared.functions.Term.{Term}
-use Rattle.ir_core.specs.declared.functions.Term.TheVariants.{Ret}
+use Rattle.ir_core.specs.declared.functions.Term.TheVariants.{Ret, RetVoid}
 use Rattle.ir_core.specs.declared.functions.Module.{Module}
 use Rattle.ir_core.specs.Types.{kind_of}
 use Rattle.ir_core.specs.Modules.{Scope, scope_of}
@@ -16,11 +16,12 @@ use Rattle.ir_machine.proofs.InKind.{operand_in_kind, made_in_kind, no_registers
 use Rattle.erhl_assert.specs.declared.facts.Assertion.{Assertion}
 use Rattle.erhl_assert.specs.declared.hints.PlacedStep.{PlacedStep}
 use Rattle.erhl_assert.specs.declared.verdict.Reason.{Reason}
-use Rattle.erhl_assert.specs.declared.verdict.Reason.TheVariants.{Unmatched}
+use Rattle.erhl_assert.specs.declared.verdict.Reason.TheVariants.{KindsDiffer, Unmatched}
 use Rattle.erhl_assert.specs.declared.verdict.Spot.TheVariants as spot
 use Rattle.erhl_assert.specs.Sides.{IsSideInKind, side_of}
 use Rattle.erhl_assert.specs.Matched.{matched}
 use Rattle.erhl_assert.specs.Alignment.{Line}
+use Rattle.erhl_assert.specs.Allowed.{line_fault}
 use Rattle.erhl_assert.specs.Postcondition.{after_line}
 use Rattle.erhl_assert.specs.Course.{Gives, Course, and_then, tested, Good, IsGood}
 use Rattle.erhl_assert.specs.Growth.{over_line}
@@ -98,6 +99,14 @@ module _ (rules : Rules) (source target : Module) (sound : AreSound rules) where
       (λ wrong. inr (1, Turn ∷ [], last.0, last.1, inr (wrong_made, [], wrong, refl, refl)))
       does
 
+  -- no check is good of terminators that are of two kinds
+  kinds_agree : (block : Name) (k : ℕ) (p q : Term) (known : Assertion) → term_fault known p q ≡ Some KindsDiffer → IsGood (term_judged block k p q known) → ⊥
+  kinds_agree block k p q known fault good =
+      let parts = good_parts block (spot.Line k) (tested (term_fault known p q) known) (λ done. Good []) good in
+      let none = (no_fault (term_fault known p q) known parts.0 parts.1).0 in
+      let e : Some KindsDiffer ≡ None = sym fault ∙ none in
+      cc
+
   terms_move : (x y : Frame) (block : Name) (k : ℕ) (p q : Term) (known : Assertion) (rs rt : Registers) → HoldsOf source target known rs rt
       → AreInKind rt → IsGood (term_judged block k p q known) → Moves source target R 0 (ending x p rs) (ending y q rt)
   terms_move x y block k (Ret a) (Ret b) known rs rt holds kind good =
@@ -105,6 +114,10 @@ module _ (rules : Rules) (source target : Module) (sound : AreSound rules) where
       let parts = good_parts block (spot.Line k) (tested fault known) (λ done. Good []) good in
       let same = passed (matched known a b) (Unmatched a b) (no_fault fault known parts.0 parts.1).0 in
       inr (λ made follows. inr (returns_move x y a b rs rt known holds kind same made follows))
+  terms_move x y block k RetVoid RetVoid known rs rt holds kind good =
+      inr (λ made follows. let over = ap (λ (m : Made). m.after) follows in inr (inl (0, made, follows, refl, inr (over, over))))
+  terms_move x y block k (Ret a) RetVoid known rs rt holds kind good = absurd (kinds_agree block k (Ret a) RetVoid known refl good)
+  terms_move x y block k RetVoid (Ret b) known rs rt holds kind good = absurd (kinds_agree block k RetVoid (Ret b) known refl good)
 
   -- two frames within aligned blocks
   module _ (x y : Frame) (block : Name) (steps : List PlacedStep) where
@@ -213,12 +226,13 @@ module _ (rules : Rules) (source target : Module) (sound : AreSound rules) where
 
     -- where the check from a line on is good, the steps before it lead on, and the check after it is good
     line_good : (k : ℕ) (l : Line) (ls : List Line) (known : Assertion) → IsGoodFrom k (l ∷ ls) known
-        → (after : Assertion) × ((steps_before k known).ends ≡ Gives after) × IsGoodFrom (k + 1) ls (after_line after l)
+        → (after : Assertion) × ((steps_before k known).ends ≡ Gives after) × (line_fault after l ≡ None) × IsGoodFrom (k + 1) ls (after_line after l)
     line_good k l ls known good =
         let next = lines_judged (beside rules source) block steps (k + 1) ls x.term y.term in
         let parts = good_parts block (spot.Line k) (and_then (steps_before k known) (over_line l)) next good in
         let both = gives_parts (steps_before k known) (over_line l) parts.0 parts.1 in
-        (both.0, both.1, subst (λ after. IsGood (next after)) (line_gives l both.0 parts.0 both.2) parts.2)
+        let line = line_gives l both.0 parts.0 both.2 in
+        (both.0, both.1, line.0, subst (λ after. IsGood (next after)) line.1 parts.2)
 
     pub blocks_move : (ls : List Line) (k : ℕ) (known : Assertion) (rs rt : Registers) → HoldsOf source target known rs rt → AreInKind rs → AreInKind rt
         → IsGoodFrom k ls known → BlocksMove ls rs rt
@@ -228,9 +242,9 @@ module _ (rules : Rules) (source target : Module) (sound : AreSound rules) where
     blocks_move (l ∷ ls) k known rs rt holds source_kind target_kind good =
         let parts = line_good k l ls known good in
         let lead = steps_lead k known parts.0 rs rt holds source_kind target_kind parts.1 in
-        let keeps = line_keeps parts.0 l (side_of (scope_of source) rs) (side_of (scope_of target) rt) lead in
-        line_moves (k + 1) ls (after_line parts.0 l) parts.2 rs rt source_kind target_kind l.source l.target keeps.0 keeps.1 keeps.2 keeps.3 keeps.4
-        (λ holds'. blocks_move ls (k + 1) (after_line parts.0 l) rs rt holds' source_kind target_kind parts.2)
+        let keeps = line_keeps parts.0 l (side_of (scope_of source) rs) (side_of (scope_of target) rt) lead parts.2 in
+        line_moves (k + 1) ls (after_line parts.0 l) parts.3 rs rt source_kind target_kind l.source l.target keeps.0 keeps.1 keeps.2 keeps.3 keeps.4
+        (λ holds'. blocks_move ls (k + 1) (after_line parts.0 l) rs rt holds' source_kind target_kind parts.3)
 
   pub moves : (k : ℕ) (s t : State) → R k s t → Moves source target R k s t
   moves k s t (inl r) =

@@ -1,21 +1,30 @@
 -- One lemma for all changes of registers, and one for all changes of names: what an expression is worth rests on what its
 -- registers read.
-use Rattle.std.proofs.Common.{◌≡◌, Bool, false, Option, None, Some, refl, ap, ap₂}
+use Rattle.std.proofs.Common.{◌≡◌, ◌∙◌, ◌||◌, Bool, true, false, cond, nat_eq, Option, None, Some, refl, sym, ap, ap₂}
 use Rattle.std.proofs.lemmas.Bool.{or_parts}
 use Rattle.ir_core.specs.declared.values.Value.{Value}
-use Rattle.ir_core.specs.declared.values.Value.TheVariants.{Poison}
+use Rattle.ir_core.specs.declared.values.Value.TheVariants.{Num, Undef, Poison}
 use Rattle.ir_core.specs.declared.values.Kind.{Kind}
-use Rattle.ir_core.specs.declared.values.Kind.TheVariants.{Int}
 use Rattle.ir_core.specs.declared.operands.Atom.{Atom}
 use Rattle.ir_core.specs.declared.operands.Atom.TheVariants.{Constant, Register}
-use Rattle.ir_core.specs.declared.operands.BinOp.{BinOp}
-use Rattle.ir_core.specs.declared.operands.Flags.{Flags}
+use Rattle.ir_core.specs.declared.operands.CastOp.{CastOp}
 use Rattle.ir_core.specs.declared.expressions.Expr.{Expr}
-use Rattle.ir_core.specs.declared.expressions.Expr.TheVariants.{Plain, Binary}
-use Rattle.ir_core.specs.Types.{kind_of}
+use Rattle.ir_core.specs.declared.expressions.Expr.TheVariants.{Plain, Binary, Icmp, Cast, Select}
+use Rattle.ir_core.specs.declared.operands.Operand.{Operand}
+use Rattle.ir_core.specs.declared.operands.Ty.TheVariants.{Int}
+use Rattle.ir_core.specs.Same.{same_ty}
+use Rattle.ir_core.proofs.SameLaws.{right_true, same_ty_true}
+use Rattle.ir_values.specs.Selections.{select_outcome}
+use Rattle.ir_core.specs.Types.{converts, kind_of}
 use Rattle.ir_core.specs.Expressions.{type_of, map_atom, map_expr, atom_has, expr_has}
-use Rattle.ir_values.specs.declared.operations.Outcome.TheVariants.{Gives, Trap}
-use Rattle.ir_machine.specs.Registers.{atom_value, binary_at, outcome}
+use Rattle.ir_values.specs.declared.operations.Outcome.TheVariants.{Gives}
+use Rattle.ir_machine.specs.Registers.{atom_value, operand_value, binary_at, icmp_at, cast_at, selects, outcome}
+
+-- equal values are selected alike
+selected : (typed : Bool) {c d a b x y : Value} → c ≡ d → a ≡ b → x ≡ y
+    → cond typed (select_outcome c a x) (Gives Poison) ≡ cond typed (select_outcome d b y) (Gives Poison)
+selected typed {d = d} {b = b} {x = x} p q o =
+    ap₂ (λ c a. cond typed (select_outcome c a x) (Gives Poison)) p q ∙ ap (λ y. cond typed (select_outcome d b y) (Gives Poison)) o
 
 -- two readings that agree on each register of an expression give it one outcome
 module _ {R : Type 0} (before after : Kind → R → Value) (test : R → Bool) (same : (k : Kind) (r : R) → test r ≡ false → after k r ≡ before k r) where
@@ -29,6 +38,17 @@ module _ {R : Type 0} (before after : Kind → R → Value) (test : R → Bool) 
   outcome_same (Binary b) h =
       let parts = or_parts (atom_has test b.left) (atom_has test b.right) h in
       ap₂ (binary_at b.op b.flags (kind_of b.ty)) (atom_same (kind_of b.ty) b.left parts.0) (atom_same (kind_of b.ty) b.right parts.1)
+  outcome_same (Icmp c) h =
+      let parts = or_parts (atom_has test c.left) (atom_has test c.right) h in
+      ap₂ (icmp_at c.pred (kind_of c.ty)) (atom_same (kind_of c.ty) c.left parts.0) (atom_same (kind_of c.ty) c.right parts.1)
+  outcome_same (Cast c) h =
+      ap (λ v. cond (converts c.op c.operand.ty c.to) (cast_at c.op (kind_of c.operand.ty) (kind_of c.to) v) (Gives Poison))
+      (atom_same (kind_of c.operand.ty) c.operand.atom h)
+  outcome_same (Select s) h =
+      let parts = or_parts (atom_has test s.condition.atom || atom_has test s.left.atom) (atom_has test s.right.atom) h in
+      let first = or_parts (atom_has test s.condition.atom) (atom_has test s.left.atom) parts.0 in
+      selected (selects s.condition.ty s.left.ty s.right.ty) (atom_same (kind_of s.condition.ty) s.condition.atom first.0)
+      (atom_same (kind_of s.left.ty) s.left.atom first.1) (atom_same (kind_of s.right.ty) s.right.atom parts.1)
 
 -- under other names an expression has the outcome that it has where its registers read so
 module _ {R S : Type 0} (name : R → S) (reading : Kind → S → Value) where
@@ -43,23 +63,52 @@ module _ {R S : Type 0} (name : R → S) (reading : Kind → S → Value) where
   pub outcome_mapped : (e : Expr R) → outcome reading (map_expr name e) ≡ outcome renamed e
   outcome_mapped (Plain o) = ap Gives (atom_mapped (kind_of o.ty) o.atom)
   outcome_mapped (Binary b) = ap₂ (binary_at b.op b.flags (kind_of b.ty)) (atom_mapped (kind_of b.ty) b.left) (atom_mapped (kind_of b.ty) b.right)
+  outcome_mapped (Icmp c) = ap₂ (icmp_at c.pred (kind_of c.ty)) (atom_mapped (kind_of c.ty) c.left) (atom_mapped (kind_of c.ty) c.right)
+  outcome_mapped (Cast c) =
+      ap (λ v. cond (converts c.op c.operand.ty c.to) (cast_at c.op (kind_of c.operand.ty) (kind_of c.to) v) (Gives Poison))
+      (atom_mapped (kind_of c.operand.ty) c.operand.atom)
+  outcome_mapped (Select s) =
+      selected (selects s.condition.ty s.left.ty s.right.ty) (atom_mapped (kind_of s.condition.ty) s.condition.atom)
+      (atom_mapped (kind_of s.left.ty) s.left.atom) (atom_mapped (kind_of s.right.ty) s.right.atom)
 
 -- and the same type
 pub type_mapped : {R S : Type 0} (name : R → S) (e : Expr R) → type_of (map_expr name e) ≡ type_of e
 type_mapped name (Plain o) = refl
 type_mapped name (Binary b) = refl
+type_mapped name (Icmp c) = refl
+type_mapped name (Cast c) = refl
+type_mapped name (Select s) = refl
 
 -- at a type without values an outcome is poison
-pub poison_without_kind : {R : Type 0} (reading : Kind → R → Value) (e : Expr R) → kind_of (type_of e) ≡ None → outcome reading e ≡ Gives Poison
-poison_without_kind reading (Plain o) h = ap (λ k. Gives (atom_value reading k o.atom)) h
-poison_without_kind reading (Binary b) h = ap (λ k. binary_at b.op b.flags k (atom_value reading k b.left) (atom_value reading k b.right)) h
+cast_to_none : (op : CastOp) (j : Option Kind) (typed : Bool) (a : Value) → cond typed (cast_at op j None a) (Gives Poison) ≡ Gives Poison
+cast_to_none op None true a = refl
+cast_to_none op (Some j) true a = refl
+cast_to_none op j false a = refl
 
--- no operator traps
-binary_no_trap : (op : BinOp) (flags : Flags) (k : Option Kind) (a b : Value) → binary_at op flags k a b ≡ Trap → ⊥
-binary_no_trap op flags None a b h = cc
-binary_no_trap op flags (Some (Int width)) a b h = cc
+selects_poison : (c : Value) → select_outcome c Poison Poison ≡ Gives Poison
+selects_poison Poison = refl
+selects_poison Undef = refl
+selects_poison (Num n) = elim (nat_eq n 1) as (λ b. Gives (cond b Poison Poison) ≡ Gives Poison) [ true ↦ refl | false ↦ refl ]
 
-pub no_trap : {R : Type 0} (reading : Kind → R → Value) (e : Expr R) → outcome reading e ≡ Trap → ⊥
-no_trap reading (Plain o) h = cc
-no_trap reading (Binary b) h =
-    binary_no_trap b.op b.flags (kind_of b.ty) (atom_value reading (kind_of b.ty) b.left) (atom_value reading (kind_of b.ty) b.right) h
+select_of_none : (typed : Bool) (c a b : Value) → (typed ≡ true → (a ≡ Poison) × (b ≡ Poison)) → cond typed (select_outcome c a b) (Gives Poison) ≡ Gives Poison
+select_of_none true c a b h = let both = h refl in ap₂ (select_outcome c) both.0 both.1 ∙ selects_poison c
+select_of_none false c a b h = refl
+
+module _ {R : Type 0} (reading : Kind → R → Value) where
+  poison_of_none : (o : Operand R) → kind_of o.ty ≡ None → operand_value reading o ≡ Poison
+  poison_of_none o h = ap (λ k. atom_value reading k o.atom) h
+
+  pub poison_without_kind : (e : Expr R) → kind_of (type_of e) ≡ None → outcome reading e ≡ Gives Poison
+  poison_without_kind (Plain o) h = ap Gives (poison_of_none o h)
+  poison_without_kind (Binary b) h = ap (λ k. binary_at b.op b.flags k (atom_value reading k b.left) (atom_value reading k b.right)) h
+  poison_without_kind (Icmp c) h = absurd (cc)
+  poison_without_kind (Cast c) h =
+      let typed = converts c.op c.operand.ty c.to in
+      ap (λ k. cond typed (cast_at c.op (kind_of c.operand.ty) k (operand_value reading c.operand)) (Gives Poison)) h
+      ∙ cast_to_none c.op (kind_of c.operand.ty) typed (operand_value reading c.operand)
+  poison_without_kind (Select s) h =
+      select_of_none (selects s.condition.ty s.left.ty s.right.ty) (operand_value reading s.condition) (operand_value reading s.left) (operand_value reading s.right)
+      (λ e.
+      let one : s.left.ty ≡ s.right.ty =
+      same_ty_true s.left.ty s.right.ty (right_true (same_ty s.condition.ty (Int 1)) (same_ty s.left.ty s.right.ty) e) in
+      (poison_of_none s.left h, poison_of_none s.right (ap kind_of (sym one) ∙ h)))

@@ -1,43 +1,50 @@
 -- Registers stay related over an aligned line, but for those that it lets differ.
-use Rattle.std.proofs.Common.{◌≡◌, Bool, true, false, ◌&&◌, ◌||◌, not, cond, List, [], ◌∷◌, ◌++◌, Option, None, Some, refl, sym, ap, ◌∙◌, subst, subst₂, ⊎_elim}
+use Rattle.std.proofs.Common.{◌≡◌, ◌⊎◌, inl, inr, Bool, true, false, ◌&&◌, ◌||◌, not, cond, List, [], ◌∷◌, ◌++◌, Option, None, Some, refl, sym, ap, ◌∙◌, subst, subst₂, ⊎_elim}
 use Rattle.std.proofs.lemmas.Bool.{false≢true, cond_both, false_from_ne_true, or_parts, or_from, cases_Bool, not_from_false, not_from_true, cond-true, cond-false}
 use Rattle.std.proofs.lemmas.List.Folds.{list_any-append}
 use Rattle.ir_core.specs.declared.names.Name.{Name}
 use Rattle.ir_core.specs.declared.values.Value.{Value}
 use Rattle.ir_core.specs.declared.values.Value.TheVariants.{Poison}
 use Rattle.ir_core.specs.declared.values.Kind.{Kind}
-use Rattle.ir_core.specs.declared.values.Kind.TheVariants as kind
-use Rattle.ir_core.specs.declared.operands.BinOp.{BinOp}
 use Rattle.ir_core.specs.declared.operands.Flags.{Flags}
 use Rattle.ir_core.specs.declared.functions.Calm.{Calm}
 use Rattle.ir_core.specs.declared.functions.Instr.{Instr}
 use Rattle.ir_core.specs.declared.functions.Instr.TheVariants as line
 use Rattle.ir_core.specs.declared.expressions.Binary.{Binary}
+use Rattle.ir_core.specs.declared.expressions.Icmp.{Icmp}
+use Rattle.ir_core.specs.declared.expressions.Cast.{Cast}
+use Rattle.ir_core.specs.declared.expressions.Select.{Select}
 use Rattle.ir_core.specs.declared.expressions.Expr.{Expr}
 use Rattle.ir_core.specs.declared.expressions.Expr.TheVariants as expr
 use Rattle.ir_core.specs.declared.expressions.Reg.{Reg}
 use Rattle.ir_core.specs.declared.expressions.Reg.TheVariants as reg
-use Rattle.ir_core.specs.Same.{same_name, same_ty, same_op, same_reg}
-use Rattle.ir_core.proofs.SameLaws.{left_true, right_true, same_name_true, same_name_refl, same_ty_true, same_op_true, same_reg_true, same_reg_refl}
-use Rattle.ir_values.specs.Values.{IsLessDefined, same_kind}
+use Rattle.ir_core.specs.Same.{same_name, same_ty, same_op, same_cast, same_pred, same_reg}
+use Rattle.ir_core.proofs.SameLaws.{left_true, right_true, all_true, same_name_true, same_name_refl, same_ty_true, same_op_true, same_cast_true, same_pred_true, same_reg_true, same_reg_refl}
+use Rattle.ir_values.specs.Values.{same_kind}
 use Rattle.ir_values.specs.Laws.{flags_among}
-use Rattle.ir_core.specs.Types.{kind_of}
-use Rattle.ir_core.specs.Expressions.{type_of}
+use Rattle.ir_core.specs.declared.operands.CastOp.{CastOp}
+use Rattle.ir_core.specs.declared.operands.Ty.{Ty}
+use Rattle.ir_values.specs.Selections.{select_outcome}
+use Rattle.ir_core.specs.Types.{converts, kind_of}
+use Rattle.ir_core.specs.Expressions.{type_of, operands_in}
 use Rattle.ir_values.specs.declared.operations.Outcome.{Outcome}
 use Rattle.ir_values.specs.declared.operations.Outcome.TheVariants.{Gives, Trap}
 use Rattle.ir_values.specs.Operations.{IsOutcomeLessDefined}
-use Rattle.ir_machine.specs.Registers.{Registers, held_at, holding, read, set, atom_value, binary_at, outcome}
+use Rattle.ir_machine.specs.Registers.{Registers, held_at, holding, read, set, atom_value, operand_value, binary_at, icmp_at, cast_at, selects, outcome}
 use Rattle.ir_machine.specs.State.{Frame, Pending, World}
 use Rattle.ir_machine.specs.Machine.{set_to}
 use Rattle.ir_machine.proofs.Runs.{read_set_at}
 use Rattle.erhl_assert.specs.declared.facts.Assertion.{Assertion}
 use Rattle.erhl_assert.specs.Sides.{SideState, IsRelated, read_reg, has_reg, AreRelated}
 use Rattle.erhl_assert.specs.Facts.{AssertionHolds}
-use Rattle.erhl_assert.specs.Matched.{atoms_matched}
-use Rattle.erhl_assert.specs.Postcondition.{rights_agree, lines_agree, without_reg, with_reg, diff_after, after_line}
-use Rattle.ir_values.proofs.OperationLaws.{binary_monotone}
+use Rattle.erhl_assert.specs.declared.verdict.Reason.{Reason}
+use Rattle.erhl_assert.specs.declared.verdict.Reason.TheVariants.{Unmatched, TargetMayTrap}
+use Rattle.erhl_assert.specs.Matched.{matched, atoms_matched, are_matched}
+use Rattle.erhl_assert.specs.Allowed.{can_trap, same_operator, first_unmatched, right_fault, line_fault_of}
+use Rattle.erhl_assert.specs.Postcondition.{flags_agree, rights_agree, lines_agree, without_reg, with_reg, diff_after, after_line}
 use Rattle.erhl_soundness.specs.Laws.{goes_on, LineLeads, Keeps, ALineKeepsWhatHolds, MatchedOperandsAreRelated}
-use Rattle.erhl_soundness.proofs.Readings.{no_trap}
+use Rattle.erhl_soundness.proofs.Trapping.{no_trap}
+use Rattle.erhl_soundness.proofs.Operators.{binary_related, icmp_related, cast_related, select_related, traps_whatever_flags, only_trap}
 use Rattle.erhl_soundness.proofs.Lines.{set_now, read_reg_other, side_after}
 use Rattle.erhl_soundness.proofs.Facts.{facts_after_hold}
 use Rattle.erhl_soundness.proofs.Matched.{matched_related, matched_type, atoms_matched_related}
@@ -110,63 +117,186 @@ related_both diff source target x o v w less related r k out = ⊎_elim
     (related r k (outside_without r (reg.Now x) diff e out)))
     (cases_Bool (same_reg (reg.Now x) r))
 
-binary_related : (op : BinOp) (many few : Flags) (k : Option Kind) (a b c d : Value) → flags_among few many ≡ true → IsLessDefined a c → IsLessDefined b d
-    → IsOutcomeLessDefined (binary_at op many k a b) (binary_at op few k c d)
-binary_related op many few None a b c d h p q = tt
-binary_related op many few (Some (kind.Int width)) a b c d h p q = binary_monotone op many few width a b c d h p q
+-- what it takes of two right sides to agree
+record Agree (known : Assertion) (s t : Expr Name) : Type 0 where
+  operator : same_operator s t ≡ true
+  flags : flags_agree s t ≡ true
+  operands : are_matched known (operands_in s) (operands_in t) ≡ true
 
--- what it takes of two operators to agree
-record Agree (known : Assertion) (s t : Binary Name) : Type 0 where
-  op : s.op ≡ t.op
-  type : s.ty ≡ t.ty
-  flags : flags_among t.flags s.flags ≡ true
-  left : atoms_matched known s.ty s.left t.ty t.left ≡ true
-  right : atoms_matched known s.ty s.right t.ty t.right ≡ true
-
-agree_parts : (known : Assertion) (s t : Binary Name) → rights_agree known (expr.Binary s) (expr.Binary t) ≡ true → Agree known s t
+agree_parts : (known : Assertion) (s t : Expr Name) → rights_agree known s t ≡ true → Agree known s t
 agree_parts known s t h =
-    let op = same_op s.op t.op in
-    let type = same_ty s.ty t.ty in
-    let flags = flags_among t.flags s.flags in
-    let left = atoms_matched known s.ty s.left t.ty t.left in
-    let right = atoms_matched known s.ty s.right t.ty t.right in
-    let four : (op && type && flags && left) ≡ true = left_true (op && type && flags && left) right h in
-    let three : (op && type && flags) ≡ true = left_true (op && type && flags) left four in
-    let two : (op && type) ≡ true = left_true (op && type) flags three in
-    record {
-      op = same_op_true s.op t.op (left_true op type two);
-      type = same_ty_true s.ty t.ty (right_true op type two);
-      flags = right_true (op && type) flags three;
-      left = right_true (op && type && flags) left four;
-      right = right_true (op && type && flags && left) right h;
-    }
+    let operator = same_operator s t in
+    let flags = flags_agree s t in
+    let operands = are_matched known (operands_in s) (operands_in t) in
+    let two : (operator && flags) ≡ true = left_true (operator && flags) operands h in
+    record { operator = left_true operator flags two; flags = right_true operator flags two; operands = right_true (operator && flags) operands h }
+
+flags_among_themselves : (flags : Flags) → flags_among flags flags ≡ true
+flags_among_themselves flags =
+    all_true (all_true (kept flags.nuw) (kept flags.nsw)) (kept flags.exact)
+  where
+    kept : (b : Bool) → (not b || b) ≡ true
+    kept true = refl
+    kept false = refl
+
+-- a fault that isn't there
+no_right_fault : (may same : Bool) (o : Option Reason) (r : Reason) → cond may (cond same o (Some r)) None ≡ None → (may ≡ false) ⊎ ((same ≡ true) × (o ≡ None))
+no_right_fault false same o r h = inl refl
+no_right_fault true true o r h = inr (refl, h)
+no_right_fault true false o r h = absurd (cc)
+
+no_target_fault : (may : Bool) (r : Reason) → cond may (Some r) None ≡ None → may ≡ false
+no_target_fault false r h = refl
+no_target_fault true r h = absurd (cc)
+
+both_matched : (p q : Bool) (x y : Reason) → cond p (cond q None (Some x)) (Some y) ≡ None → (p ≡ true) × (q ≡ true)
+both_matched true true x y h = (refl, refl)
+both_matched true false x y h = absurd (cc)
+both_matched false q x y h = absurd (cc)
 
 -- right sides that agree have one type, and related outcomes
 module _ (known : Assertion) (source target : SideState) (holds : AssertionHolds known source target) where
-  binaries_related : (s t : Binary Name) → Agree known s t → IsOutcomeLessDefined (outcome (read source.now) (expr.Binary s)) (outcome (read target.now) (expr.Binary t))
-  binaries_related s t agree =
+  binaries_related : (s t : Binary Name) (many few : Flags) → flags_among few many ≡ true → s.op ≡ t.op → s.ty ≡ t.ty
+      → atoms_matched known s.ty s.left t.ty t.left ≡ true → atoms_matched known s.ty s.right t.ty t.right ≡ true
+      → IsOutcomeLessDefined
+      (binary_at s.op many (kind_of s.ty) (atom_value (read source.now) (kind_of s.ty) s.left) (atom_value (read source.now) (kind_of s.ty) s.right))
+      (binary_at t.op few (kind_of t.ty) (atom_value (read target.now) (kind_of t.ty) t.left) (atom_value (read target.now) (kind_of t.ty) t.right))
+  binaries_related s t many few flags op type left right =
       let a = atom_value (read source.now) (kind_of s.ty) s.left in
       let b = atom_value (read source.now) (kind_of s.ty) s.right in
       let c = atom_value (read target.now) (kind_of t.ty) t.left in
       let d = atom_value (read target.now) (kind_of t.ty) t.right in
-      subst₂ (λ o k. IsOutcomeLessDefined (binary_at s.op s.flags (kind_of s.ty) a b) (binary_at o t.flags k c d)) agree.op (ap kind_of agree.type)
-      (binary_related s.op s.flags t.flags (kind_of s.ty) a b c d agree.flags
-      (atoms_matched_related known source target holds s.ty s.left t.ty t.left agree.left)
-      (atoms_matched_related known source target holds s.ty s.right t.ty t.right agree.right))
+      subst₂ (λ o k. IsOutcomeLessDefined (binary_at s.op many (kind_of s.ty) a b) (binary_at o few k c d)) op (ap kind_of type)
+      (binary_related s.op many few (kind_of s.ty) a b c d flags
+      (atoms_matched_related known source target holds s.ty s.left t.ty t.left left)
+      (atoms_matched_related known source target holds s.ty s.right t.ty t.right right))
 
-  rights_related : (e f : Expr Name) → rights_agree known e f ≡ true
-      → (type_of e ≡ type_of f) × IsOutcomeLessDefined (outcome (read source.now) e) (outcome (read target.now) f)
-  rights_related (expr.Plain a) (expr.Plain b) h = (matched_type known a b h, matched_related known source target holds a b h)
-  rights_related (expr.Binary s) (expr.Binary t) h = let agree = agree_parts known s t h in (agree.type, binaries_related s t agree)
-  rights_related (expr.Plain a) (expr.Binary t) h = absurd (false≢true h)
-  rights_related (expr.Binary s) (expr.Plain b) h = absurd (false≢true h)
+  comparisons_related : (s t : Icmp Name) → s.pred ≡ t.pred → s.ty ≡ t.ty
+      → atoms_matched known s.ty s.left t.ty t.left ≡ true → atoms_matched known s.ty s.right t.ty t.right ≡ true
+      → IsOutcomeLessDefined (outcome (read source.now) (expr.Icmp s)) (outcome (read target.now) (expr.Icmp t))
+  comparisons_related s t pred type left right =
+      let a = atom_value (read source.now) (kind_of s.ty) s.left in
+      let b = atom_value (read source.now) (kind_of s.ty) s.right in
+      let c = atom_value (read target.now) (kind_of t.ty) t.left in
+      let d = atom_value (read target.now) (kind_of t.ty) t.right in
+      subst₂ (λ o k. IsOutcomeLessDefined (icmp_at s.pred (kind_of s.ty) a b) (icmp_at o k c d)) pred (ap kind_of type)
+      (icmp_related s.pred (kind_of s.ty) a b c d
+      (atoms_matched_related known source target holds s.ty s.left t.ty t.left left)
+      (atoms_matched_related known source target holds s.ty s.right t.ty t.right right))
+
+  conversions_related : (s t : Cast Name) → s.op ≡ t.op → s.operand.ty ≡ t.operand.ty → s.to ≡ t.to → matched known s.operand t.operand ≡ true
+      → IsOutcomeLessDefined (outcome (read source.now) (expr.Cast s)) (outcome (read target.now) (expr.Cast t))
+  conversions_related s t op from to operand =
+      let a = operand_value (read source.now) s.operand in
+      let b = operand_value (read target.now) t.operand in
+      let at : CastOp → Ty → Ty → Outcome = λ o j k. cond (converts o j k) (cast_at o (kind_of j) (kind_of k) b) (Gives Poison) in
+      let first = outcome (read source.now) (expr.Cast s) in
+      subst (λ k. IsOutcomeLessDefined first (at t.op t.operand.ty k)) to
+      (subst₂ (λ o j. IsOutcomeLessDefined first (at o j s.to)) op from
+      (cast_related s.op s.operand.ty s.to a b (matched_related known source target holds s.operand t.operand operand)))
+
+  selections_related : (s t : Select Name) → s.condition.ty ≡ t.condition.ty → s.left.ty ≡ t.left.ty → s.right.ty ≡ t.right.ty
+      → matched known s.condition t.condition ≡ true → matched known s.left t.left ≡ true → matched known s.right t.right ≡ true
+      → IsOutcomeLessDefined (outcome (read source.now) (expr.Select s)) (outcome (read target.now) (expr.Select t))
+  selections_related s t condition left right of_condition of_left of_right =
+      let d = operand_value (read target.now) t.condition in
+      let e = operand_value (read target.now) t.left in
+      let f = operand_value (read target.now) t.right in
+      let at : Ty → Ty → Ty → Outcome = λ j l r. cond (selects j l r) (select_outcome d e f) (Gives Poison) in
+      let first = outcome (read source.now) (expr.Select s) in
+      subst (λ r. IsOutcomeLessDefined first (at t.condition.ty t.left.ty r)) right
+      (subst₂ (λ j l. IsOutcomeLessDefined first (at j l s.right.ty)) condition left
+      (select_related s.condition.ty s.left.ty s.right.ty
+      (operand_value (read source.now) s.condition) (operand_value (read source.now) s.left) (operand_value (read source.now) s.right) d e f
+      (matched_related known source target holds s.condition t.condition of_condition)
+      (matched_related known source target holds s.left t.left of_left)
+      (matched_related known source target holds s.right t.right of_right)))
+
+  abbrev RightsRelated : Expr Name → Expr Name → Type 0
+  RightsRelated e f = (type_of e ≡ type_of f) × IsOutcomeLessDefined (outcome (read source.now) e) (outcome (read target.now) f)
+
+  rights_related : (e f : Expr Name) → Agree known e f → RightsRelated e f
+  rights_related (expr.Plain a) (expr.Plain b) agree =
+      let same = left_true (matched known a b) true agree.operands in (matched_type known a b same, matched_related known source target holds a b same)
+  rights_related (expr.Binary s) (expr.Binary t) agree =
+      let op = same_op s.op t.op in
+      let type = same_ty_true s.ty t.ty (right_true op (same_ty s.ty t.ty) agree.operator) in
+      let left = atoms_matched known s.ty s.left t.ty t.left in
+      let right = atoms_matched known s.ty s.right t.ty t.right in (
+        type,
+        binaries_related s t s.flags t.flags agree.flags (same_op_true s.op t.op (left_true op (same_ty s.ty t.ty) agree.operator)) type
+            (left_true left (right && true) agree.operands) (left_true right true (right_true left (right && true) agree.operands)),
+      )
+  rights_related (expr.Icmp s) (expr.Icmp t) agree =
+      let pred = same_pred s.pred t.pred in
+      let left = atoms_matched known s.ty s.left t.ty t.left in
+      let right = atoms_matched known s.ty s.right t.ty t.right in (
+        refl,
+        comparisons_related s t (same_pred_true s.pred t.pred (left_true pred (same_ty s.ty t.ty) agree.operator))
+            (same_ty_true s.ty t.ty (right_true pred (same_ty s.ty t.ty) agree.operator))
+            (left_true left (right && true) agree.operands) (left_true right true (right_true left (right && true) agree.operands)),
+      )
+  rights_related (expr.Cast s) (expr.Cast t) agree =
+      let op = same_cast s.op t.op in
+      let from = same_ty s.operand.ty t.operand.ty in
+      let to = same_ty s.to t.to in
+      let two : (op && from) ≡ true = left_true (op && from) to agree.operator in
+      let type = same_ty_true s.to t.to (right_true (op && from) to agree.operator) in (
+        type,
+        conversions_related s t (same_cast_true s.op t.op (left_true op from two)) (same_ty_true s.operand.ty t.operand.ty (right_true op from two)) type
+            (left_true (matched known s.operand t.operand) true agree.operands),
+      )
+  rights_related (expr.Select s) (expr.Select t) agree =
+      let condition = same_ty s.condition.ty t.condition.ty in
+      let left = same_ty s.left.ty t.left.ty in
+      let right = same_ty s.right.ty t.right.ty in
+      let two : (condition && left) ≡ true = left_true (condition && left) right agree.operator in
+      let of_condition = matched known s.condition t.condition in
+      let of_left = matched known s.left t.left in
+      let of_right = matched known s.right t.right in
+      let arms : (of_left && (of_right && true)) ≡ true = right_true of_condition (of_left && (of_right && true)) agree.operands in
+      let type = same_ty_true s.left.ty t.left.ty (right_true condition left two) in (
+        type,
+        selections_related s t (same_ty_true s.condition.ty t.condition.ty (left_true condition left two)) type
+            (same_ty_true s.right.ty t.right.ty (right_true (condition && left) right agree.operator))
+            (left_true of_condition (of_left && (of_right && true)) agree.operands) (left_true of_left (of_right && true) arms)
+            (left_true of_right true (right_true of_left (of_right && true) arms)),
+      )
+  rights_related e f agree = absurd (false≢true agree.operator)
+
+  -- WHERE THE TARGET'S RIGHT SIDE TRAPS beside the source's, and the line is allowed, the source's traps
+  allowed_traps : (s t : Expr Name) → right_fault known s t ≡ None → outcome (read target.now) t ≡ Trap → outcome (read source.now) s ≡ Trap
+  allowed_traps (expr.Binary s) (expr.Binary t) fault traps =
+      let left = matched known (record { ty = s.ty; atom = s.left }) (record { ty = t.ty; atom = t.left }) in
+      let right = matched known (record { ty = s.ty; atom = s.right }) (record { ty = t.ty; atom = t.right }) in
+      let op = same_op s.op t.op in
+      ⊎_elim
+      (λ e. absurd (no_trap (read target.now) (expr.Binary t) e traps))
+      (λ e.
+      let operands = both_matched left right (Unmatched (record { ty = s.ty; atom = s.right }) (record { ty = t.ty; atom = t.right }))
+      (Unmatched (record { ty = s.ty; atom = s.left }) (record { ty = t.ty; atom = t.left })) e.1 in
+      let less = binaries_related s t s.flags s.flags (flags_among_themselves s.flags) (same_op_true s.op t.op (left_true op (same_ty s.ty t.ty) e.0))
+      (same_ty_true s.ty t.ty (right_true op (same_ty s.ty t.ty) e.0)) operands.0 operands.1 in
+      only_trap (outcome (read source.now) (expr.Binary s))
+      (subst (λ o. IsOutcomeLessDefined (outcome (read source.now) (expr.Binary s)) o)
+      (traps_whatever_flags t.op t.flags s.flags (kind_of t.ty) (atom_value (read target.now) (kind_of t.ty) t.left)
+      (atom_value (read target.now) (kind_of t.ty) t.right) traps) less))
+      (no_right_fault (can_trap (expr.Binary t)) (same_operator (expr.Binary s) (expr.Binary t))
+      (first_unmatched known (operands_in (expr.Binary s)) (operands_in (expr.Binary t))) TargetMayTrap fault)
+  allowed_traps s (expr.Binary t) fault traps =
+      absurd (no_trap (read target.now) (expr.Binary t) (no_target_fault (can_trap (expr.Binary t)) TargetMayTrap fault) traps)
+  allowed_traps s (expr.Plain t) fault traps = absurd (no_trap (read target.now) (expr.Plain t) refl traps)
+  allowed_traps s (expr.Icmp t) fault traps = absurd (no_trap (read target.now) (expr.Icmp t) refl traps)
+  allowed_traps s (expr.Cast t) fault traps = absurd (no_trap (read target.now) (expr.Cast t) refl traps)
+  allowed_traps s (expr.Select t) fault traps = absurd (no_trap (read target.now) (expr.Select t) refl traps)
 
 -- two lines that gave values
 module _ (known : Assertion) (source target : SideState) (holds : AssertionHolds known source target) (s t : Calm) (v w : Value)
     (source_gives : outcome (read source.now) s.right ≡ Gives v) (target_gives : outcome (read target.now) t.right ≡ Gives w) where
   agree_related : lines_agree known s t ≡ true → AreRelated (without_reg (reg.Now s.name) known.diff) (side_after source s v) (side_after target t w)
   agree_related h =
-      let rights = rights_related known source target holds s.right t.right (right_true (same_name s.name t.name) (rights_agree known s.right t.right) h) in
+      let rights = rights_related known source target holds s.right t.right
+      (agree_parts known s.right t.right (right_true (same_name s.name t.name) (rights_agree known s.right t.right) h)) in
       let name = same_name_true s.name t.name (left_true (same_name s.name t.name) (rights_agree known s.right t.right) h) in
       let related : IsRelated v w = subst₂ IsOutcomeLessDefined source_gives target_gives rights.1 in
       subst₂ (λ x k. AreRelated (without_reg (reg.Now s.name) known.diff) (side_after source s v) (set_now target x k w))
@@ -215,40 +345,44 @@ module _ (known : Assertion) (source target : SideState) (holds : AssertionHolds
     related = related_source known.diff source target holds.related s.name (kind_of (type_of s.right)) v;
   }
 
-  target_keeps : (t : Calm) (o : Outcome) → outcome (read target.now) t.right ≡ o
+  target_keeps : (t : Calm) (o : Outcome) → outcome (read target.now) t.right ≡ o → can_trap t.right ≡ false
       → Keeps (after_line known (record { source = None; target = Some (line.Calm t) })) source target (Some source.now) (set_by (kind_of (type_of t.right)) t.name o target.now)
-  target_keeps t Trap is = absurd (no_trap (read target.now) t.right is)
-  target_keeps t (Gives w) is = record {
+  target_keeps t Trap is safe = absurd (no_trap (read target.now) t.right safe is)
+  target_keeps t (Gives w) is safe = record {
     source_facts = holds.source_facts;
     target_facts = facts_after_hold target t w is known.tgt holds.target_facts;
     related = related_target known.diff source target holds.related t.name (kind_of (type_of t.right)) w;
   }
 
-  both_keep : (s t : Calm) (o p : Outcome) → outcome (read source.now) s.right ≡ o → outcome (read target.now) t.right ≡ p
+  both_keep : (s t : Calm) (o p : Outcome) → outcome (read source.now) s.right ≡ o → outcome (read target.now) t.right ≡ p → right_fault known s.right t.right ≡ None
       → Keeps (after_line known (record { source = Some (line.Calm s); target = Some (line.Calm t) })) source target
       (set_by (kind_of (type_of s.right)) s.name o source.now) (set_by (kind_of (type_of t.right)) t.name p target.now)
-  both_keep s t Trap p is_source is_target = tt
-  both_keep s t (Gives v) Trap is_source is_target = absurd (no_trap (read target.now) t.right is_target)
-  both_keep s t (Gives v) (Gives w) is_source is_target = record {
+  both_keep s t Trap p is_source is_target allowed = tt
+  both_keep s t (Gives v) Trap is_source is_target allowed =
+      let traps : Gives v ≡ Trap = sym is_source ∙ allowed_traps known source target holds s.right t.right allowed is_target in absurd (cc)
+  both_keep s t (Gives v) (Gives w) is_source is_target allowed = record {
     source_facts = facts_after_hold source s v is_source known.src holds.source_facts;
     target_facts = facts_after_hold target t w is_target known.tgt holds.target_facts;
     related = both_related known source target holds s t v w is_source is_target;
   }
 
-  keeps_so : (i j : Option Instr) → Keeps (after_line known (record { source = i; target = j })) source target (registers_after i source.now) (registers_after j target.now)
-  keeps_so None None = holds
-  keeps_so (Some (line.Calm s)) None = source_keeps s (outcome (read source.now) s.right) refl
-  keeps_so None (Some (line.Calm t)) = target_keeps t (outcome (read target.now) t.right) refl
-  keeps_so (Some (line.Calm s)) (Some (line.Calm t)) = both_keep s t (outcome (read source.now) s.right) (outcome (read target.now) t.right) refl refl
+  keeps_so : (i j : Option Instr) → line_fault_of known i j ≡ None
+      → Keeps (after_line known (record { source = i; target = j })) source target (registers_after i source.now) (registers_after j target.now)
+  keeps_so None None allowed = holds
+  keeps_so (Some (line.Calm s)) None allowed = source_keeps s (outcome (read source.now) s.right) refl
+  keeps_so None (Some (line.Calm t)) allowed =
+      target_keeps t (outcome (read target.now) t.right) refl (no_target_fault (can_trap t.right) TargetMayTrap allowed)
+  keeps_so (Some (line.Calm s)) (Some (line.Calm t)) allowed =
+      both_keep s t (outcome (read source.now) s.right) (outcome (read target.now) t.right) refl refl allowed
 
 -- the laws of lines and of matched operands
 pub line_keeps : ALineKeepsWhatHolds
-line_keeps known l source target holds = (
+line_keeps known l source target holds allowed = (
   registers_after l.source source.now,
   registers_after l.target target.now,
   leads_so l.source source.now,
   leads_so l.target target.now,
-  keeps_so known source target holds l.source l.target,
+  keeps_so known source target holds l.source l.target allowed,
 )
 
 pub operands_related : MatchedOperandsAreRelated

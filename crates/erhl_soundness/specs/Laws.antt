@@ -1,10 +1,14 @@
 -- The laws of the logic's words, and then its soundness laws (Crellvm's soundness theorem; the idea of checking each result
 -- of a compiler and proving the checker is credible compilation).
-use Rattle.std.specs.Prelude.{◌≡◌, ℕ, ◌≤◌, true, List, [], ◌∷◌, Option, None, Some}
+use Rattle.std.specs.Prelude.{◌≡◌, ℕ, ◌≤◌, true, false, List, [], ◌∷◌, Option, None, Some}
 use Rattle.std.specs.List.{AllByRecursion}
 use Rattle.ir_core.specs.declared.names.Name.{Name}
 use Rattle.ir_core.specs.declared.names.Name.TheVariants.{Number}
 use Rattle.ir_core.specs.declared.operands.Operand.{Operand}
+use Rattle.ir_core.specs.declared.operands.Ty.TheVariants.{Int}
+use Rattle.ir_core.specs.declared.operands.Const.TheVariants as constant
+use Rattle.ir_core.specs.declared.operands.Atom.TheVariants.{Constant, Register}
+use Rattle.ir_core.specs.declared.operands.BinOp.TheVariants.{UDiv, SDiv, URem, SRem, Shl}
 use Rattle.ir_core.specs.declared.functions.Instr.{Instr}
 use Rattle.ir_core.specs.declared.functions.Module.{Module}
 use Rattle.ir_core.specs.Modules.{definitions_of}
@@ -17,18 +21,20 @@ use Rattle.erhl_assert.specs.declared.facts.Assertion.{Assertion}
 use Rattle.erhl_assert.specs.declared.facts.Side.TheVariants.{Src, Tgt}
 use Rattle.erhl_assert.specs.declared.hints.PlacedStep.{PlacedStep}
 use Rattle.erhl_assert.specs.declared.hints.Letter.TheVariants.{Both, Source, Target}
-use Rattle.erhl_assert.specs.declared.verdict.Reason.TheVariants.{UnknownRule}
+use Rattle.erhl_assert.specs.declared.verdict.Reason.{Reason}
+use Rattle.erhl_assert.specs.declared.verdict.Reason.TheVariants.{UnknownRule, TargetMayTrap, Unmatched}
 use Rattle.erhl_assert.specs.declared.verdict.Spot.TheVariants as spot
 use Rattle.erhl_assert.specs.Sides.{SideState, IsRelated}
 use Rattle.erhl_assert.specs.Facts.{AssertionHolds}
 use Rattle.erhl_assert.specs.Matched.{matched}
-use Rattle.erhl_assert.specs.Alignment.{Line}
-use Rattle.erhl_assert.specs.Postcondition.{after_line}
-use Rattle.erhl_assert.specs.Course.{Gives, Course, Good, Bad}
+use Rattle.erhl_assert.specs.Alignment.{Line, no_facts}
+use Rattle.erhl_assert.specs.Allowed.{line_fault}
+use Rattle.erhl_assert.specs.Postcondition.{lines_agree, after_line}
+use Rattle.erhl_assert.specs.Course.{Gives, Course, refuses, Good, Bad}
 use Rattle.erhl_assert.specs.Growth.{size, over_line}
 use Rattle.erhl_assert.specs.Steps.{Rules, Beside, AreSound, beside, after_steps}
 use Rattle.erhl_assert.specs.Acceptance.{function_judged, AreAccepted}
-use Rattle.erhl_soundness.specs.Examples.{adds_zero, defining, taking_all, concluding, hinting}
+use Rattle.erhl_soundness.specs.Examples.{adds_zero, number, dividing, adding, of_target, of_both, defining, taking_all, concluding, hinting}
 
 -- a step over a line shows nothing and leaves these registers, or is undefined behaviour
 abbrev pub goes_on : Option Registers → Frame → List Pending → World → Asks
@@ -48,9 +54,15 @@ Keeps known source target (Some source_after) None = ⊥
 Keeps known source target (Some source_after) (Some target_after) =
     AssertionHolds known (record source { now = source_after }) (record target { now = target_after })
 
--- Over an aligned line, fact by fact, a check comes to what is known after it.
+-- where an aligned line has no fault, a check comes to what is known after it; else it is refused, and nothing is added
+abbrev pub ComesTo : Option Reason → Line → Assertion → Type 0
+ComesTo None l known = (over_line l known).ends ≡ Gives (after_line known l)
+ComesTo (Some r) l known = over_line l known ≡ refuses r
+
+-- Over an aligned line that is allowed, fact by fact, a check comes to what is known after it; and a line that isn't allowed it refuses
+-- before any fact is added.
 abbrev pub ALineComesToWhatIsKnown : Type 0
-ALineComesToWhatIsKnown = (l : Line) (known : Assertion) → (over_line l known).ends ≡ Gives (after_line known l)
+ALineComesToWhatIsKnown = (l : Line) (known : Assertion) → ComesTo (line_fault known l) l known
 
 -- where none of its sizes is more than n, the course comes to no more than n facts
 abbrev pub StaysWithin : ℕ → Course Assertion → Type 0
@@ -77,12 +89,37 @@ pub record FactsAreCounted : Type 0 where
       (hinting (Target ∷ Both ∷ []) [])
       ≡ Good (1 ∷ 2 ∷ 3 ∷ 4 ∷ 3 ∷ 4 ∷ [])
 
--- Where an assertion holds of two sides, the two lines lead them to sides of which holds what `after_line` gives, unless the
--- source's line is undefined behaviour.
+-- Where an assertion holds of two sides and an aligned line is allowed, the two lines lead them to sides of which holds what `after_line`
+-- gives, unless the source's line is undefined behaviour. So where the target's line is, the source's is.
 abbrev pub ALineKeepsWhatHolds : Type 0
-ALineKeepsWhatHolds = (known : Assertion) (l : Line) (source target : SideState) → AssertionHolds known source target
+ALineKeepsWhatHolds = (known : Assertion) (l : Line) (source target : SideState) → AssertionHolds known source target → line_fault known l ≡ None
     → (source_after target_after : Option Registers) × LineLeads l.source source.now source_after × LineLeads l.target target.now target_after
     × Keeps (after_line known l) source target source_after target_after
+
+-- which lines are allowed, where nothing is known and no register may differ: lines written out
+pub record LinesAreJudged : Type 0 where
+  -- `%2 = udiv i8 %0, %1` of the target alone may trap, by 0 too; by 255 it can't, and `sdiv` by 255, which is -1, may.
+  pub by_a_register : line_fault no_facts (of_target (dividing UDiv 8 (Register (Number 1)))) ≡ Some TargetMayTrap
+  pub by_zero : line_fault no_facts (of_target (dividing URem 8 (number 0))) ≡ Some TargetMayTrap
+  pub by_undef : line_fault no_facts (of_target (dividing UDiv 8 (Constant constant.Undef))) ≡ Some TargetMayTrap
+  pub by_a_number : line_fault no_facts (of_target (dividing UDiv 8 (number 255))) ≡ None
+  pub by_minus_one : line_fault no_facts (of_target (dividing SDiv 8 (number 255))) ≡ Some TargetMayTrap
+  pub by_minus_two : line_fault no_facts (of_target (dividing SRem 8 (number 254))) ≡ None
+  -- in i1 the number 1 is -1
+  pub of_one_bit : line_fault no_facts (of_target (dividing SRem 1 (number 1))) ≡ Some TargetMayTrap
+  -- a source that divides alone is undefined behaviour or isn't, and either way the target may do without
+  pub of_the_source : line_fault no_facts (record { source = Some (dividing UDiv 8 (number 0)); target = None }) ≡ None
+  -- a line that can't trap is allowed beside every line
+  pub beside_another : line_fault no_facts (of_both (dividing UDiv 8 (number 0)) (dividing Shl 8 (number 9))) ≡ None
+  -- a division is allowed beside itself, and not by another divisor, of another operator or of another type
+  pub beside_itself : line_fault no_facts (of_both (dividing UDiv 8 (Register (Number 1))) (dividing UDiv 8 (Register (Number 1)))) ≡ None
+  pub another_divisor : line_fault no_facts (of_both (dividing UDiv 8 (Register (Number 1))) (dividing UDiv 8 (Register (Number 3))))
+      ≡ Some (Unmatched (record { ty = Int 8; atom = Register (Number 1) }) (record { ty = Int 8; atom = Register (Number 3) }))
+  pub another_operator : line_fault no_facts (of_both (dividing UDiv 8 (Register (Number 1))) (dividing URem 8 (Register (Number 1)))) ≡ Some TargetMayTrap
+  pub another_type : line_fault no_facts (of_both (dividing UDiv 8 (Register (Number 1))) (dividing UDiv 16 (Register (Number 1)))) ≡ Some TargetMayTrap
+  -- the target may leave flags out, and may not have others
+  pub fewer_flags : lines_agree no_facts (adding true) (adding false) ≡ true
+  pub more_flags : lines_agree no_facts (adding false) (adding true) ≡ false
 
 -- Where an assertion holds of two sides, and a and b are matched, a's value on the source and b's on the target are related.
 abbrev pub MatchedOperandsAreRelated : Type 0

@@ -6,11 +6,12 @@
 //! in place of proving the optimiser, is credible compilation (Rinard).
 #![tactic(auto)]
 
-ghost use Rattle.erhl_soundness.specs.Laws.{ALineComesToWhatIsKnown, SizesBoundWhatIsKnown, FactsAreCounted, ALineKeepsWhatHolds, MatchedOperandsAreRelated, AcceptedModulesRefine};
+ghost use Rattle.erhl_soundness.specs.Laws.{ALineComesToWhatIsKnown, SizesBoundWhatIsKnown, FactsAreCounted, LinesAreJudged, ALineKeepsWhatHolds, MatchedOperandsAreRelated, AcceptedModulesRefine};
 
 /// Empty on purpose: its contract is the law.
 ///
-/// Over an aligned line, fact by fact, a check comes to what the postcondition gives.
+/// Over an aligned line that is allowed, fact by fact, a check comes to what the postcondition gives; and a line that isn't allowed it
+/// refuses before any fact is added.
 pub fn a_line_comes_to_what_is_known()
     ensures { ALineComesToWhatIsKnown }
 {}
@@ -32,8 +33,16 @@ pub fn facts_are_counted()
 
 /// Empty on purpose: its contract is the law.
 ///
-/// Two sides of which an assertion holds come, by an aligned line, to two sides of which holds what the postcondition gives,
-/// unless the source's line is undefined behaviour; whatever their old and ghost registers are.
+/// Which lines are allowed, of lines that are written out.
+pub fn lines_are_judged()
+    ensures { LinesAreJudged }
+{}
+
+/// Empty on purpose: its contract is the law.
+///
+/// Two sides of which an assertion holds come, by an aligned line that is allowed, to two sides of which holds what the postcondition
+/// gives, unless the source's line is undefined behaviour; whatever their old and ghost registers are. So the target's line is undefined
+/// behaviour only where the source's is.
 pub fn a_line_keeps_what_holds()
     ensures { ALineKeepsWhatHolds }
 {}

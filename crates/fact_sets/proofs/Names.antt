@@ -6,7 +6,7 @@ use Rattle.ir_core.specs.declared.names.Name.{Name}
 use Rattle.ir_core.specs.declared.operands.Atom.{Atom}
 use Rattle.ir_core.specs.declared.operands.Atom.TheVariants as atom
 use Rattle.ir_core.specs.declared.expressions.Reg.{Reg}
-use Rattle.ir_core.specs.declared.expressions.Expr.TheVariants.{Plain, Binary}
+use Rattle.ir_core.specs.declared.expressions.Expr.TheVariants.{Plain, Binary, Icmp, Cast, Select}
 use Rattle.ir_core.specs.Same.{same_name, same_reg}
 use Rattle.ir_core.specs.Expressions.{Expr0, atom_has}
 use Rattle.erhl_assert.specs.declared.facts.Fact.{Fact}
@@ -27,11 +27,23 @@ atom_has_it r (atom.Register s) names h = register_has r s names h
 expr_keeps : (n : Name) (e : Expr0) (names : List Name) → Has n names → Has n (with_expr e names)
 expr_keeps n (Plain o) names h = atom_keeps n o.atom names h
 expr_keeps n (Binary e) names h = atom_keeps n e.right _ (atom_keeps n e.left names h)
+expr_keeps n (Icmp e) names h = atom_keeps n e.right _ (atom_keeps n e.left names h)
+expr_keeps n (Cast e) names h = atom_keeps n e.operand.atom names h
+expr_keeps n (Select e) names h = atom_keeps n e.right.atom _ (atom_keeps n e.left.atom _ (atom_keeps n e.condition.atom names h))
 
 expr_has_it : (r : Reg) (e : Expr0) (names : List Name) → expr_names r e ≡ true → Has (name_of r) (with_expr e names)
 expr_has_it r (Plain o) names h = atom_has_it r o.atom names h
 expr_has_it r (Binary e) names h =
     or_cases (atom_has (same_reg r) e.left) (atom_has (same_reg r) e.right) h (λ k. atom_keeps _ e.right _ (atom_has_it r e.left names k)) (λ k. atom_has_it r e.right _ k)
+expr_has_it r (Icmp e) names h =
+    or_cases (atom_has (same_reg r) e.left) (atom_has (same_reg r) e.right) h (λ k. atom_keeps _ e.right _ (atom_has_it r e.left names k)) (λ k. atom_has_it r e.right _ k)
+expr_has_it r (Cast e) names h = atom_has_it r e.operand.atom names h
+expr_has_it r (Select e) names h =
+    or_cases (atom_has (same_reg r) e.condition.atom || atom_has (same_reg r) e.left.atom) (atom_has (same_reg r) e.right.atom) h
+    (λ first. or_cases (atom_has (same_reg r) e.condition.atom) (atom_has (same_reg r) e.left.atom) first
+    (λ k. atom_keeps _ e.right.atom _ (atom_keeps _ e.left.atom _ (atom_has_it r e.condition.atom names k)))
+    (λ k. atom_keeps _ e.right.atom _ (atom_has_it r e.left.atom _ k)))
+    (λ k. atom_has_it r e.right.atom _ k)
 
 fact_keeps : (n : Name) (f : Fact) (names : List Name) → Has n names → Has n (with_named f names)
 unfolding with_named

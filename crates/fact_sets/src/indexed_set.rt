@@ -1,4 +1,4 @@
-ghost use Rattle.std.specs.Prelude.{◌≡◌};
+ghost use Rattle.std.specs.Prelude.{◌≡◌, [], IfOk};
 ghost use Rattle.erhl_assert.specs.Facts.{without_naming};
 
 use crate::naming::add_named;
@@ -35,6 +35,16 @@ impl Drop for IndexedSet {
 }
 
 impl IndexedSet {
+    /// No facts. There is room for so many, and for the names of so many registers.
+    #[tactic(auto, using(crate::proofs::Names::nothing_indexed))]
+    pub fn with_room(alloc: Global, facts: usize, names: usize) -> Result<IndexedSet, AllocError>
+        ensures { IfOk result (λ set. set ≡ []) }
+    {
+        let facts = IndexSet::with_capacity(alloc, facts)?;
+        let named = IndexSet::with_capacity(alloc, names)?;
+        Ok(IndexedSet { facts, named })
+    }
+
     /// Takes out the facts that name the register. No walk over them, where none can.
     fn forget(&mut self, register: &Reg)
         ensures { self.new ≡ without_naming register.now self.old }

@@ -45,6 +45,16 @@ fn add_expr(alloc: Global, expr: &Expr0, names: &mut IndexSet<Name>) -> Result<(
             add_atom(alloc, &binary.left, names)?;
             add_atom(alloc, &binary.right, names)
         }
+        Expr::Icmp(icmp) => {
+            add_atom(alloc, &icmp.left, names)?;
+            add_atom(alloc, &icmp.right, names)
+        }
+        Expr::Cast(cast) => add_atom(alloc, &cast.operand.atom, names),
+        Expr::Select(select) => {
+            add_atom(alloc, &select.condition.atom, names)?;
+            add_atom(alloc, &select.left.atom, names)?;
+            add_atom(alloc, &select.right.atom, names)
+        }
     }
 }
 

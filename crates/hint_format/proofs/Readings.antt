@@ -1,85 +1,168 @@
 -- Texts are read as the form wants it, and a file's bytes as one thing.
-use Rattle.std.proofs.Common.{◌≡◌, ◌≤◌, ◌<◌, ℕ, Bool, true, false, cond, List, length, Option, Some, None, Ok, Err, refl, sym, ◌∙◌, ap, subst, inl, inr, arith}
-use Rattle.std.specs.Prelude.{nat_lt, option_and_then}
+use Rattle.std.proofs.Common.{◌≡◌, ◌⊎◌, ℕ, Bool, true, false, cond, List, Ok, Err, refl, sym, ◌∙◌, ap, subst, inl, inr, arith}
 use Rattle.std.specs.Str.{bytes_eq}
-use Rattle.std.proofs.lemmas.Bool.{cond-true, ltb-true, ltb-false}
 use Rattle.std.proofs.lemmas.Slice.Eq.{bytes_eq-Decides}
 use Rattle.std.proofs.Math.Path.{fun_ext}
 use Rattle.ir_core.specs.declared.limits.Limit.TheVariants as limit
 use Rattle.ir_core.specs.declared.names.Name.{Name}
 use Rattle.ir_core.specs.declared.names.Sigil.{Sigil}
 use Rattle.ir_core.specs.Expressions.{Expr0}
-use Rattle.ir_core.specs.Limits.{text_limit}
-use Rattle.ir_spelling.specs.Expressions.{SpellsExpression, expression_of}
-use Rattle.ir_spelling.specs.Names.{name_of}
-use Rattle.ir_spelling.proofs.Alone.{expressions, names, expression_once, name_once}
-use Rattle.ir_spelling.proofs.Readers.{ReadsSpelled}
+use Rattle.ir_naming.specs.Expressions.{IsNameOf, NamesExpression}
 use Rattle.ir_printer.specs.Printed.{printed_name}
+use Rattle.ir_spelling.specs.declared.fault.TextFault.{TextFault}
+use Rattle.ir_spelling.specs.declared.fault.TextFault.TheVariants as text_fault
+use Rattle.ir_spelling.specs.Faults.{IsShort, IsTextFault}
+use Rattle.ir_spelling.specs.Forms as forms
+use Rattle.ir_spelling.specs.Spells.{IsSpelled, SpellsExpression, SpellsName}
+use Rattle.spelling_laws.specs.Laws.{FaultsExclude, IsRead, IsToldFault}
+use Rattle.spelling_laws.proofs.Judged.{judged_expression, judged_name}
 use Rattle.erhl_assert.specs.declared.hints.Hints.{Hints}
 use Rattle.json_forms.specs.declared.failure.Fault.{Fault}
 use Rattle.json_forms.specs.declared.failure.Fault.TheVariants.{At, Past}
 use Rattle.json_forms.specs.declared.failure.Failure.{Failure}
 use Rattle.json_forms.specs.declared.failure.Failure.TheVariants.{Form, Memory}
-use Rattle.json_forms.specs.Answers.{IsReading}
-use Rattle.json_forms.specs.Forms.{Reading, or_unfit}
+use Rattle.json_forms.specs.Answers.{Fails, IsReading}
+use Rattle.json_forms.specs.Faults.{here}
+use Rattle.json_forms.specs.Forms.{Reading, read_then}
 use Rattle.json_forms.proofs.Readings.{reading_once}
 use Rattle.hint_format.specs.declared.fault.HintFault.TheVariants as hint_fault
 use Rattle.hint_format.specs.Faults.{told_fault, fault_of_failure}
-use Rattle.hint_format.specs.Form.{IsShort, IsNameText, IsTextReading, Leaves, AreLeaves, hints_form, IsHintReading, HintsOf, IsHintFault}
-use Rattle.hint_format.specs.Reading.{within_limit, if_printed, exact_name, read_leaves}
+use Rattle.hint_format.specs.Form.{IsLong, IsNameText, IsTextReading, Leaves, AreLeaves, hints_form, IsHintReading, HintsOf, IsHintFault}
+use Rattle.hint_format.specs.Reading.{expression_reading, failure_of, fault_reading, if_printed, name_reading, read_leaves, reading_of}
 use Rattle.hint_format.specs.Laws.{TextsAreRead, LeavesAreOne, ReadingsAreOne}
+use Rattle.hint_format.proofs.Alone.{expressions_are_one, expressions_exclude, names_are_one, names_exclude}
 
-some_is : {A : Type 0} (a b : A) → Some a ≡ Some b → a ≡ b
-some_is a b e = cc
+both_lengths : (text : List ℕ) → IsLong text → IsShort text → ⊥
+both_lengths text long short = omega arith
 
-none_some : {A : Type 0} (a : A) → None ≡ Some a → ⊥
-none_some a e = cc
+-- ---- what a fault is read as
 
--- ---- what is read of a text is what it means
+-- what is told of a text: the limit where it is long, else that it is at fault itself
+abbrev IsFaultReading : List ℕ → Fault → Type 0
+IsFaultReading text fault = (IsLong text × (fault ≡ Past limit.Text)) ⊎ (IsShort text × (fault ≡ here))
 
-read_is : {A : Type 0} (Means : List ℕ → A → Type 0) (text : List ℕ) (found : Option A) → ReadsSpelled text found (Means text) → IsShort text
-    → IsTextReading Means text (or_unfit (λ a. Ok a) found)
-read_is Means text (Some a) both short = both.takes a refl
-read_is Means text None both short = inr (short, (λ a means. none_some a (both.again a short means)), refl)
+one_fault : (text : List ℕ) (f g : Fault) → IsFaultReading text f → IsFaultReading text g → f ≡ g
+one_fault text f g (inl s) (inl t) = s.1 ∙ sym t.1
+one_fault text f g (inl s) (inr t) = absurd (both_lengths text s.0 t.0)
+one_fault text f g (inr s) (inl t) = absurd (both_lengths text t.0 s.0)
+one_fault text f g (inr s) (inr t) = s.1 ∙ sym t.1
 
-by_length : {A : Type 0} (Means : List ℕ → A → Type 0) (text : List ℕ) (found : Option A) → ReadsSpelled text found (Means text)
-    → (over : Bool) → nat_lt text_limit (length text) ≡ over → IsTextReading Means text (cond over (Err (Past limit.Text)) (or_unfit (λ a. Ok a) found))
-by_length Means text found both true over = inl (ltb-true text_limit (length text) over, refl)
-by_length Means text found both false over = read_is Means text found both (ltb-false text_limit (length text) over)
+-- of a form without lines, as those of expressions and names
+abbrev HasNoLines : forms.Form → Type 0
+HasNoLines form = (kinds : List ℕ) (k : ℕ) → form.is_past kinds k → ⊥
 
-limited : {A : Type 0} (Means : List ℕ → A → Type 0) (read : List ℕ → Option A) (text : List ℕ) → ReadsSpelled text (read text) (Means text)
-    → IsTextReading Means text (within_limit read text)
-limited Means read text both = by_length Means text (read text) both (nat_lt text_limit (length text)) refl
+fault_is : (form : forms.Form) → HasNoLines form → (text : List ℕ) (f : TextFault) → IsToldFault form text f → IsFaultReading text (fault_reading f)
+fault_is form none text (text_fault.Limit limit.Text) told = inl (told.0, refl)
+fault_is form none text (text_fault.Limit limit.Lines) (is, told) = absurd (none _ is.2.0 is.2.1.0)
+fault_is form none text (text_fault.Limit limit.Json) told = absurd told.0
+fault_is form none text (text_fault.Limit limit.Facts) told = absurd told.0
+fault_is form none text (text_fault.BadByte place) told = inr (told.0.0, refl)
+fault_is form none text (text_fault.BadString place) told = inr (told.0.0, refl)
+fault_is form none text (text_fault.BadNumber place) told = inr (told.0.0, refl)
+fault_is form none text (text_fault.Expected place) told = inr (told.0.1.0, refl)
+fault_is form none text (text_fault.LeftOut place size) (inl is, told) = inr (is.1.0, refl)
+fault_is form none text (text_fault.LeftOut place size) (inr is, told) = inr (is.1.0, refl)
+fault_is form none text (text_fault.Unknown place size) told = inr (told.0.1.0, refl)
+fault_is form none text (text_fault.Twice place size) told = inr (told.0.1.0, refl)
+fault_is form none text (text_fault.WrongNumber place due) told = inr (told.0.1.1.0, refl)
+fault_is form none text (text_fault.WrongType place) told = inr (told.0.1.1.0, refl)
+fault_is form none text text_fault.Memory told = absurd (told.1 refl)
 
--- ---- names that are printed as the text
+-- want of memory, or a fault that is told
+told_or_memory : (f : TextFault) → (f ≡ text_fault.Memory) ⊎ ((f ≡ text_fault.Memory → ⊥) × (failure_of f ≡ Form (fault_reading f)))
+told_or_memory (text_fault.Limit l) = inr (λ e. cc, refl)
+told_or_memory (text_fault.BadByte place) = inr (λ e. cc, refl)
+told_or_memory (text_fault.BadString place) = inr (λ e. cc, refl)
+told_or_memory (text_fault.BadNumber place) = inr (λ e. cc, refl)
+told_or_memory (text_fault.Expected place) = inr (λ e. cc, refl)
+told_or_memory (text_fault.LeftOut place size) = inr (λ e. cc, refl)
+told_or_memory (text_fault.Unknown place size) = inr (λ e. cc, refl)
+told_or_memory (text_fault.Twice place size) = inr (λ e. cc, refl)
+told_or_memory (text_fault.WrongNumber place due) = inr (λ e. cc, refl)
+told_or_memory (text_fault.WrongType place) = inr (λ e. cc, refl)
+told_or_memory text_fault.Memory = inl refl
 
-bound : {A B : Type 0} (o : Option A) (f : A → Option B) (b : B) → option_and_then f o ≡ Some b → (a : A) × (o ≡ Some a) × (f a ≡ Some b)
-bound None f b e = absurd (none_some b e)
-bound (Some a) f b e = (a, refl, e)
+form_is : (a b : Fault) → Form a ≡ Form b → a ≡ b
+form_is a b e = cc
 
-tested : {A : Type 0} (test : Bool) (next : A) (a : A) → cond test (Some next) None ≡ Some a → (test ≡ true) × (next ≡ a)
-tested true next a e = (refl, some_is next a e)
-tested false next a e = absurd (none_some a e)
+-- ---- what a text is judged to be is what it is read as
 
-exact : (sigil : Sigil) (text : List ℕ) → ReadsSpelled text (exact_name sigil text) (IsNameText sigil text)
-exact sigil text = record {
-  takes = λ name read.
-      let found = bound (name_of sigil text) (if_printed sigil text) name read in
-      let same = tested (bytes_eq (printed_name sigil found.0) text) found.0 name found.2 in
-      let spelled = (names sigil text).takes name (found.1 ∙ ap Some same.1) in
-      (spelled.0, (spelled.1, sym ((bytes_eq-Decides (printed_name sigil found.0) text).0 same.0) ∙ ap (printed_name sigil) same.1));
-  again = λ name short means.
-      ap (option_and_then (if_printed sigil text)) ((names sigil text).again name short means.0)
-      ∙ cond-true _ _ _ ((bytes_eq-Decides (printed_name sigil name) text).1 (sym means.1));
-}
+-- what is judged of a text
+abbrev Judged : (form : forms.Form) {X : Type 0} → (form.Tree → X → Type 0) → List ℕ → Type 0
+Judged form {X} Names text = ((x : X) × IsRead form Names text x) ⊎ ((f : TextFault) × IsToldFault form text f)
+
+module _ (form : forms.Form) {X : Type 0} (Names : form.Tree → X → Type 0) (exclude : FaultsExclude form Names) (none : HasNoLines form) (text : List ℕ) where
+  judged_read : (judged : Judged form Names text) → IsTextReading (IsSpelled form Names) text (reading_of judged)
+  judged_read (inl (x, read)) = read
+  judged_read (inr (f, told)) = by (fault_is form none text f told)
+    where
+      by : IsFaultReading text (fault_reading f) → IsTextReading (IsSpelled form Names) text (Err (fault_reading f))
+      by (inl is) = inl is
+      by (inr is) = inr (is.0, (λ x spelled. exclude text f x is.0 told spelled), is.1)
+
+  -- what is spelled, and nothing else, is what was judged
+  pub spelled_due : (judged : Judged form Names text) (x : X) → IsShort text → IsSpelled form Names text x
+      → ((other : X) → IsSpelled form Names text other → other ≡ x) → reading_of judged ≡ Ok x
+  spelled_due (inl (y, read)) x short spelled only = ap Ok (only y read.1)
+  spelled_due (inr (f, told)) x short spelled only = absurd (exclude text f x short told spelled)
+
+  told_due : (judged : Judged form Names text) (f : TextFault) → IsToldFault form text f → reading_of judged ≡ Err (fault_reading f)
+  told_due (inl (y, read)) f told = absurd (exclude text f y read.0 told read.1)
+  told_due (inr (g, first)) f told = ap Err (one_fault text (fault_reading g) (fault_reading f) (fault_is form none text g first) (fault_is form none text f told))
+
+  -- so is a fault
+  pub fault_due : (judged : Judged form Names text) (f : TextFault) → IsTextFault form text f → Fails (failure_of f) (reading_of judged)
+  fault_due judged f is fault e = by (told_or_memory f)
+    where
+      by : (f ≡ text_fault.Memory) ⊎ ((f ≡ text_fault.Memory → ⊥) × (failure_of f ≡ Form (fault_reading f))) → reading_of judged ≡ Err fault
+      by (inl memory) = let gone = sym (ap failure_of memory) ∙ e in cc
+      by (inr (told, form_fault)) = told_due judged f (is, told) ∙ ap Err (form_is (fault_reading f) fault (sym form_fault ∙ e))
+
+-- ---- the leaves
+
+pub expression_due : (text : List ℕ) (e : Expr0) → IsShort text → SpellsExpression text e
+    → ((other : Expr0) → SpellsExpression text other → other ≡ e) → expression_reading text ≡ Ok e
+expression_due text = spelled_due forms.expression_form NamesExpression expressions_exclude (λ kinds k past. past) text (judged_expression text)
+
+pub expression_fails : (text : List ℕ) (f : TextFault) → IsTextFault forms.expression_form text f
+    → Fails (failure_of f) (expression_reading text)
+expression_fails text = fault_due forms.expression_form NamesExpression expressions_exclude (λ kinds k past. past) text (judged_expression text)
+
+pub name_due : (sigil : Sigil) (text : List ℕ) (name : Name) → IsShort text → SpellsName sigil text name
+    → ((other : Name) → SpellsName sigil text other → other ≡ name) → name_reading sigil text ≡ Ok name
+name_due sigil text = spelled_due (forms.name_form sigil) IsNameOf (names_exclude sigil) (λ kinds k past. past) text (judged_name sigil text)
+
+pub name_fails : (sigil : Sigil) (text : List ℕ) (f : TextFault) → IsTextFault (forms.name_form sigil) text f
+    → Fails (failure_of f) (name_reading sigil text)
+name_fails sigil text = fault_due (forms.name_form sigil) IsNameOf (names_exclude sigil) (λ kinds k past. past) text (judged_name sigil text)
+
+-- a name that is printed otherwise is no name of a hint file
+tested : (sigil : Sigil) (text : List ℕ) (name : Name) → IsShort text → SpellsName sigil text name
+    → (is : Bool) → bytes_eq (printed_name sigil name) text ≡ is → IsTextReading (IsNameText sigil) text (cond is (Ok name) (Err here))
+tested sigil text name short spelled true is = (short, (spelled, sym ((bytes_eq-Decides (printed_name sigil name) text).0 is)))
+tested sigil text name short spelled false is =
+    inr (
+      short,
+      (λ other means. let same : bytes_eq (printed_name sigil name) text ≡ true =
+          (bytes_eq-Decides (printed_name sigil name) text).1 (ap (printed_name sigil) (names_are_one sigil text name other spelled means.0) ∙ sym means.1) in
+          let both = sym same ∙ is in cc),
+      refl,
+    )
+
+name_text : (sigil : Sigil) (text : List ℕ) (found : Reading Name) → IsTextReading (SpellsName sigil) text found
+    → IsTextReading (IsNameText sigil) text (read_then found (if_printed sigil text))
+name_text sigil text (Ok name) is = tested sigil text name is.0 is.1 (bytes_eq (printed_name sigil name) text) refl
+name_text sigil text (Err fault) (inl is) = inl is
+name_text sigil text (Err fault) (inr is) = inr (is.0, (λ name means. is.1 name means.0), is.2)
 
 pub texts_are_read : TextsAreRead
-texts_are_read = (λ text. limited SpellsExpression expression_of text (expressions text), λ sigil text. limited (IsNameText sigil) (exact_name sigil) text (exact sigil text))
+texts_are_read = (
+  λ text. judged_read forms.expression_form NamesExpression expressions_exclude (λ kinds k past. past) text (judged_expression text),
+  λ sigil text. name_text sigil text (name_reading sigil text)
+      (judged_read (forms.name_form sigil) IsNameOf (names_exclude sigil) (λ kinds k past. past) text (judged_name sigil text)),
+)
 
 -- ---- it doesn't depend on who reads
-
-both_lengths : (text : List ℕ) → text_limit < length text → length text ≤ text_limit → ⊥
-both_lengths text long short = omega arith
 
 alike : {A : Type 0} (Means : List ℕ → A → Type 0) → ((text : List ℕ) (a b : A) → Means text a → Means text b → a ≡ b)
     → (text : List ℕ) (p q : Reading A) → IsTextReading Means text p → IsTextReading Means text q → p ≡ q
@@ -94,7 +177,7 @@ alike Means once text (Err f) (Err g) (inr s) (inl t) = absurd (both_lengths tex
 alike Means once text (Err f) (Err g) (inr s) (inr t) = ap Err (s.2 ∙ sym t.2)
 
 name_text_once : (sigil : Sigil) (text : List ℕ) (a b : Name) → IsNameText sigil text a → IsNameText sigil text b → a ≡ b
-name_text_once sigil text a b s t = name_once sigil text a b s.0 t.0
+name_text_once sigil text a b s t = names_are_one sigil text a b s.0 t.0
 
 leaves_same : (a b : Leaves) → a.expression ≡ b.expression → a.name ≡ b.name → a ≡ b
 leaves_same a b p q = ap (λ e. record { expression = e; name = a.name }) p ∙ ap (λ n. record { expression = b.expression; name = n }) q
@@ -102,7 +185,7 @@ leaves_same a b p q = ap (λ e. record { expression = e; name = a.name }) p ∙ 
 pub leaves_are_one : LeavesAreOne
 leaves_are_one a b are too =
     leaves_same a b
-    (fun_ext (λ text. alike SpellsExpression expression_once text (a.expression text) (b.expression text) (are.0 text) (too.0 text)))
+    (fun_ext (λ text. alike SpellsExpression expressions_are_one text (a.expression text) (b.expression text) (are.0 text) (too.0 text)))
     (fun_ext (λ sigil. fun_ext (λ text. alike (IsNameText sigil) (name_text_once sigil) text (a.name sigil text) (b.name sigil text) (are.1 sigil text) (too.1 sigil text))))
 
 pub readings_are_one : ReadingsAreOne
@@ -111,7 +194,7 @@ readings_are_one bytes a b (l, are, s) (m, too, t) =
 
 -- a short text is read as what it means
 pub expression_read : (leaves : Leaves) → AreLeaves leaves → (text : List ℕ) (e : Expr0) → IsShort text → SpellsExpression text e → leaves.expression text ≡ Ok e
-expression_read leaves are text e short means = alike SpellsExpression expression_once text (leaves.expression text) (Ok e) (are.0 text) (short, means)
+expression_read leaves are text e short means = alike SpellsExpression expressions_are_one text (leaves.expression text) (Ok e) (are.0 text) (short, means)
 
 pub name_read : (leaves : Leaves) → AreLeaves leaves → (sigil : Sigil) (text : List ℕ) (name : Name) → IsShort text → IsNameText sigil text name → leaves.name sigil text ≡ Ok name
 name_read leaves are sigil text name short means =

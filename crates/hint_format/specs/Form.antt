@@ -1,6 +1,6 @@
 -- The form of a hint file, as far as it is read, as one function of the file's JSON value: it answers the hints, or what is first at
 -- fault. A value is judged before what it holds, and members in the order of their bytes.
-use Rattle.std.specs.Prelude.{◌≡◌, ◌⊎◌, ◌≤◌, ◌<◌, ℕ, ◌==◌, Bool, List, [], ◌∷◌, ◌++◌, length, map, codes, if◌then◌else◌, Option, option_and_then, Ok, Err}
+use Rattle.std.specs.Prelude.{◌≡◌, ◌⊎◌, ◌<◌, ℕ, ◌==◌, Bool, List, [], ◌∷◌, ◌++◌, length, map, codes, if◌then◌else◌, Option, option_and_then, Ok, Err}
 use Rattle.std.specs.List.{list_any}
 use Rattle.std.specs.Str.{bytes_eq}
 use Rattle.serde_json.specs.Data.{Data, string, array, no_items, item}
@@ -13,8 +13,8 @@ use Rattle.ir_core.specs.declared.names.Sigil.TheVariants.{Local, Global}
 use Rattle.ir_core.specs.Expressions.{Expr0}
 use Rattle.ir_core.specs.Limits.{text_limit}
 use Rattle.ir_core.specs.Same.{same_name}
-use Rattle.ir_spelling.specs.Expressions.{SpellsExpression}
-use Rattle.ir_spelling.specs.Names.{SpellsName}
+use Rattle.ir_spelling.specs.Faults.{IsShort}
+use Rattle.ir_spelling.specs.Spells.{SpellsExpression, SpellsName}
 use Rattle.ir_printer.specs.Printed.{printed_name, printed_expr, printed_register}
 use Rattle.erhl_assert.specs.declared.facts.Fact.{Fact}
 use Rattle.erhl_assert.specs.declared.facts.Fact.TheVariants.{LessDef}
@@ -35,10 +35,7 @@ use Rattle.json_forms.specs.Forms.{Reading, read_then, or_unfit, has_members, me
 
 -- ---- what the texts of a file mean
 
--- within the limit on the bytes of a text, and past it
-abbrev pub IsShort : List ℕ → Type 0
-IsShort text = length text ≤ text_limit
-
+-- past the limit on the bytes of a text
 abbrev pub IsLong : List ℕ → Type 0
 IsLong text = text_limit < length text
 
@@ -117,14 +114,18 @@ has_block name blocks = list_any (same_name name) (block_names blocks)
 abbrev pub hint_block : Name → Option (List Letter) → List PlacedStep → HintBlock
 hint_block name lines steps = record { at = name; lines = lines; entry = record { src = []; tgt = []; diff = [] }; steps = steps }
 
+-- the hint of the block of that name: `lines` and `steps` may be left out
+abbrev pub named_block : Leaves → Name → Data → Reading HintBlock
+named_block leaves name d =
+    read_then (optional_of (codes "lines") (λ e. text_of (letters_of []) e) d) (λ lines.
+    read_then (optional_list_of (codes "steps") (step_form leaves) d) (λ steps.
+    Ok (hint_block name lines steps)))
+
 -- `{"at":"%0","lines":"bs","steps":[]}`, in which only `at` must stand. Of two blocks with one name the second is at fault, at `/at`.
 abbrev pub block_form : Leaves → List HintBlock → Data → Reading HintBlock
 block_form leaves before d = if has_members (codes "at" ∷ []) (codes "lines" ∷ codes "steps" ∷ []) d
     then read_then (member_of (codes "at") (λ e. text_of (leaves.name Local) e) d) (λ name.
-    if has_block name before then Err (within (key_step (codes "at")) here) else
-    read_then (optional_of (codes "lines") (λ e. text_of (letters_of []) e) d) (λ lines.
-    read_then (optional_list_of (codes "steps") (step_form leaves) d) (λ steps.
-    Ok (hint_block name lines steps))))
+    if has_block name before then Err (within (key_step (codes "at")) here) else named_block leaves name d)
     else Err here
 
 -- ---- functions and files

@@ -1,27 +1,49 @@
--- Words of private functions. What the texts of a file are read as, from the left; `Form` says what they mean.
-use Rattle.std.specs.Prelude.{ℕ, if◌then◌else◌, List, length, Option, Some, None, option_and_then, nat_lt, Ok, Err}
+-- Words of private functions. What the texts of a file are read as: what is judged of each text; `Form` says what they mean.
+use Rattle.std.specs.Prelude.{◌⊎◌, if◌then◌else◌, ℕ, List, Ok, Err}
+use Rattle.std.proofs.Common.{inl, inr}
 use Rattle.std.specs.Str.{bytes_eq}
-use Rattle.ir_core.specs.declared.limits.Limit.TheVariants as limit
 use Rattle.ir_core.specs.declared.names.Name.{Name}
 use Rattle.ir_core.specs.declared.names.Sigil.{Sigil}
-use Rattle.ir_core.specs.Limits.{text_limit}
-use Rattle.ir_spelling.specs.Expressions.{expression_of}
-use Rattle.ir_spelling.specs.Names.{name_of}
+use Rattle.ir_core.specs.Expressions.{Expr0}
 use Rattle.ir_printer.specs.Printed.{printed_name}
+use Rattle.ir_spelling.specs.declared.fault.TextFault.{TextFault}
+use Rattle.ir_spelling.specs.declared.fault.TextFault.TheVariants as text_fault
+use Rattle.spelling_laws.proofs.Judged.{judged_expression, judged_name}
+use Rattle.json_forms.specs.declared.failure.Failure.{Failure}
+use Rattle.json_forms.specs.declared.failure.Failure.TheVariants.{Form, Memory}
+use Rattle.json_forms.specs.declared.failure.Fault.{Fault}
 use Rattle.json_forms.specs.declared.failure.Fault.TheVariants.{Past}
-use Rattle.json_forms.specs.Forms.{Reading, or_unfit}
+use Rattle.json_forms.specs.Faults.{here}
+use Rattle.json_forms.specs.Forms.{Reading, read_then}
 use Rattle.hint_format.specs.Form.{Leaves}
 
--- what was read of a text, if it is short enough to be read
-abbrev pub within_limit : {A : Type 0} → (List ℕ → Option A) → List ℕ → Reading A
-within_limit read text = if nat_lt text_limit (length text) then Err (Past limit.Text) else or_unfit (λ a. Ok a) (read text)
+-- a text past a limit is told so; with any other fault it is itself at fault
+abbrev pub fault_reading : TextFault → Fault
+fault_reading (text_fault.Limit limit) = Past limit
+fault_reading _ = here
+
+-- the same, of a reader that may want memory
+abbrev pub failure_of : TextFault → Failure
+failure_of text_fault.Memory = Memory
+failure_of fault = Form (fault_reading fault)
+
+-- what a text is judged to mean, or its fault
+abbrev pub reading_of : {X : Type 0} {Means : X → Type 0} {Has : TextFault → Type 0} → ((x : X) × Means x) ⊎ ((fault : TextFault) × Has fault) → Reading X
+reading_of (inl meant) = Ok meant.0
+reading_of (inr told) = Err (fault_reading told.0)
+
+abbrev pub expression_reading : List ℕ → Reading Expr0
+expression_reading text = reading_of (judged_expression text)
+
+abbrev pub name_reading : Sigil → List ℕ → Reading Name
+name_reading sigil text = reading_of (judged_name sigil text)
 
 -- the name itself, if it is printed as the text
-abbrev pub if_printed : Sigil → List ℕ → Name → Option Name
-if_printed sigil text name = if bytes_eq (printed_name sigil name) text then Some name else None
-
-abbrev pub exact_name : Sigil → List ℕ → Option Name
-exact_name sigil text = option_and_then (if_printed sigil text) (name_of sigil text)
+abbrev pub if_printed : Sigil → List ℕ → Name → Reading Name
+if_printed sigil text name = if bytes_eq (printed_name sigil name) text then Ok name else Err here
 
 abbrev pub read_leaves : Leaves
-read_leaves = record { expression = within_limit expression_of; name = λ sigil. within_limit (exact_name sigil) }
+read_leaves = record {
+  expression = expression_reading;
+  name = λ sigil text. read_then (name_reading sigil text) (if_printed sigil text);
+}

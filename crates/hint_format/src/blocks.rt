@@ -1,6 +1,7 @@
 ghost use Rattle.std.specs.Prelude.{◌≡◌, []};
+ghost use Rattle.serde_json.specs.View.{view};
 ghost use Rattle.json_forms.specs.Answers.{Answers};
-ghost use Rattle.hint_format.specs.Form.{block_form, block_names, hint_block, letter_of, letters_of};
+ghost use Rattle.hint_format.specs.Form.{block_form, block_names, hint_block, letter_of, letters_of, named_block};
 ghost use Rattle.hint_format.specs.Reading.{read_leaves};
 
 use crate::steps::StepForm;
@@ -48,10 +49,17 @@ impl RowForm for BlockForm {
         if !index.add(alloc, &name)? {
             return Err(under_key(alloc, "at", unfit(alloc)));
         }
-        let lines = optional(alloc, value, "lines", &Text(LettersText))?;
-        let steps = optional_list(alloc, value, "steps", &StepForm)?;
-        Ok(hint_block(alloc, name, lines, steps))
+        named_block(alloc, name, value)
     }
+}
+
+/// The hint of the block of that name.
+fn named_block(alloc: Global, name: Name, value: &Value) -> Result<HintBlock, Failure>
+    ensures { Answers result (named_block read_leaves name (view value.now)) }
+{
+    let lines = optional(alloc, value, "lines", &Text(LettersText))?;
+    let steps = optional_list(alloc, value, "steps", &StepForm)?;
+    Ok(hint_block(alloc, name, lines, steps))
 }
 
 /// Nothing is claimed at the block's start.

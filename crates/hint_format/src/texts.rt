@@ -1,27 +1,26 @@
 //! The texts of a hint file: expressions and names.
-ghost use Rattle.std.specs.Prelude.{◌≡◌, Some, None, IfOk, IfErr, length, nat_lt};
+ghost use Rattle.std.specs.Prelude.{◌≡◌, IfOk};
 ghost use Rattle.std.specs.Str.{bytes_eq};
-ghost use Rattle.ir_core.specs.Limits.{text_limit};
-ghost use Rattle.ir_core.specs.declared.limits.Limit.TheVariants as limit;
 ghost use Rattle.ir_printer.specs.Printed.{printed_name};
-ghost use Rattle.ir_spelling.specs.Expressions.{expression_of};
-ghost use Rattle.ir_spelling.specs.Names.{name_of};
 ghost use Rattle.json_forms.specs.Answers.{Answers};
-ghost use Rattle.json_forms.specs.Forms.{or_unfit};
-ghost use Rattle.json_forms.specs.declared.failure.Fault.TheVariants.{Past};
-ghost use Rattle.hint_format.specs.Reading.{exact_name, if_printed, within_limit, read_leaves};
+ghost use Rattle.hint_format.specs.Reading.{expression_reading, failure_of, name_reading, read_leaves};
 
-use ir_core::{Expr0, Limit, Name, Sigil};
+use ir_core::{Expr0, Name, Sigil};
 use ir_printer::print_name;
-use ir_reader::{NotRead, read_expr, read_name};
+use ir_reader::{read_expr, read_name};
+use ir_spelling::TextFault;
 use json_forms::{Failure, Fault, TextForm, unfit};
 use std::alloc::{AllocError, Global};
 
-/// The bytes of the text pass the limit.
-fn is_long(text: &str) -> bool
-    ensures { result ≡ nat_lt text_limit (length text.now) }
+/// A text past a limit is told so; with any other fault it is itself at fault.
+fn failure_of(alloc: Global, fault: TextFault) -> Failure
+    ensures { result ≡ failure_of fault }
 {
-    text.len() as u64 > Limit::Text.number()
+    match fault {
+        TextFault::Memory => Failure::Memory,
+        TextFault::Limit(limit) => Failure::Form(Fault::Past(limit)),
+        _ => unfit(alloc),
+    }
 }
 
 /// An expression of the logic.
@@ -34,20 +33,16 @@ impl TextForm for ExpressionText {
     ghost text_form = { λ _. read_leaves.expression };
 
     fn read_text(&self, alloc: Global, text: &str) -> Result<Expr0, Failure> {
-        if is_long(text) {
-            return Err(Failure::Form(Fault::Past(Limit::Text)));
-        }
         expression(alloc, text)
     }
 }
 
 fn expression(alloc: Global, text: &str) -> Result<Expr0, Failure>
-    ensures { Answers result (or_unfit (λ e. Ok e) (expression_of text.now)) }
+    ensures { Answers result (expression_reading text.now) }
 {
     match read_expr(alloc, text.as_bytes()) {
         Ok(expression) => Ok(expression),
-        Err(NotRead::NotSpelled) => Err(unfit(alloc)),
-        Err(NotRead::Memory) => Err(Failure::Memory),
+        Err(fault) => Err(failure_of(alloc, fault)),
     }
 }
 
@@ -63,31 +58,21 @@ impl TextForm for NameText {
     ghost text_form = { λ it. read_leaves.name it.sigil };
 
     fn read_text(&self, alloc: Global, text: &str) -> Result<Name, Failure> {
-        if is_long(text) {
-            return Err(Failure::Form(Fault::Past(Limit::Text)));
+        let name = spelled(alloc, self.sigil, text)?;
+        if is_printed(alloc, self.sigil, text, &name)? {
+            Ok(name)
+        } else {
+            Err(unfit(alloc))
         }
-        exact(alloc, self.sigil, text)
-    }
-}
-
-fn exact(alloc: Global, sigil: Sigil, text: &str) -> Result<Name, Failure>
-    ensures { Answers result (or_unfit (λ name. Ok name) (exact_name sigil text.now)) }
-{
-    let name = spelled(alloc, sigil, text)?;
-    if is_printed(alloc, sigil, text, &name)? {
-        Ok(name)
-    } else {
-        Err(unfit(alloc))
     }
 }
 
 fn spelled(alloc: Global, sigil: Sigil, text: &str) -> Result<Name, Failure>
-    ensures { Answers result (or_unfit (λ name. Ok name) (name_of sigil text.now)) }
+    ensures { Answers result (name_reading sigil text.now) }
 {
     match read_name(alloc, sigil, text.as_bytes()) {
         Ok(name) => Ok(name),
-        Err(NotRead::NotSpelled) => Err(unfit(alloc)),
-        Err(NotRead::Memory) => Err(Failure::Memory),
+        Err(fault) => Err(failure_of(alloc, fault)),
     }
 }
 

@@ -14,9 +14,9 @@ use Rattle.ir_lexer.specs.Names.NameAt.{Found}
 use Rattle.ir_lexer.specs.Pieces.{piece}
 use Rattle.ir_lexer.specs.Pieces.Piece.{Gap, Token}
 use Rattle.ir_lexer.proofs.Cuts.{front}
-use Rattle.ir_spelling.specs.Grammar as grammar
-use Rattle.ir_spelling.specs.Reading.{kinds_cut}
 use Rattle.ir_printer.specs.Printed.{sigil_byte}
+use Rattle.hint_laws.proofs.TokenWords.{kinds_cut}
+use Rattle.hint_laws.proofs.TokenWords as kinds_word
 
 -- the text is at its end, or its first byte fails the test
 abbrev pub stops : (ℕ → Bool) → List ℕ → Bool
@@ -68,15 +68,15 @@ spaced rest kinds lexes = record {
 }
 
 -- a comma in front
-pub comma : (rest : List ℕ) (kinds : List TokenKind) → Lexes rest kinds → Lexes (44 ∷ rest) (grammar.comma ∷ kinds)
+pub comma : (rest : List ℕ) (kinds : List TokenKind) → Lexes rest kinds → Lexes (44 ∷ rest) (kinds_word.comma ∷ kinds)
 unfolding piece
-comma rest kinds lexes = begun (44 ∷ []) rest grammar.comma kinds refl (omega arith) lexes
+comma rest kinds lexes = begun (44 ∷ []) rest kinds_word.comma kinds refl (omega arith) lexes
 
 -- a name behind its sigil
-named : (sigil : Sigil) (name : Name) (text rest : List ℕ) → name_at (text ++ rest) ≡ Found name (length text) → piece (sigil_byte sigil ∷ (text ++ rest)) ≡ Token (grammar.name sigil name) (length (sigil_byte sigil ∷ text))
+named : (sigil : Sigil) (name : Name) (text rest : List ℕ) → name_at (text ++ rest) ≡ Found name (length text) → piece (sigil_byte sigil ∷ (text ++ rest)) ≡ Token (kinds_word.name sigil name) (length (sigil_byte sigil ∷ text))
 unfolding piece
-named Local name text rest is = rw is (ap (λ len. Token (grammar.name Local name) len) (omega arith))
-named Global name text rest is = rw is (ap (λ len. Token (grammar.name Global name) len) (omega arith))
+named Local name text rest is = rw is (ap (λ len. Token (kinds_word.name Local name) len) (omega arith))
+named Global name text rest is = rw is (ap (λ len. Token (kinds_word.name Global name) len) (omega arith))
 
-pub name : (sigil : Sigil) (n : Name) (text rest : List ℕ) (kinds : List TokenKind) → name_at (text ++ rest) ≡ Found n (length text) → Lexes rest kinds → Lexes (sigil_byte sigil ∷ (text ++ rest)) (grammar.name sigil n ∷ kinds)
-name sigil n text rest kinds is lexes = begun (sigil_byte sigil ∷ text) rest (grammar.name sigil n) kinds (named sigil n text rest is) (omega arith) lexes
+pub name : (sigil : Sigil) (n : Name) (text rest : List ℕ) (kinds : List TokenKind) → name_at (text ++ rest) ≡ Found n (length text) → Lexes rest kinds → Lexes (sigil_byte sigil ∷ (text ++ rest)) (kinds_word.name sigil n ∷ kinds)
+name sigil n text rest kinds is lexes = begun (sigil_byte sigil ∷ text) rest (kinds_word.name sigil n) kinds (named sigil n text rest is) (omega arith) lexes

@@ -68,7 +68,7 @@ one_run b bs rest k kinds all is stop lexes = begun (b ∷ bs) rest k kinds (run
 digit_in_name : (b : ℕ) → is_ascii_digit b ≡ true → is_name_byte b ≡ true
 digit_in_name b is = grind (arith, nat_tests)
 
-digits_in_name : (digits : List ℕ) → list_all is_ascii_digit digits ≡ true → list_all is_name_byte digits ≡ true
+pub digits_in_name : (digits : List ℕ) → list_all is_ascii_digit digits ≡ true → list_all is_name_byte digits ≡ true
 digits_in_name [] all = refl
 digits_in_name (d ∷ ds) all =
     let parts = and_parts (is_ascii_digit d) (list_all is_ascii_digit ds) all in

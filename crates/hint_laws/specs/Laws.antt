@@ -10,13 +10,13 @@ use Rattle.ir_core.specs.declared.operands.Atom.TheVariants.{Constant, Register}
 use Rattle.ir_core.specs.declared.names.Name.{Name}
 use Rattle.ir_core.specs.declared.names.Sigil.{Sigil}
 use Rattle.ir_core.specs.declared.operands.Operand.{Operand}
+use Rattle.ir_core.specs.declared.operands.Ty.{Ty}
+use Rattle.ir_core.specs.declared.operands.Ty.TheVariants as ty
 use Rattle.ir_core.specs.Expressions.{Expr0, operands_in, type_of}
 use Rattle.ir_core.specs.Limits.{text_limit}
-use Rattle.ir_core.specs.Ranges.{IsNameInRange}
-use Rattle.ir_core.specs.Types.{constant_fits}
-use Rattle.ir_spelling.specs.Expressions.{SpellsExpression}
-use Rattle.ir_spelling.specs.Names.{SpellsName}
-use Rattle.ir_spelling.specs.Values.{i32}
+use Rattle.ir_core.specs.Ranges.{AreFlagsInRange, IsNameInRange}
+use Rattle.ir_core.specs.Types.{constant_fits, is_width}
+use Rattle.ir_spelling.specs.Spells.{SpellsExpression, SpellsName}
 use Rattle.ir_printer.specs.Printed.{printed_name, printed_register, printed_expr}
 use Rattle.erhl_assert.specs.declared.facts.Fact.{Fact}
 use Rattle.erhl_assert.specs.declared.facts.Fact.TheVariants.{LessDef}
@@ -44,14 +44,23 @@ IsWritableRegister (Now name) = IsNameInRange name
 IsWritableRegister (Old name) = ⊥
 IsWritableRegister (Ghost name) = ⊥
 
--- a constant of i32, or such a register
-abbrev pub IsWritableAtom : Atom Reg → Type 0
-IsWritableAtom (Constant c) = constant_fits i32 c ≡ true
-IsWritableAtom (Register r) = IsWritableRegister r
+-- a constant of the type, or such a register
+abbrev pub IsWritableAtom : Ty → Atom Reg → Type 0
+IsWritableAtom t (Constant c) = constant_fits t c ≡ true
+IsWritableAtom t (Register r) = IsWritableRegister r
 
--- an expression of i32 over such atoms
+-- an integer type of 1 to 64 bits
+abbrev pub IsWritableType : Ty → Type 0
+IsWritableType (ty.Int width) = is_width width ≡ true
+IsWritableType ty.Void = ⊥
+
+abbrev pub IsWritableOperand : Operand Reg → Type 0
+IsWritableOperand o = IsWritableType o.ty × IsWritableAtom o.ty o.atom
+
+-- An expression of such a type over such operands, with flags that its operator may have: `udiv exact i8 %x, 3`,
+-- `zext i8 %x to i1`, `select i8 %x, i8 1, i16 2`; `add exact i8 %x, 3` and `i8 256` are none.
 abbrev pub IsWritableExpression : Expr0 → Type 0
-IsWritableExpression e = (type_of e ≡ i32) × AllByRecursion (λ (o : Operand Reg). IsWritableAtom o.atom) (operands_in e)
+IsWritableExpression e = IsWritableType (type_of e) × AreFlagsInRange e × AllByRecursion IsWritableOperand (operands_in e)
 
 -- A printed expression spells that expression.
 abbrev pub PrintedExpressionsAreRead : Type 0
@@ -64,11 +73,11 @@ PrintedExpressionsAreApart = (a b : Expr0) → IsWritableExpression a → IsWrit
 -- ---- facts
 
 -- such an expression, printed within the limit of a text
-abbrev pub IsShort : Expr0 → Type 0
-IsShort e = IsWritableExpression e × (length (printed_expr printed_register e) ≤ text_limit)
+abbrev pub IsShortExpression : Expr0 → Type 0
+IsShortExpression e = IsWritableExpression e × (length (printed_expr printed_register e) ≤ text_limit)
 
 abbrev pub IsWritableFact : Fact → Type 0
-IsWritableFact (LessDef a b) = IsShort a × IsShort b
+IsWritableFact (LessDef a b) = IsShortExpression a × IsShortExpression b
 
 -- A printed fact is JSON, which is read as that fact.
 abbrev pub PrintedFactsAreRead : Type 0

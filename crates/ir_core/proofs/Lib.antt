@@ -2,3 +2,5 @@ pub mod SameLaws
 pub mod Widths
 pub mod WellFormed
 pub mod Shapes
+pub mod Operations
+pub mod Mapped

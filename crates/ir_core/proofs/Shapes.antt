@@ -33,6 +33,7 @@ other_widths_are_not = (
       result = refl;
       registers = (refl, tt);
       operands = ((refl, tt), tt);
+      flags = tt;
       lines = omega arith;
     },
     tt,
@@ -53,6 +54,7 @@ other_results_are_not = (
       result = refl;
       registers = (refl, tt);
       operands = ((refl, tt), tt);
+      flags = tt;
       lines = omega arith;
     },
     tt,
@@ -70,6 +72,7 @@ void_parameters_are_not = (
       result = refl;
       registers = (tt, tt);
       operands = ((refl, refl), tt);
+      flags = tt;
       lines = omega arith;
     },
     tt,
@@ -95,6 +98,7 @@ lines_without_operators_are_not = (
       result = refl;
       registers = (refl, tt);
       operands = ((refl, refl), ((refl, tt), tt));
+      flags = (tt, tt);
       lines = omega arith;
     },
     tt,
@@ -114,6 +118,7 @@ phis_of_no_edge_are_not = (
       result = refl;
       registers = (refl, tt);
       operands = ((refl, refl), ((refl, tt), tt));
+      flags = tt;
       lines = omega arith;
     },
     tt,
@@ -133,6 +138,7 @@ phis_of_nothing_are_not = (
       result = refl;
       registers = (refl, tt);
       operands = ((refl, tt), tt);
+      flags = tt;
       lines = omega arith;
     },
     tt,
@@ -148,6 +154,7 @@ returning_in_range name h = record {
   result = refl;
   registers = tt;
   operands = ((refl, refl), tt);
+  flags = tt;
   lines = omega arith;
 }
 
@@ -172,6 +179,7 @@ names_set_twice_are_not = (
       result = refl;
       registers = (refl, (refl, tt));
       operands = ((refl, refl), ((refl, refl), ((refl, refl), ((refl, refl), ((refl, tt), tt)))));
+      flags = (refl, (refl, tt));
       lines = omega arith;
     },
     tt,
@@ -208,6 +216,7 @@ functions_without_blocks_are_not = (
       result = refl;
       registers = tt;
       operands = tt;
+      flags = tt;
       lines = omega arith;
     },
     tt,

@@ -4,7 +4,7 @@ use Rattle.std.specs.List.{Contains}
 use Rattle.ir_core.specs.declared.functions.Block.{Block}
 use Rattle.ir_core.specs.declared.functions.Function.{Function}
 use Rattle.ir_core.specs.declared.functions.Term.{Term}
-use Rattle.ir_core.specs.declared.functions.Term.TheVariants.{Ret}
+use Rattle.ir_core.specs.declared.functions.Term.TheVariants.{Ret, RetVoid}
 use Rattle.ir_core.specs.declared.names.Name.{Name}
 use Rattle.ir_core.specs.declared.names.Name.TheVariants.{Text}
 use Rattle.ir_core.specs.declared.operands.Atom.TheVariants.{Register}
@@ -16,13 +16,14 @@ use Rattle.ir_core.specs.Ranges.{IsNameInRange}
 use Rattle.ir_core.specs.Same.{same_name}
 use Rattle.ir_core.specs.WellFormed.{BlockUsesDefined, IsFunctionDefined}
 
-in_none : (name : Name) → Contains [] name → ⊥
+pub in_none : (name : Name) → Contains [] name → ⊥
 in_none name there = absurd (omega (arith, there.1))
 
 no_successors : (t : Term) → successors_of t ≡ []
 no_successors (Ret operand) = refl
+no_successors RetVoid = refl
 
-in_one : (a b : Name) → same_name a b ≡ false → same_name a a ≡ true → Contains (a ∷ []) b → ⊥
+pub in_one : (a b : Name) → same_name a b ≡ false → same_name a a ≡ true → Contains (a ∷ []) b → ⊥
 in_one a b other same (zero, inside, is) =
     let both : same_name a a ≡ same_name a b = ap (same_name a) is in cc
 in_one a b other same (suc k, inside, is) = absurd (omega (arith, inside))
@@ -77,6 +78,7 @@ two_blocks_are_well_formed = record {
       result = refl;
       registers = tt;
       operands = ((refl, refl), ((refl, refl), tt));
+      flags = tt;
       lines = omega arith;
     },
     tt,
@@ -135,6 +137,7 @@ early_uses_are_not = (
       result = refl;
       registers = (refl, (refl, tt));
       operands = ((refl, tt), ((refl, refl), ((refl, refl), ((refl, refl), ((refl, tt), tt)))));
+      flags = (refl, (refl, tt));
       lines = omega arith;
     },
     tt,

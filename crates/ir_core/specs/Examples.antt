@@ -1,5 +1,6 @@
 -- Modules written out, for the laws that say which are well-formed.
-use Rattle.std.specs.Prelude.{ℕ, false, List, [], ◌∷◌, codes}
+use Rattle.std.specs.Prelude.{ℕ, true, false, List, [], ◌∷◌, codes}
+use Rattle.ir_core.specs.declared.expressions.Expr.{Expr}
 use Rattle.ir_core.specs.declared.expressions.Expr.TheVariants as expr
 use Rattle.ir_core.specs.declared.functions.Block.{Block}
 use Rattle.ir_core.specs.declared.functions.Function.{Function}
@@ -8,13 +9,19 @@ use Rattle.ir_core.specs.declared.functions.Instr.TheVariants as line
 use Rattle.ir_core.specs.declared.functions.Module.{Module}
 use Rattle.ir_core.specs.declared.functions.Phi.{Phi}
 use Rattle.ir_core.specs.declared.functions.Entry.{Entry}
-use Rattle.ir_core.specs.declared.functions.Term.TheVariants.{Ret}
+use Rattle.ir_core.specs.declared.functions.Term.TheVariants.{Ret, RetVoid}
 use Rattle.ir_core.specs.declared.names.Name.{Name}
 use Rattle.ir_core.specs.declared.names.Name.TheVariants.{Text}
 use Rattle.ir_core.specs.declared.operands.Atom.{Atom}
 use Rattle.ir_core.specs.declared.operands.Atom.TheVariants.{Constant, Register}
-use Rattle.ir_core.specs.declared.operands.BinOp.TheVariants.{Add}
+use Rattle.ir_core.specs.declared.operands.BinOp.{BinOp}
+use Rattle.ir_core.specs.declared.operands.BinOp.TheVariants.{Add, UDiv, And}
+use Rattle.ir_core.specs.declared.operands.CastOp.{CastOp}
+use Rattle.ir_core.specs.declared.operands.CastOp.TheVariants as conversion
 use Rattle.ir_core.specs.declared.operands.Const.TheVariants as constant
+use Rattle.ir_core.specs.declared.operands.Flags.{Flags}
+use Rattle.ir_core.specs.declared.operands.Operand.{Operand}
+use Rattle.ir_core.specs.declared.operands.Pred.TheVariants.{Eq}
 use Rattle.ir_core.specs.declared.operands.Ty.{Ty}
 use Rattle.ir_core.specs.declared.operands.Ty.TheVariants.{Int, Void}
 
@@ -30,11 +37,14 @@ x = Text (codes "x")
 abbrev pub y : Name
 y = Text (codes "y")
 
+abbrev pub no_flags : Flags
+no_flags = record { nuw = false; nsw = false; exact = false }
+
 -- %name = add i32 left, right
 abbrev pub add : Name → Atom Name → Atom Name → Instr
 add name left right = line.Calm (record {
   name = name;
-  right = expr.Binary (record { op = Add; flags = record { nuw = false; nsw = false }; ty = Int 32; left = left; right = right });
+  right = expr.Binary (record { op = Add; flags = no_flags; ty = Int 32; left = left; right = right });
 })
 
 -- name: lines  ret ty result
@@ -137,3 +147,64 @@ alone g = record { functions = g ∷ [] }
 -- that function twice
 abbrev pub two_of_one_name : Module
 two_of_one_name = record { functions = returning f ∷ returning f ∷ [] }
+
+-- ---- of one line, after which nothing of it is used
+
+-- define i32 @f() { f: %x = right  ret i32 0 }
+abbrev pub of_line : Expr Name → Function
+of_line right = function (Int 32) f (block f (line.Calm (record { name = x; right = right }) ∷ []) (Int 32) (number 0) ∷ [])
+
+abbrev pub typed : Ty → ℕ → Operand Name
+typed ty n = record { ty = ty; atom = number n }
+
+-- %x = op flags i8 1, 1
+abbrev pub of_flags : BinOp → Flags → Function
+of_flags op flags = of_line (expr.Binary (record { op = op; flags = flags; ty = Int 8; left = number 1; right = number 1 }))
+
+-- %x = op from 1 to to
+abbrev pub of_cast : CastOp → Ty → Ty → Function
+of_cast op from to = of_line (expr.Cast (record { op = op; operand = typed from 1; to = to }))
+
+-- %x = select condition 1, left 1, right 1
+abbrev pub of_select : Ty → Ty → Ty → Function
+of_select condition left right = of_line (expr.Select (record { condition = typed condition 1; left = typed left 1; right = typed right 1 }))
+
+-- define i1 @f() { f: %x = icmp eq i8 1, 1  ret i1 %x }
+abbrev pub compared : Function
+compared = function (Int 1) f (block f (line.Calm (record { name = x; right = expr.Icmp (record { pred = Eq; ty = Int 8; left = number 1; right = number 1 }) }) ∷ []) (Int 1) (Register x) ∷ [])
+
+-- define ty @f() { f: ret void }
+abbrev pub returning_nothing : Ty → Function
+returning_nothing ty = function ty f (record { name = f; phis = []; body = []; term = RetVoid } ∷ [])
+
+abbrev pub udiv_exact : Function
+udiv_exact = of_flags UDiv (record { nuw = false; nsw = false; exact = true })
+
+abbrev pub add_nuw_nsw : Function
+add_nuw_nsw = of_flags Add (record { nuw = true; nsw = true; exact = false })
+
+abbrev pub add_exact : Function
+add_exact = of_flags Add (record { nuw = false; nsw = false; exact = true })
+
+abbrev pub udiv_nuw : Function
+udiv_nuw = of_flags UDiv (record { nuw = true; nsw = false; exact = false })
+
+abbrev pub and_nsw : Function
+and_nsw = of_flags And (record { nuw = false; nsw = true; exact = false })
+
+-- ---- expressions over registers
+
+abbrev pub held : Ty → Name → Operand Name
+held ty name = record { ty = ty; atom = Register name }
+
+-- icmp eq i8 %x, %y
+abbrev pub comparing : Expr Name
+comparing = expr.Icmp (record { pred = Eq; ty = Int 8; left = Register x; right = Register y })
+
+-- zext i8 %x to i16
+abbrev pub extending : Expr Name
+extending = expr.Cast (record { op = conversion.ZExt; operand = held (Int 8) x; to = Int 16 })
+
+-- select i1 %f, i8 %x, i8 %y
+abbrev pub selecting : Expr Name
+selecting = expr.Select (record { condition = held (Int 1) f; left = held (Int 8) x; right = held (Int 8) y })

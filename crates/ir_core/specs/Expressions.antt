@@ -2,11 +2,15 @@
 -- the logic a register as it is now, as it was, or of the proof alone.
 use Rattle.std.specs.Prelude.{Bool, false, ◌||◌, List, [], ◌∷◌}
 use Rattle.ir_core.specs.declared.operands.Ty.{Ty}
+use Rattle.ir_core.specs.declared.operands.Ty.TheVariants.{Int}
 use Rattle.ir_core.specs.declared.operands.Atom.{Atom}
 use Rattle.ir_core.specs.declared.operands.Atom.TheVariants.{Constant, Register}
 use Rattle.ir_core.specs.declared.operands.Operand.{Operand}
 use Rattle.ir_core.specs.declared.expressions.Reg.{Reg}
 use Rattle.ir_core.specs.declared.expressions.Binary.{Binary}
+use Rattle.ir_core.specs.declared.expressions.Icmp.{Icmp}
+use Rattle.ir_core.specs.declared.expressions.Cast.{Cast}
+use Rattle.ir_core.specs.declared.expressions.Select.{Select}
 use Rattle.ir_core.specs.declared.expressions.Expr.{Expr}
 use Rattle.ir_core.specs.declared.expressions.Expr.TheVariants as expr
 
@@ -14,15 +18,21 @@ use Rattle.ir_core.specs.declared.expressions.Expr.TheVariants as expr
 abbrev pub Expr0 : Type 0
 Expr0 = Expr Reg
 
--- the type that is stated for it
+-- The type of what it gives, as the text states it: `icmp eq i32 %x, 0` gives an i1, `zext i1 %c to i8` an i8.
 abbrev pub type_of : {R : Type 0} → Expr R → Ty
 type_of (expr.Plain o) = o.ty
 type_of (expr.Binary b) = b.ty
+type_of (expr.Icmp c) = Int 1
+type_of (expr.Cast c) = c.to
+type_of (expr.Select s) = s.left.ty
 
 -- its operands, each with the type that is stated for it, in the order of the text
 abbrev pub operands_in : {R : Type 0} → Expr R → List (Operand R)
 operands_in (expr.Plain o) = o ∷ []
 operands_in (expr.Binary b) = record { ty = b.ty; atom = b.left } ∷ record { ty = b.ty; atom = b.right } ∷ []
+operands_in (expr.Icmp c) = record { ty = c.ty; atom = c.left } ∷ record { ty = c.ty; atom = c.right } ∷ []
+operands_in (expr.Cast c) = c.operand ∷ []
+operands_in (expr.Select s) = s.condition ∷ s.left ∷ s.right ∷ []
 
 -- the same over other registers
 abbrev pub map_atom : {R S : Type 0} → (R → S) → Atom R → Atom S
@@ -35,9 +45,21 @@ map_operand f o = record { ty = o.ty; atom = map_atom f o.atom }
 abbrev pub map_binary : {R S : Type 0} → (R → S) → Binary R → Binary S
 map_binary f b = record { op = b.op; flags = b.flags; ty = b.ty; left = map_atom f b.left; right = map_atom f b.right }
 
+abbrev pub map_icmp : {R S : Type 0} → (R → S) → Icmp R → Icmp S
+map_icmp f c = record { pred = c.pred; ty = c.ty; left = map_atom f c.left; right = map_atom f c.right }
+
+abbrev pub map_cast : {R S : Type 0} → (R → S) → Cast R → Cast S
+map_cast f c = record { op = c.op; operand = map_operand f c.operand; to = c.to }
+
+abbrev pub map_select : {R S : Type 0} → (R → S) → Select R → Select S
+map_select f s = record { condition = map_operand f s.condition; left = map_operand f s.left; right = map_operand f s.right }
+
 abbrev pub map_expr : {R S : Type 0} → (R → S) → Expr R → Expr S
 map_expr f (expr.Plain o) = expr.Plain (map_operand f o)
 map_expr f (expr.Binary b) = expr.Binary (map_binary f b)
+map_expr f (expr.Icmp c) = expr.Icmp (map_icmp f c)
+map_expr f (expr.Cast c) = expr.Cast (map_cast f c)
+map_expr f (expr.Select s) = expr.Select (map_select f s)
 
 -- whether it names a register that passes the test
 abbrev pub atom_has : {R : Type 0} → (R → Bool) → Atom R → Bool
@@ -47,3 +69,6 @@ atom_has test (Register r) = test r
 abbrev pub expr_has : {R : Type 0} → (R → Bool) → Expr R → Bool
 expr_has test (expr.Plain o) = atom_has test o.atom
 expr_has test (expr.Binary b) = atom_has test b.left || atom_has test b.right
+expr_has test (expr.Icmp c) = atom_has test c.left || atom_has test c.right
+expr_has test (expr.Cast c) = atom_has test c.operand.atom
+expr_has test (expr.Select s) = atom_has test s.condition.atom || atom_has test s.left.atom || atom_has test s.right.atom

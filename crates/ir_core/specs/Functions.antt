@@ -71,6 +71,7 @@ operands_of (instr.Calm c) = operands_in c.right
 
 abbrev pub operands_at_end : Term → List (Operand Name)
 operands_at_end (term.Ret operand) = operand ∷ []
+operands_at_end term.RetVoid = []
 
 abbrev pub operands_of_phi : Phi → List (Operand Name)
 operands_of_phi p = map (λ (e : Entry). record { ty = p.ty; atom = e.value }) p.entries
@@ -83,6 +84,7 @@ operands_in_block b = flat_map operands_of_phi b.phis ++ (flat_map operands_of b
 -- the blocks to which a terminator leads, by their names, once for each edge
 abbrev pub successors_of : Term → List Name
 successors_of (term.Ret operand) = []
+successors_of term.RetVoid = []
 
 -- the blocks from which an edge enters the one of this name, once for each edge
 abbrev pub edges_into : Function → Name → List Name

@@ -1,12 +1,20 @@
--- The ranges of names, types, constants and lines within which text can write them; the types of the syntax tree hold more.
-use Rattle.std.specs.Prelude.{◌≡◌, ℕ, ◌<◌, ◌≤◌, ◌^◌, true, List, length}
+-- The ranges of names, types, constants, flags and lines within which text can write them; the types of the syntax tree hold more.
+use Rattle.std.specs.Prelude.{◌≡◌, ℕ, ◌<◌, ◌≤◌, ◌^◌, Bool, true, false, not, ◌&&◌, ◌||◌, List, length}
 use Rattle.std.specs.List.{AllByRecursion, flat_map}
+use Rattle.ir_core.specs.declared.expressions.Expr.{Expr}
+use Rattle.ir_core.specs.declared.expressions.Expr.TheVariants as expr
+use Rattle.ir_core.specs.declared.functions.Block.{Block}
 use Rattle.ir_core.specs.declared.functions.Function.{Function}
+use Rattle.ir_core.specs.declared.functions.Instr.{Instr}
+use Rattle.ir_core.specs.declared.functions.Instr.TheVariants as instr
 use Rattle.ir_core.specs.declared.functions.Module.{Module}
 use Rattle.ir_core.specs.declared.names.Name.{Name}
 use Rattle.ir_core.specs.declared.names.Name.TheVariants.{Text, Number}
 use Rattle.ir_core.specs.declared.operands.Atom.{Atom}
 use Rattle.ir_core.specs.declared.operands.Atom.TheVariants.{Constant, Register}
+use Rattle.ir_core.specs.declared.operands.BinOp.{BinOp}
+use Rattle.ir_core.specs.declared.operands.BinOp.TheVariants.{Add, Sub, Mul, Shl, UDiv, SDiv, LShr, AShr}
+use Rattle.ir_core.specs.declared.operands.Flags.{Flags}
 use Rattle.ir_core.specs.declared.operands.Operand.{Operand}
 use Rattle.ir_core.specs.declared.operands.Ty.{Ty}
 use Rattle.ir_core.specs.declared.operands.Ty.TheVariants as ty
@@ -35,12 +43,40 @@ IsAtomInRange t (Register r) = Unit {0}
 abbrev pub IsOperandInRange : {R : Type 0} → Operand R → Type 0
 IsOperandInRange o = IsTypeInRange o.ty × IsAtomInRange o.ty o.atom
 
+-- the operators on which `nuw` and `nsw` may stand
+abbrev pub may_wrap : BinOp → Bool
+may_wrap Add = true
+may_wrap Sub = true
+may_wrap Mul = true
+may_wrap Shl = true
+may_wrap op = false
+
+-- the operators on which `exact` may stand
+abbrev pub may_leave : BinOp → Bool
+may_leave UDiv = true
+may_leave SDiv = true
+may_leave LShr = true
+may_leave AShr = true
+may_leave op = false
+
+-- The operator may have its flags: `add nuw` and `udiv exact` are lines, `add exact` and `and nsw` are none.
+abbrev pub may_have : BinOp → Flags → Bool
+may_have op flags = (not flags.nuw || may_wrap op) && (not flags.nsw || may_wrap op) && (not flags.exact || may_leave op)
+
+abbrev pub AreFlagsInRange : {R : Type 0} → Expr R → Type 0
+AreFlagsInRange (expr.Binary b) = may_have b.op b.flags ≡ true
+AreFlagsInRange e = Unit {0}
+
+abbrev pub IsLineInRange : Instr → Type 0
+IsLineInRange (instr.Calm c) = AreFlagsInRange c.right
+
 pub record IsFunctionInRange (f : Function) : Type 0 where
   pub name : IsNameInRange f.name
   pub names : AllByRecursion IsNameInRange (names_of f)
   pub result : IsTypeInRange f.result
   pub registers : AllByRecursion (λ register. IsTypeInRange register.1) (typed_of f)
   pub operands : AllByRecursion IsOperandInRange (flat_map operands_in_block f.blocks)
+  pub flags : AllByRecursion IsLineInRange (flat_map (λ (b : Block). b.body) f.blocks)
   pub lines : line_count f ≤ line_limit
 
 abbrev pub IsInRange : Module → Type 0

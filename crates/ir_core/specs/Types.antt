@@ -1,11 +1,14 @@
--- Which types there are, and which have values (LangRef 3.7, Type System).
+-- Which types there are, which have values, and between which there are conversions (LangRef 3.7, Type System, Conversion Operations).
 use Rattle.std.specs.Prelude.{ℕ, ◌&&◌, ◌^◌, Bool, false, true, cond, nat_le, nat_lt, Option, None, Some}
+use Rattle.ir_core.specs.declared.operands.CastOp.{CastOp}
+use Rattle.ir_core.specs.declared.operands.CastOp.TheVariants as conversion
 use Rattle.ir_core.specs.declared.operands.Const.{Const}
 use Rattle.ir_core.specs.declared.operands.Const.TheVariants as constant
 use Rattle.ir_core.specs.declared.operands.Ty.{Ty}
 use Rattle.ir_core.specs.declared.operands.Ty.TheVariants as ty
 use Rattle.ir_core.specs.declared.values.Kind.{Kind}
 use Rattle.ir_core.specs.declared.values.Kind.TheVariants as kind
+use Rattle.ir_core.specs.Same.{same_ty}
 
 -- an integer has 1 to 64 bits
 abbrev pub is_width : ℕ → Bool
@@ -25,3 +28,18 @@ constant_fits ty.Void c = false
 abbrev pub kind_of : Ty → Option Kind
 kind_of (ty.Int width) = cond (is_width width) (Some (kind.Int width)) None
 kind_of ty.Void = None
+
+-- ---- conversions
+
+-- an integer type of fewer bits than another
+abbrev pub is_narrower : Ty → Ty → Bool
+is_narrower (ty.Int few) (ty.Int many) = nat_lt few many
+is_narrower (ty.Int few) ty.Void = false
+is_narrower ty.Void t = false
+
+-- A conversion leads from one type to another: `zext` and `sext` to a wider one, `trunc` to a narrower one, `bitcast` to the same.
+abbrev pub converts : CastOp → Ty → Ty → Bool
+converts conversion.ZExt from to = is_narrower from to
+converts conversion.SExt from to = is_narrower from to
+converts conversion.Trunc from to = is_narrower to from
+converts conversion.BitCast from to = same_ty from to

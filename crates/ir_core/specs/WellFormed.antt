@@ -1,5 +1,5 @@
 -- When a module is well-formed (LangRef 3.7, Well-Formedness): a predicate of the module alone, whatever text spells it.
-use Rattle.std.specs.Prelude.{◌≡◌, ◌<◌, false, List, [], ◌∷◌, ◌++◌, length, map, IsPermutation}
+use Rattle.std.specs.Prelude.{◌≡◌, ◌<◌, true, false, List, [], ◌∷◌, ◌++◌, length, map, IsPermutation}
 use Rattle.std.specs.List.{AllByRecursion, Contains, flat_map}
 use Rattle.ir_core.specs.declared.expressions.Expr.{Expr}
 use Rattle.ir_core.specs.declared.expressions.Expr.TheVariants as expr
@@ -11,7 +11,7 @@ use Rattle.ir_core.specs.declared.functions.Instr.TheVariants as instr
 use Rattle.ir_core.specs.declared.functions.Module.{Module}
 use Rattle.ir_core.specs.declared.functions.Phi.{Phi}
 use Rattle.ir_core.specs.declared.functions.Term.{Term}
-use Rattle.ir_core.specs.declared.functions.Term.TheVariants.{Ret}
+use Rattle.ir_core.specs.declared.functions.Term.TheVariants.{Ret, RetVoid}
 use Rattle.ir_core.specs.declared.names.Name.{Name}
 use Rattle.ir_core.specs.declared.operands.Atom.{Atom}
 use Rattle.ir_core.specs.declared.operands.Atom.TheVariants.{Constant, Register}
@@ -21,6 +21,7 @@ use Rattle.ir_core.specs.declared.operands.Ty.TheVariants as ty
 use Rattle.ir_core.specs.Functions.{edges_into, function_names, is_debug, names_in, names_of, operands_at_end, operands_in_block, operands_of, params_of, phi_registers, registers_of, set_by, successors_of, typed_of}
 use Rattle.ir_core.specs.Order.{AreNew}
 use Rattle.ir_core.specs.Ranges.{IsInRange}
+use Rattle.ir_core.specs.Types.{converts}
 
 -- ---- shape: names and labels are unique and known, edges and phis agree, and so do types
 
@@ -34,17 +35,26 @@ abbrev pub HasType : List (Name × Ty) → Ty → Atom Name → Type 0
 HasType registers t (Constant c) = IsFirstClass t
 HasType registers t (Register name) = Contains registers (name, t)
 
--- an operator, and no operand alone
+abbrev pub IsInteger : Ty → Type 0
+IsInteger (ty.Int width) = Unit {0}
+IsInteger ty.Void = ⊥
+
+-- An operator over operands of types that it takes, and no operand alone: a binary one and `icmp` take integers, and `select` takes
+-- an i1 and two arms of one type.
 abbrev pub IsOperator : {R : Type 0} → Expr R → Type 0
 IsOperator (expr.Plain o) = ⊥
-IsOperator (expr.Binary b) = Unit {0}
+IsOperator (expr.Binary b) = IsInteger b.ty
+IsOperator (expr.Icmp c) = IsInteger c.ty
+IsOperator (expr.Cast c) = converts c.op c.operand.ty c.to ≡ true
+IsOperator (expr.Select s) = (s.condition.ty ≡ ty.Int 1) × (s.left.ty ≡ s.right.ty)
 
 abbrev pub SetsByOperator : Instr → Type 0
 SetsByOperator (instr.Calm c) = IsOperator c.right
 
--- what is returned is of the function's result type
+-- what is returned is of the function's result type, and nothing is where that is void
 abbrev pub Returns : Ty → Term → Type 0
 Returns result (Ret operand) = operand.ty ≡ result
+Returns result RetVoid = result ≡ ty.Void
 
 -- A phi has an entry, and one for each edge that enters its block; entries of one block are alike.
 pub record FitsEdges (f : Function) (b : Block) (p : Phi) : Type 0 where

@@ -1,7 +1,7 @@
 ghost use Rattle.std.specs.Prelude.{◌≡◌};
 ghost use Rattle.ir_core.specs.Expressions.{type_of};
 
-use crate::{Atom, BinOp, Flags, Name, Operand, Ty};
+use crate::{Atom, BinOp, CastOp, Flags, Name, Operand, Pred, Ty};
 use contents::Exact;
 use std::alloc::{AllocError, Global};
 
@@ -23,11 +23,17 @@ impl Drop for Reg {
     }
 }
 
+/// `i1`, the type of what a comparison gives.
+const BIT: &'static Ty = &Ty::Int(1);
+
 /// The right side of a line, or an expression of the logic, over the registers that it names: one operand, or one
 /// operator over operands. No text has a line of one operand alone.
 pub enum Expr<R> {
     Plain(Operand<R>),
     Binary(Binary<R>),
+    Icmp(Icmp<R>),
+    Cast(Cast<R>),
+    Select(Select<R>),
 }
 
 impl<R: Drop> Drop for Expr<R> {
@@ -35,18 +41,25 @@ impl<R: Drop> Drop for Expr<R> {
         match self {
             Expr::Plain(_) => {}
             Expr::Binary(_) => {}
+            Expr::Icmp(_) => {}
+            Expr::Cast(_) => {}
+            Expr::Select(_) => {}
         }
     }
 }
 
 impl<R> Expr<R> {
-    /// The type that is stated for it.
+    /// The type of what it gives, as the text states it: a comparison's is `i1`, a conversion's the one that stands behind `to`, a
+    /// selection's that of its first arm.
     pub fn ty(&self) -> &Ty
         ensures { result.now ≡ type_of self.now }
     {
         match self {
             Expr::Plain(operand) => &operand.ty,
             Expr::Binary(binary) => &binary.ty,
+            Expr::Icmp(_) => BIT,
+            Expr::Cast(cast) => &cast.to,
+            Expr::Select(select) => &select.left.ty,
         }
     }
 }
@@ -69,6 +82,59 @@ impl<R: Drop> Drop for Binary<R> {
             op: _,
             flags: _,
             ty: _,
+            left: _,
+            right: _,
+        } = self;
+    }
+}
+
+/// `icmp pred ty left, right`: a comparison of two operands of one type (LangRef 3.7, icmp Instruction).
+pub struct Icmp<R> {
+    pub pred: Pred,
+    pub ty: Ty,
+    pub left: Atom<R>,
+    pub right: Atom<R>,
+}
+
+impl<R: Drop> Drop for Icmp<R> {
+    fn drop(self) {
+        let Icmp {
+            pred: _,
+            ty: _,
+            left: _,
+            right: _,
+        } = self;
+    }
+}
+
+/// `op operand to ty` (LangRef 3.7, Conversion Operations).
+pub struct Cast<R> {
+    pub op: CastOp,
+    pub operand: Operand<R>,
+    pub to: Ty,
+}
+
+impl<R: Drop> Drop for Cast<R> {
+    fn drop(self) {
+        let Cast {
+            op: _,
+            operand: _,
+            to: _,
+        } = self;
+    }
+}
+
+/// `select condition, left, right` (LangRef 3.7, select Instruction).
+pub struct Select<R> {
+    pub condition: Operand<R>,
+    pub left: Operand<R>,
+    pub right: Operand<R>,
+}
+
+impl<R: Drop> Drop for Select<R> {
+    fn drop(self) {
+        let Select {
+            condition: _,
             left: _,
             right: _,
         } = self;
@@ -114,11 +180,62 @@ impl<R: Exact> Exact for Binary<R> {
     }
 }
 
+impl<R: Exact> Exact for Icmp<R> {
+    fn is(&self, other: &Icmp<R>) -> bool {
+        self.pred.is(&other.pred)
+            && self.ty.is(&other.ty)
+            && self.left.is(&other.left)
+            && self.right.is(&other.right)
+    }
+
+    fn copy(&self, alloc: Global) -> Result<Icmp<R>, AllocError> {
+        Ok(Icmp {
+            pred: self.pred,
+            ty: self.ty.copy(alloc)?,
+            left: self.left.copy(alloc)?,
+            right: self.right.copy(alloc)?,
+        })
+    }
+}
+
+impl<R: Exact> Exact for Cast<R> {
+    fn is(&self, other: &Cast<R>) -> bool {
+        self.op.is(&other.op) && self.operand.is(&other.operand) && self.to.is(&other.to)
+    }
+
+    fn copy(&self, alloc: Global) -> Result<Cast<R>, AllocError> {
+        Ok(Cast {
+            op: self.op,
+            operand: self.operand.copy(alloc)?,
+            to: self.to.copy(alloc)?,
+        })
+    }
+}
+
+impl<R: Exact> Exact for Select<R> {
+    fn is(&self, other: &Select<R>) -> bool {
+        self.condition.is(&other.condition)
+            && self.left.is(&other.left)
+            && self.right.is(&other.right)
+    }
+
+    fn copy(&self, alloc: Global) -> Result<Select<R>, AllocError> {
+        Ok(Select {
+            condition: self.condition.copy(alloc)?,
+            left: self.left.copy(alloc)?,
+            right: self.right.copy(alloc)?,
+        })
+    }
+}
+
 impl<R: Exact> Exact for Expr<R> {
     fn is(&self, other: &Expr<R>) -> bool {
         match (self, other) {
             (Expr::Plain(mine), Expr::Plain(theirs)) => mine.is(theirs),
             (Expr::Binary(mine), Expr::Binary(theirs)) => mine.is(theirs),
+            (Expr::Icmp(mine), Expr::Icmp(theirs)) => mine.is(theirs),
+            (Expr::Cast(mine), Expr::Cast(theirs)) => mine.is(theirs),
+            (Expr::Select(mine), Expr::Select(theirs)) => mine.is(theirs),
             _ => false,
         }
     }
@@ -127,6 +244,9 @@ impl<R: Exact> Exact for Expr<R> {
         match self {
             Expr::Plain(operand) => Ok(Expr::Plain(operand.copy(alloc)?)),
             Expr::Binary(binary) => Ok(Expr::Binary(binary.copy(alloc)?)),
+            Expr::Icmp(icmp) => Ok(Expr::Icmp(icmp.copy(alloc)?)),
+            Expr::Cast(cast) => Ok(Expr::Cast(cast.copy(alloc)?)),
+            Expr::Select(select) => Ok(Expr::Select(select.copy(alloc)?)),
         }
     }
 }

@@ -58,12 +58,14 @@ impl Drop for Entry {
 /// The last line of a block.
 pub enum Term {
     Ret(Operand<Name>),
+    RetVoid,
 }
 
 impl Drop for Term {
     fn drop(self) {
         match self {
             Term::Ret(_) => {}
+            Term::RetVoid => {}
         }
     }
 }

@@ -2,6 +2,7 @@ ghost use Rattle.ir_core.specs.Laws.{TwoBlocksAreWellFormed, EmptyNamesAreNot, E
 ghost use Rattle.ir_core.specs.Laws.{OtherWidthsAreNot, OtherResultsAreNot, VoidParametersAreNot, VoidNumbersAreNot};
 ghost use Rattle.ir_core.specs.Laws.{LinesWithoutOperatorsAreNot, PhisOfNoEdgeAreNot, PhisOfNothingAreNot};
 ghost use Rattle.ir_core.specs.Laws.{FunctionsOfOneNameAreNot, NamesSetTwiceAreNot, DebugNamesAreNot, FunctionsWithoutBlocksAreNot};
+ghost use Rattle.ir_core.specs.Laws.{ConversionsChangeWidths, SelectionsHaveOneType, ComparisonsGiveBits, FlagsHaveOperators, OperatorsOfFlags, VoidReturns, ExpressionsAreRead, ExpressionsAreMapped};
 
 /// Empty on purpose: its contract is the law.
 ///
@@ -43,4 +44,26 @@ pub fn examples_of_names_and_blocks()
     ensures names { NamesSetTwiceAreNot }
     ensures debug_name { DebugNamesAreNot }
     ensures no_blocks { FunctionsWithoutBlocksAreNot }
+{}
+
+/// Empty on purpose: its contract is the law.
+///
+/// Conversions change widths as they should, selections have arms of one type, comparisons give an `i1`, flags stand on operators that may
+/// have them, and `ret void` in void functions.
+pub fn examples_of_operations()
+    ensures conversions { ConversionsChangeWidths }
+    ensures selections { SelectionsHaveOneType }
+    ensures comparisons { ComparisonsGiveBits }
+    ensures flags { FlagsHaveOperators }
+    ensures operators { OperatorsOfFlags }
+    ensures void { VoidReturns }
+{}
+
+/// Empty on purpose: its contract is the law.
+///
+/// The type and the operands of expressions are those of the text, also over other registers.
+#[tactic(auto, using(crate::proofs::Mapped::expressions_are_read, crate::proofs::Mapped::expressions_are_mapped))]
+pub fn examples_of_expressions()
+    ensures read { ExpressionsAreRead }
+    ensures mapped { ExpressionsAreMapped }
 {}

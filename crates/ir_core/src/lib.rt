@@ -1,5 +1,5 @@
-//! The syntax tree of textual LLVM IR (Language Reference 3.7), as far as it is built: integer `add` and
-//! `sub` and `ret`, and the expressions over them that facts of the logic speak of.
+//! The syntax tree of textual LLVM IR (Language Reference 3.7), as far as it is built: the operations on integers and
+//! `ret`, and the expressions over them that facts of the logic speak of.
 //!
 //! A value of these types is plain data to a contract: two are equal exactly where `Exact::is` says so.
 #![tactic(auto)]
@@ -17,18 +17,19 @@ mod values;
 mod words;
 
 pub use bits::Bits;
-pub use expressions::{Binary, Expr, Expr0, Reg};
+pub use expressions::{Binary, Cast, Expr, Expr0, Icmp, Reg, Select};
 pub use functions::{Block, Calm, Entry, Function, Instr, Module, Param, Phi, Term};
 pub use laws::{
-    examples_of_lines, examples_of_names_and_blocks, examples_of_types, examples_of_well_formedness,
+    examples_of_expressions, examples_of_lines, examples_of_names_and_blocks,
+    examples_of_operations, examples_of_types, examples_of_well_formedness,
 };
 pub use limits::Limit;
 pub use names::{Name, Sigil};
-pub use operands::{Atom, BinOp, Const, Flags, Operand, Ty};
+pub use operands::{Atom, BinOp, CastOp, Const, Flags, Operand, Pred, Ty};
 pub use same::{
-    same_const, same_expr, same_flags, same_name, same_name_atom, same_name_operand, same_op,
-    same_reg, same_reg_atom, same_reg_operand, same_ty, tests_are_equality,
+    same_cast, same_const, same_expr, same_flags, same_name, same_name_atom, same_name_operand,
+    same_op, same_pred, same_reg, same_reg_atom, same_reg_operand, same_ty, tests_are_equality,
 };
-pub use types::{fits, is_width, kind_of};
+pub use types::{converts, fits, is_width, kind_of};
 pub use values::{Kind, Value};
-pub use words::op_word;
+pub use words::{cast_word, op_word, pred_word};

@@ -70,13 +70,49 @@ impl<R: Drop> Drop for Operand<R> {
 pub enum BinOp {
     Add,
     Sub,
+    Mul,
+    Shl,
+    UDiv,
+    SDiv,
+    LShr,
+    AShr,
+    URem,
+    SRem,
+    And,
+    Or,
+    Xor,
 }
 
-/// `nuw` and `nsw` of a binary line: no unsigned and no signed wrap.
+/// `nuw`, `nsw` and `exact` of a binary line: no unsigned wrap, no signed wrap, nothing left over.
 #[derive(Drop, Clone, Copy)]
 pub struct Flags {
     pub nuw: bool,
     pub nsw: bool,
+    pub exact: bool,
+}
+
+/// The operator of a conversion (LangRef 3.7, Conversion Operations).
+#[derive(Drop, Clone, Copy)]
+pub enum CastOp {
+    ZExt,
+    SExt,
+    Trunc,
+    BitCast,
+}
+
+/// The predicate of a comparison (LangRef 3.7, icmp Instruction).
+#[derive(Drop, Clone, Copy)]
+pub enum Pred {
+    Eq,
+    Ne,
+    Ugt,
+    Uge,
+    Ult,
+    Ule,
+    Sgt,
+    Sge,
+    Slt,
+    Sle,
 }
 
 impl Exact for Ty {
@@ -150,6 +186,47 @@ fn op_code(op: BinOp) -> u32
     match op {
         BinOp::Add => 0,
         BinOp::Sub => 1,
+        BinOp::Mul => 2,
+        BinOp::Shl => 3,
+        BinOp::UDiv => 4,
+        BinOp::SDiv => 5,
+        BinOp::LShr => 6,
+        BinOp::AShr => 7,
+        BinOp::URem => 8,
+        BinOp::SRem => 9,
+        BinOp::And => 10,
+        BinOp::Or => 11,
+        BinOp::Xor => 12,
+    }
+}
+
+/// A number for each conversion.
+fn cast_code(op: CastOp) -> u32
+    ensures { result ≡ same.cast_code op }
+{
+    match op {
+        CastOp::ZExt => 0,
+        CastOp::SExt => 1,
+        CastOp::Trunc => 2,
+        CastOp::BitCast => 3,
+    }
+}
+
+/// A number for each predicate.
+fn pred_code(pred: Pred) -> u32
+    ensures { result ≡ same.pred_code pred }
+{
+    match pred {
+        Pred::Eq => 0,
+        Pred::Ne => 1,
+        Pred::Ugt => 2,
+        Pred::Uge => 3,
+        Pred::Ult => 4,
+        Pred::Ule => 5,
+        Pred::Sgt => 6,
+        Pred::Sge => 7,
+        Pred::Slt => 8,
+        Pred::Sle => 9,
     }
 }
 
@@ -165,10 +242,30 @@ impl Exact for BinOp {
 
 impl Exact for Flags {
     fn is(&self, other: &Flags) -> bool {
-        self.nuw == other.nuw && self.nsw == other.nsw
+        self.nuw == other.nuw && self.nsw == other.nsw && self.exact == other.exact
     }
 
     fn copy(&self, _alloc: Global) -> Result<Flags, AllocError> {
+        Ok(*self)
+    }
+}
+
+impl Exact for CastOp {
+    fn is(&self, other: &CastOp) -> bool {
+        cast_code(*self) == cast_code(*other)
+    }
+
+    fn copy(&self, _alloc: Global) -> Result<CastOp, AllocError> {
+        Ok(*self)
+    }
+}
+
+impl Exact for Pred {
+    fn is(&self, other: &Pred) -> bool {
+        pred_code(*self) == pred_code(*other)
+    }
+
+    fn copy(&self, _alloc: Global) -> Result<Pred, AllocError> {
         Ok(*self)
     }
 }

@@ -2,7 +2,7 @@
 ghost use Rattle.std.specs.Prelude.{◌≡◌};
 ghost use Rattle.ir_core.specs.Same as same;
 
-use crate::{Atom, BinOp, Const, Expr0, Flags, Name, Operand, Reg, Ty};
+use crate::{Atom, BinOp, CastOp, Const, Expr0, Flags, Name, Operand, Pred, Reg, Ty};
 use contents::Exact;
 
 #[tactic(auto, using(crate::proofs::SameLaws::same_name_true, crate::proofs::SameLaws::same_name_refl))]
@@ -29,6 +29,20 @@ pub fn same_const(a: &Const, b: &Const) -> bool
 #[tactic(auto, using(crate::proofs::SameLaws::same_op_true, crate::proofs::SameLaws::same_op_refl))]
 pub fn same_op(a: &BinOp, b: &BinOp) -> bool
     ensures { result ≡ same.same_op a.now b.now }
+{
+    a.is(b)
+}
+
+#[tactic(auto, using(crate::proofs::SameLaws::same_cast_true, crate::proofs::SameLaws::same_cast_refl))]
+pub fn same_cast(a: &CastOp, b: &CastOp) -> bool
+    ensures { result ≡ same.same_cast a.now b.now }
+{
+    a.is(b)
+}
+
+#[tactic(auto, using(crate::proofs::SameLaws::same_pred_true, crate::proofs::SameLaws::same_pred_refl))]
+pub fn same_pred(a: &Pred, b: &Pred) -> bool
+    ensures { result ≡ same.same_pred a.now b.now }
 {
     a.is(b)
 }
@@ -90,6 +104,8 @@ pub fn tests_are_equality()
     ensures types { same.IsEquality same.same_ty }
     ensures constants { same.IsEquality same.same_const }
     ensures operators { same.IsEquality same.same_op }
+    ensures conversions { same.IsEquality same.same_cast }
+    ensures predicates { same.IsEquality same.same_pred }
     ensures flags { same.IsEquality same.same_flags }
     ensures registers { same.IsEquality same.same_reg }
     ensures atoms { same.IsEquality (same.same_atom same.same_name) }

@@ -1,8 +1,8 @@
-//! Which types have values, and which numbers fit them.
+//! Which types have values, which numbers fit them, and between which there are conversions.
 ghost use Rattle.std.specs.Prelude.{◌≡◌};
 ghost use Rattle.ir_core.specs.Types as meaning;
 
-use crate::{Kind, Ty};
+use crate::{CastOp, Kind, Ty, same_ty};
 
 /// Whether an integer may have that many bits.
 pub fn is_width(width: u32) -> bool
@@ -32,5 +32,26 @@ pub fn kind_of(ty: &Ty) -> Option<Kind>
             }
         }
         Ty::Void => None,
+    }
+}
+
+fn is_narrower(from: &Ty, to: &Ty) -> bool
+    ensures { result ≡ meaning.is_narrower from.now to.now }
+{
+    match (from, to) {
+        (Ty::Int(few), Ty::Int(many)) => *few < *many,
+        _ => false,
+    }
+}
+
+/// Whether the conversion leads from the one type to the other.
+pub fn converts(op: CastOp, from: &Ty, to: &Ty) -> bool
+    ensures { result ≡ meaning.converts op from.now to.now }
+{
+    match op {
+        CastOp::ZExt => is_narrower(from, to),
+        CastOp::SExt => is_narrower(from, to),
+        CastOp::Trunc => is_narrower(to, from),
+        CastOp::BitCast => same_ty(from, to),
     }
 }

@@ -1,25 +1,35 @@
 -- Each rule makes what is written as its right side, and each thing that is written has a derivation.
-use Rattle.std.proofs.Common.{◌≡◌, ℕ, zero, suc, List, [], ◌∷◌, length, nat_lt, true, false, Option, Some, None, refl}
+use Rattle.std.proofs.Common.{◌≡◌, ℕ, zero, suc, Bool, List, [], ◌∷◌, length, nat_lt, true, false, Option, Some, None, refl}
 use Rattle.ir_core.specs.declared.names.Name.{Name}
 use Rattle.ir_core.specs.declared.names.Name.TheVariants as name_of
-use Rattle.ir_core.specs.declared.operands.BinOp.{BinOp}
-use Rattle.ir_core.specs.declared.operands.BinOp.TheVariants.{Add, Sub}
+use Rattle.ir_core.specs.declared.operands.CastOp.TheVariants.{Trunc}
+use Rattle.ir_core.specs.declared.operands.Pred.TheVariants.{Eq}
+use Rattle.ir_grammar.specs.declared.operators.ExactOp.TheVariants.{LShr}
+use Rattle.ir_grammar.specs.declared.operators.FlagWord.{FlagWord}
+use Rattle.ir_grammar.specs.declared.operators.FlagWord.TheVariants.{Nuw}
+use Rattle.ir_grammar.specs.declared.operators.OverflowOp.TheVariants.{Add}
+use Rattle.ir_grammar.specs.declared.operators.PlainOp.TheVariants.{And}
 use Rattle.ir_grammar.specs.declared.parts.Part.{Part}
 use Rattle.ir_grammar.specs.declared.trees.BlockText.{BlockText}
 use Rattle.ir_grammar.specs.declared.trees.DefinitionText.{DefinitionText}
 use Rattle.ir_grammar.specs.declared.trees.ExprText.{ExprText}
-use Rattle.ir_grammar.specs.declared.trees.FlagWord.{FlagWord}
 use Rattle.ir_grammar.specs.declared.trees.LineText.{LineText}
 use Rattle.ir_grammar.specs.declared.trees.ModuleText.{ModuleText}
+use Rattle.ir_grammar.specs.declared.trees.OperandText.{OperandText}
 use Rattle.ir_grammar.specs.declared.trees.OperationText.{OperationText}
+use Rattle.ir_grammar.specs.declared.trees.OperatorText.{OperatorText}
 use Rattle.ir_grammar.specs.declared.trees.ParamText.{ParamText}
 use Rattle.ir_grammar.specs.declared.trees.Placed.{Placed}
 use Rattle.ir_grammar.specs.declared.trees.ValueText.{ValueText}
+use Rattle.ir_grammar.specs.declared.trees.ConstantWord.TheVariants.{Undef}
 use Rattle.ir_grammar.specs.declared.trees.ExprText.TheVariants as expression
-use Rattle.ir_grammar.specs.declared.trees.FlagWord.TheVariants.{Nuw, Nsw}
+use Rattle.ir_grammar.specs.declared.trees.OperationText.TheVariants as form
+use Rattle.ir_grammar.specs.declared.trees.OperatorText.TheVariants as operators
 use Rattle.ir_grammar.specs.declared.trees.ValueText.TheVariants as text
+use Rattle.ir_grammar.specs.Kinds.{Kind, Says, kind, kept, symbol_by, unkept}
+use Rattle.ir_grammar.specs.Kinds as by_kind
 use Rattle.ir_grammar.specs.Rules.{definitions_end, meaning, rules, written_at}
-use Rattle.ir_grammar.specs.Sorts.{Content, symbol_of, kept, unkept, sort, vocabulary, Sort, Holds, part_of, value_of, Module, Definition, Params, More, Param, ParamName, Block, BlockLabel, Lines, Line, Register, Operation, Op, Flags, Flag, Value, Expr, LocalName, GlobalName}
+use Rattle.ir_grammar.specs.Sorts.{sort, vocabulary, Sort, Holds, part_of, value_of, Module, Definition, Result, Params, More, Param, ParamName, Block, BlockLabel, Lines, Line, Register, Returned, Operation, Operator, Flags, Exactness, Operand, Value, Expr, LocalName, GlobalName}
 use Rattle.ir_grammar.specs.Symbols.{Symbol, kind_of}
 use Rattle.ir_grammar.specs.Symbols as symbol
 use Rattle.typed_grammars.proofs.Loads.{lawful_rules, tree}
@@ -27,40 +37,73 @@ use Rattle.typed_grammars.specs.Made.{Made, MadeEach}
 use Rattle.typed_grammars.specs.Meaning.{Each, IsLawful}
 use Rattle.typed_grammars.specs.Typed.{IsVocabulary, AllOf, IsRight, made, nth}
 
-content : (s : Symbol) → (c : Content (kind_of s)) × (symbol_of (kind_of s) c ≡ s)
+content : (s : Symbol) → (c : Says (kind (kind_of s))) × (symbol_by (kind (kind_of s)) (kind_of s) c ≡ s)
 content (symbol.Local x) = (x, refl)
 content (symbol.Global x) = (x, refl)
 content (symbol.Label x) = (x, refl)
 content (symbol.Numeral x) = (x, refl)
+content (symbol.Width x) = (x, refl)
+content (symbol.Constant x) = (x, refl)
+content (symbol.Overflow x) = (x, refl)
+content (symbol.Exact x) = (x, refl)
+content (symbol.Plain x) = (x, refl)
+content (symbol.Cast x) = (x, refl)
+content (symbol.Pred x) = (x, refl)
+content (symbol.Flag x) = (x, refl)
 content (symbol.Fixed k) = (tt, refl)
 
-kind : (k : ℕ) (c : Content k) → kind_of (symbol_of k c) ≡ k
-kind zero c = refl
-kind (suc zero) c = refl
-kind (suc (suc zero)) c = refl
-kind (suc (suc (suc zero))) c = refl
-kind (suc (suc (suc (suc k)))) c = refl
+kind_is : (k : ℕ) (c : Says (kind k)) → kind_of (symbol_by (kind k) k c) ≡ k
+kind_is zero c = refl
+kind_is (suc zero) c = refl
+kind_is (suc (suc zero)) c = refl
+kind_is (suc (suc (suc zero))) c = refl
+kind_is (suc (suc (suc (suc zero)))) c = refl
+kind_is (suc (suc (suc (suc (suc zero))))) c = refl
+kind_is (suc (suc (suc (suc (suc (suc zero)))))) c = refl
+kind_is (suc (suc (suc (suc (suc (suc (suc zero))))))) c = refl
+kind_is (suc (suc (suc (suc (suc (suc (suc (suc zero)))))))) c = refl
+kind_is (suc (suc (suc (suc (suc (suc (suc (suc (suc zero))))))))) c = refl
+kind_is (suc (suc (suc (suc (suc (suc (suc (suc (suc (suc zero)))))))))) c = refl
+kind_is (suc (suc (suc (suc (suc (suc (suc (suc (suc (suc (suc zero))))))))))) c = refl
+kind_is (suc (suc (suc (suc (suc (suc (suc (suc (suc (suc (suc (suc k)))))))))))) c = refl
 
 some_name : Placed Name
 some_name = record { what = name_of.Number 0; start = 0; end = 0 }
 
-some : (k : ℕ) → Content k
-some zero = some_name
-some (suc zero) = some_name
-some (suc (suc zero)) = some_name
-some (suc (suc (suc zero))) = record { what = record { negative = false; magnitude = 0 }; start = 0; end = 0 }
-some (suc (suc (suc (suc k)))) = tt
+some : (x : Kind) → Says x
+some by_kind.Local = some_name
+some by_kind.Global = some_name
+some by_kind.Label = some_name
+some by_kind.Number = record { what = record { negative = false; magnitude = 0 }; start = 0; end = 0 }
+some by_kind.Width = record { what = 1; start = 0; end = 0 }
+some by_kind.Constant = record { what = Undef; start = 0; end = 0 }
+some by_kind.Overflow = Add
+some by_kind.Exact = LShr
+some by_kind.Plain = And
+some by_kind.Cast = Trunc
+some by_kind.Pred = Eq
+some by_kind.Flag = Nuw
+some by_kind.Alone = tt
 
-taken : (k : ℕ) (c : Content k) (s : List Part) (then : Content k → List Part → List Part) → unkept k (kept (symbol_of k c) s) then ≡ then c s
-taken zero c s then = refl
-taken (suc zero) c s then = refl
-taken (suc (suc zero)) c s then = refl
-taken (suc (suc (suc zero))) c s then = refl
-taken (suc (suc (suc (suc k)))) tt s then = refl
+taken : (x : Kind) (k : ℕ) (c : Says x) (s : List Part) (then : Says x → List Part → List Part) → unkept x (kept (symbol_by x k c) s) then ≡ then c s
+taken by_kind.Local k c s then = refl
+taken by_kind.Global k c s then = refl
+taken by_kind.Label k c s then = refl
+taken by_kind.Number k c s then = refl
+taken by_kind.Width k c s then = refl
+taken by_kind.Constant k c s then = refl
+taken by_kind.Overflow k c s then = refl
+taken by_kind.Exact k c s then = refl
+taken by_kind.Plain k c s then = refl
+taken by_kind.Cast k c s then = refl
+taken by_kind.Pred k c s then = refl
+taken by_kind.Flag k c s then = refl
+taken by_kind.Alone k tt s then = refl
 
 back : (x : Sort) (v : Holds x) → value_of x (part_of x v) ≡ Some v
 back Module v = refl
 back Definition v = refl
+back Result v = refl
 back Params v = refl
 back More v = refl
 back Param v = refl
@@ -70,10 +113,12 @@ back BlockLabel v = refl
 back Lines v = refl
 back Line v = refl
 back Register v = refl
+back Returned v = refl
 back Operation v = refl
-back Op v = refl
+back Operator v = refl
 back Flags v = refl
-back Flag v = refl
+back Exactness v = refl
+back Operand v = refl
 back Value v = refl
 back Expr v = refl
 back LocalName v = refl
@@ -83,106 +128,16 @@ pub back_at : (n : ℕ) (v : vocabulary.Value n) → vocabulary.value n (vocabul
 back_at n v = back (sort n) v
 
 is_vocabulary : IsVocabulary vocabulary
-is_vocabulary = record { content = content; kind = kind; some = some; kept = taken; value = back_at }
+is_vocabulary = record {
+  content = content;
+  kind = kind_is;
+  some = λ k. some (kind k);
+  kept = λ k c s then. taken (kind k) k c s then;
+  value = back_at;
+}
 
 right : AllOf (λ r. IsRight vocabulary written_at r definitions_end rules) rules
-right = (
-  (λ v. refl),
-  (
-    (λ v. refl),
-    (
-      (λ v. refl),
-      (
-        (λ v. refl),
-        (
-          (λ v. refl),
-          (
-            (λ v. refl),
-            (
-              (λ v. refl),
-              (
-                (λ v. refl),
-                (
-                  (λ v. refl),
-                  (
-                    (λ v. refl),
-                    (
-                      (λ v. refl),
-                      (
-                        (λ v. refl),
-                        (
-                          (λ v. refl),
-                          (
-                            (λ v. refl),
-                            (
-                              (λ v. refl),
-                              (
-                                (λ v. refl),
-                                (
-                                  (λ v. refl),
-                                  (
-                                    (λ v. refl),
-                                    (
-                                      (λ v. refl),
-                                      (
-                                        (λ v. refl),
-                                        (
-                                          (λ v. refl),
-                                          (
-                                            (λ v. refl),
-                                            (
-                                              (λ v. refl),
-                                              (
-                                                (λ v. refl),
-                                                (
-                                                  (λ v. refl),
-                                                  (
-                                                    (λ v. refl),
-                                                    (
-                                                      (λ v. refl),
-                                                      (
-                                                        (λ v. refl),
-                                                        (
-                                                          (λ v. refl),
-                                                          (
-                                                            (λ v. refl),
-                                                            (
-                                                              (λ v. refl),
-                                                              (
-                                                                (λ v. refl),
-                                                                tt,
-                                                              ),
-                                                            ),
-                                                          ),
-                                                        ),
-                                                      ),
-                                                    ),
-                                                  ),
-                                                ),
-                                              ),
-                                            ),
-                                          ),
-                                        ),
-                                      ),
-                                    ),
-                                  ),
-                                ),
-                              ),
-                            ),
-                          ),
-                        ),
-                      ),
-                    ),
-                  ),
-                ),
-              ),
-            ),
-          ),
-        ),
-      ),
-    ),
-  ),
-)
+right = ((λ v. refl), ((λ v. refl), ((λ v. refl), ((λ v. refl), ((λ v. refl), ((λ v. refl), ((λ v. refl), ((λ v. refl), ((λ v. refl), ((λ v. refl), ((λ v. refl), ((λ v. refl), ((λ v. refl), ((λ v. refl), ((λ v. refl), ((λ v. refl), ((λ v. refl), ((λ v. refl), ((λ v. refl), ((λ v. refl), ((λ v. refl), ((λ v. refl), ((λ v. refl), ((λ v. refl), ((λ v. refl), ((λ v. refl), ((λ v. refl), ((λ v. refl), ((λ v. refl), ((λ v. refl), ((λ v. refl), ((λ v. refl), ((λ v. refl), ((λ v. refl), ((λ v. refl), ((λ v. refl), ((λ v. refl), ((λ v. refl), ((λ v. refl), ((λ v. refl), ((λ v. refl), tt)))))))))))))))))))))))))))))))))))))))))
 
 pub lawful : IsLawful meaning
 lawful = lawful_rules vocabulary is_vocabulary written_at definitions_end rules right
@@ -192,75 +147,90 @@ by :
     → Made meaning (meaning.grammar.left p) (made vocabulary (nth definitions_end rules p) vs)
 by p = tree vocabulary is_vocabulary written_at definitions_end rules right p
 
-value : (v : ValueText) → Made meaning 15 v
-value (text.Number n) = by 25 refl _ tt
-value text.Undef = by 26 refl _ tt
-value (text.Local name) = by 27 refl _ tt
+value : (x : ValueText) → Made meaning 18 x
+value (text.Number n) = by 34 refl _ tt
+value (text.Constant c) = by 35 refl _ tt
+value (text.Local name) = by 36 refl _ tt
 
-flag : (f : FlagWord) → Made meaning 14 f
-flag Nuw = by 23 refl _ tt
-flag Nsw = by 24 refl _ tt
+operand : (x : OperandText) → Made meaning 17 x
+operand o = by 33 refl _ (value o.value, tt)
 
-flags : (fs : List FlagWord) → Made meaning 13 fs
-flags [] = by 21 refl _ tt
-flags (f ∷ fs) = by 22 refl _ (flag f, (flags fs, tt))
+exactness : (x : Bool) → Made meaning 16 x
+exactness false = by 31 refl _ tt
+exactness true = by 32 refl _ tt
 
-operator : (op : BinOp) → Made meaning 12 op
-operator Add = by 19 refl _ tt
-operator Sub = by 20 refl _ tt
+flags : (x : List FlagWord) → Made meaning 15 x
+flags [] = by 29 refl _ tt
+flags (f ∷ fs) = by 30 refl _ (flags fs, tt)
 
-operation : (o : OperationText) → Made meaning 11 o
-operation o = by 18 refl _ (operator o.op, (flags o.flags, (value o.left, (value o.right, tt))))
+operator : (x : OperatorText) → Made meaning 14 x
+operator (operators.Overflow op fs) = by 26 refl _ (flags fs, tt)
+operator (operators.Exact op is_exact) = by 27 refl _ (exactness is_exact, tt)
+operator (operators.Plain op) = by 28 refl _ tt
 
-register : (name : Option (Placed Name)) → Made meaning 10 name
-register None = by 16 refl _ tt
-register (Some name) = by 17 refl _ tt
+operation : (x : OperationText) → Made meaning 13 x
+operation (form.Binary x) = by 22 refl _ (operator x.operator, (operand x.left, (value x.right, tt)))
+operation (form.Compare x) = by 23 refl _ (operand x.left, (value x.right, tt))
+operation (form.Cast x) = by 24 refl _ (operand x.from, tt)
+operation (form.Select x) = by 25 refl _ (operand x.condition, (operand x.then, (operand x.other, tt)))
 
-line : (l : LineText) → Made meaning 9 l
-line l = by 15 refl _ (register l.register, (operation l.operation, tt))
+returned : (x : Option OperandText) → Made meaning 12 x
+returned None = by 20 refl _ tt
+returned (Some o) = by 21 refl _ (operand o, tt)
 
-lines : (ls : List LineText) → Made meaning 8 ls
-lines [] = by 13 refl _ tt
-lines (l ∷ ls) = by 14 refl _ (line l, (lines ls, tt))
+register : (x : Option (Placed Name)) → Made meaning 11 x
+register None = by 18 refl _ tt
+register (Some name) = by 19 refl _ tt
 
-label : (name : Option (Placed Name)) → Made meaning 7 name
-label None = by 11 refl _ tt
-label (Some name) = by 12 refl _ tt
+line : (x : LineText) → Made meaning 10 x
+line l = by 17 refl _ (register l.register, (operation l.operation, tt))
 
-block : (b : BlockText) → Made meaning 6 b
-block b = by 10 refl _ (label b.label, (lines b.lines, (value b.result, tt)))
+lines : (x : List LineText) → Made meaning 9 x
+lines [] = by 15 refl _ tt
+lines (l ∷ ls) = by 16 refl _ (line l, (lines ls, tt))
 
-param_name : (name : Option (Placed Name)) → Made meaning 5 name
-param_name None = by 8 refl _ tt
-param_name (Some name) = by 9 refl _ tt
+label : (x : Option (Placed Name)) → Made meaning 8 x
+label None = by 13 refl _ tt
+label (Some name) = by 14 refl _ tt
 
-param : (p : ParamText) → Made meaning 4 p
-param p = by 7 refl _ (param_name p.name, tt)
+block : (x : BlockText) → Made meaning 7 x
+block x = by 12 refl _ (label x.label, (lines x.lines, (returned x.result, tt)))
 
-more : (ps : List ParamText) → Made meaning 3 ps
-more [] = by 5 refl _ tt
-more (p ∷ ps) = by 6 refl _ (param p, (more ps, tt))
+param_name : (x : Option (Placed Name)) → Made meaning 6 x
+param_name None = by 10 refl _ tt
+param_name (Some name) = by 11 refl _ tt
 
-params : (ps : List ParamText) → Made meaning 2 ps
-params [] = by 3 refl _ tt
-params (p ∷ ps) = by 4 refl _ (param p, (more ps, tt))
+param : (x : ParamText) → Made meaning 5 x
+param p = by 9 refl _ (param_name p.name, tt)
 
-definition : (d : DefinitionText) → Made meaning 1 d
-definition d = by 2 refl _ (params d.params, (block d.block, tt))
+more : (x : List ParamText) → Made meaning 4 x
+more [] = by 7 refl _ tt
+more (p ∷ ps) = by 8 refl _ (param p, (more ps, tt))
 
-definitions : (ds : List DefinitionText) → Made meaning 0 (record { definitions = ds })
+params : (x : List ParamText) → Made meaning 3 x
+params [] = by 5 refl _ tt
+params (p ∷ ps) = by 6 refl _ (param p, (more ps, tt))
+
+result : (x : Option (Placed ℕ)) → Made meaning 2 x
+result None = by 3 refl _ tt
+result (Some ty) = by 4 refl _ tt
+
+definition : (x : DefinitionText) → Made meaning 1 x
+definition x = by 2 refl _ (result x.result, (params x.params, (block x.block, tt)))
+
+definitions : (xs : List DefinitionText) → Made meaning 0 (record { definitions = xs })
 definitions [] = by 0 refl _ tt
-definitions (d ∷ ds) = by 1 refl _ (definition d, (definitions ds, tt))
+definitions (x ∷ xs) = by 1 refl _ (definition x, (definitions xs, tt))
 
 pub module_text : (m : ModuleText) → Made meaning 0 m
 module_text m = definitions m.definitions
 
-pub expression_text : (e : ExprText) → Made meaning 16 e
-expression_text (expression.Plain v) = by 28 refl _ (value v, tt)
-expression_text (expression.Operation o) = by 29 refl _ (operation o, tt)
+pub expression_text : (x : ExprText) → Made meaning 19 x
+expression_text (expression.Plain x) = by 37 refl _ (operand x, tt)
+expression_text (expression.Operation x) = by 38 refl _ (operation x, tt)
 
-pub local_text : (name : Placed Name) → Made meaning 17 name
-local_text name = by 30 refl _ tt
+pub local_text : (x : Placed Name) → Made meaning 20 x
+local_text name = by 39 refl _ tt
 
-pub global_text : (name : Placed Name) → Made meaning 18 name
-global_text name = by 31 refl _ tt
+pub global_text : (x : Placed Name) → Made meaning 21 x
+global_text name = by 40 refl _ tt

@@ -1,7 +1,13 @@
 -- What a part of the stack is, if it is one of this form.
-use Rattle.std.specs.Prelude.{List, Option, Some, None}
+use Rattle.std.specs.Prelude.{ℕ, Bool, List, Option, Some, None}
 use Rattle.ir_core.specs.declared.names.Name.{Name}
-use Rattle.ir_core.specs.declared.operands.BinOp.{BinOp}
+use Rattle.ir_core.specs.declared.operands.CastOp.{CastOp}
+use Rattle.ir_core.specs.declared.operands.Pred.{Pred as Predicate}
+use Rattle.ir_lexer.specs.declared.token.Number.{Number}
+use Rattle.ir_grammar.specs.declared.operators.ExactOp.{ExactOp}
+use Rattle.ir_grammar.specs.declared.operators.FlagWord.{FlagWord}
+use Rattle.ir_grammar.specs.declared.operators.OverflowOp.{OverflowOp}
+use Rattle.ir_grammar.specs.declared.operators.PlainOp.{PlainOp}
 use Rattle.ir_grammar.specs.declared.parts.Atom.TheVariants as atom
 use Rattle.ir_grammar.specs.declared.parts.Leaf.TheVariants as leaf
 use Rattle.ir_grammar.specs.declared.parts.List.TheVariants as list
@@ -9,30 +15,35 @@ use Rattle.ir_grammar.specs.declared.parts.Part.{Part}
 use Rattle.ir_grammar.specs.declared.parts.Part.TheVariants as part
 use Rattle.ir_grammar.specs.declared.parts.Tree.TheVariants as tree
 use Rattle.ir_grammar.specs.declared.trees.BlockText.{BlockText}
+use Rattle.ir_grammar.specs.declared.trees.ConstantWord.{ConstantWord}
 use Rattle.ir_grammar.specs.declared.trees.DefinitionText.{DefinitionText}
 use Rattle.ir_grammar.specs.declared.trees.ExprText.{ExprText}
-use Rattle.ir_grammar.specs.declared.trees.FlagWord.{FlagWord}
 use Rattle.ir_grammar.specs.declared.trees.LineText.{LineText}
 use Rattle.ir_grammar.specs.declared.trees.ModuleText.{ModuleText}
+use Rattle.ir_grammar.specs.declared.trees.OperandText.{OperandText}
 use Rattle.ir_grammar.specs.declared.trees.OperationText.{OperationText}
+use Rattle.ir_grammar.specs.declared.trees.OperatorText.{OperatorText}
 use Rattle.ir_grammar.specs.declared.trees.ParamText.{ParamText}
 use Rattle.ir_grammar.specs.declared.trees.Placed.{Placed}
 use Rattle.ir_grammar.specs.declared.trees.ValueText.{ValueText}
-use Rattle.ir_lexer.specs.declared.token.Number.{Number}
 
-abbrev pub a_module : Part → Option (ModuleText)
+abbrev pub a_module : Part → Option ModuleText
 a_module (part.Tree (tree.Module x)) = Some x
 a_module _ = None
 
-abbrev pub a_definition : Part → Option (DefinitionText)
+abbrev pub a_definition : Part → Option DefinitionText
 a_definition (part.Tree (tree.Definition x)) = Some x
 a_definition _ = None
+
+abbrev pub a_result : Part → Option (Option (Placed ℕ))
+a_result (part.Atom (atom.Result x)) = Some x
+a_result _ = None
 
 abbrev pub a_params : Part → Option (List ParamText)
 a_params (part.List (list.Params x)) = Some x
 a_params _ = None
 
-abbrev pub a_param : Part → Option (ParamText)
+abbrev pub a_param : Part → Option ParamText
 a_param (part.Tree (tree.Param x)) = Some x
 a_param _ = None
 
@@ -40,39 +51,47 @@ abbrev pub a_name : Part → Option (Option (Placed Name))
 a_name (part.Atom (atom.Name x)) = Some x
 a_name _ = None
 
-abbrev pub a_block : Part → Option (BlockText)
+abbrev pub a_block : Part → Option BlockText
 a_block (part.Tree (tree.Block x)) = Some x
 a_block _ = None
+
+abbrev pub a_returned : Part → Option (Option OperandText)
+a_returned (part.Tree (tree.Returned x)) = Some x
+a_returned _ = None
 
 abbrev pub a_lines : Part → Option (List LineText)
 a_lines (part.List (list.Lines x)) = Some x
 a_lines _ = None
 
-abbrev pub a_line : Part → Option (LineText)
+abbrev pub a_line : Part → Option LineText
 a_line (part.Tree (tree.Line x)) = Some x
 a_line _ = None
 
-abbrev pub a_operation : Part → Option (OperationText)
+abbrev pub a_operation : Part → Option OperationText
 a_operation (part.Tree (tree.Operation x)) = Some x
 a_operation _ = None
 
-abbrev pub a_op : Part → Option (BinOp)
-a_op (part.Atom (atom.Op x)) = Some x
-a_op _ = None
+abbrev pub a_operator : Part → Option OperatorText
+a_operator (part.Tree (tree.Operator x)) = Some x
+a_operator _ = None
 
 abbrev pub a_flags : Part → Option (List FlagWord)
 a_flags (part.List (list.Flags x)) = Some x
 a_flags _ = None
 
-abbrev pub a_flag : Part → Option (FlagWord)
-a_flag (part.Atom (atom.Flag x)) = Some x
-a_flag _ = None
+abbrev pub a_exactness : Part → Option Bool
+a_exactness (part.Atom (atom.Exactness x)) = Some x
+a_exactness _ = None
 
-abbrev pub a_value : Part → Option (ValueText)
+abbrev pub a_operand : Part → Option OperandText
+a_operand (part.Tree (tree.Operand x)) = Some x
+a_operand _ = None
+
+abbrev pub a_value : Part → Option ValueText
 a_value (part.Atom (atom.Value x)) = Some x
 a_value _ = None
 
-abbrev pub a_expr : Part → Option (ExprText)
+abbrev pub a_expr : Part → Option ExprText
 a_expr (part.Tree (tree.Expr x)) = Some x
 a_expr _ = None
 
@@ -91,3 +110,35 @@ a_label _ = None
 abbrev pub a_number : Part → Option (Placed Number)
 a_number (part.Leaf (leaf.Number x)) = Some x
 a_number _ = None
+
+abbrev pub a_width : Part → Option (Placed ℕ)
+a_width (part.Leaf (leaf.Width x)) = Some x
+a_width _ = None
+
+abbrev pub a_constant : Part → Option (Placed ConstantWord)
+a_constant (part.Leaf (leaf.Constant x)) = Some x
+a_constant _ = None
+
+abbrev pub a_overflow : Part → Option OverflowOp
+a_overflow (part.Leaf (leaf.Overflow x)) = Some x
+a_overflow _ = None
+
+abbrev pub a_exact : Part → Option ExactOp
+a_exact (part.Leaf (leaf.Exact x)) = Some x
+a_exact _ = None
+
+abbrev pub a_plain : Part → Option PlainOp
+a_plain (part.Leaf (leaf.Plain x)) = Some x
+a_plain _ = None
+
+abbrev pub a_cast : Part → Option CastOp
+a_cast (part.Leaf (leaf.Cast x)) = Some x
+a_cast _ = None
+
+abbrev pub a_pred : Part → Option Predicate
+a_pred (part.Leaf (leaf.Pred x)) = Some x
+a_pred _ = None
+
+abbrev pub a_flag : Part → Option FlagWord
+a_flag (part.Leaf (leaf.Flag x)) = Some x
+a_flag _ = None

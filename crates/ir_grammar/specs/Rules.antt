@@ -1,11 +1,9 @@
 -- The grammar, without shared beginnings, and what each rule makes.
-use Rattle.std.specs.Prelude.{ℕ, suc, List, [], ◌∷◌, Some, None}
-use Rattle.ir_core.specs.declared.operands.BinOp.{BinOp}
-use Rattle.ir_core.specs.declared.operands.BinOp.TheVariants.{Add, Sub}
+use Rattle.std.specs.Prelude.{ℕ, true, false, List, [], ◌∷◌, Some, None}
 use Rattle.ir_grammar.specs.declared.parts.Part.{Part}
 use Rattle.ir_grammar.specs.declared.trees.ExprText.TheVariants as expression
-use Rattle.ir_grammar.specs.declared.trees.FlagWord.{FlagWord}
-use Rattle.ir_grammar.specs.declared.trees.FlagWord.TheVariants.{Nuw, Nsw}
+use Rattle.ir_grammar.specs.declared.trees.OperationText.TheVariants as form
+use Rattle.ir_grammar.specs.declared.trees.OperatorText.TheVariants as operators
 use Rattle.ir_grammar.specs.declared.trees.ValueText.TheVariants as value
 use Rattle.ir_grammar.specs.Sorts.{sort, vocabulary, written}
 use Rattle.ir_grammar.specs.Symbols.{kind_of}
@@ -30,16 +28,41 @@ LABEL = Kind 2
 abbrev pub NUMBER : Symbol
 NUMBER = Kind 3
 
+-- a type `iN`
+abbrev pub TYPE : Symbol
+TYPE = Kind 4
+
+-- true, false, undef
+abbrev pub CONSTANT : Symbol
+CONSTANT = Kind 5
+
+-- add, sub, mul, shl
+abbrev pub OVERFLOW : Symbol
+OVERFLOW = Kind 6
+
+-- udiv, sdiv, lshr, ashr
+abbrev pub EXACT : Symbol
+EXACT = Kind 7
+
+-- urem, srem, and, or, xor
+abbrev pub PLAIN : Symbol
+PLAIN = Kind 8
+
+-- zext, sext, trunc, bitcast
+abbrev pub CAST : Symbol
+CAST = Kind 9
+
+-- eq, ne, ugt, uge, ult, ule, sgt, sge, slt, sle
+abbrev pub PRED : Symbol
+PRED = Kind 10
+
+-- nuw, nsw
+abbrev pub FLAG : Symbol
+FLAG = Kind 11
+
 -- a word or mark
 abbrev pub fixed : symbol.Symbol → Symbol
 fixed s = Kind (kind_of s)
-
--- a word by its number
-abbrev pub word : ℕ → Symbol
-word k = Kind (suc (suc (suc (suc k))))
-
-abbrev pub i32 : Symbol
-i32 = fixed symbol.i32
 
 abbrev pub comma : Symbol
 comma = fixed symbol.comma
@@ -50,47 +73,56 @@ definitions_rest = Non 0
 abbrev pub a_definition : Symbol
 a_definition = Non 1
 
+abbrev pub a_result : Symbol
+a_result = Non 2
+
 abbrev pub all_params : Symbol
-all_params = Non 2
+all_params = Non 3
 
 abbrev pub params_rest : Symbol
-params_rest = Non 3
+params_rest = Non 4
 
 abbrev pub a_param : Symbol
-a_param = Non 4
+a_param = Non 5
 
 abbrev pub param_name : Symbol
-param_name = Non 5
+param_name = Non 6
 
 abbrev pub a_block : Symbol
-a_block = Non 6
+a_block = Non 7
 
 abbrev pub block_label : Symbol
-block_label = Non 7
+block_label = Non 8
 
 abbrev pub lines_rest : Symbol
-lines_rest = Non 8
+lines_rest = Non 9
 
 abbrev pub a_line : Symbol
-a_line = Non 9
+a_line = Non 10
 
 abbrev pub a_register : Symbol
-a_register = Non 10
+a_register = Non 11
+
+abbrev pub what_returns : Symbol
+what_returns = Non 12
 
 abbrev pub an_operation : Symbol
-an_operation = Non 11
+an_operation = Non 13
 
 abbrev pub an_operator : Symbol
-an_operator = Non 12
+an_operator = Non 14
 
 abbrev pub flags_rest : Symbol
-flags_rest = Non 13
+flags_rest = Non 15
 
-abbrev pub a_flag : Symbol
-a_flag = Non 14
+abbrev pub an_exactness : Symbol
+an_exactness = Non 16
+
+abbrev pub an_operand : Symbol
+an_operand = Non 17
 
 abbrev pub a_value : Symbol
-a_value = Non 15
+a_value = Non 18
 
 -- ---- the rules
 
@@ -104,122 +136,167 @@ definitions_end = rule 0 [] (record { definitions = [] })
 abbrev pub definitions : Rule vocabulary
 definitions = rule 0 (a_definition ∷ definitions_rest ∷ []) (λ d rest. record { definitions = d ∷ rest.definitions })
 
--- define i32 GLOBAL ( params ) { block }
+-- define result GLOBAL ( params ) { block }
 abbrev pub definition : Rule vocabulary
 definition =
     rule
     1
-    (fixed symbol.define ∷ i32 ∷ GLOBAL ∷ fixed symbol.open_paren ∷ all_params ∷ fixed symbol.close_paren ∷ fixed symbol.open_brace ∷ a_block ∷ fixed symbol.close_brace ∷ [])
-    (λ name params block. record { name = name; params = params; block = block })
+    (fixed symbol.define ∷ a_result ∷ GLOBAL ∷ fixed symbol.open_paren ∷ all_params ∷ fixed symbol.close_paren ∷ fixed symbol.open_brace ∷ a_block ∷ fixed symbol.close_brace ∷ [])
+    (λ result name params block. record { result = result; name = name; params = params; block = block })
+
+abbrev pub void_result : Rule vocabulary
+void_result = rule 2 (fixed symbol.void ∷ []) None
+
+abbrev pub typed_result : Rule vocabulary
+typed_result = rule 2 (TYPE ∷ []) (λ ty. Some ty)
 
 abbrev pub params_end : Rule vocabulary
-params_end = rule 2 [] []
+params_end = rule 3 [] []
 
 abbrev pub params : Rule vocabulary
-params = rule 2 (a_param ∷ params_rest ∷ []) (λ p ps. p ∷ ps)
+params = rule 3 (a_param ∷ params_rest ∷ []) (λ p ps. p ∷ ps)
 
 abbrev pub more_end : Rule vocabulary
-more_end = rule 3 [] []
+more_end = rule 4 [] []
 
 -- , param
 abbrev pub more : Rule vocabulary
-more = rule 3 (comma ∷ a_param ∷ params_rest ∷ []) (λ p ps. p ∷ ps)
+more = rule 4 (comma ∷ a_param ∷ params_rest ∷ []) (λ p ps. p ∷ ps)
 
--- i32 [LOCAL]
+-- T [LOCAL]
 abbrev pub param : Rule vocabulary
-param = rule 4 (i32 ∷ param_name ∷ []) (λ name. record { name = name })
+param = rule 5 (TYPE ∷ param_name ∷ []) (λ ty name. record { ty = ty; name = name })
 
 abbrev pub unnamed : Rule vocabulary
-unnamed = rule 5 [] None
+unnamed = rule 6 [] None
 
 abbrev pub named : Rule vocabulary
-named = rule 5 (LOCAL ∷ []) (λ name. Some name)
+named = rule 6 (LOCAL ∷ []) (λ name. Some name)
 
--- [LABEL] lines ret i32 value
+-- [LABEL] lines ret (void | T V)
 abbrev pub block : Rule vocabulary
 block =
     rule
-    6
-    (block_label ∷ lines_rest ∷ fixed symbol.ret ∷ i32 ∷ a_value ∷ [])
+    7
+    (block_label ∷ lines_rest ∷ fixed symbol.ret ∷ what_returns ∷ [])
     (λ label lines result. record { label = label; lines = lines; result = result })
 
 abbrev pub no_label : Rule vocabulary
-no_label = rule 7 [] None
+no_label = rule 8 [] None
 
 abbrev pub label : Rule vocabulary
-label = rule 7 (LABEL ∷ []) (λ name. Some name)
+label = rule 8 (LABEL ∷ []) (λ name. Some name)
 
 abbrev pub lines_end : Rule vocabulary
-lines_end = rule 8 [] []
+lines_end = rule 9 [] []
 
 abbrev pub lines : Rule vocabulary
-lines = rule 8 (a_line ∷ lines_rest ∷ []) (λ l ls. l ∷ ls)
+lines = rule 9 (a_line ∷ lines_rest ∷ []) (λ l ls. l ∷ ls)
 
 -- [LOCAL =] operation
 abbrev pub line : Rule vocabulary
-line = rule 9 (a_register ∷ an_operation ∷ []) (λ register operation. record { register = register; operation = operation })
+line = rule 10 (a_register ∷ an_operation ∷ []) (λ register operation. record { register = register; operation = operation })
 
 abbrev pub no_register : Rule vocabulary
-no_register = rule 10 [] None
+no_register = rule 11 [] None
 
 abbrev pub register : Rule vocabulary
-register = rule 10 (LOCAL ∷ fixed symbol.equals ∷ []) (λ name. Some name)
+register = rule 11 (LOCAL ∷ fixed symbol.equals ∷ []) (λ name. Some name)
 
--- op flags i32 value , value
-abbrev pub operation : Rule vocabulary
-operation =
+abbrev pub returned_void : Rule vocabulary
+returned_void = rule 12 (fixed symbol.void ∷ []) None
+
+abbrev pub returned : Rule vocabulary
+returned = rule 12 (an_operand ∷ []) (λ o. Some o)
+
+-- operator T V , V
+abbrev pub binary : Rule vocabulary
+binary =
     rule
-    11
-    (an_operator ∷ flags_rest ∷ i32 ∷ a_value ∷ comma ∷ a_value ∷ [])
-    (λ op flags left right. record { op = op; flags = flags; left = left; right = right })
+    13
+    (an_operator ∷ an_operand ∷ comma ∷ a_value ∷ [])
+    (λ operator left right. form.Binary (record { operator = operator; left = left; right = right }))
 
-abbrev pub op_number : BinOp → ℕ
-op_number Add = 5
-op_number Sub = 6
+-- icmp PRED T V , V
+abbrev pub compare : Rule vocabulary
+compare =
+    rule
+    13
+    (fixed symbol.icmp ∷ PRED ∷ an_operand ∷ comma ∷ a_value ∷ [])
+    (λ pred left right. form.Compare (record { pred = pred; left = left; right = right }))
 
-abbrev pub op_rule : BinOp → Rule vocabulary
-op_rule op = rule 12 (word (op_number op) ∷ []) op
+-- CAST T V to T
+abbrev pub cast : Rule vocabulary
+cast =
+    rule
+    13
+    (CAST ∷ an_operand ∷ fixed symbol.to ∷ TYPE ∷ [])
+    (λ op from to. form.Cast (record { op = op; from = from; to = to }))
+
+-- select T V , T V , T V
+abbrev pub select : Rule vocabulary
+select =
+    rule
+    13
+    (fixed symbol.select ∷ an_operand ∷ comma ∷ an_operand ∷ comma ∷ an_operand ∷ [])
+    (λ condition first other. form.Select (record { condition = condition; then = first; other = other }))
+
+-- add, sub, mul or shl, and flags
+abbrev pub overflow : Rule vocabulary
+overflow = rule 14 (OVERFLOW ∷ flags_rest ∷ []) (λ op flags. operators.Overflow op flags)
+
+-- udiv, sdiv, lshr or ashr, and exact or not
+abbrev pub exact : Rule vocabulary
+exact = rule 14 (EXACT ∷ an_exactness ∷ []) (λ op is_exact. operators.Exact op is_exact)
+
+-- urem, srem, and, or, xor
+abbrev pub plain : Rule vocabulary
+plain = rule 14 (PLAIN ∷ []) (λ op. operators.Plain op)
 
 abbrev pub flags_end : Rule vocabulary
-flags_end = rule 13 [] []
+flags_end = rule 15 [] []
 
 abbrev pub flags : Rule vocabulary
-flags = rule 13 (a_flag ∷ flags_rest ∷ []) (λ f fs. f ∷ fs)
+flags = rule 15 (FLAG ∷ flags_rest ∷ []) (λ f fs. f ∷ fs)
 
-abbrev pub flag_number : FlagWord → ℕ
-flag_number Nuw = 7
-flag_number Nsw = 8
+abbrev pub inexact : Rule vocabulary
+inexact = rule 16 [] false
 
-abbrev pub flag_rule : FlagWord → Rule vocabulary
-flag_rule f = rule 14 (word (flag_number f) ∷ []) f
+abbrev pub exactly : Rule vocabulary
+exactly = rule 16 (fixed symbol.exact ∷ []) true
+
+-- T V
+abbrev pub operand : Rule vocabulary
+operand = rule 17 (TYPE ∷ a_value ∷ []) (λ ty v. record { ty = ty; value = v })
 
 abbrev pub number : Rule vocabulary
-number = rule 15 (NUMBER ∷ []) (λ n. value.Number n)
+number = rule 18 (NUMBER ∷ []) (λ n. value.Number n)
 
-abbrev pub undef : Rule vocabulary
-undef = rule 15 (fixed symbol.undef ∷ []) value.Undef
+abbrev pub constant : Rule vocabulary
+constant = rule 18 (CONSTANT ∷ []) (λ c. value.Constant c)
 
 abbrev pub local : Rule vocabulary
-local = rule 15 (LOCAL ∷ []) (λ name. value.Local name)
+local = rule 18 (LOCAL ∷ []) (λ name. value.Local name)
 
--- i32 value
-abbrev pub plain : Rule vocabulary
-plain = rule 16 (i32 ∷ a_value ∷ []) (λ v. expression.Plain v)
+-- T V
+abbrev pub expression_operand : Rule vocabulary
+expression_operand = rule 19 (an_operand ∷ []) (λ o. expression.Plain o)
 
 abbrev pub expression_operation : Rule vocabulary
-expression_operation = rule 16 (an_operation ∷ []) (λ o. expression.Operation o)
+expression_operation = rule 19 (an_operation ∷ []) (λ o. expression.Operation o)
 
 abbrev pub local_name : Rule vocabulary
-local_name = rule 17 (LOCAL ∷ []) (λ name. name)
+local_name = rule 20 (LOCAL ∷ []) (λ name. name)
 
 abbrev pub global_name : Rule vocabulary
-global_name = rule 18 (GLOBAL ∷ []) (λ name. name)
+global_name = rule 21 (GLOBAL ∷ []) (λ name. name)
 
 abbrev pub rules : List (Rule vocabulary)
 rules =
-    definitions_end ∷ definitions ∷ definition ∷ params_end ∷ params ∷ more_end ∷ more ∷ param ∷ unnamed ∷ named ∷ block ∷ no_label ∷ label
-    ∷ lines_end ∷ lines ∷ line ∷ no_register ∷ register ∷ operation ∷ op_rule Add ∷ op_rule Sub ∷ flags_end ∷ flags ∷ flag_rule Nuw
-    ∷ flag_rule Nsw ∷ number ∷ undef ∷ local ∷ plain ∷ expression_operation ∷ local_name ∷ global_name ∷ []
+    definitions_end ∷ definitions ∷ definition ∷ void_result ∷ typed_result ∷ params_end ∷ params ∷ more_end ∷ more ∷ param ∷ unnamed ∷ named
+    ∷ block ∷ no_label ∷ label ∷ lines_end ∷ lines ∷ line ∷ no_register ∷ register ∷ returned_void ∷ returned ∷ binary ∷ compare ∷ cast
+    ∷ select ∷ overflow ∷ exact ∷ plain ∷ flags_end ∷ flags ∷ inexact ∷ exactly ∷ operand ∷ number ∷ constant ∷ local
+    ∷ expression_operand ∷ expression_operation ∷ local_name ∷ global_name ∷ []
 
 -- how a nonterminal's values are written
 abbrev pub written_at : (n : ℕ) → vocabulary.Value n → List symbol.Symbol

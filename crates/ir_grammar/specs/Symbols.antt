@@ -1,86 +1,111 @@
 -- Symbols: what a tree is written as, and what symbol a token is.
 use Rattle.std.specs.Prelude.{ℕ, suc, ◌==◌, List, if◌then◌else◌}
-use Rattle.std.specs.Str.{bytes_eq}
 use Rattle.ir_core.specs.declared.names.Name.{Name}
-use Rattle.ir_core.specs.declared.operands.BinOp.TheVariants as op
-use Rattle.ir_core.specs.Words as words
+use Rattle.ir_core.specs.declared.operands.CastOp.{CastOp}
+use Rattle.ir_core.specs.declared.operands.Pred.{Pred as Predicate}
 use Rattle.ir_lexer.specs.declared.token.Number.{Number}
 use Rattle.ir_lexer.specs.declared.token.Token.{Token}
 use Rattle.ir_lexer.specs.declared.token.TokenKind.{TokenKind}
 use Rattle.ir_lexer.specs.declared.token.TokenKind.TheVariants as kind
 use Rattle.ir_lexer.specs.Cut.{Placed as PlacedToken}
 use Rattle.ir_lexer.specs.Said.{said_in}
+use Rattle.ir_grammar.specs.declared.operators.ExactOp.{ExactOp}
+use Rattle.ir_grammar.specs.declared.operators.FlagWord.{FlagWord}
+use Rattle.ir_grammar.specs.declared.operators.OverflowOp.{OverflowOp}
+use Rattle.ir_grammar.specs.declared.operators.PlainOp.{PlainOp}
+use Rattle.ir_grammar.specs.declared.trees.ConstantWord.{ConstantWord}
 use Rattle.ir_grammar.specs.declared.trees.Placed.{Placed}
+use Rattle.ir_grammar.specs.declared.words.KeyWord.{KeyWord}
+use Rattle.ir_grammar.specs.declared.words.KeyWord.TheVariants as key
+use Rattle.ir_grammar.specs.declared.words.Word.{Word}
+use Rattle.ir_grammar.specs.declared.words.Word.TheVariants as word
+use Rattle.ir_grammar.specs.Words.{word_said}
 
--- A name or a number with its place, or a word or mark, wherever it stands: of these each has a number of its own.
+-- A name, a number, a type `iN` by its width or a constant's word, with its place; an operator, a predicate or a flag; or a word or mark
+-- that says nothing but itself, wherever it stands: of these each has a number of its own.
 --
--- `ret` is `Fixed 4` at each place, and `%x` that stands from byte 3 up to byte 5 is
+-- `ret` is `Fixed 3` at each place, `mul` is `Overflow Mul`, and `%x` that stands from byte 3 up to byte 5 is
 -- `Local (record { what = Text (codes "x"); start = 3; end = 5 })`.
 pub data Symbol : Type 0 where
   Local : Placed Name → Symbol
   Global : Placed Name → Symbol
   Label : Placed Name → Symbol
   Numeral : Placed Number → Symbol
+  Width : Placed ℕ → Symbol
+  Constant : Placed ConstantWord → Symbol
+  Overflow : OverflowOp → Symbol
+  Exact : ExactOp → Symbol
+  Plain : PlainOp → Symbol
+  Cast : CastOp → Symbol
+  Pred : Predicate → Symbol
+  Flag : FlagWord → Symbol
   Fixed : ℕ → Symbol
 
 -- all tokens that the grammar lacks: nothing is written with them
 abbrev pub foreign : Symbol
 foreign = Fixed 0
 
+-- the words that stand alone
+abbrev pub key_number : KeyWord → ℕ
+key_number key.Define = 1
+key_number key.Void = 2
+key_number key.Ret = 3
+key_number key.Exact = 4
+key_number key.Icmp = 5
+key_number key.Select = 6
+key_number key.To = 7
+
 abbrev pub define : Symbol
-define = Fixed 1
+define = Fixed (key_number key.Define)
 
-abbrev pub i32 : Symbol
-i32 = Fixed 2
-
-abbrev pub undef : Symbol
-undef = Fixed 3
+abbrev pub void : Symbol
+void = Fixed (key_number key.Void)
 
 abbrev pub ret : Symbol
-ret = Fixed 4
+ret = Fixed (key_number key.Ret)
 
-abbrev pub add : Symbol
-add = Fixed 5
+abbrev pub exact : Symbol
+exact = Fixed (key_number key.Exact)
 
-abbrev pub sub : Symbol
-sub = Fixed 6
+abbrev pub icmp : Symbol
+icmp = Fixed (key_number key.Icmp)
 
-abbrev pub nuw : Symbol
-nuw = Fixed 7
+abbrev pub select : Symbol
+select = Fixed (key_number key.Select)
 
-abbrev pub nsw : Symbol
-nsw = Fixed 8
+abbrev pub to : Symbol
+to = Fixed (key_number key.To)
 
 abbrev pub comma : Symbol
-comma = Fixed 9
+comma = Fixed 8
 
 abbrev pub equals : Symbol
-equals = Fixed 10
+equals = Fixed 9
 
 abbrev pub open_paren : Symbol
-open_paren = Fixed 11
+open_paren = Fixed 10
 
 abbrev pub close_paren : Symbol
-close_paren = Fixed 12
+close_paren = Fixed 11
 
 abbrev pub open_brace : Symbol
-open_brace = Fixed 13
+open_brace = Fixed 12
 
 abbrev pub close_brace : Symbol
-close_brace = Fixed 14
+close_brace = Fixed 13
 
--- each word of the grammar is its own symbol
-unfoldable pub word_symbol : List ℕ → Symbol
-word_symbol w =
-    if bytes_eq w words.define_word then define
-    else (if bytes_eq w words.i32_word then i32
-    else (if bytes_eq w words.undef_word then undef
-    else (if bytes_eq w words.ret_word then ret
-    else (if bytes_eq w (words.op_word op.Add) then add
-    else (if bytes_eq w (words.op_word op.Sub) then sub
-    else (if bytes_eq w words.nuw_word then nuw
-    else (if bytes_eq w words.nsw_word then nsw
-    else foreign)))))))
+-- the symbol of a word at a place
+abbrev pub word_symbol : Word → ℕ → ℕ → Symbol
+word_symbol (word.Width n) start end = Width (record { what = n; start = start; end = end })
+word_symbol (word.Constant c) start end = Constant (record { what = c; start = start; end = end })
+word_symbol (word.Overflow op) start end = Overflow op
+word_symbol (word.Exact op) start end = Exact op
+word_symbol (word.Plain op) start end = Plain op
+word_symbol (word.Cast op) start end = Cast op
+word_symbol (word.Pred pred) start end = Pred pred
+word_symbol (word.Flag flag) start end = Flag flag
+word_symbol (word.Key k) start end = Fixed (key_number k)
+word_symbol word.Foreign start end = foreign
 
 -- each mark of the grammar is its own symbol: , = ( ) { }
 unfoldable pub mark_symbol : ℕ → Symbol
@@ -98,7 +123,7 @@ symbol_at (kind.Local name) start end = Local (record { what = name; start = sta
 symbol_at (kind.Global name) start end = Global (record { what = name; start = start; end = end })
 symbol_at (kind.Label name) start end = Label (record { what = name; start = start; end = end })
 symbol_at (kind.Number number) start end = Numeral (record { what = number; start = start; end = end })
-symbol_at (kind.Word w) start end = word_symbol w
+symbol_at (kind.Word w) start end = word_symbol (word_said w) start end
 symbol_at (kind.Mark b) start end = mark_symbol b
 symbol_at _ start end = foreign
 
@@ -116,13 +141,26 @@ placed_in text t = record { kind = said_in text t; start = t.start; end = t.end 
 abbrev pub symbol_in : List ℕ → Token → Symbol
 symbol_in text t = symbol_at (said_in text t) t.start t.end
 
--- the kinds of symbols, which are what a parser sees of them: LOCAL, GLOBAL, LABEL, NUMBER, then the words and marks
+-- a number of a word or mark as a kind, behind the kinds of the other symbols
+abbrev pub behind_others : ℕ → ℕ
+behind_others k = suc (suc (suc (suc (suc (suc (suc (suc (suc (suc (suc (suc k)))))))))))
+
+-- the kinds of symbols, which are what a parser sees of them: LOCAL, GLOBAL, LABEL, NUMBER, a type, a constant's word, the groups of
+-- operators, predicates, flags, then the words and marks
 abbrev pub kind_of : Symbol → ℕ
 kind_of (Local name) = 0
 kind_of (Global name) = 1
 kind_of (Label name) = 2
 kind_of (Numeral number) = 3
-kind_of (Fixed k) = suc (suc (suc (suc k)))
+kind_of (Width n) = 4
+kind_of (Constant c) = 5
+kind_of (Overflow op) = 6
+kind_of (Exact op) = 7
+kind_of (Plain op) = 8
+kind_of (Cast op) = 9
+kind_of (Pred pred) = 10
+kind_of (Flag flag) = 11
+kind_of (Fixed k) = behind_others k
 
 abbrev pub kind_of_token : PlacedToken → ℕ
 kind_of_token t = kind_of (symbol t)

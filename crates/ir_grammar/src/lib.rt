@@ -1,16 +1,18 @@
-//! How modules and expressions of textual LLVM IR are written as tokens, with places, and what the rules of a parser's grammar make of
-//! what stands on its stack. What the trees name is not said here.
+//! How modules and expressions of textual LLVM IR are written as tokens, with places, and the rules of a parser's grammar with what they
+//! make of what stands on its stack. What the trees name is not said here.
 #![tactic(auto)]
 
-mod acts;
+mod laws;
+mod operators;
 mod parts;
-mod taking;
 mod trees;
+mod words;
 
-pub use acts::reduce;
+pub use laws::{examples_of_words, examples_of_writing};
+pub use operators::{ExactOp, FlagWord, OverflowOp, PlainOp};
 pub use parts::{Atom, Leaf, List, Part, Tree};
-pub use taking::{take_expr, take_global, take_local, take_module};
 pub use trees::{
-    BlockText, DefinitionText, ExprText, FlagWord, LineText, ModuleText, OperationText, ParamText,
-    Placed, ValueText,
+    BinaryText, BlockText, CastText, CompareText, ConstantWord, DefinitionText, ExprText, LineText,
+    ModuleText, OperandText, OperationText, OperatorText, ParamText, Placed, SelectText, ValueText,
 };
+pub use words::{KeyWord, Word};

@@ -1,8 +1,9 @@
+use crate::operators::{ExactOp, FlagWord, OverflowOp, PlainOp};
 use crate::trees::{
-    BlockText, DefinitionText, ExprText, FlagWord, LineText, ModuleText, OperationText, ParamText,
-    Placed, ValueText,
+    BlockText, ConstantWord, DefinitionText, ExprText, LineText, ModuleText, OperandText,
+    OperationText, OperatorText, ParamText, Placed, ValueText,
 };
-use ir_core::{BinOp, Name};
+use ir_core::{CastOp, Name, Pred};
 use ir_lexer::Number;
 use typed_grammars::Stack;
 
@@ -13,14 +14,22 @@ pub enum Leaf {
     Global(Placed<Name>),
     Label(Placed<Name>),
     Number(Placed<Number>),
+    Width(Placed<u32>),
+    Constant(Placed<ConstantWord>),
+    Overflow(OverflowOp),
+    Exact(ExactOp),
+    Plain(PlainOp),
+    Cast(CastOp),
+    Pred(Pred),
+    Flag(FlagWord),
 }
 
 /// What one token or two were read as.
 #[derive(Drop)]
 pub enum Atom {
     Name(Option<Placed<Name>>),
-    Op(BinOp),
-    Flag(FlagWord),
+    Result(Option<Placed<u32>>),
+    Exactness(bool),
     Value(ValueText),
 }
 
@@ -39,8 +48,11 @@ pub enum Tree {
     Definition(DefinitionText),
     Param(ParamText),
     Block(BlockText),
+    Returned(Option<OperandText>),
     Line(LineText),
     Operation(OperationText),
+    Operator(OperatorText),
+    Operand(OperandText),
     Expr(ExprText),
 }
 

@@ -7,7 +7,7 @@ use Rattle.ir_core.specs.declared.values.Kind.{Kind}
 use Rattle.ir_core.specs.declared.functions.Instr.{Instr}
 use Rattle.ir_core.specs.declared.functions.Instr.TheVariants as line
 use Rattle.ir_core.specs.declared.functions.Term.{Term}
-use Rattle.ir_core.specs.declared.functions.Term.TheVariants.{Ret}
+use Rattle.ir_core.specs.declared.functions.Term.TheVariants.{Ret, RetVoid}
 use Rattle.ir_core.specs.declared.functions.Param.{Param}
 use Rattle.ir_core.specs.declared.functions.Block.{Block}
 use Rattle.ir_core.specs.declared.functions.Function.{Function}
@@ -73,6 +73,7 @@ return_is_over k v = all_do_show IsOver k v no_world _ _ refl (λ s after. refl)
 
 returns_over : (t : Term) (frame : Frame) → AllDo IsOver (term_step t frame [] no_world)
 returns_over (Ret o) frame = return_is_over (kind_of o.ty) (operand_value (read frame.registers) o)
+returns_over RetVoid frame = refl
 
 abbrev left_in : Frame → List Instr → State
 left_in frame lines = Running (record frame { lines = lines }) [] no_world
@@ -98,7 +99,7 @@ fit_enters [] (a ∷ args) registers fit = absurd fit
 fit_enters (p ∷ ps) [] registers fit = absurd fit
 
 pub one_block_runs_end : OneBlockRunsEnd
-one_block_runs_end m x f b result input named blocks phis term fit =
+one_block_runs_end m x f b input named blocks phis term fit =
     let registers = fit_enters f.params input.args no_registers fit in
     let starts : start m x input ≡ Some (Running (at_block f b registers.0) [] no_world) =
     ap (λ (o : Option Function). option_and_then (λ g. started g input) o) named ∙ ap (λ (bs : List Block). at_entry f bs (entered f.params input.args no_registers)) blocks

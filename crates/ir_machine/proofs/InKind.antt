@@ -1,7 +1,7 @@
 -- Every state that a run comes to holds values of their kinds.
-use Rattle.std.proofs.Common.{◌≡◌, ℕ, ◌<◌, ◌^◌, Bool, true, false, cond, List, [], ◌∷◌, Option, None, Some, refl, subst}
-use Rattle.std.specs.Prelude.{nat_lt, option_and_then}
-use Rattle.std.proofs.lemmas.Bool.{ltb-true}
+use Rattle.std.proofs.Common.{◌≡◌, ℕ, ◌<◌, ◌^◌, Bool, true, false, cond, List, [], ◌∷◌, Option, None, Some, refl, sym, subst}
+use Rattle.std.specs.Prelude.{nat_le, nat_lt, option_and_then}
+use Rattle.std.proofs.lemmas.Bool.{leb-true, ltb-true}
 use Rattle.ir_core.specs.declared.names.Name.{Name}
 use Rattle.ir_core.specs.declared.values.Value.{Value}
 use Rattle.ir_core.specs.declared.values.Value.TheVariants as value
@@ -13,31 +13,39 @@ use Rattle.ir_core.specs.declared.operands.Atom.{Atom}
 use Rattle.ir_core.specs.declared.operands.Atom.TheVariants as atom
 use Rattle.ir_core.specs.declared.operands.Operand.{Operand}
 use Rattle.ir_core.specs.declared.operands.BinOp.{BinOp}
+use Rattle.ir_core.specs.declared.operands.CastOp.{CastOp}
 use Rattle.ir_core.specs.declared.operands.Flags.{Flags}
+use Rattle.ir_core.specs.declared.operands.Pred.{Pred}
+use Rattle.ir_core.specs.declared.operands.Ty.{Ty}
+use Rattle.ir_core.specs.declared.operands.Ty.TheVariants as ty
 use Rattle.ir_core.specs.declared.expressions.Expr.{Expr}
 use Rattle.ir_core.specs.declared.expressions.Expr.TheVariants as expr
 use Rattle.ir_core.specs.declared.functions.Instr.{Instr}
 use Rattle.ir_core.specs.declared.functions.Instr.TheVariants as line
 use Rattle.ir_core.specs.declared.functions.Term.{Term}
-use Rattle.ir_core.specs.declared.functions.Term.TheVariants.{Ret}
+use Rattle.ir_core.specs.declared.functions.Term.TheVariants.{Ret, RetVoid}
 use Rattle.ir_core.specs.declared.functions.Param.{Param}
 use Rattle.ir_core.specs.declared.functions.Block.{Block}
 use Rattle.ir_core.specs.declared.functions.Function.{Function}
 use Rattle.ir_core.specs.declared.functions.Module.{Module}
 use Rattle.ir_values.specs.declared.operations.Outcome.{Outcome}
-use Rattle.ir_values.specs.Values.{IsInKind, IsInKindOf}
+use Rattle.ir_values.specs.Values.{HasWidth, IsInKind, IsInKindOf}
 use Rattle.ir_values.specs.Operations.{GivesInKind}
 use Rattle.ir_values.proofs.KindLaws.{poison_in_kind}
-use Rattle.ir_values.proofs.OperationLaws.{binary_outcome_in_kind}
+use Rattle.ir_values.specs.declared.operations.Outcome.TheVariants.{Gives}
+use Rattle.ir_values.specs.Selections.{select_outcome}
+use Rattle.value_laws.proofs.InKind as law
 use Rattle.ir_machine.specs.declared.items.Item.{Item}
 use Rattle.ir_machine.specs.declared.items.Shown.{Shown}
 use Rattle.ir_machine.specs.declared.items.Shown.TheVariants as shown
 use Rattle.ir_machine.specs.declared.items.Input.{Input}
-use Rattle.ir_core.specs.Types.{kind_of}
+use Rattle.ir_core.proofs.SameLaws.{left_true, right_true, same_ty_true}
+use Rattle.ir_core.specs.Same.{same_ty}
+use Rattle.ir_core.specs.Types.{converts, is_width, kind_of}
 use Rattle.ir_core.specs.Expressions.{type_of}
-use Rattle.ir_machine.specs.Registers.{Registers, no_registers, read, set, AreInKind, constant_value, atom_at, atom_value, operand_value, binary_at, outcome}
+use Rattle.ir_machine.specs.Registers.{Registers, no_registers, read, set, AreInKind, constant_value, atom_at, atom_value, operand_value, binary_at, icmp_at, cast_at, selects, outcome}
 use Rattle.ir_machine.specs.State.{Frame, Pending, World, State, Running, Over}
-use Rattle.ir_machine.specs.Machine.{Made, Follows, asks, at_kind, set_into, frame_step, term_step, return_step, fits_kind, shown_value, entered, at_entry, started, start, function_named}
+use Rattle.ir_machine.specs.Machine.{Made, Follows, asks, at_kind, set_into, frame_step, term_step, return_step, return_void, fits_kind, shown_value, entered, at_entry, started, start, function_named}
 use Rattle.ir_machine.proofs.Trees.{AllDo, all_do_made, all_do_show, all_do_set_to}
 use Rattle.ir_machine.proofs.Runs.{holding_in_kind, set_in_kind}
 
@@ -62,11 +70,62 @@ operand_in_kind reading h o = atom_value_in_kind reading h (kind_of o.ty) o.atom
 
 pub binary_in_kind : (op : BinOp) (flags : Flags) (k : Option Kind) (a b : Value) → GivesInKind k (binary_at op flags k a b)
 binary_in_kind op flags None a b = tt
-binary_in_kind op flags (Some (Int width)) a b = binary_outcome_in_kind op flags width a b
+binary_in_kind op flags (Some (Int width)) a b = law.binary_in_kind op flags width a b
+
+pub icmp_in_kind : (pred : Pred) (k : Option Kind) (a b : Value) → GivesInKind (Some (Int 1)) (icmp_at pred k a b)
+icmp_in_kind pred None a b = tt
+icmp_in_kind pred (Some k) a b = law.icmp_in_kind pred k a b
+
+poison_of : (k : Option Kind) → GivesInKind k (Gives value.Poison)
+poison_of None = tt
+poison_of (Some k) = poison_in_kind k
+
+cast_at_in_kind : (op : CastOp) (from to : Option Kind) (v : Value) → GivesInKind to (cast_at op from to v)
+cast_at_in_kind op None to v = poison_of to
+cast_at_in_kind op (Some from) None v = tt
+cast_at_in_kind op (Some from) (Some to) v = law.cast_in_kind op from to v
+
+-- where the types are such, else poison
+if_typed : (k : Option Kind) (typed : Bool) (o : Outcome) → (typed ≡ true → GivesInKind k o) → GivesInKind k (cond typed o (Gives value.Poison))
+if_typed k true o h = h refl
+if_typed k false o h = poison_of k
+
+pub cast_in_kind : (op : CastOp) (from to : Option Kind) (typed : Bool) (v : Value) → GivesInKind to (cond typed (cast_at op from to v) (Gives value.Poison))
+cast_in_kind op from to typed v = if_typed to typed (cast_at op from to v) (λ h. cast_at_in_kind op from to v)
+
+select_of : (k : Option Kind) (c a b : Value) → IsInKindOf k a → IsInKindOf k b → GivesInKind k (select_outcome c a b)
+select_of None c a b p q = tt
+select_of (Some k) c a b p q = law.select_in_kind k c a b p q
+
+pub select_in_kind : (condition left right : Ty) (c a b : Value) → IsInKindOf (kind_of left) a → IsInKindOf (kind_of right) b
+    → GivesInKind (kind_of left) (cond (selects condition left right) (select_outcome c a b) (Gives value.Poison))
+select_in_kind condition left right c a b p q = if_typed (kind_of left) (selects condition left right) (select_outcome c a b)
+    (λ h.
+    let same : left ≡ right = same_ty_true left right (right_true (same_ty condition (ty.Int 1)) (same_ty left right) h) in
+    select_of (kind_of left) c a b p (subst (λ (t : Ty). IsInKindOf (kind_of t) b) (sym same) q))
 
 pub outcome_in_kind : {R : Type 0} (reading : Kind → R → Value) → ((k : Kind) (r : R) → IsInKind k (reading k r)) → (e : Expr R) → GivesInKind (kind_of (type_of e)) (outcome reading e)
 outcome_in_kind reading h (expr.Plain o) = operand_in_kind reading h o
 outcome_in_kind reading h (expr.Binary b) = binary_in_kind b.op b.flags (kind_of b.ty) (atom_value reading (kind_of b.ty) b.left) (atom_value reading (kind_of b.ty) b.right)
+outcome_in_kind reading h (expr.Icmp c) = icmp_in_kind c.pred (kind_of c.ty) (atom_value reading (kind_of c.ty) c.left) (atom_value reading (kind_of c.ty) c.right)
+outcome_in_kind reading h (expr.Cast c) = cast_in_kind c.op (kind_of c.operand.ty) (kind_of c.to) (converts c.op c.operand.ty c.to) (operand_value reading c.operand)
+outcome_in_kind reading h (expr.Select s) =
+    select_in_kind s.condition.ty s.left.ty s.right.ty (operand_value reading s.condition) (operand_value reading s.left) (operand_value reading s.right)
+    (operand_in_kind reading h s.left) (operand_in_kind reading h s.right)
+
+-- a type's kind has a width
+width_of : (width : ℕ) (is : Bool) → is_width width ≡ is → (k : Kind) → cond is (Some (Int width)) None ≡ Some k → HasWidth k
+width_of width true is (Int w) e =
+    let same : width ≡ w = cc in
+    subst (λ (n : ℕ). HasWidth (Int n)) same (
+      leb-true 1 width (left_true (nat_le 1 width) (nat_le width 64) is),
+      leb-true width 64 (right_true (nat_le 1 width) (nat_le width 64) is),
+    )
+width_of width false is k e = cc
+
+pub kind_has_width : (t : Ty) (k : Kind) → kind_of t ≡ Some k → HasWidth k
+kind_has_width (ty.Int width) k e = width_of width (is_width width) refl k e
+kind_has_width ty.Void k e = cc
 
 abbrev pub AllInKind : List Pending → Type 0
 AllInKind [] = Unit {0}
@@ -91,9 +150,14 @@ return_in_kind : (k : Option Kind) (v : Value) (rest : List Pending) (world : Wo
 return_in_kind k v [] world p h = all_do_show LeadsInKind k v world _ _ tt (λ s after. tt)
 return_in_kind k v (q ∷ qs) world p h = (set_into_in_kind q.frame.registers q.into k v h.0 p, h.1)
 
+void_in_kind : (rest : List Pending) (world : World) → AllInKind rest → AllDo LeadsInKind (return_void rest world)
+void_in_kind [] world h = tt
+void_in_kind (q ∷ qs) world h = (set_into_in_kind q.frame.registers q.into None value.Poison h.0 tt, h.1)
+
 term_in_kind : (t : Term) (frame : Frame) (rest : List Pending) (world : World) → AreInKind frame.registers → AllInKind rest → AllDo LeadsInKind (term_step t frame rest world)
 term_in_kind (Ret o) frame rest world h w =
     return_in_kind (kind_of o.ty) (operand_value (read frame.registers) o) rest world (operand_in_kind (read frame.registers) (λ k r. h r k) o) w
+term_in_kind RetVoid frame rest world h w = void_in_kind rest world w
 
 frame_in_kind : (lines : List Instr) (frame : Frame) (rest : List Pending) (world : World) → AreInKind frame.registers → AllInKind rest → AllDo LeadsInKind (frame_step lines frame rest world)
 frame_in_kind (line.Calm b ∷ left) frame rest world h w =

@@ -12,3 +12,4 @@ pub mod Starts
 pub mod Returning
 pub mod Refining
 pub mod Ending
+pub mod AtOnce

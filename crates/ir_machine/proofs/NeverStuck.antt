@@ -11,7 +11,7 @@ use Rattle.ir_core.specs.declared.values.Kind.TheVariants.{Int}
 use Rattle.ir_core.specs.declared.functions.Instr.{Instr}
 use Rattle.ir_core.specs.declared.functions.Instr.TheVariants as line
 use Rattle.ir_core.specs.declared.functions.Term.{Term}
-use Rattle.ir_core.specs.declared.functions.Term.TheVariants.{Ret}
+use Rattle.ir_core.specs.declared.functions.Term.TheVariants.{Ret, RetVoid}
 use Rattle.ir_core.specs.declared.functions.Module.{Module}
 use Rattle.ir_values.specs.declared.operations.Outcome.{Outcome}
 use Rattle.ir_values.specs.declared.operations.Outcome.TheVariants.{Gives, Trap}
@@ -25,7 +25,7 @@ use Rattle.ir_core.specs.Types.{kind_of}
 use Rattle.ir_core.specs.Expressions.{type_of}
 use Rattle.ir_machine.specs.Registers.{read, operand_value, outcome}
 use Rattle.ir_machine.specs.State.{Frame, Pending, World, State, Running, Over}
-use Rattle.ir_machine.specs.Machine.{Asks, Does, Ask, Never, Made, Follows, asks, picked, show, set_to, frame_step, term_step, return_step}
+use Rattle.ir_machine.specs.Machine.{Asks, Does, Ask, Never, Made, Follows, asks, picked, show, set_to, frame_step, term_step, return_step, return_void}
 use Rattle.ir_machine.specs.Choices.{Lacks, NoStep, answer, RunsAnswer}
 use Rattle.ir_machine.specs.Refinement.{IsEnd, EndTheRun, NoneIsStuck, EndsAreShown}
 use Rattle.ir_machine.proofs.Trees.{AllDo, all_do_made, all_do_show, all_do_set_to}
@@ -52,8 +52,13 @@ return_can_step : (k : Option Kind) (v : Value) (rest : List Pending) (world : W
 return_can_step k v [] world = show_can_step k v world _ _ (does_step (Turn ∷ Wrong ∷ []) Over) (λ s after. does_step (Turn ∷ Returned (Some s) ∷ []) Over)
 return_can_step k v (p ∷ ps) world = does_step (Turn ∷ []) _
 
+void_can_step : (rest : List Pending) (world : World) → CanStep (return_void rest world)
+void_can_step [] world = does_step (Turn ∷ Returned None ∷ []) Over
+void_can_step (p ∷ ps) world = does_step (Turn ∷ []) _
+
 term_can_step : (t : Term) (frame : Frame) (rest : List Pending) (world : World) → CanStep (term_step t frame rest world)
 term_can_step (Ret o) frame rest world = return_can_step (kind_of o.ty) (operand_value (read frame.registers) o) rest world
+term_can_step RetVoid frame rest world = void_can_step rest world
 
 set_can_step : (k : Option Kind) (x : Name) (o : Outcome) (frame : Frame) (rest : List Pending) (world : World) → CanStep (set_to k x o frame rest world)
 set_can_step k x (Gives v) frame rest world = does_step [] _
@@ -92,8 +97,13 @@ return_shows_end k v [] world = all_do_show ShowsItsEnd k v world _ _
     (λ s after. ends (Turn ∷ Returned (Some s) ∷ []) (Turn ∷ []) (Returned (Some s)) refl tt)
 return_shows_end k v (p ∷ ps) world = goes_on (Turn ∷ []) _ ps world turn_is_no_end
 
+void_shows_end : (rest : List Pending) (world : World) → AllDo ShowsItsEnd (return_void rest world)
+void_shows_end [] world = ends (Turn ∷ Returned None ∷ []) (Turn ∷ []) (Returned None) refl tt
+void_shows_end (p ∷ ps) world = goes_on (Turn ∷ []) _ ps world turn_is_no_end
+
 term_shows_end : (t : Term) (frame : Frame) (rest : List Pending) (world : World) → AllDo ShowsItsEnd (term_step t frame rest world)
 term_shows_end (Ret o) frame rest world = return_shows_end (kind_of o.ty) (operand_value (read frame.registers) o) rest world
+term_shows_end RetVoid frame rest world = void_shows_end rest world
 
 frame_shows_end : (lines : List Instr) (frame : Frame) (rest : List Pending) (world : World) → AllDo ShowsItsEnd (frame_step lines frame rest world)
 frame_shows_end (line.Calm b ∷ left) frame rest world =
@@ -124,8 +134,13 @@ return_always : (k : Option Kind) (v : Value) (rest : List Pending) (world : Wor
 return_always k v [] world = show_always k v world _ _ tt (λ s after. tt)
 return_always k v (p ∷ ps) world = tt
 
+void_always : (rest : List Pending) (world : World) → AlwaysSteps (return_void rest world)
+void_always [] world = tt
+void_always (p ∷ ps) world = tt
+
 term_always : (t : Term) (frame : Frame) (rest : List Pending) (world : World) → AlwaysSteps (term_step t frame rest world)
 term_always (Ret o) frame rest world = return_always (kind_of o.ty) (operand_value (read frame.registers) o) rest world
+term_always RetVoid frame rest world = void_always rest world
 
 set_always : (k : Option Kind) (x : Name) (o : Outcome) (frame : Frame) (rest : List Pending) (world : World) → AlwaysSteps (set_to k x o frame rest world)
 set_always k x (Gives v) frame rest world = tt

@@ -4,13 +4,9 @@ use Rattle.std.specs.Prelude.{slice_get}
 use Rattle.std.proofs.Math.Seq.{drop-cons}
 use Rattle.std.proofs.Math.ListN.{drop_of_length-le}
 use Rattle.ir_core.specs.declared.values.Value.{Value}
-use Rattle.ir_core.specs.declared.operands.Operand.{Operand}
-use Rattle.ir_core.specs.declared.names.Name.{Name}
 use Rattle.ir_core.specs.declared.functions.Calm.{Calm}
 use Rattle.ir_core.specs.declared.functions.Instr.{Instr}
 use Rattle.ir_core.specs.declared.functions.Instr.TheVariants as line
-use Rattle.ir_core.specs.declared.functions.Term.{Term}
-use Rattle.ir_core.specs.declared.functions.Term.TheVariants.{Ret}
 use Rattle.ir_core.specs.declared.functions.Block.{Block}
 use Rattle.ir_core.specs.declared.functions.Function.{Function}
 use Rattle.ir_core.specs.declared.functions.Module.{Module}
@@ -20,9 +16,9 @@ use Rattle.ir_machine.specs.declared.items.Item.TheVariants.{Wrong}
 use Rattle.ir_machine.specs.declared.machine.Place.{Place}
 use Rattle.ir_core.specs.Types.{kind_of}
 use Rattle.ir_core.specs.Expressions.{type_of}
-use Rattle.ir_machine.specs.Registers.{Registers, read, set, operand_value, outcome}
-use Rattle.ir_machine.specs.State.{no_world, State, Running, Over}
-use Rattle.ir_machine.specs.Machine.{Asks, Does, asks, term_step, return_step, set_to}
+use Rattle.ir_machine.specs.Registers.{Registers, read, set, outcome}
+use Rattle.ir_machine.specs.State.{Frame, no_world, State, Running, Over}
+use Rattle.ir_machine.specs.Machine.{Asks, Does, asks, term_step, set_to}
 use Rattle.ir_machine.specs.Places.{state_at, in_function, in_block, next_line}
 
 pub drop_at : {X : Type 0} (xs : List X) (k : ℕ) (x : X) → k < length xs → x ≡ get_or xs k x → drop k xs ≡ x ∷ drop (k + 1) xs
@@ -67,13 +63,15 @@ trap_asks m p registers f b i some block within is traps =
     ap (λ (o : Outcome). set_to (kind_of (type_of i.right)) i.name o (record { function = f; block = b.name; lines = drop (p.line + 1) b.body; term = b.term; registers = registers }) [] no_world) traps in
     here ∙ lines ∙ sets
 
-pub term_asks : (m : Module) (p : Place) (registers : Registers) (f : Function) (b : Block) (o : Operand Name)
-    → slice_get m.functions p.function ≡ Some f → slice_get f.blocks p.block ≡ Some b → length b.body ≤ p.line → b.term ≡ Ret o
-    → asks m (state_at m (Some p) registers) ≡ return_step (kind_of o.ty) (operand_value (read registers) o) [] no_world
-term_asks m p registers f b o some block past returns =
+-- the frame before the block's terminator
+abbrev pub at_end : Function → Block → Registers → Frame
+at_end f b registers = record { function = f; block = b.name; lines = []; term = b.term; registers = registers }
+
+pub term_asks : (m : Module) (p : Place) (registers : Registers) (f : Function) (b : Block)
+    → slice_get m.functions p.function ≡ Some f → slice_get f.blocks p.block ≡ Some b → length b.body ≤ p.line
+    → asks m (state_at m (Some p) registers) ≡ term_step b.term (at_end f b registers) [] no_world
+term_asks m p registers f b some block past =
     let here : asks m (state_at m (Some p) registers) ≡ asks m (in_block f (Some b) p.line registers) = ap (asks m) (stands m p registers f b some block) in
     let lines : asks m (in_block f (Some b) p.line registers) ≡ asks_over m f b [] registers =
     ap (λ (l : List Instr). asks_over m f b l registers) (drop_of_length-le b.body past) in
-    let ends : asks_over m f b [] registers ≡ return_step (kind_of o.ty) (operand_value (read registers) o) [] no_world =
-    ap (λ (t : Term). term_step t (record { function = f; block = b.name; lines = []; term = b.term; registers = registers }) [] no_world) returns in
-    here ∙ lines ∙ ends
+    here ∙ lines

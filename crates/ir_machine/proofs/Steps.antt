@@ -2,14 +2,9 @@
 use Rattle.std.proofs.Common.{◌≡◌, ◌<◌, ◌≤◌, ◌+◌, List, [], ◌∷◌, length, get_or, Option, None, Some, Result, Ok, Err, IfOk, refl, sym, ap, ◌∙◌, subst}
 use Rattle.std.specs.Prelude.{slice_get, IsErr, IsErrOf, OnErr, is_err}
 use Rattle.ir_core.specs.declared.values.Value.{Value}
-use Rattle.ir_core.specs.declared.operands.Operand.{Operand}
-use Rattle.ir_core.specs.declared.names.Name.{Name}
 use Rattle.ir_core.specs.declared.functions.Calm.{Calm}
 use Rattle.ir_core.specs.declared.functions.Instr.{Instr}
 use Rattle.ir_core.specs.declared.functions.Instr.TheVariants as line
-use Rattle.ir_core.specs.declared.functions.Term.{Term}
-use Rattle.ir_core.specs.declared.functions.Term.TheVariants.{Ret}
-use Rattle.ir_core.specs.declared.values.Kind.{Kind}
 use Rattle.ir_core.specs.declared.functions.Block.{Block}
 use Rattle.ir_core.specs.declared.functions.Function.{Function}
 use Rattle.ir_core.specs.declared.functions.Module.{Module}
@@ -26,12 +21,12 @@ use Rattle.ir_machine.specs.declared.machine.Progress.{Progress}
 use Rattle.ir_machine.specs.declared.machine.Progress.TheVariants as progress
 use Rattle.ir_core.specs.Types.{kind_of}
 use Rattle.ir_core.specs.Expressions.{type_of}
-use Rattle.ir_machine.specs.Registers.{Registers, read, set, operand_value, outcome}
+use Rattle.ir_machine.specs.Registers.{Registers, read, set, outcome}
 use Rattle.ir_machine.specs.State.{no_world, State, Over}
-use Rattle.ir_machine.specs.Machine.{Asks, Does, asks, return_step}
+use Rattle.ir_machine.specs.Machine.{Asks, Does, asks, term_step}
 use Rattle.ir_machine.specs.Choices.{Did, Lacks, answer, Leaves, TakesAsked}
 use Rattle.ir_machine.specs.Places.{state_at, in_block, next_line, progress_of}
-use Rattle.ir_machine.proofs.Standing.{line_asks, trap_asks, term_asks, stands}
+use Rattle.ir_machine.proofs.Standing.{at_end, line_asks, trap_asks, term_asks, stands}
 
 -- a line that was done
 abbrev pub LineDid : Stepped → Place → Option Place → Registers → Registers → Type 0
@@ -98,12 +93,8 @@ module _ (m : Module) (place : Option Place) (p : Place) (registers : Registers)
       let asked : (items : List Item) × (after : State) × (asks m (state_at m place registers) ≡ Does items after) = line_asked l within is (outcome (read registers) l.right) refl in
       ([], refl, subst (λ (tree : Asks). Leaves (answer tree []) []) (sym asked.2) refl)
 
-  pub return_asked : (t : Term) (k : Option Kind) (v : Value) → b.term ≡ t → length b.body ≤ p.line
-      → ((o : Operand Name) → t ≡ Ret o → k ≡ kind_of o.ty) → ((o : Operand Name) → t ≡ Ret o → v ≡ operand_value (read registers) o)
-      → return_step k v [] no_world ≡ asks m (state_at m place registers)
-  return_asked (Ret o) k v is past kind value =
-      ap (λ (j : Option Kind). return_step j v [] no_world) (kind o refl) ∙ ap (λ (w : Value). return_step (kind_of o.ty) w [] no_world) (value o refl)
-      ∙ sym (ap (asks m) here ∙ term_asks m p registers f b o some block past is)
+  pub end_asked : length b.body ≤ p.line → term_step b.term (at_end f b registers) [] no_world ≡ asks m (state_at m place registers)
+  end_asked past = sym (ap (asks m) here ∙ term_asks m p registers f b some block past)
 
 -- one part of what holds of the value of an Ok
 pub if_ok_first : {T E : Type 0} (P Q : T → Type 0) (r : Result T E) → IfOk r (λ x. P x × Q x) → IfOk r P

@@ -7,7 +7,7 @@ use Rattle.ir_core.specs.declared.values.Kind.{Kind}
 use Rattle.ir_core.specs.declared.functions.Instr.{Instr}
 use Rattle.ir_core.specs.declared.functions.Instr.TheVariants as line
 use Rattle.ir_core.specs.declared.functions.Term.{Term}
-use Rattle.ir_core.specs.declared.functions.Term.TheVariants.{Ret}
+use Rattle.ir_core.specs.declared.functions.Term.TheVariants.{Ret, RetVoid}
 use Rattle.ir_core.specs.declared.functions.Module.{Module}
 use Rattle.ir_machine.specs.declared.items.Item.{Item}
 use Rattle.ir_machine.specs.declared.items.Item.TheVariants.{Turn, Returned, Wrong}
@@ -15,7 +15,7 @@ use Rattle.ir_core.specs.Types.{kind_of}
 use Rattle.ir_core.specs.Expressions.{type_of}
 use Rattle.ir_machine.specs.Registers.{read, operand_value, outcome}
 use Rattle.ir_machine.specs.State.{Frame, Pending, World, State, Running, Over}
-use Rattle.ir_machine.specs.Machine.{Made, asks, start, ShowsFrom, frame_step, term_step, return_step}
+use Rattle.ir_machine.specs.Machine.{Made, asks, start, ShowsFrom, frame_step, term_step, return_step, return_void}
 use Rattle.ir_machine.specs.Refinement.{WrongIsLast}
 use Rattle.ir_machine.proofs.Trees.{AllDo, all_do_made, all_do_show, all_do_set_to}
 use Rattle.ir_machine.proofs.Runs.{over_shows}
@@ -69,8 +69,13 @@ return_ends k v [] world = all_do_show WrongOnlyLast k v world _ _
     (λ s after. inl (calm_more Turn (Returned (Some s) ∷ []) turn_other (returned_calm (Some s))))
 return_ends k v (p ∷ ps) world = inl (calm_more Turn [] turn_other calm_none)
 
+void_ends : (rest : List Pending) (world : World) → AllDo WrongOnlyLast (return_void rest world)
+void_ends [] world = inl (calm_more Turn (Returned None ∷ []) turn_other (returned_calm None))
+void_ends (p ∷ ps) world = inl (calm_more Turn [] turn_other calm_none)
+
 term_ends : (t : Term) (frame : Frame) (rest : List Pending) (world : World) → AllDo WrongOnlyLast (term_step t frame rest world)
 term_ends (Ret o) frame rest world = return_ends (kind_of o.ty) (operand_value (read frame.registers) o) rest world
+term_ends RetVoid frame rest world = void_ends rest world
 
 frame_ends : (lines : List Instr) (frame : Frame) (rest : List Pending) (world : World) → AllDo WrongOnlyLast (frame_step lines frame rest world)
 frame_ends (line.Calm b ∷ left) frame rest world = all_do_set_to WrongOnlyLast (kind_of (type_of b.right)) b.name (outcome (read frame.registers) b.right) (record frame { lines = left }) rest world

@@ -1,15 +1,19 @@
 -- Modules written out, for the laws that say what refines what.
 use Rattle.std.specs.Prelude.{true, false, List, [], ◌∷◌, ℕ}
 use Rattle.ir_core.specs.declared.names.Name.{Name}
-use Rattle.ir_core.specs.declared.operands.Ty.TheVariants.{Int}
+use Rattle.ir_core.specs.declared.operands.Ty.TheVariants.{Int, Void}
 use Rattle.ir_core.specs.declared.operands.Const.TheVariants as constant
 use Rattle.ir_core.specs.declared.operands.Atom.{Atom}
 use Rattle.ir_core.specs.declared.operands.Atom.TheVariants.{Constant, Register}
-use Rattle.ir_core.specs.declared.operands.BinOp.TheVariants.{Add}
+use Rattle.ir_core.specs.declared.operands.BinOp.TheVariants.{Add, UDiv}
+use Rattle.ir_core.specs.declared.operands.CastOp.{CastOp}
+use Rattle.ir_core.specs.declared.operands.Pred.TheVariants.{Slt}
+use Rattle.ir_core.specs.declared.operands.Ty.{Ty}
+use Rattle.ir_core.specs.declared.expressions.Expr.{Expr}
 use Rattle.ir_core.specs.declared.expressions.Expr.TheVariants as expr
 use Rattle.ir_core.specs.declared.functions.Instr.{Instr}
 use Rattle.ir_core.specs.declared.functions.Instr.TheVariants as line
-use Rattle.ir_core.specs.declared.functions.Term.TheVariants.{Ret}
+use Rattle.ir_core.specs.declared.functions.Term.TheVariants.{Ret, RetVoid}
 use Rattle.ir_core.specs.declared.functions.Param.{Param}
 use Rattle.ir_core.specs.declared.functions.Block.{Block}
 use Rattle.ir_core.specs.declared.functions.Module.{Module}
@@ -44,7 +48,7 @@ wrapping_line y = line.Calm (record {
   name = y;
   right = expr.Binary (record {
     op = Add;
-    flags = record { nuw = false; nsw = true };
+    flags = record { nuw = false; nsw = true; exact = false };
     ty = Int 32;
     left = number 2147483647;
     right = number 1;
@@ -54,3 +58,55 @@ wrapping_line y = line.Calm (record {
 -- define i32 @f() { b: %y = add nsw i32 2147483647, 1  ret i32 %y }
 abbrev pub wrapping : Name → Name → Name → Module
 wrapping f b y = defining f [] b (wrapping_line y ∷ []) (Register y)
+
+-- %y = udiv i32 7, 0
+abbrev pub dividing_line : Name → Instr
+dividing_line y = line.Calm (record {
+  name = y;
+  right = expr.Binary (record {
+    op = UDiv;
+    flags = record { nuw = false; nsw = false; exact = false };
+    ty = Int 32;
+    left = number 7;
+    right = number 0;
+  });
+})
+
+-- define i32 @f() { b: %y = udiv i32 7, 0  ret i32 %y }
+abbrev pub dividing : Name → Name → Name → Module
+dividing f b y = defining f [] b (dividing_line y ∷ []) (Register y)
+
+-- define void @f() { b: ret void }
+abbrev pub returning_nothing : Name → Name → Module
+returning_nothing f b = record {
+  functions =
+      record { name = f; result = Void; params = []; blocks = record { name = b; phis = []; body = []; term = RetVoid } ∷ [] } ∷ [];
+}
+
+-- ---- right sides of lines, of constants
+
+-- add i8 n, 1
+abbrev pub adding : ℕ → Expr Name
+adding n = expr.Binary (record {
+  op = Add;
+  flags = record { nuw = false; nsw = false; exact = false };
+  ty = Int 8;
+  left = number n;
+  right = number 1;
+})
+
+-- icmp slt ty 128, 0
+abbrev pub comparing : Ty → Expr Name
+comparing ty = expr.Icmp (record { pred = Slt; ty = ty; left = number 128; right = number 0 })
+
+-- op from 1 to to
+abbrev pub converting : CastOp → Ty → Ty → Expr Name
+converting op from to = expr.Cast (record { op = op; operand = record { ty = from; atom = number 1 }; to = to })
+
+-- select condition 1, i8 7, right 9
+abbrev pub selecting : Ty → Ty → Expr Name
+selecting condition right = expr.Select (record {
+  condition = record { ty = condition; atom = number 1 };
+  left = record { ty = Int 8; atom = number 7 };
+  right = record { ty = right; atom = number 9 };
+})

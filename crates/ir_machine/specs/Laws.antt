@@ -1,27 +1,33 @@
 -- Laws that hold the definitions of running and refining to what they mean.
 use Rattle.std.specs.Prelude.{◌≡◌, ◌↔◌, ◌⊎◌, ◌≤◌, ℕ, zero, suc, true, List, [], ◌∷◌, ◌++◌, None, Some}
 use Rattle.ir_core.specs.declared.names.Name.{Name}
+use Rattle.ir_core.specs.declared.values.Value.{Value}
+use Rattle.ir_core.specs.declared.values.Value.TheVariants as value
+use Rattle.ir_core.specs.declared.values.Kind.{Kind}
 use Rattle.ir_core.specs.declared.values.Kind.TheVariants.{Int}
+use Rattle.ir_core.specs.declared.operands.CastOp.TheVariants.{ZExt, SExt, Trunc, BitCast}
+use Rattle.ir_core.specs.declared.operands.Ty.TheVariants as ty
 use Rattle.ir_core.specs.declared.operands.Const.{Const}
 use Rattle.ir_core.specs.declared.operands.Atom.{Atom}
 use Rattle.ir_core.specs.declared.operands.Atom.TheVariants.{Constant, Register}
-use Rattle.ir_core.specs.declared.operands.Operand.{Operand}
-use Rattle.ir_core.specs.declared.functions.Term.TheVariants.{Ret}
+use Rattle.ir_core.specs.declared.functions.Term.{Term}
+use Rattle.ir_core.specs.declared.functions.Term.TheVariants.{Ret, RetVoid}
 use Rattle.ir_core.specs.declared.functions.Param.{Param}
 use Rattle.ir_core.specs.declared.functions.Block.{Block}
 use Rattle.ir_core.specs.declared.functions.Function.{Function}
 use Rattle.ir_core.specs.declared.functions.Module.{Module}
 use Rattle.ir_values.specs.Values.{IsLessDefined}
+use Rattle.ir_values.specs.declared.operations.Outcome.TheVariants.{Gives}
 use Rattle.ir_machine.specs.declared.items.Item.{Item}
-use Rattle.ir_machine.specs.declared.items.Item.TheVariants.{Wrong}
+use Rattle.ir_machine.specs.declared.items.Item.TheVariants.{Turn, Returned, Wrong}
 use Rattle.ir_machine.specs.declared.items.Shown.{Shown}
 use Rattle.ir_machine.specs.declared.items.Input.{Input}
 use Rattle.ir_core.specs.Types.{kind_of}
-use Rattle.ir_machine.specs.Registers.{constant_value}
+use Rattle.ir_machine.specs.Registers.{constant_value, outcome}
 use Rattle.ir_machine.specs.State.{State}
 use Rattle.ir_machine.specs.Machine.{Made, Follows, asks, ShowsFrom, function_named, fits_kind, start}
 use Rattle.ir_machine.specs.Refinement.{Shows, MayShowFrom, Refines, EndTheRun}
-use Rattle.ir_machine.specs.Examples.{number, undef, returning, taking, wrapping}
+use Rattle.ir_machine.specs.Examples.{adding, comparing, converting, dividing, number, undef, returning, returning_nothing, selecting, taking, wrapping}
 
 -- A module that returns a constant is refined by one that returns another exactly where the first's value is less defined.
 abbrev pub ConstantsRefineByValue : Type 0
@@ -52,6 +58,36 @@ WrongIsRefined = (f b y : Name) (result : Atom Name) → Refines (wrapping f b y
 abbrev pub ArgumentsAreSeen : Type 0
 ArgumentsAreSeen = (f x b : Name) (c : Const) → Refines (taking f x b (Register x)) (taking f x b (Constant c)) → ⊥
 
+-- these items are what a run shows of its one step, if it makes it
+abbrev pub AreShownAtOnce : Module → Name → List Item → Type 0
+AreShownAtOnce m f items =
+    (n : ℕ) (seen : List Item) → Shows m f (record { args = [] }) (suc n) seen ↔ ((seen ≡ []) ⊎ (seen ≡ items))
+
+-- a line that traps shows undefined behaviour, and the run is over
+abbrev pub TrapsAreWrong : Type 0
+TrapsAreWrong = (f b y : Name) → AreShownAtOnce (dividing f b y) f (Wrong ∷ [])
+
+-- the return of nothing shows a turn, and that there is no result
+abbrev pub VoidReturnsAreShown : Type 0
+VoidReturnsAreShown = (f b : Name) → AreShownAtOnce (returning_nothing f b) f (Turn ∷ Returned None ∷ [])
+
+-- What lines of constants give, whatever registers hold. Those whose types no operator takes give poison.
+pub record OutcomesAreThese (reading : Kind → Name → Value) : Type 0 where
+  pub add : outcome reading (adding 255) ≡ Gives (value.Num 0)
+  pub add_no_i8 : outcome reading (adding 256) ≡ Gives value.Poison
+  pub icmp : outcome reading (comparing (ty.Int 8)) ≡ Gives (value.Num 1)
+  pub icmp_void : outcome reading (comparing ty.Void) ≡ Gives value.Poison
+  pub sext : outcome reading (converting SExt (ty.Int 1) (ty.Int 8)) ≡ Gives (value.Num 255)
+  pub zext_same : outcome reading (converting ZExt (ty.Int 8) (ty.Int 8)) ≡ Gives value.Poison
+  pub trunc_wider : outcome reading (converting Trunc (ty.Int 8) (ty.Int 16)) ≡ Gives value.Poison
+  pub bitcast : outcome reading (converting BitCast (ty.Int 8) (ty.Int 8)) ≡ Gives (value.Num 1)
+  pub select : outcome reading (selecting (ty.Int 1) (ty.Int 8)) ≡ Gives (value.Num 7)
+  pub select_by_i8 : outcome reading (selecting (ty.Int 8) (ty.Int 8)) ≡ Gives value.Poison
+  pub select_of_two : outcome reading (selecting (ty.Int 1) (ty.Int 16)) ≡ Gives value.Poison
+
+abbrev pub LinesGiveThese : Type 0
+LinesGiveThese = (reading : Kind → Name → Value) → OutcomesAreThese reading
+
 -- a step, and a run from where it leads, make a run
 abbrev pub StepsMakeRuns : Type 0
 StepsMakeRuns = (m : Module) (n : ℕ) (s : State) (made : Made) (rest : List Item)
@@ -74,10 +110,15 @@ Fit (p ∷ ps) (a ∷ args) = (fits_kind (kind_of p.ty) a ≡ true) × Fit ps ar
 Fit [] (a ∷ args) = ⊥
 Fit (p ∷ ps) [] = ⊥
 
+-- the terminator returns
+abbrev pub EndsByReturn : Term → Type 0
+EndsByReturn (Ret operand) = Unit {0}
+EndsByReturn RetVoid = Unit {0}
+
 -- On fitting input a function of one block, without a phi and with `ret` at its end, ends some run.
 abbrev pub OneBlockRunsEnd : Type 0
-OneBlockRunsEnd = (m : Module) (x : Name) (f : Function) (b : Block) (result : Operand Name) (input : Input)
-    → function_named x m.functions ≡ Some f → f.blocks ≡ b ∷ [] → b.phis ≡ [] → b.term ≡ Ret result → Fit f.params input.args
+OneBlockRunsEnd = (m : Module) (x : Name) (f : Function) (b : Block) (input : Input)
+    → function_named x m.functions ≡ Some f → f.blocks ≡ b ∷ [] → b.phis ≡ [] → EndsByReturn b.term → Fit f.params input.args
     → (n : ℕ) × (items : List Item) × Shows m x input n items × EndTheRun items
 
 -- what may be shown begins as some run does, or some run begins with undefined behaviour

@@ -9,7 +9,7 @@ use Rattle.ir_core.specs.declared.values.Kind.TheVariants.{Int}
 use Rattle.ir_core.specs.declared.functions.Instr.{Instr}
 use Rattle.ir_core.specs.declared.functions.Instr.TheVariants as line
 use Rattle.ir_core.specs.declared.functions.Term.{Term}
-use Rattle.ir_core.specs.declared.functions.Term.TheVariants.{Ret}
+use Rattle.ir_core.specs.declared.functions.Term.TheVariants.{Ret, RetVoid}
 use Rattle.ir_core.specs.declared.functions.Param.{Param}
 use Rattle.ir_core.specs.declared.functions.Block.{Block}
 use Rattle.ir_core.specs.declared.functions.Function.{Function}
@@ -87,8 +87,14 @@ abbrev pub return_step : Option Kind → Value → List Pending → World → As
 return_step k v [] world = show k v world (Does (Turn ∷ Wrong ∷ []) Over) (λ s after. Does (Turn ∷ Returned (Some s) ∷ []) Over)
 return_step k v (p ∷ ps) world = Does (Turn ∷ []) (Running (resumed p k v) ps world)
 
+-- The same of a return of nothing: the run has no result, and a call that waits gets none.
+abbrev pub return_void : List Pending → World → Asks
+return_void [] world = Does (Turn ∷ Returned None ∷ []) Over
+return_void (p ∷ ps) world = Does (Turn ∷ []) (Running (resumed p None value.Poison) ps world)
+
 abbrev pub term_step : Term → Frame → List Pending → World → Asks
 term_step (Ret o) frame rest world = return_step (kind_of o.ty) (operand_value (read frame.registers) o) rest world
+term_step RetVoid frame rest world = return_void rest world
 
 abbrev pub frame_step : List Instr → Frame → List Pending → World → Asks
 frame_step (i ∷ left) frame rest world = line_step i (record frame { lines = left }) rest world

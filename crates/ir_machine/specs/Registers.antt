@@ -1,5 +1,5 @@
 -- Registers, and what operands are worth over them.
-use Rattle.std.specs.Prelude.{cond, Option, None, Some}
+use Rattle.std.specs.Prelude.{Bool, ◌&&◌, cond, Option, None, Some}
 use Rattle.ir_core.specs.declared.names.Name.{Name}
 use Rattle.ir_core.specs.declared.values.Value.{Value}
 use Rattle.ir_core.specs.declared.values.Value.TheVariants.{Num, Undef, Poison}
@@ -11,15 +11,22 @@ use Rattle.ir_core.specs.declared.operands.Atom.{Atom}
 use Rattle.ir_core.specs.declared.operands.Atom.TheVariants as atom
 use Rattle.ir_core.specs.declared.operands.Operand.{Operand}
 use Rattle.ir_core.specs.declared.operands.BinOp.{BinOp}
+use Rattle.ir_core.specs.declared.operands.CastOp.{CastOp}
 use Rattle.ir_core.specs.declared.operands.Flags.{Flags}
-use Rattle.ir_core.specs.Same.{same_name}
+use Rattle.ir_core.specs.declared.operands.Pred.{Pred}
+use Rattle.ir_core.specs.declared.operands.Ty.{Ty}
+use Rattle.ir_core.specs.declared.operands.Ty.TheVariants as ty
+use Rattle.ir_core.specs.Same.{same_name, same_ty}
 use Rattle.ir_core.specs.declared.expressions.Expr.{Expr}
-use Rattle.ir_core.specs.declared.expressions.Expr.TheVariants.{Plain, Binary}
-use Rattle.ir_core.specs.Types.{fits, kind_of}
+use Rattle.ir_core.specs.declared.expressions.Expr.TheVariants.{Plain, Binary, Icmp, Cast, Select}
+use Rattle.ir_core.specs.Types.{converts, fits, kind_of}
 use Rattle.ir_values.specs.declared.operations.Outcome.{Outcome}
 use Rattle.ir_values.specs.declared.operations.Outcome.TheVariants.{Gives}
 use Rattle.ir_values.specs.Values.{IsInKind, same_kind}
+use Rattle.ir_values.specs.Comparisons.{icmp_outcome}
+use Rattle.ir_values.specs.Conversions.{cast_outcome}
 use Rattle.ir_values.specs.Operations.{binary_outcome}
+use Rattle.ir_values.specs.Selections.{select_outcome}
 
 -- what a register that is set holds: the kind of the line or parameter that set it, and a value
 pub record Held : Type 0 where
@@ -76,9 +83,33 @@ abbrev pub binary_at : BinOp → Flags → Option Kind → Value → Value → O
 binary_at op flags None a b = Gives Poison
 binary_at op flags (Some (kind.Int width)) a b = binary_outcome op flags width a b
 
--- The outcome of an expression: an operand is worth its value, and an operator works on the values of its operands.
+-- the outcome of a comparison of values of a kind
+abbrev pub icmp_at : Pred → Option Kind → Value → Value → Outcome
+icmp_at pred None a b = Gives Poison
+icmp_at pred (Some k) a b = icmp_outcome pred k a b
+
+-- the outcome of a conversion from a kind to a kind
+abbrev pub cast_at : CastOp → Option Kind → Option Kind → Value → Outcome
+cast_at op None to v = Gives Poison
+cast_at op (Some from) None v = Gives Poison
+cast_at op (Some from) (Some to) v = cast_outcome op from to v
+
+-- the condition is an i1, and the arms are of one type
+abbrev pub selects : Ty → Ty → Ty → Bool
+selects condition left right = same_ty condition (ty.Int 1) && same_ty left right
+
+-- The outcome of an expression: an operand is worth its value, and an operator works on the values of its operands. Where its types are
+-- none that the operator takes it gives poison; no well-formed module has such a line.
 abbrev pub outcome : {R : Type 0} → (Kind → R → Value) → Expr R → Outcome
 outcome reading (Plain o) = Gives (operand_value reading o)
 outcome reading (Binary b) =
     let k = kind_of b.ty in
     binary_at b.op b.flags k (atom_value reading k b.left) (atom_value reading k b.right)
+outcome reading (Icmp c) =
+    let k = kind_of c.ty in
+    icmp_at c.pred k (atom_value reading k c.left) (atom_value reading k c.right)
+outcome reading (Cast c) =
+    cond (converts c.op c.operand.ty c.to) (cast_at c.op (kind_of c.operand.ty) (kind_of c.to) (operand_value reading c.operand)) (Gives Poison)
+outcome reading (Select s) =
+    cond (selects s.condition.ty s.left.ty s.right.ty)
+    (select_outcome (operand_value reading s.condition) (operand_value reading s.left) (operand_value reading s.right)) (Gives Poison)

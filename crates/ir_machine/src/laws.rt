@@ -1,4 +1,4 @@
-ghost use Rattle.ir_machine.specs.Laws.{ConstantsRefineByValue, NumbersAreKept, NumbersStayDefined, UndefIsAnyNumber, PoisonIsNoNumber, WrongIsRefined, ArgumentsAreSeen, StepsMakeRuns, RunsAreSteps, OneBlockRunsEnd, FirstsAreShown, StartsAreKept, RefinedRunsAreShown};
+ghost use Rattle.ir_machine.specs.Laws.{ConstantsRefineByValue, NumbersAreKept, NumbersStayDefined, UndefIsAnyNumber, PoisonIsNoNumber, WrongIsRefined, ArgumentsAreSeen, TrapsAreWrong, VoidReturnsAreShown, LinesGiveThese, StepsMakeRuns, RunsAreSteps, OneBlockRunsEnd, FirstsAreShown, StartsAreKept, RefinedRunsAreShown};
 
 /// Empty on purpose: its contract is the law.
 ///
@@ -17,6 +17,23 @@ pub fn returns_are_told_apart()
     ensures poison { PoisonIsNoNumber }
     ensures wrong { WrongIsRefined }
     ensures argument { ArgumentsAreSeen }
+{}
+
+/// Empty on purpose: its contract is the law.
+///
+/// A division by 0 shows undefined behaviour and nothing else, and `ret void` a turn and that there is no result.
+#[tactic(auto, using(crate::proofs::AtOnce::traps_are_wrong, crate::proofs::AtOnce::void_returns_are_shown))]
+pub fn ends_are_shown_at_once()
+    ensures traps { TrapsAreWrong }
+    ensures void { VoidReturnsAreShown }
+{}
+
+/// Empty on purpose: its contract is the law.
+///
+/// A line gives what its operator gives, and poison where its types are none that the operator takes.
+#[tactic(auto, using(crate::proofs::AtOnce::lines_give_these))]
+pub fn examples_of_outcomes()
+    ensures { LinesGiveThese }
 {}
 
 /// Empty on purpose: its contract is the law.

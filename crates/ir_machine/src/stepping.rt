@@ -6,13 +6,14 @@ ghost use Rattle.ir_machine.specs.declared.machine.Progress.TheVariants as progr
 ghost use Rattle.ir_core.specs.Types.{kind_of};
 ghost use Rattle.ir_core.specs.Expressions.{type_of};
 ghost use Rattle.ir_machine.specs.Registers as registers;
-ghost use Rattle.ir_machine.specs.State.{no_world, Over};
+ghost use Rattle.ir_machine.specs.State.{Frame, no_world, Over};
 ghost use Rattle.ir_machine.specs.Machine as machine;
 ghost use Rattle.ir_machine.specs.Choices.{Did, Lacks, answer, TakesAsked};
 ghost use Rattle.ir_machine.specs.Places.{registers_in, state_of, progress_of, next_line};
 
 use crate::choosing::{Showing, show};
 use crate::operands::{operand_value, outcome};
+use crate::registers::RegisterFile;
 use crate::{Chooser, Item, Place, Progress, RunState, StepEnd, Stepped};
 use contents::Seq;
 use ir_core::{Calm, Instr, Kind, Module, Term, Value, kind_of};
@@ -59,6 +60,43 @@ fn last_return<C: Chooser>(
             items: two_items(alloc, Item::Turn, Item::Returned(Some(shown)))?,
             progress: Progress::Ended,
         }),
+    }
+}
+
+/// The last return of a run, of nothing.
+fn void_return(alloc: Global) -> Result<Stepped, AllocError>
+    ensures items { IfOk result (λ stepped. stepped.items ≡ item.Turn ∷ item.Returned None ∷ []) }
+    ensures progress { IfOk result (λ stepped. stepped.progress ≡ progress.Ended) }
+{
+    Ok(Stepped {
+        items: two_items(alloc, Item::Turn, Item::Returned(None))?,
+        progress: Progress::Ended,
+    })
+}
+
+/// A terminator is executed in the only frame of a run: the run is over.
+fn do_terminator<C: Chooser>(
+    alloc: Global,
+    term: &Term,
+    registers: &RegisterFile,
+    chooser: &mut C,
+) -> Result<Stepped, StepEnd>
+    ensures made { IfOk result (λ stepped. (frame : Frame) → frame.registers ≡ registers_in registers.now
+        → answer (machine.term_step term.now frame [] no_world) (C.script chooser.old)
+        ≡ Did stepped.items Over (C.script chooser.new)) }
+    ensures progress { IfOk result (λ stepped. stepped.progress ≡ progress_of stepped.items Over) }
+    ensures no_choice { IsErrOf result StepEnd.NoChoice
+        → (frame : Frame) → frame.registers ≡ registers_in registers.now
+        → answer (machine.term_step term.now frame [] no_world) (C.script chooser.old) ≡ Lacks (C.script chooser.new) }
+    ensures told { (frame : Frame) → frame.registers ≡ registers_in registers.now
+        → TakesAsked (machine.term_step term.now frame [] no_world) (C.script chooser.old) (C.script chooser.new) }
+{
+    match term {
+        Term::Ret(operand) => {
+            let value = operand_value(registers, operand);
+            last_return(alloc, kind_of(&operand.ty), value, chooser)
+        }
+        Term::RetVoid => Ok(void_return(alloc)?),
     }
 }
 
@@ -150,12 +188,7 @@ pub fn step<C: Chooser>(
             Instr::Calm(line) => do_line(alloc, line, place, state),
         };
     }
-    let stepped = match &block.term {
-        Term::Ret(operand) => {
-            let value = operand_value(&state.registers, operand);
-            last_return(alloc, kind_of(&operand.ty), value, chooser)?
-        }
-    };
+    let stepped = do_terminator(alloc, &block.term, &state.registers, chooser)?;
     state.place = None;
     Ok(stepped)
 }

@@ -1,5 +1,6 @@
 pub mod Values
 pub mod Naming
+pub mod Expressions
 pub mod Modules
 pub mod Spells
 pub mod Walk

@@ -3,13 +3,19 @@ use Rattle.std.specs.Prelude.{ℕ, ◌+◌, ◌-◌, ◌^◌, List, [], ◌∷�
 use Rattle.std.specs.List.{flat_map}
 use Rattle.ir_core.specs.declared.names.Name.{Name}
 use Rattle.ir_core.specs.declared.names.Name.TheVariants.{Text, Number}
+use Rattle.ir_core.specs.declared.operands.Const.{Const}
+use Rattle.ir_core.specs.declared.operands.Ty.TheVariants.{Int}
+use Rattle.ir_core.specs.Expressions.{type_of}
 use Rattle.ir_grammar.specs.declared.trees.BlockText.{BlockText}
 use Rattle.ir_grammar.specs.declared.trees.DefinitionText.{DefinitionText}
 use Rattle.ir_grammar.specs.declared.trees.LineText.{LineText}
 use Rattle.ir_grammar.specs.declared.trees.ModuleText.{ModuleText}
+use Rattle.ir_grammar.specs.declared.trees.OperandText.{OperandText}
 use Rattle.ir_grammar.specs.declared.trees.OperationText.{OperationText}
+use Rattle.ir_grammar.specs.declared.trees.OperationText.TheVariants as form
 use Rattle.ir_grammar.specs.declared.trees.ParamText.{ParamText}
 use Rattle.ir_grammar.specs.declared.trees.Placed.{Placed}
+use Rattle.ir_grammar.specs.declared.trees.SelectText.{SelectText}
 use Rattle.ir_grammar.specs.declared.trees.ValueText.{ValueText}
 use Rattle.ir_grammar.specs.declared.trees.ValueText.TheVariants as text
 use Rattle.name_claims.specs.declared.claims.Claim.{Claim}
@@ -19,7 +25,7 @@ use Rattle.name_claims.specs.declared.claims.Meaning.{Meaning}
 use Rattle.name_claims.specs.declared.claims.Meaning.TheVariants as meaning
 use Rattle.name_claims.specs.declared.claims.Says.{Says}
 use Rattle.name_claims.specs.declared.claims.Says.TheVariants as says
-use Rattle.ir_naming.specs.Values.{i32, kept}
+use Rattle.ir_naming.specs.Values.{expression_of, number_of, type_at, word_of}
 
 -- ---- one thing that is defined
 
@@ -80,25 +86,44 @@ due_from due (t ∷ ts) = due_from (due_behind due t.written) ts
 
 -- ---- values
 
--- a number of i32, which is Wrong if it is out of range
-abbrev pub range_claims : {T : Type 0} → Placed T → Option ℕ → List Claim
-range_claims place None = at place says.Wrong ∷ []
-range_claims place (Some n) = []
+-- what is written is a constant of its type, or is Wrong
+abbrev pub constant_claims : {T : Type 0} → Placed T → Option Const → List Claim
+constant_claims place None = at place says.Wrong ∷ []
+constant_claims place (Some c) = []
 
--- `%x` is a register of i32.
-abbrev pub value_claims : ValueText → List Claim
-value_claims (text.Number n) = range_claims n (kept n.what)
-value_claims text.Undef = []
-value_claims (text.Local w) = at w (says.Register (record { name = w.what; ty = i32 })) ∷ []
+-- A value of this width. `%x` is a register of the type; a number is in range; `true` and `false` stand at i1 alone.
+abbrev pub value_claims : ℕ → ValueText → List Claim
+value_claims width (text.Number n) = constant_claims n (number_of width n.what)
+value_claims width (text.Constant c) = constant_claims c (word_of width c.what)
+value_claims width (text.Local w) = at w (says.Register (record { name = w.what; ty = Int width })) ∷ []
 
+abbrev pub operand_claims : OperandText → List Claim
+operand_claims o = value_claims o.ty.what o.value
+
+-- an operand, and behind it a value of its type
+abbrev pub pair_claims : OperandText → ValueText → List Claim
+pair_claims left right = operand_claims left ++ value_claims left.ty.what right
+
+abbrev pub select_claims : SelectText → List Claim
+select_claims s = operand_claims s.condition ++ operand_claims s.then ++ operand_claims s.other
+
+-- `select i1 %c, i8 300, i8 %x` claims that `c` is a register of i1, what is Wrong at the 300, and that `x` is a register of i8.
 abbrev pub operation_claims : OperationText → List Claim
-operation_claims o = value_claims o.left ++ value_claims o.right
+operation_claims (form.Binary b) = pair_claims b.left b.right
+operation_claims (form.Compare c) = pair_claims c.left c.right
+operation_claims (form.Cast c) = operand_claims c.from
+operation_claims (form.Select s) = select_claims s
 
 abbrev pub line_claims : LineText → List Claim
 line_claims l = operation_claims l.operation
 
+-- `ret void` claims nothing
+abbrev pub return_claims : Option OperandText → List Claim
+return_claims None = []
+return_claims (Some o) = operand_claims o
+
 abbrev pub block_claims : BlockText → List Claim
-block_claims b = flat_map line_claims b.lines ++ value_claims b.result
+block_claims b = flat_map line_claims b.lines ++ return_claims b.result
 
 -- ---- a function, and the functions of a module
 
@@ -108,13 +133,15 @@ label_name None = None
 label_name (Some w) = Some (record { what = w.what; start = w.start; end = w.end - 1 })
 
 abbrev pub param_thing : Placed Name → ParamText → Thing
-param_thing function p = record { function = function; written = p.name; meaning = meaning.Register i32 }
+param_thing function p = record { function = function; written = p.name; meaning = meaning.Register (type_at p.ty) }
 
 abbrev pub label_thing : Placed Name → Option (Placed Name) → Thing
 label_thing function label = record { function = function; written = label_name label; meaning = meaning.Block }
 
+-- What a line sets is a register of the type of what the operation gives: `%c = icmp eq i8 %x, 0` sets one of i1.
 abbrev pub line_thing : Placed Name → LineText → Thing
-line_thing function l = record { function = function; written = l.register; meaning = meaning.Register i32 }
+line_thing function l =
+    record { function = function; written = l.register; meaning = meaning.Register (type_of (expression_of l.operation)) }
 
 abbrev pub block_things : Placed Name → BlockText → List Thing
 block_things function b = label_thing function b.label ∷ map (line_thing function) b.lines

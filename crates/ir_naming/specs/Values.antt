@@ -1,37 +1,73 @@
--- What a written value of type i32 and an operation over two of them name.
-use Rattle.std.specs.Prelude.{◌≡◌, ℕ, ◌-◌, ◌^◌, ◌%◌, Bool, true, false, List, Option, Some, None, nat_lt, nat_le, if◌then◌else◌, unwrap_or}
+-- What a written value of a type iN, an operand with its type and an operation over operands name. A type is its width N.
+use Rattle.std.specs.Prelude.{◌≡◌, ℕ, ◌==◌, ◌-◌, ◌^◌, ◌%◌, Bool, true, false, Option, Some, None, nat_lt, nat_le, if◌then◌else◌, option_map, unwrap_or}
 use Rattle.std.specs.List.{list_any}
+use Rattle.ir_core.specs.declared.expressions.Binary.{Binary}
+use Rattle.ir_core.specs.declared.expressions.Cast.{Cast}
 use Rattle.ir_core.specs.declared.expressions.Expr.{Expr}
 use Rattle.ir_core.specs.declared.expressions.Expr.TheVariants as expr
+use Rattle.ir_core.specs.declared.expressions.Icmp.{Icmp}
+use Rattle.ir_core.specs.declared.expressions.Select.{Select}
 use Rattle.ir_core.specs.declared.names.Name.{Name}
 use Rattle.ir_core.specs.declared.operands.Atom.{Atom}
 use Rattle.ir_core.specs.declared.operands.Atom.TheVariants.{Constant, Register}
+use Rattle.ir_core.specs.declared.operands.Const.{Const}
 use Rattle.ir_core.specs.declared.operands.Const.TheVariants as const
 use Rattle.ir_core.specs.declared.operands.Flags.{Flags}
+use Rattle.ir_core.specs.declared.operands.Operand.{Operand}
 use Rattle.ir_core.specs.declared.operands.Ty.{Ty}
 use Rattle.ir_core.specs.declared.operands.Ty.TheVariants.{Int}
+use Rattle.ir_core.specs.Types.{is_width}
 use Rattle.ir_lexer.specs.declared.token.Number.{Number}
-use Rattle.ir_grammar.specs.declared.trees.FlagWord.{FlagWord}
-use Rattle.ir_grammar.specs.declared.trees.FlagWord.TheVariants.{Nuw, Nsw}
+use Rattle.ir_grammar.specs.declared.operators.FlagWord.{FlagWord}
+use Rattle.ir_grammar.specs.declared.operators.FlagWord.TheVariants.{Nuw, Nsw}
+use Rattle.ir_grammar.specs.declared.trees.BinaryText.{BinaryText}
+use Rattle.ir_grammar.specs.declared.trees.CastText.{CastText}
+use Rattle.ir_grammar.specs.declared.trees.CompareText.{CompareText}
+use Rattle.ir_grammar.specs.declared.trees.ConstantWord.{ConstantWord}
+use Rattle.ir_grammar.specs.declared.trees.ConstantWord.TheVariants as word
+use Rattle.ir_grammar.specs.declared.trees.OperandText.{OperandText}
 use Rattle.ir_grammar.specs.declared.trees.OperationText.{OperationText}
+use Rattle.ir_grammar.specs.declared.trees.OperationText.TheVariants as form
+use Rattle.ir_grammar.specs.declared.trees.OperatorText.{OperatorText}
+use Rattle.ir_grammar.specs.declared.trees.OperatorText.TheVariants as operators
+use Rattle.ir_grammar.specs.declared.trees.Placed.{Placed}
+use Rattle.ir_grammar.specs.declared.trees.SelectText.{SelectText}
 use Rattle.ir_grammar.specs.declared.trees.ValueText.{ValueText}
 use Rattle.ir_grammar.specs.declared.trees.ValueText.TheVariants as text
+use Rattle.ir_grammar.specs.Operators.{operator_op}
 
-abbrev pub i32 : Ty
-i32 = Int 32
-
--- ---- numbers and flags
+-- ---- constants
 
 -- the number behind a `-`
-abbrev pub kept_negative : ℕ → Option ℕ
-kept_negative magnitude = if nat_le magnitude (2 ^ 31) then Some ((2 ^ 32 - magnitude) % 2 ^ 32) else None
+abbrev pub kept_negative : ℕ → ℕ → Option ℕ
+kept_negative width magnitude = if nat_le magnitude (2 ^ (width - 1)) then Some ((2 ^ width - magnitude) % 2 ^ width) else None
 
-abbrev pub kept_positive : ℕ → Option ℕ
-kept_positive magnitude = if nat_lt magnitude (2 ^ 32) then Some magnitude else None
+abbrev pub kept_positive : ℕ → ℕ → Option ℕ
+kept_positive width magnitude = if nat_lt magnitude (2 ^ width) then Some magnitude else None
 
--- A number of i32 lies from -2^31 to 2^32 - 1, and is kept modulo 2^32: -1 as 4294967295.
-abbrev pub kept : Number → Option ℕ
-kept n = if n.negative then kept_negative n.magnitude else kept_positive n.magnitude
+abbrev pub kept_by_sign : ℕ → Number → Option ℕ
+kept_by_sign width n = if n.negative then kept_negative width n.magnitude else kept_positive width n.magnitude
+
+-- A number of iN lies from -2^(N-1) to 2^N - 1, and is kept modulo 2^N: -1 of i8 as 255, -1 of i1 as 1. 300 and -129 are none of i8,
+-- 2 is none of i1. Where N is no width of an integer there is no number.
+abbrev pub kept : ℕ → Number → Option ℕ
+kept width n = if is_width width then kept_by_sign width n else None
+
+-- the constant that a number is, if it is one of the type
+abbrev pub number_of : ℕ → Number → Option Const
+number_of width n = option_map (λ v. const.Number v) (kept width n)
+
+-- a number of i1, which no other type has
+abbrev pub bit : ℕ → ℕ → Option Const
+bit width n = if width == 1 then Some (const.Number n) else None
+
+-- `true` and `false` are the 1 and the 0 of i1, and are constants of no other type; `undef` is one of any.
+abbrev pub word_of : ℕ → ConstantWord → Option Const
+word_of width word.True = bit width 1
+word_of width word.False = bit width 0
+word_of width word.Undef = Some const.Undef
+
+-- ---- flags
 
 abbrev pub is_nuw : FlagWord → Bool
 is_nuw Nuw = true
@@ -41,33 +77,109 @@ abbrev pub is_nsw : FlagWord → Bool
 is_nsw Nuw = false
 is_nsw Nsw = true
 
--- The flags are a set: they may come in any order and again.
-abbrev pub flags_of : List FlagWord → Flags
-flags_of words = record { nuw = list_any is_nuw words; nsw = list_any is_nsw words }
+-- `nuw` and `nsw` are a set: they may come in any order and again. `lshr exact` has `exact` alone, `xor` has none.
+abbrev pub flags_of : OperatorText → Flags
+flags_of (operators.Overflow op words) = record { nuw = list_any is_nuw words; nsw = list_any is_nsw words; exact = false }
+flags_of (operators.Exact op is_exact) = record { nuw = false; nsw = false; exact = is_exact }
+flags_of (operators.Plain op) = record { nuw = false; nsw = false; exact = false }
 
 -- ---- what is built
 
--- What a written value names; a number out of range is built as 0. `-1` is the constant 4294967295, `%x` the register `x`.
-abbrev pub atom_of : ValueText → Atom Name
-atom_of (text.Number n) = Constant (const.Number (unwrap_or (kept n.what) 0))
-atom_of text.Undef = Constant const.Undef
-atom_of (text.Local name) = Register name.what
+-- what is no constant of the type is built as 0
+abbrev pub built : Option Const → Const
+built c = unwrap_or c (const.Number 0)
 
--- `add nsw i32 %x, 7` is the operator, its flags, the type and what the values name.
+-- What a written value of this width names. `-1` of i8 is the constant 255, `%x` the register `x`.
+abbrev pub atom_of : ℕ → ValueText → Atom Name
+atom_of width (text.Number n) = Constant (built (number_of width n.what))
+atom_of width (text.Constant c) = Constant (built (word_of width c.what))
+atom_of width (text.Local name) = Register name.what
+
+-- the type `iN`, and the operand `iN V`
+abbrev pub type_at : Placed ℕ → Ty
+type_at ty = Int ty.what
+
+abbrev pub operand_of : OperandText → Operand Name
+operand_of o = record { ty = type_at o.ty; atom = atom_of o.ty.what o.value }
+
+-- A right value without a type of its own has that of the left operand.
+
+abbrev pub binary_of : BinaryText → Binary Name
+binary_of b = record {
+  op = operator_op b.operator;
+  flags = flags_of b.operator;
+  ty = type_at b.left.ty;
+  left = atom_of b.left.ty.what b.left.value;
+  right = atom_of b.left.ty.what b.right;
+}
+
+abbrev pub compare_of : CompareText → Icmp Name
+compare_of c = record {
+  pred = c.pred;
+  ty = type_at c.left.ty;
+  left = atom_of c.left.ty.what c.left.value;
+  right = atom_of c.left.ty.what c.right;
+}
+
+abbrev pub cast_of : CastText → Cast Name
+cast_of c = record { op = c.op; operand = operand_of c.from; to = type_at c.to }
+
+abbrev pub select_of : SelectText → Select Name
+select_of s = record { condition = operand_of s.condition; left = operand_of s.then; right = operand_of s.other }
+
+-- `add nsw i8 %x, -1` is the operator, its flags, the type and what the values name: the register `x` and the number 255.
 abbrev pub expression_of : OperationText → Expr Name
-expression_of o =
-    expr.Binary (record { op = o.op; flags = flags_of o.flags; ty = i32; left = atom_of o.left; right = atom_of o.right })
+expression_of (form.Binary b) = expr.Binary (binary_of b)
+expression_of (form.Compare c) = expr.Icmp (compare_of c)
+expression_of (form.Cast c) = expr.Cast (cast_of c)
+expression_of (form.Select s) = expr.Select (select_of s)
 
 -- ---- what is named
 
--- A written value names a constant, or a register that the written name is said to mean.
-abbrev pub IsAtom : {R : Type 0} → (Name → R → Type 0) → ValueText → Atom R → Type 0
-IsAtom {R} means (text.Number n) atom = (v : ℕ) × (kept n.what ≡ Some v) × (atom ≡ Constant (const.Number v))
-IsAtom {R} means text.Undef atom = atom ≡ Constant const.Undef
-IsAtom {R} means (text.Local name) atom = (r : R) × means name.what r × (atom ≡ Register r)
+-- it is the constant, if there is one
+abbrev pub IsConstant : {R : Type 0} → Option Const → Atom R → Type 0
+IsConstant {R} None atom = ⊥
+IsConstant {R} (Some c) atom = atom ≡ Constant c
 
--- An operation names its operator over what its two values name.
-abbrev pub IsOperation : {R : Type 0} → (ValueText → Atom R → Type 0) → OperationText → Expr R → Type 0
-IsOperation names o (expr.Plain operand) = ⊥
-IsOperation names o (expr.Binary b) =
-    (b.op ≡ o.op) × (b.flags ≡ flags_of o.flags) × (b.ty ≡ i32) × names o.left b.left × names o.right b.right
+-- A written value of this width names a constant of the type, or a register that the written name is said to mean.
+abbrev pub IsAtom : {R : Type 0} → ℕ → (Name → R → Type 0) → ValueText → Atom R → Type 0
+IsAtom {R} width means (text.Number n) atom = IsConstant (number_of width n.what) atom
+IsAtom {R} width means (text.Constant c) atom = IsConstant (word_of width c.what) atom
+IsAtom {R} width means (text.Local name) atom = (r : R) × means name.what r × (atom ≡ Register r)
+
+-- what a written value of a width names
+abbrev pub Names : Type 0 → Type 1
+Names R = ℕ → ValueText → Atom R → Type 0
+
+-- `iN V` names the operand of that type.
+abbrev pub IsOperand : {R : Type 0} → Names R → OperandText → Operand R → Type 0
+IsOperand names w o = (o.ty ≡ type_at w.ty) × names w.ty.what w.value o.atom
+
+abbrev pub IsBinary : {R : Type 0} → Names R → BinaryText → Binary R → Type 0
+IsBinary names w b =
+    (b.op ≡ operator_op w.operator)
+    × (b.flags ≡ flags_of w.operator)
+    × (b.ty ≡ type_at w.left.ty)
+    × names w.left.ty.what w.left.value b.left
+    × names w.left.ty.what w.right b.right
+
+abbrev pub IsCompare : {R : Type 0} → Names R → CompareText → Icmp R → Type 0
+IsCompare names w c =
+    (c.pred ≡ w.pred)
+    × (c.ty ≡ type_at w.left.ty)
+    × names w.left.ty.what w.left.value c.left
+    × names w.left.ty.what w.right c.right
+
+abbrev pub IsCast : {R : Type 0} → Names R → CastText → Cast R → Type 0
+IsCast names w c = (c.op ≡ w.op) × IsOperand names w.from c.operand × (c.to ≡ type_at w.to)
+
+abbrev pub IsSelect : {R : Type 0} → Names R → SelectText → Select R → Type 0
+IsSelect names w s = IsOperand names w.condition s.condition × IsOperand names w.then s.left × IsOperand names w.other s.right
+
+-- An operation names its operator over what its values name, and nothing else.
+abbrev pub IsOperation : {R : Type 0} → Names R → OperationText → Expr R → Type 0
+IsOperation names (form.Binary w) (expr.Binary b) = IsBinary names w b
+IsOperation names (form.Compare w) (expr.Icmp c) = IsCompare names w c
+IsOperation names (form.Cast w) (expr.Cast c) = IsCast names w c
+IsOperation names (form.Select w) (expr.Select s) = IsSelect names w s
+IsOperation names w e = ⊥

@@ -2,8 +2,12 @@
 //! text, and what the text claims of its names and numbers. Where no claim is at fault, it is the module that the text names.
 #![tactic(auto)]
 
+mod constants;
+mod expressions;
 mod modules;
+mod operands;
 mod tally;
 mod values;
 
+pub use expressions::name_expression;
 pub use modules::name_module;

@@ -1,15 +1,17 @@
 ghost use Rattle.std.specs.Prelude.{◌≡◌, ◌++◌, [], ◌∷◌, map, IfOk, OnOk};
-ghost use Rattle.ir_naming.specs.Values.{i32};
+ghost use Rattle.ir_naming.specs.Values.{type_at};
 ghost use Rattle.std.specs.List.{flat_map};
-ghost use Rattle.ir_naming.specs.Naming.{label_name, param_thing, line_thing, function_thing, block_things, line_claims, block_claims, item_of, claims_of};
-ghost use Rattle.ir_naming.specs.Modules.{params_from, lines_from, block_from, function_of, module_of};
+ghost use Rattle.ir_naming.specs.Naming.{name_due, label_name, label_thing, param_thing, line_thing, function_thing, block_things, line_claims, block_claims, item_of, claims_of};
+ghost use Rattle.ir_naming.specs.Modules.{params_from, lines_from, return_of, block_from, result_of, function_of, module_of};
+ghost use Rattle.ir_core.specs.Expressions.{type_of};
 ghost use Rattle.ir_naming.specs.Walk.{HasRoom, with_thing, with_things};
 
+use crate::operands::{claim_operation, claim_return};
 use crate::tally::{Tally, define, new_tally};
-use crate::values::{atom_of, expression_of};
+use crate::values::{expression_of, operand_of};
 use contents::{Exact, Seq};
-use ir_core::{Block, Calm, Function, Instr, Module, Name, Operand, Param, Term, Ty};
-use ir_grammar::{BlockText, DefinitionText, LineText, ModuleText, ParamText, Placed};
+use ir_core::{Block, Calm, Expr, Function, Instr, Module, Name, Param, Term, Ty};
+use ir_grammar::{BlockText, DefinitionText, LineText, ModuleText, OperandText, ParamText, Placed};
 use name_claims::{Claim, Item, Meaning};
 use std::alloc::{AllocError, Global};
 use typed_grammars::Stack;
@@ -50,12 +52,29 @@ fn name_params(
             tally,
             function,
             &param.name,
-            Meaning::Register(Ty::Int(32)),
+            Meaning::Register(Ty::Int(param.ty.what)),
         )?;
-        let ty = Ty::Int(32);
+        let ty = Ty::Int(param.ty.what);
         made.push(Param { name, ty })?;
     }
     Ok(made)
+}
+
+/// What the line, whose right side is built, is.
+fn name_line(
+    alloc: Global,
+    function: &Placed<Name>,
+    register: &Option<Placed<Name>>,
+    right: Expr<Name>,
+    tally: &mut Tally,
+) -> Result<Instr, AllocError>
+    requires { HasRoom tally.old }
+    ensures line { IfOk result (λ made. made ≡ Instr.Calm (record { name = name_due tally.old.next register.now; right = right })) }
+    ensures defined { OnOk result (tally.new ≡ with_thing (record { function = function.now; written = register.now; meaning = Meaning.Register (type_of right) }) tally.old) }
+{
+    let ty = right.ty().copy(alloc)?;
+    let name = define(alloc, tally, function, register, Meaning::Register(ty))?;
+    Ok(Instr::Calm(Calm { name, right }))
 }
 
 /// The lines, which are taken, and what their values claim.
@@ -73,44 +92,70 @@ fn name_lines(
 {
     let mut made = Seq::new(alloc);
     while let Some(line) = lines.pop() {
-        let mut line = line;
-        let right = expression_of(alloc, &mut line.operation, claims)?;
-        let name = define(
-            alloc,
-            tally,
-            function,
-            &line.register,
-            Meaning::Register(Ty::Int(32)),
-        )?;
-        made.push(Instr::Calm(Calm { name, right }))?;
+        let LineText {
+            register,
+            operation,
+        } = line;
+        claim_operation(alloc, &operation, claims)?;
+        let right = expression_of(operation);
+        made.push(name_line(alloc, function, &register, right, tally)?)?;
     }
     Ok(made)
 }
 
-/// The block, whose lines are taken, and what its values claim.
+/// What the block returns.
+fn return_of(returned: Option<OperandText>) -> Term
+    ensures { result ≡ return_of returned }
+{
+    match returned {
+        None => Term::RetVoid,
+        Some(operand) => Term::Ret(operand_of(operand)),
+    }
+}
+
+/// The block's name, which is defined.
+fn name_label(
+    alloc: Global,
+    function: &Placed<Name>,
+    label: &Option<Placed<Name>>,
+    tally: &mut Tally,
+) -> Result<Name, AllocError>
+    requires { HasRoom tally.old }
+    ensures name { IfOk result (λ name. name ≡ name_due tally.old.next (label_name label.now)) }
+    ensures defined { OnOk result (tally.new ≡ with_thing (label_thing function.now label.now) tally.old) }
+{
+    let label = label_name(alloc, label)?;
+    define(alloc, tally, function, &label, Meaning::Block)
+}
+
+/// The block, and what its values claim.
 #[tactic(auto, using(crate::proofs::Tallies::room_kept, crate::proofs::Tallies::things_more))]
 fn name_block(
     alloc: Global,
     function: &Placed<Name>,
-    block: &mut BlockText,
+    block: BlockText,
     tally: &mut Tally,
     claims: &mut Seq<Claim>,
 ) -> Result<Block, AllocError>
     requires { HasRoom tally.old }
-    ensures block { IfOk result (λ made. made ≡ block_from tally.old.next block.old) }
-    ensures defined { OnOk result (tally.new ≡ with_things (block_things function.now block.old) tally.old) }
-    ensures claims { OnOk result (claims.new ≡ claims.old ++ block_claims block.old) }
+    ensures block { IfOk result (λ made. made ≡ block_from tally.old.next block) }
+    ensures defined { OnOk result (tally.new ≡ with_things (block_things function.now block) tally.old) }
+    ensures claims { OnOk result (claims.new ≡ claims.old ++ block_claims block) }
 {
-    let label = label_name(alloc, &block.label)?;
-    let name = define(alloc, tally, function, &label, Meaning::Block)?;
-    let body = name_lines(alloc, function, &mut block.lines, tally, claims)?;
-    let atom = atom_of(alloc, &block.result, claims)?;
-    let ty = Ty::Int(32);
+    let BlockText {
+        label,
+        lines,
+        result,
+    } = block;
+    let mut lines = lines;
+    let name = name_label(alloc, function, &label, tally)?;
+    let body = name_lines(alloc, function, &mut lines, tally, claims)?;
+    claim_return(alloc, &result, claims)?;
     Ok(Block {
         name,
         phis: Seq::new(alloc),
         body,
-        term: Term::Ret(Operand { ty, atom }),
+        term: return_of(result),
     })
 }
 
@@ -135,20 +180,31 @@ fn item_from(tally: Tally, values: Seq<Claim>) -> Result<Item, AllocError>
     })
 }
 
+/// The type of the result.
+fn result_of(written: &Option<Placed<u32>>) -> Ty
+    ensures { result ≡ result_of written.now }
+{
+    match written {
+        None => Ty::Void,
+        Some(ty) => Ty::Int(ty.what),
+    }
+}
+
 /// The function of one block.
 fn function_from(
     alloc: Global,
     name: &Name,
+    ty: Ty,
     params: Seq<Param>,
     block: Block,
 ) -> Result<Function, AllocError>
-    ensures { IfOk result (λ f. f ≡ record { name = name.now; result = i32; params = params; blocks = block ∷ [] }) }
+    ensures { IfOk result (λ f. f ≡ record { name = name.now; result = ty; params = params; blocks = block ∷ [] }) }
 {
     let mut blocks = Seq::new(alloc);
     blocks.push(block)?;
     Ok(Function {
         name: name.copy(alloc)?,
-        result: Ty::Int(32),
+        result: ty,
         params,
         blocks,
     })
@@ -157,19 +213,19 @@ fn function_from(
 fn name_function(alloc: Global, definition: DefinitionText) -> Result<(Function, Item), AllocError>
     ensures { IfOk result (λ made. made ≡ (function_of definition, item_of definition)) }
 {
-    let mut definition = definition;
+    let DefinitionText {
+        result,
+        name,
+        params,
+        block,
+    } = definition;
+    let mut params = params;
     let mut tally = new_tally(alloc);
     let mut values = Seq::new(alloc);
-    let params = name_params(alloc, &definition.name, &mut definition.params, &mut tally)?;
-    let block = name_block(
-        alloc,
-        &definition.name,
-        &mut definition.block,
-        &mut tally,
-        &mut values,
-    )?;
+    let made = name_params(alloc, &name, &mut params, &mut tally)?;
+    let block = name_block(alloc, &name, block, &mut tally, &mut values)?;
     let item = item_from(tally, values)?;
-    let function = function_from(alloc, &definition.name.what, params, block)?;
+    let function = function_from(alloc, &name.what, result_of(&result), made, block)?;
     Ok((function, item))
 }
 

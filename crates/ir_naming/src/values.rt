@@ -1,59 +1,18 @@
-ghost use Rattle.std.specs.Prelude.{◌≡◌, ◌≤◌, ◌-◌, ◌%◌, ◌^◌, ◌++◌, ◌||◌, IfOk, OnOk, unwrap_or};
+//! What values, operands and operations name, each taken by what is built of it.
+ghost use Rattle.std.specs.Prelude.{◌≡◌, ◌||◌, false};
 ghost use Rattle.std.specs.List.{list_any};
-ghost use Rattle.ir_naming.specs.Naming.{range_claims, value_claims, operation_claims};
-ghost use Rattle.ir_naming.specs.Values.{kept, kept_negative, kept_positive, is_nuw, is_nsw, flags_of, atom_of, expression_of};
+ghost use Rattle.ir_naming.specs.Values as meaning;
 
-use contents::{Exact, Seq};
-use ir_core::{Atom, Binary, Bits, Const, Expr, Flags, Name, Ty};
-use ir_grammar::{FlagWord, OperationText, Placed, ValueText};
-use ir_lexer::Number;
-use name_claims::{Claim, Says, Use};
-use std::alloc::{AllocError, Global};
+use crate::constants::{built, number_of, word_of};
+use ir_core::{Atom, Binary, Cast, Expr, Flags, Icmp, Name, Operand, Select, Ty};
+use ir_grammar::{
+    BinaryText, CastText, CompareText, FlagWord, OperandText, OperationText, OperatorText, Placed,
+    SelectText, ValueText,
+};
 use typed_grammars::Stack;
 
-/// What a negative number of this magnitude is modulo 2 to the 32.
-fn negated(magnitude: u64) -> u64
-    requires { magnitude ≤ 2 ^ 31 }
-    ensures { result ≡ (2 ^ 32 - magnitude) % 2 ^ 32 }
-{
-    (4_294_967_296 - magnitude) % 4_294_967_296
-}
-
-/// A negative number of this magnitude, if it is one of `i32`.
-fn kept_negative(magnitude: u128) -> Option<u64>
-    ensures { result ≡ kept_negative magnitude }
-{
-    if magnitude <= 2_147_483_648 {
-        Some(negated(magnitude as u64))
-    } else {
-        None
-    }
-}
-
-/// Another number of this magnitude, if it is one of `i32`.
-fn kept_positive(magnitude: u128) -> Option<u64>
-    ensures { result ≡ kept_positive magnitude }
-{
-    if magnitude < 4_294_967_296 {
-        Some(magnitude as u64)
-    } else {
-        None
-    }
-}
-
-/// The number modulo 2 to the 32, if it is one of `i32`.
-fn kept(number: Number) -> Option<u64>
-    ensures { result ≡ kept number }
-{
-    if number.negative {
-        kept_negative(number.magnitude)
-    } else {
-        kept_positive(number.magnitude)
-    }
-}
-
 fn is_nuw(word: FlagWord) -> bool
-    ensures { result ≡ is_nuw word }
+    ensures { result ≡ meaning.is_nuw word }
 {
     match word {
         FlagWord::Nuw => true,
@@ -62,7 +21,7 @@ fn is_nuw(word: FlagWord) -> bool
 }
 
 fn is_nsw(word: FlagWord) -> bool
-    ensures { result ≡ is_nsw word }
+    ensures { result ≡ meaning.is_nsw word }
 {
     match word {
         FlagWord::Nuw => false,
@@ -71,8 +30,8 @@ fn is_nsw(word: FlagWord) -> bool
 }
 
 /// Which flags are among these, which are taken.
-fn flags_of(words: &mut Stack<FlagWord>) -> Flags
-    ensures { result ≡ flags_of words.old }
+fn overflow_flags(words: &mut Stack<FlagWord>) -> Flags
+    ensures { result ≡ record { nuw = list_any meaning.is_nuw words.old; nsw = list_any meaning.is_nsw words.old; exact = false } }
 {
     let mut nuw = false;
     let mut nsw = false;
@@ -80,89 +39,134 @@ fn flags_of(words: &mut Stack<FlagWord>) -> Flags
         nuw = nuw || is_nuw(word);
         nsw = nsw || is_nsw(word);
     }
-    Flags { nuw, nsw }
-}
-
-/// Claims that the number is one of `i32`.
-fn claim_range(
-    number: &Placed<Number>,
-    kept: Option<u64>,
-    claims: &mut Seq<Claim>,
-) -> Result<(), AllocError>
-    ensures { OnOk result (claims.new ≡ claims.old ++ range_claims number.now kept) }
-{
-    match kept {
-        None => claims.push(Claim {
-            start: number.start,
-            end: number.end,
-            says: Says::Wrong,
-        }),
-        Some(_) => Ok(()),
+    Flags {
+        nuw,
+        nsw,
+        exact: false,
     }
 }
 
-fn number_of(number: &Placed<Number>, claims: &mut Seq<Claim>) -> Result<Atom<Name>, AllocError>
-    ensures atom { IfOk result (λ atom. atom ≡ atom_of (ValueText.Number number.now)) }
-    ensures claims { OnOk result (claims.new ≡ claims.old ++ value_claims (ValueText.Number number.now)) }
+/// The flags of the operator.
+fn flags_of(operator: OperatorText) -> Flags
+    ensures { result ≡ meaning.flags_of operator }
 {
-    let kept = kept(number.what);
-    claim_range(number, kept, claims)?;
-    Ok(Atom::Constant(Const::Number(Bits::new(kept.unwrap_or(0)))))
+    match operator {
+        OperatorText::Overflow { op: _, flags } => {
+            let mut flags = flags;
+            overflow_flags(&mut flags)
+        }
+        OperatorText::Exact { op: _, exact } => Flags {
+            nuw: false,
+            nsw: false,
+            exact,
+        },
+        OperatorText::Plain(_) => Flags {
+            nuw: false,
+            nsw: false,
+            exact: false,
+        },
+    }
 }
 
-fn register_of(
-    alloc: Global,
-    name: &Placed<Name>,
-    claims: &mut Seq<Claim>,
-) -> Result<Atom<Name>, AllocError>
-    ensures atom { IfOk result (λ atom. atom ≡ atom_of (ValueText.Local name.now)) }
-    ensures claims { OnOk result (claims.new ≡ claims.old ++ value_claims (ValueText.Local name.now)) }
+/// The name without its place.
+fn name_of(placed: Placed<Name>) -> Name
+    ensures { result ≡ placed.what }
 {
-    let used = Use {
-        name: name.what.copy(alloc)?,
-        ty: Ty::Int(32),
-    };
-    claims.push(Claim {
-        start: name.start,
-        end: name.end,
-        says: Says::Register(used),
-    })?;
-    Ok(Atom::Register(name.what.copy(alloc)?))
+    let Placed {
+        what,
+        start: _,
+        end: _,
+    } = placed;
+    what
 }
 
-/// What the value names, and what it claims.
-pub fn atom_of(
-    alloc: Global,
-    value: &ValueText,
-    claims: &mut Seq<Claim>,
-) -> Result<Atom<Name>, AllocError>
-    ensures atom { IfOk result (λ atom. atom ≡ atom_of value.now) }
-    ensures claims { OnOk result (claims.new ≡ claims.old ++ value_claims value.now) }
+/// What the value of this width names.
+fn atom_of(width: u32, value: ValueText) -> Atom<Name>
+    ensures { result ≡ meaning.atom_of width value }
 {
     match value {
-        ValueText::Number(number) => number_of(number, claims),
-        ValueText::Undef => Ok(Atom::Constant(Const::Undef)),
-        ValueText::Local(name) => register_of(alloc, name, claims),
+        ValueText::Number(number) => Atom::Constant(built(number_of(width, number.what))),
+        ValueText::Constant(word) => Atom::Constant(built(word_of(width, word.what))),
+        ValueText::Local(name) => Atom::Register(name_of(name)),
     }
 }
 
-/// What the operation, whose flags are taken, names, and what its values claim.
-pub fn expression_of(
-    alloc: Global,
-    operation: &mut OperationText,
-    claims: &mut Seq<Claim>,
-) -> Result<Expr<Name>, AllocError>
-    ensures expression { IfOk result (λ e. e ≡ expression_of operation.old) }
-    ensures claims { OnOk result (claims.new ≡ claims.old ++ operation_claims operation.old) }
+/// What the operand names.
+pub fn operand_of(operand: OperandText) -> Operand<Name>
+    ensures { result ≡ meaning.operand_of operand }
 {
-    let left = atom_of(alloc, &operation.left, claims)?;
-    let right = atom_of(alloc, &operation.right, claims)?;
-    let flags = flags_of(&mut operation.flags);
-    Ok(Expr::Binary(Binary {
-        op: operation.op,
-        flags,
-        ty: Ty::Int(32),
+    let OperandText { ty, value } = operand;
+    Operand {
+        ty: Ty::Int(ty.what),
+        atom: atom_of(ty.what, value),
+    }
+}
+
+fn binary_of(binary: BinaryText) -> Binary<Name>
+    ensures { result ≡ meaning.binary_of binary }
+{
+    let BinaryText {
+        operator,
         left,
         right,
-    }))
+    } = binary;
+    let OperandText { ty, value } = left;
+    Binary {
+        op: operator.op(),
+        flags: flags_of(operator),
+        ty: Ty::Int(ty.what),
+        left: atom_of(ty.what, value),
+        right: atom_of(ty.what, right),
+    }
+}
+
+fn compare_of(compare: CompareText) -> Icmp<Name>
+    ensures { result ≡ meaning.compare_of compare }
+{
+    let CompareText { pred, left, right } = compare;
+    let OperandText { ty, value } = left;
+    Icmp {
+        pred,
+        ty: Ty::Int(ty.what),
+        left: atom_of(ty.what, value),
+        right: atom_of(ty.what, right),
+    }
+}
+
+fn cast_of(cast: CastText) -> Cast<Name>
+    ensures { result ≡ meaning.cast_of cast }
+{
+    let CastText { op, from, to } = cast;
+    Cast {
+        op,
+        operand: operand_of(from),
+        to: Ty::Int(to.what),
+    }
+}
+
+fn select_of(select: SelectText) -> Select<Name>
+    ensures { result ≡ meaning.select_of select }
+{
+    let SelectText {
+        condition,
+        then,
+        other,
+    } = select;
+    Select {
+        condition: operand_of(condition),
+        left: operand_of(then),
+        right: operand_of(other),
+    }
+}
+
+/// What the operation names.
+pub fn expression_of(operation: OperationText) -> Expr<Name>
+    ensures { result ≡ meaning.expression_of operation }
+{
+    match operation {
+        OperationText::Binary(binary) => Expr::Binary(binary_of(binary)),
+        OperationText::Compare(compare) => Expr::Icmp(compare_of(compare)),
+        OperationText::Cast(cast) => Expr::Cast(cast_of(cast)),
+        OperationText::Select(select) => Expr::Select(select_of(select)),
+    }
 }

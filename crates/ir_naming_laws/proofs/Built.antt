@@ -1,9 +1,7 @@
 -- A text names one module alone, the one that is built of it.
 use Rattle.std.proofs.Common.{◌≡◌, ℕ, ◌<◌, ◌^◌, cond, List, [], ◌∷◌, ◌++◌, map, Option, Some, None, refl, ap, sym, ◌∙◌, subst, lt-ltb}
-use Rattle.std.specs.Prelude.{unwrap_or}
 use Rattle.std.specs.List.{AllZip, flat_map}
 use Rattle.std.proofs.lemmas.List.{append-nil}
-use Rattle.ir_core.specs.declared.expressions.Binary.{Binary}
 use Rattle.ir_core.specs.declared.expressions.Expr.{Expr}
 use Rattle.ir_core.specs.declared.expressions.Expr.TheVariants as expr
 use Rattle.ir_core.specs.declared.functions.Block.{Block}
@@ -14,28 +12,27 @@ use Rattle.ir_core.specs.declared.functions.Instr.TheVariants as instr
 use Rattle.ir_core.specs.declared.functions.Param.{Param}
 use Rattle.ir_core.specs.declared.functions.Phi.{Phi}
 use Rattle.ir_core.specs.declared.functions.Term.{Term}
-use Rattle.ir_core.specs.declared.functions.Term.TheVariants.{Ret}
+use Rattle.ir_core.specs.declared.functions.Term.TheVariants.{Ret, RetVoid}
 use Rattle.ir_core.specs.declared.names.Name.{Name}
 use Rattle.ir_core.specs.declared.names.Name.TheVariants.{Text, Number}
 use Rattle.ir_core.specs.declared.operands.Atom.{Atom}
 use Rattle.ir_core.specs.declared.operands.Atom.TheVariants.{Constant, Register}
-use Rattle.ir_core.specs.declared.operands.BinOp.{BinOp}
-use Rattle.ir_core.specs.declared.operands.Const.TheVariants as const
-use Rattle.ir_core.specs.declared.operands.Flags.{Flags}
+use Rattle.ir_core.specs.declared.operands.Const.{Const}
 use Rattle.ir_core.specs.declared.operands.Ty.{Ty}
 use Rattle.ir_core.specs.Functions.{block_names, names_in, phi_registers, set_by, typed_of}
 use Rattle.ir_core.specs.Order.{AreCounted, Counts}
 use Rattle.ir_grammar.specs.declared.trees.DefinitionText.{DefinitionText}
 use Rattle.ir_grammar.specs.declared.trees.LineText.{LineText}
+use Rattle.ir_grammar.specs.declared.trees.OperandText.{OperandText}
 use Rattle.ir_grammar.specs.declared.trees.OperationText.{OperationText}
 use Rattle.ir_grammar.specs.declared.trees.ParamText.{ParamText}
 use Rattle.ir_grammar.specs.declared.trees.Placed.{Placed}
-use Rattle.ir_grammar.specs.declared.trees.ValueText.{ValueText}
 use Rattle.ir_grammar.specs.declared.trees.ValueText.TheVariants as text
-use Rattle.ir_naming.specs.Modules.{block_from, function_of, lines_from, params_from}
+use Rattle.ir_naming.specs.Modules.{block_from, function_of, lines_from, params_from, result_of, return_of}
 use Rattle.ir_naming.specs.Naming.{due_after, due_behind, due_from, label_name, name_due, param_thing}
-use Rattle.ir_naming.specs.Spells.{IsLine, IsNamed, IsParam, IsReturn, IsValue, NamesFunction}
-use Rattle.ir_naming.specs.Values.{IsOperation, atom_of, expression_of, flags_of, i32}
+use Rattle.ir_naming.specs.Spells.{IsLine, IsNamed, IsParam, IsResult, IsReturn, IsValue, NamesFunction}
+use Rattle.ir_naming.specs.Values.{IsConstant, IsOperation, atom_of, built, expression_of, number_of, type_at, word_of}
+use Rattle.ir_naming_laws.proofs.Operations.{Determines, binary_is, cast_is, compare_is, operand_is, operation_cases, select_is}
 
 -- ---- one name
 
@@ -63,37 +60,38 @@ label_is (Some w) name is = is
 
 -- ---- values
 
-value_is : (registers : List (Name × Ty)) (v : ValueText) (a : Atom Name) → IsValue registers v a → a ≡ atom_of v
-value_is registers (text.Number n) a is = is.2 ∙ ap (λ o. Constant (const.Number (unwrap_or o 0))) (sym is.1)
-value_is registers text.Undef a is = is
-value_is registers (text.Local w) a is = is.2 ∙ ap Register is.1.1
+pub constant_is : {R : Type 0} (c : Option Const) (a : Atom R) → IsConstant c a → a ≡ Constant (built c)
+constant_is None a is = absurd is
+constant_is (Some c) a is = is
 
-binary_same : (b : Binary Name) (op : BinOp) (flags : Flags) (ty : Ty) (left right : Atom Name) → b.op ≡ op → b.flags ≡ flags → b.ty ≡ ty → b.left ≡ left → b.right ≡ right → b ≡ record { op = op; flags = flags; ty = ty; left = left; right = right }
-binary_same b op flags ty left right e f g h k =
-    let of : BinOp → Flags → Ty → Atom Name → Atom Name → Binary Name = λ o f t l r. record { op = o; flags = f; ty = t; left = l; right = r } in
-    ap (λ o. of o b.flags b.ty b.left b.right) e
-    ∙ ap (λ f. of op f b.ty b.left b.right) f
-    ∙ ap (λ t. of op flags t b.left b.right) g
-    ∙ ap (λ l. of op flags ty l b.right) h
-    ∙ ap (λ r. of op flags ty left r) k
+value_is : (registers : List (Name × Ty)) → Determines (IsValue registers) atom_of
+value_is registers width (text.Number n) a is = constant_is (number_of width n.what) a is
+value_is registers width (text.Constant c) a is = constant_is (word_of width c.what) a is
+value_is registers width (text.Local w) a is = is.2 ∙ ap Register is.1.1
 
 operation_is : (registers : List (Name × Ty)) (o : OperationText) (e : Expr Name) → IsOperation (IsValue registers) o e → e ≡ expression_of o
-operation_is registers o (expr.Plain operand) is = absurd is
-operation_is registers o (expr.Binary b) is =
-    ap expr.Binary (binary_same b o.op (flags_of o.flags) i32 (atom_of o.left) (atom_of o.right) is.0 is.1 is.2 (value_is registers o.left b.left is.3) (value_is registers o.right b.right is.4))
+operation_is registers =
+    let names = IsValue registers in
+    let values = value_is registers in
+    operation_cases names (λ o e. e ≡ expression_of o) (λ w b is. ap expr.Binary (binary_is names atom_of values w b is)) (λ w c is. ap expr.Icmp (compare_is names atom_of values w c is)) (λ w c is. ap expr.Cast (cast_is names atom_of values w c is)) (λ w s is. ap expr.Select (select_is names atom_of values w s is))
 
-return_is : (registers : List (Name × Ty)) (v : ValueText) (t : Term) → IsReturn registers v t → t ≡ Ret (record { ty = i32; atom = atom_of v })
-return_is registers v (Ret operand) is =
-    let of : Ty → Atom Name → Term = λ ty a. Ret (record { ty = ty; atom = a }) in
-    ap (λ ty. of ty operand.atom) is.0 ∙ ap (of i32) (value_is registers v operand.atom is.1)
+return_is : (registers : List (Name × Ty)) (w : Option OperandText) (t : Term) → IsReturn registers w t → t ≡ return_of w
+return_is registers (Some w) (Ret operand) is = ap Ret (operand_is (IsValue registers) atom_of (value_is registers) w operand is)
+return_is registers (Some w) RetVoid is = absurd is
+return_is registers None (Ret operand) is = absurd is
+return_is registers None RetVoid is = refl
+
+result_is : (w : Option (Placed ℕ)) (ty : Ty) → IsResult w ty → ty ≡ result_of w
+result_is None ty is = is
+result_is (Some w) ty is = is
 
 -- ---- lists of parts
 
 abbrev param_names : List Param → List Name
 param_names ps = names_in (map (λ (p : Param). (p.name, p.ty)) ps)
 
-param_same : (p : Param) (name : Name) → p.name ≡ name → p.ty ≡ i32 → p ≡ record { name = name; ty = i32 }
-param_same p name e f =
+param_same : (p : Param) (name : Name) (ty : Ty) → p.name ≡ name → p.ty ≡ ty → p ≡ record { name = name; ty = ty }
+param_same p name ty e f =
     let of : Name → Ty → Param = λ n t. record { name = n; ty = t } in ap (λ n. of n p.ty) e ∙ ap (of name) f
 
 pub record ParamsAre (function : Placed Name) (ws : List ParamText) (ps : List Param) (due : ℕ) (more : List Name) (count : ℕ) : Type 0 where
@@ -108,8 +106,8 @@ params_are function (w ∷ ws) (p ∷ ps) due more count zip counted =
     let next = due_behind due w.name in
     let at : counted.0 ≡ next = behind_is due w.name p.name counted.0 zip.0.0 counted.1 in
     let rest = params_are function ws ps next more count zip.1 (subst (λ n. AreCounted n (param_names ps ++ more) count) at counted.2) in
-    let same = param_same p (name_due due w.name) (name_is due w.name p.name counted.0 zip.0.0 counted.1) zip.0.1 in
-    record { same = ap (λ q. q ∷ ps) same ∙ ap (λ qs. record { name = name_due due w.name; ty = i32 } ∷ qs) rest.same; counted = rest.counted }
+    let same = param_same p (name_due due w.name) (type_at w.ty) (name_is due w.name p.name counted.0 zip.0.0 counted.1) zip.0.1 in
+    record { same = ap (λ q. q ∷ ps) same ∙ ap (λ qs. record { name = name_due due w.name; ty = type_at w.ty } ∷ qs) rest.same; counted = rest.counted }
 
 calm_same : (c : Calm) (name : Name) (right : Expr Name) → c.name ≡ name → c.right ≡ right → c ≡ record { name = name; right = right }
 calm_same c name right e f =
@@ -136,13 +134,13 @@ block_same b name body term e f g h =
     ∙ ap (λ l. of name [] l b.term) g
     ∙ ap (λ t. of name [] body t) h
 
-function_same : (f : Function) (name : Name) (params : List Param) (blocks : List Block) → f.name ≡ name → f.result ≡ i32 → f.params ≡ params → f.blocks ≡ blocks → f ≡ record { name = name; result = i32; params = params; blocks = blocks }
-function_same f name params blocks e g h k =
+function_same : (f : Function) (name : Name) (ty : Ty) (params : List Param) (blocks : List Block) → f.name ≡ name → f.result ≡ ty → f.params ≡ params → f.blocks ≡ blocks → f ≡ record { name = name; result = ty; params = params; blocks = blocks }
+function_same f name ty params blocks e g h k =
     let of : Name → Ty → List Param → List Block → Function = λ n t p b. record { name = n; result = t; params = p; blocks = b } in
     ap (λ n. of n f.result f.params f.blocks) e
     ∙ ap (λ t. of name t f.params f.blocks) g
-    ∙ ap (λ p. of name i32 p f.blocks) h
-    ∙ ap (λ b. of name i32 params b) k
+    ∙ ap (λ p. of name ty p f.blocks) h
+    ∙ ap (λ b. of name ty params b) k
 
 -- the names of one block without phis, behind each other
 names_flat : (blocks : List Block) (b : Block) → blocks ≡ b ∷ [] → b.phis ≡ [] → flat_map block_names blocks ≡ b.name ∷ names_in (set_by b.body)
@@ -166,5 +164,5 @@ function_is d f n =
     let at : next ≡ due_behind due label = behind_is due label b.name next is params.counted.1 in
     let body = lines_are registers d.block.lines b.body (due_behind due label) count n.body.lines (subst (λ k. AreCounted k (names_in (set_by b.body)) count) at params.counted.2) in
     let block : b ≡ block_from due d.block =
-    block_same b (name_due due label) (lines_from (due_behind due label) d.block.lines) (Ret (record { ty = i32; atom = atom_of d.block.result })) (name_is due label b.name next is params.counted.1) n.body.no_phis body (return_is registers d.block.result b.term n.body.returns) in
-    function_same f d.name.what (params_from 0 d.params) (block_from due d.block ∷ []) n.name n.result params.same (n.one_block ∙ ap (λ c. c ∷ []) block)
+    block_same b (name_due due label) (lines_from (due_behind due label) d.block.lines) (return_of d.block.result) (name_is due label b.name next is params.counted.1) n.body.no_phis body (return_is registers d.block.result b.term n.body.returns) in
+    function_same f d.name.what (result_of d.result) (params_from 0 d.params) (block_from due d.block ∷ []) n.name (result_is d.result f.result n.result) params.same (n.one_block ∙ ap (λ c. c ∷ []) block)

@@ -6,25 +6,26 @@ use Rattle.std.proofs.Math.Logic.{◌⊎◌, inl, inr, ⊎_elim}
 use Rattle.std.proofs.lemmas.Bool.{ltb-false}
 use Rattle.std.proofs.lemmas.List.Elements.{Contains-append_left, Contains-append_right}
 use Rattle.ir_core.specs.declared.expressions.Expr.{Expr}
-use Rattle.ir_core.specs.declared.expressions.Expr.TheVariants as expr
 use Rattle.ir_core.specs.declared.functions.Block.{Block}
 use Rattle.ir_core.specs.declared.functions.Instr.{Instr}
 use Rattle.ir_core.specs.declared.functions.Instr.TheVariants as instr
 use Rattle.ir_core.specs.declared.functions.Term.{Term}
-use Rattle.ir_core.specs.declared.functions.Term.TheVariants.{Ret}
+use Rattle.ir_core.specs.declared.functions.Term.TheVariants.{Ret, RetVoid}
 use Rattle.ir_core.specs.declared.names.Name.{Name}
 use Rattle.ir_core.specs.declared.names.Name.TheVariants.{Text, Number}
 use Rattle.ir_core.specs.declared.operands.Atom.{Atom}
+use Rattle.ir_core.specs.declared.operands.Const.{Const}
 use Rattle.ir_core.specs.declared.operands.Ty.{Ty}
+use Rattle.ir_core.specs.declared.operands.Ty.TheVariants.{Int}
 use Rattle.ir_core.specs.NameLaws.{same_name_refl, same_name_true}
 use Rattle.ir_core.specs.Order.{AreCounted, AreNew, Counts}
 use Rattle.ir_core.specs.Same.{same_name, same_ty}
 use Rattle.ir_core.proofs.SameLaws.{same_ty_refl}
 use Rattle.ir_grammar.specs.declared.trees.BlockText.{BlockText}
 use Rattle.ir_grammar.specs.declared.trees.LineText.{LineText}
+use Rattle.ir_grammar.specs.declared.trees.OperandText.{OperandText}
 use Rattle.ir_grammar.specs.declared.trees.OperationText.{OperationText}
 use Rattle.ir_grammar.specs.declared.trees.Placed.{Placed}
-use Rattle.ir_grammar.specs.declared.trees.ValueText.{ValueText}
 use Rattle.ir_grammar.specs.declared.trees.ValueText.TheVariants as text
 use Rattle.name_claims.specs.declared.claims.Definition.{Definition}
 use Rattle.name_claims.specs.declared.claims.Meaning.{Meaning}
@@ -32,12 +33,13 @@ use Rattle.name_claims.specs.declared.claims.Meaning.TheVariants as meaning
 use Rattle.name_claims.specs.declared.claims.Reason.TheVariants.{Twice, WrongNumber}
 use Rattle.name_claims.specs.declared.claims.Says.TheVariants as says
 use Rattle.name_claims.specs.Faults.{at_fault, find, is_defined, register, repeats, suits, typed}
-use Rattle.ir_naming.specs.Naming.{Thing, at, block_claims, definition_of, definitions_from, due_behind, line_claims, name_claims, name_claims_from, name_due, number_claims, operation_claims, range_claims, value_claims}
+use Rattle.ir_naming.specs.Naming.{Thing, at, block_claims, constant_claims, definition_of, definitions_from, due_behind, line_claims, name_claims, name_claims_from, name_due, number_claims, operation_claims, return_claims, value_claims}
 use Rattle.ir_naming.specs.Spells.{IsLine, IsReturn, IsValue, NamesBlock}
-use Rattle.ir_naming.specs.Values.{IsOperation, i32}
+use Rattle.ir_naming.specs.Values.{IsConstant, IsOperation, number_of, word_of}
 use Rattle.ir_naming_laws.proofs.Built.{next_is}
 use Rattle.ir_naming_laws.proofs.Known.{registers_in}
 use Rattle.ir_naming_laws.proofs.Lists.{all_append, contains_behind, contains_cases, contains_here}
+use Rattle.ir_naming_laws.proofs.Operations.{IsClaimed, binary_right, compare_right, operand_right, operation_cases, select_right}
 use Rattle.ir_naming_laws.proofs.Ordered.{AreRight, IsRight, defined_names, names_more, repeats_is}
 
 -- ---- names
@@ -105,22 +107,22 @@ new_apart taken (name ∷ names) x new there more =
     (λ later. new_apart (taken ++ name ∷ []) names x new.1 (Contains-append_left taken (name ∷ []) x there) later)
     (contains_cases name x names more)
 
-register_right : (ty : Ty) (m : Meaning) → m ≡ meaning.Register ty → ty ≡ i32 → suits i32 m ≡ None
-register_right ty m is same = ap (suits i32) is ∙ ap typed (ap (λ t. same_ty t i32) same ∙ same_ty_refl i32)
+register_right : (known ty : Ty) (m : Meaning) → m ≡ meaning.Register known → known ≡ ty → suits ty m ≡ None
+register_right known ty m is same = ap (suits ty) is ∙ ap typed (ap (λ t. same_ty t ty) same ∙ same_ty_refl ty)
 
 -- what is one of the registers is found as one, since no name is defined twice
-pub found_known : (taken : List Name) (ds : List Definition) (name : Name) → AreNew taken (defined_names ds) → Contains (registers_in ds) (name, i32) → register i32 (find name ds) ≡ None
-found_known taken [] name new there = absurd (omega (arith, there.1))
-found_known taken (d ∷ ds) name new there =
-    by (same_name name d.name) refl (registers_cases d ds (name, i32) there) (λ more. found_known (taken ++ d.name ∷ []) ds name new.1 more)
+pub found_known : (taken : List Name) (ds : List Definition) (name : Name) (ty : Ty) → AreNew taken (defined_names ds) → Contains (registers_in ds) (name, ty) → register ty (find name ds) ≡ None
+found_known taken [] name ty new there = absurd (omega (arith, there.1))
+found_known taken (d ∷ ds) name ty new there =
+    by (same_name name d.name) refl (registers_cases d ds (name, ty) there) (λ more. found_known (taken ++ d.name ∷ []) ds name ty new.1 more)
   where
-    by : (same : Bool) → same_name name d.name ≡ same → ((ty : Ty) × (d.meaning ≡ meaning.Register ty) × (◌≡◌ {A = Name × Ty} (d.name, ty) (name, i32))) ⊎ Contains (registers_in ds) (name, i32) → (Contains (registers_in ds) (name, i32) → register i32 (find name ds) ≡ None) → register i32 (cond same (Some d) (find name ds)) ≡ None
+    by : (same : Bool) → same_name name d.name ≡ same → ((known : Ty) × (d.meaning ≡ meaning.Register known) × (◌≡◌ {A = Name × Ty} (d.name, known) (name, ty))) ⊎ Contains (registers_in ds) (name, ty) → (Contains (registers_in ds) (name, ty) → register ty (find name ds) ≡ None) → register ty (cond same (Some d) (find name ds)) ≡ None
     by true is cases more =
         ⊎_elim
-        (λ here. register_right here.0 d.meaning here.1 (ap (λ (p : Name × Ty). p.1) here.2))
+        (λ here. register_right here.0 ty d.meaning here.1 (ap (λ (p : Name × Ty). p.1) here.2))
         (λ later.
         let one : name ≡ d.name = same_name_true name d.name is in
-        absurd (new_apart (taken ++ d.name ∷ []) (defined_names ds) name new.1 (Contains-append_right taken (d.name ∷ []) name (subst (λ n. Contains (n ∷ []) name) one (contains_here name []))) (register_named ds (name, i32) later)))
+        absurd (new_apart (taken ++ d.name ∷ []) (defined_names ds) name new.1 (Contains-append_right taken (d.name ∷ []) name (subst (λ n. Contains (n ∷ []) name) one (contains_here name []))) (register_named ds (name, ty) later)))
         cases
     by false is cases more =
         ⊎_elim
@@ -132,25 +134,32 @@ found_known taken (d ∷ ds) name new there =
 
 -- ---- values
 
-pub value_right : (ds : List Definition) (v : ValueText) (a : Atom Name) → AreNew [] (defined_names ds) → IsValue (registers_in ds) v a → AreRight ds (value_claims v)
-value_right ds (text.Number n) a new is = subst (λ o. AreRight ds (range_claims n o)) (sym is.1) tt
-value_right ds text.Undef a new is = tt
-value_right ds (text.Local w) a new is = (found_known [] ds w.what new is.1.0, tt)
+pub constant_right : {R T : Type 0} (ds : List Definition) (place : Placed T) (c : Option Const) (a : Atom R) → IsConstant c a → AreRight ds (constant_claims place c)
+constant_right ds place None a is = absurd is
+constant_right ds place (Some c) a is = tt
 
-operation_right : (ds : List Definition) (o : OperationText) (e : Expr Name) → AreNew [] (defined_names ds) → IsOperation (IsValue (registers_in ds)) o e → AreRight ds (operation_claims o)
-operation_right ds o (expr.Plain operand) new is = absurd is
-operation_right ds o (expr.Binary b) new is =
-    all_append (IsRight ds) (value_claims o.left) (value_claims o.right) (value_right ds o.left b.left new is.3) (value_right ds o.right b.right new is.4)
+value_right : (ds : List Definition) → AreNew [] (defined_names ds) → IsClaimed ds value_claims (IsValue (registers_in ds))
+value_right ds new width (text.Number n) a is = constant_right ds n (number_of width n.what) a is
+value_right ds new width (text.Constant c) a is = constant_right ds c (word_of width c.what) a is
+value_right ds new width (text.Local w) a is = (found_known [] ds w.what (Int width) new is.1.0, tt)
+
+operation_right : (ds : List Definition) → AreNew [] (defined_names ds) → (o : OperationText) (e : Expr Name) → IsOperation (IsValue (registers_in ds)) o e → AreRight ds (operation_claims o)
+operation_right ds new =
+    let names = IsValue (registers_in ds) in
+    let values = value_right ds new in
+    operation_cases names (λ o e. AreRight ds (operation_claims o)) (λ w b is. binary_right ds value_claims names values w b is) (λ w c is. compare_right ds value_claims names values w c is) (λ w c is. operand_right ds value_claims names values w.from c.operand is.1) (λ w s is. select_right ds value_claims names values w s is)
 
 lines_right : (ds : List Definition) (ws : List LineText) (ls : List Instr) → AreNew [] (defined_names ds) → AllZip (IsLine (registers_in ds)) ws ls → AreRight ds (flat_map line_claims ws)
 lines_right ds [] ls new zip = tt
 lines_right ds (w ∷ ws) [] new zip = absurd zip
 lines_right ds (w ∷ ws) (instr.Calm c ∷ ls) new zip =
-    all_append (IsRight ds) (line_claims w) (flat_map line_claims ws) (operation_right ds w.operation c.right new zip.0.1) (lines_right ds ws ls new zip.1)
+    all_append (IsRight ds) (line_claims w) (flat_map line_claims ws) (operation_right ds new w.operation c.right zip.0.1) (lines_right ds ws ls new zip.1)
 
-return_right : (ds : List Definition) (v : ValueText) (t : Term) → AreNew [] (defined_names ds) → IsReturn (registers_in ds) v t → AreRight ds (value_claims v)
-return_right ds v (Ret operand) new is = value_right ds v operand.atom new is.1
+return_right : (ds : List Definition) (w : Option OperandText) (t : Term) → AreNew [] (defined_names ds) → IsReturn (registers_in ds) w t → AreRight ds (return_claims w)
+return_right ds None t new is = tt
+return_right ds (Some w) (Ret operand) new is = operand_right ds value_claims (IsValue (registers_in ds)) (value_right ds new) w operand is
+return_right ds (Some w) RetVoid new is = absurd is
 
 pub block_right : (ds : List Definition) (w : BlockText) (b : Block) → AreNew [] (defined_names ds) → NamesBlock (registers_in ds) w b → AreRight ds (block_claims w)
 block_right ds w b new named =
-    all_append (IsRight ds) (flat_map line_claims w.lines) (value_claims w.result) (lines_right ds w.lines b.body new named.lines) (return_right ds w.result b.term new named.returns)
+    all_append (IsRight ds) (flat_map line_claims w.lines) (return_claims w.result) (lines_right ds w.lines b.body new named.lines) (return_right ds w.result b.term new named.returns)

@@ -6,6 +6,7 @@ use Rattle.std.proofs.lemmas.List.Elements.{filter_map-append}
 use Rattle.ir_core.specs.declared.functions.Param.{Param}
 use Rattle.ir_core.specs.declared.names.Name.{Name}
 use Rattle.ir_core.specs.declared.operands.Ty.{Ty}
+use Rattle.ir_core.specs.Expressions.{type_of}
 use Rattle.ir_core.specs.Functions.{block_names, names_of, register_of, registers_of, set_by, typed_of}
 use Rattle.ir_core.specs.Functions as core
 use Rattle.ir_core.specs.NameLaws.{same_name_true}
@@ -22,7 +23,7 @@ use Rattle.name_claims.specs.declared.claims.Meaning.TheVariants as meaning
 use Rattle.name_claims.specs.Faults.{find, register, suits, typed}
 use Rattle.ir_naming.specs.Modules.{block_from, function_of, lines_from, params_from}
 use Rattle.ir_naming.specs.Naming.{Thing, block_things, definition_of, definitions_from, due_behind, due_from, line_thing, name_due, param_thing, things_of}
-use Rattle.ir_naming.specs.Values.{i32}
+use Rattle.ir_naming.specs.Values.{expression_of, type_at}
 use Rattle.ir_naming_laws.proofs.Lists.{contains_behind, contains_here}
 use Rattle.ir_naming_laws.proofs.Ordered.{defined_names}
 
@@ -50,18 +51,18 @@ typed_true : (b : Bool) → typed b ≡ None → b ≡ true
 typed_true true e = refl
 typed_true false e = cc
 
-known_first : (name : Name) (d : Definition) (ds : List Definition) → name ≡ d.name → suits i32 d.meaning ≡ None → Contains (registers_in (d ∷ ds)) (name, i32)
-known_first name d ds same = by d.meaning refl
+known_first : (name : Name) (ty : Ty) (d : Definition) (ds : List Definition) → name ≡ d.name → suits ty d.meaning ≡ None → Contains (registers_in (d ∷ ds)) (name, ty)
+known_first name ty d ds same = by d.meaning refl
   where
-    by : (m : Meaning) → d.meaning ≡ m → suits i32 m ≡ None → Contains (registers_in (d ∷ ds)) (name, i32)
-    by (meaning.Register ty) is e =
-        let one : ty ≡ i32 = same_ty_true ty i32 (typed_true (same_ty ty i32) e) in
+    by : (m : Meaning) → d.meaning ≡ m → suits ty m ≡ None → Contains (registers_in (d ∷ ds)) (name, ty)
+    by (meaning.Register known) is e =
+        let one : known ≡ ty = same_ty_true known ty (typed_true (same_ty known ty) e) in
         let pair : Name → Ty → Name × Ty = λ n t. (n, t) in
-        let whole : registers_in (d ∷ ds) ≡ (name, i32) ∷ registers_in ds =
+        let whole : registers_in (d ∷ ds) ≡ (name, ty) ∷ registers_in ds =
         ap (λ m. filter_map register_in (record { name = d.name; meaning = m } ∷ ds)) is
         ∙ ap (λ t. pair d.name t ∷ registers_in ds) one
-        ∙ ap (λ n. pair n i32 ∷ registers_in ds) (sym same) in
-        subst (λ rs. Contains rs (name, i32)) (sym whole) (contains_here (name, i32) (registers_in ds))
+        ∙ ap (λ n. pair n ty ∷ registers_in ds) (sym same) in
+        subst (λ rs. Contains rs (name, ty)) (sym whole) (contains_here (name, ty) (registers_in ds))
     by meaning.Block is e = cc
     by meaning.Function is e = cc
 
@@ -73,24 +74,24 @@ known_later d ds r there = by d.meaning refl
     by meaning.Block is = subst (λ m. Contains (registers_in (record { name = d.name; meaning = m } ∷ ds)) r) (sym is) there
     by meaning.Function is = subst (λ m. Contains (registers_in (record { name = d.name; meaning = m } ∷ ds)) r) (sym is) there
 
--- a name that stands for a register of i32 is one of the registers
-pub known : (name : Name) (ds : List Definition) → register i32 (find name ds) ≡ None → Contains (registers_in ds) (name, i32)
-known name [] e = cc
-known name (d ∷ ds) e = by (same_name name d.name) refl e (λ h. known name ds h)
+-- a name that stands for a register of a type is one of the registers
+pub known : (name : Name) (ty : Ty) (ds : List Definition) → register ty (find name ds) ≡ None → Contains (registers_in ds) (name, ty)
+known name ty [] e = cc
+known name ty (d ∷ ds) e = by (same_name name d.name) refl e (λ h. known name ty ds h)
   where
-    by : (same : Bool) → same_name name d.name ≡ same → register i32 (cond same (Some d) (find name ds)) ≡ None → (register i32 (find name ds) ≡ None → Contains (registers_in ds) (name, i32)) → Contains (registers_in (d ∷ ds)) (name, i32)
-    by true is e more = known_first name d ds (same_name_true name d.name is) e
-    by false is e more = known_later d ds (name, i32) (more e)
+    by : (same : Bool) → same_name name d.name ≡ same → register ty (cond same (Some d) (find name ds)) ≡ None → (register ty (find name ds) ≡ None → Contains (registers_in ds) (name, ty)) → Contains (registers_in (d ∷ ds)) (name, ty)
+    by true is e more = known_first name ty d ds (same_name_true name d.name is) e
+    by false is e more = known_later d ds (name, ty) (more e)
 
 -- ---- of the function that is built
 
 params_registers : (function : Placed Name) (due : ℕ) (ps : List ParamText) → map (λ (p : Param). (p.name, p.ty)) (params_from due ps) ≡ registers_in (definitions_from due (map (param_thing function) ps))
 params_registers function due [] = refl
-params_registers function due (p ∷ ps) = ap (λ rs. (name_due due p.name, i32) ∷ rs) (params_registers function (due_behind due p.name) ps)
+params_registers function due (p ∷ ps) = ap (λ rs. (name_due due p.name, type_at p.ty) ∷ rs) (params_registers function (due_behind due p.name) ps)
 
 lines_registers : (function : Placed Name) (due : ℕ) (ls : List LineText) → set_by (lines_from due ls) ≡ registers_in (definitions_from due (map (line_thing function) ls))
 lines_registers function due [] = refl
-lines_registers function due (l ∷ ls) = ap (λ rs. (name_due due l.register, i32) ∷ rs) (lines_registers function (due_behind due l.register) ls)
+lines_registers function due (l ∷ ls) = ap (λ rs. (name_due due l.register, type_of (expression_of l.operation)) ∷ rs) (lines_registers function (due_behind due l.register) ls)
 
 params_names : (function : Placed Name) (due : ℕ) (ps : List ParamText) → core.names_in (map (λ (p : Param). (p.name, p.ty)) (params_from due ps)) ≡ defined_names (definitions_from due (map (param_thing function) ps))
 params_names function due [] = refl

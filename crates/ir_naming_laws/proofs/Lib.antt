@@ -1,7 +1,9 @@
 pub mod Lists
 pub mod Ordered
+pub mod Operations
 pub mod Known
 pub mod Parts
 pub mod Built
 pub mod Claimed
 pub mod Named
+pub mod Expressions

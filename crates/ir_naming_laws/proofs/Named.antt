@@ -16,7 +16,7 @@ use Rattle.name_claims.specs.declared.claims.Item.{Item}
 use Rattle.name_claims.specs.declared.claims.Reason.{Reason}
 use Rattle.name_claims.specs.Faults.{HasFault, fault_at}
 use Rattle.ir_naming.specs.Modules.{block_from, function_of, module_of}
-use Rattle.ir_naming.specs.Naming.{block_claims, claims_of, definitions_from, due_behind, due_from, function_thing, item_of, label_name, line_claims, module_item, name_claims_from, param_thing, things_of, value_claims}
+use Rattle.ir_naming.specs.Naming.{block_claims, claims_of, definitions_from, due_behind, due_from, function_thing, item_of, label_name, line_claims, module_item, name_claims_from, param_thing, return_claims, things_of}
 use Rattle.ir_naming.specs.Spells.{NamesBlock, NamesFunction, NamesModule}
 use Rattle.ir_naming_laws.specs.Laws.{IsFaultless, IsWithinLines}
 use Rattle.ir_naming_laws.proofs.Built.{function_is}
@@ -24,11 +24,11 @@ use Rattle.ir_naming_laws.proofs.Claimed.{block_right, names_right}
 use Rattle.ir_naming_laws.proofs.Known.{names_are, registers_are, registers_in}
 use Rattle.ir_naming_laws.proofs.Lists.{all_append, all_from, all_left, all_lists, all_mapped, all_right, all_to, zip_mapped}
 use Rattle.ir_naming_laws.proofs.Ordered.{AreRight, IsRight, defined_names, in_order}
-use Rattle.ir_naming_laws.proofs.Parts.{label_named, lines_length, lines_named, params_named, value_named}
+use Rattle.ir_naming_laws.proofs.Parts.{label_named, lines_length, lines_named, params_named, result_named, return_named}
 
 -- ---- each claim is right
 
-abbrev IsRightItem : Item → Type 0
+abbrev pub IsRightItem : Item → Type 0
 IsRightItem item = AreRight item.definitions item.claims
 
 claim_right : (items : List Item) → ((f : Fault) → HasFault items f → ⊥) → (item : Item) → Contains items item → (claim : Claim) → Contains item.claims claim → fault_at item claim ≡ None
@@ -39,7 +39,7 @@ claim_right items none item there claim within = by (fault_at item claim) refl
     by (Some reason) e =
         absurd (none (record { start = claim.start; end = claim.end; reason = reason }) (item, there, (claim, within, (refl, refl, e))))
 
-all_right_items : (items : List Item) → ((f : Fault) → HasFault items f → ⊥) → AllByRecursion IsRightItem items
+pub all_right_items : (items : List Item) → ((f : Fault) → HasFault items f → ⊥) → AllByRecursion IsRightItem items
 all_right_items items none =
     all_from IsRightItem items (λ item there. all_from (IsRight item.definitions) item.claims (λ claim within. claim_right items none item there claim within))
 
@@ -48,12 +48,12 @@ all_right_items items none =
 block_named : (ds : List Definition) (due : ℕ) (b : BlockText) → AreRight ds (block_claims b) → NamesBlock (registers_in ds) b (block_from due b)
 block_named ds due b right =
     let lines = flat_map line_claims b.lines in
-    let result = value_claims b.result in
+    let result = return_claims b.result in
     record {
       no_phis = refl;
       label = label_named due b.label;
       lines = lines_named ds (due_behind due (label_name b.label)) b.lines (all_lists (IsRight ds) line_claims b.lines (all_left (IsRight ds) lines result right));
-      returns = (refl, value_named ds b.result (all_right (IsRight ds) lines result right));
+      returns = return_named ds b.result (all_right (IsRight ds) lines result right);
     }
 
 function_named : (d : DefinitionText) → IsRightItem (item_of d) → length d.block.lines + 1 ≤ line_limit → NamesFunction d (function_of d)
@@ -65,7 +65,7 @@ function_named d right few =
     let values = block_claims d.block in
     record {
       name = refl;
-      result = refl;
+      result = result_named d.result;
       params = params_named 0 d.params;
       block = block_from count d.block;
       one_block = refl;
@@ -130,7 +130,7 @@ functions_right (w ∷ ws) (f ∷ fs) zip =
     let rest = functions_right ws fs zip.1 in
     record { same = ap (λ g. g ∷ fs) first.same ∙ ap (λ gs. function_of w ∷ gs) rest.same; right = (first.right, rest.right); few = (first.few, rest.few) }
 
-no_fault_of : (items : List Item) → AllByRecursion IsRightItem items → (f : Fault) → HasFault items f → ⊥
+pub no_fault_of : (items : List Item) → AllByRecursion IsRightItem items → (f : Fault) → HasFault items f → ⊥
 no_fault_of items right f has =
     let item = has.0 in
     let claims = all_to IsRightItem items right item has.1 in

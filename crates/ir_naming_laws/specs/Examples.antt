@@ -1,12 +1,22 @@
 -- Texts as trees, what they claim, and the first fault of each.
-use Rattle.std.specs.Prelude.{◌≡◌, ℕ, false, List, [], ◌∷◌, Option, Some, None, codes}
+use Rattle.std.specs.Prelude.{◌≡◌, ℕ, ◌+◌, Bool, true, false, List, [], ◌∷◌, Some, None, codes}
 use Rattle.ir_core.specs.declared.names.Name.{Name}
 use Rattle.ir_core.specs.declared.names.Name.TheVariants.{Text, Number}
-use Rattle.ir_core.specs.declared.operands.BinOp.TheVariants.{Add}
+use Rattle.ir_core.specs.declared.operands.CastOp.TheVariants.{ZExt}
+use Rattle.ir_core.specs.declared.operands.Pred.TheVariants.{Eq}
 use Rattle.ir_core.specs.declared.operands.Ty.TheVariants.{Int}
+use Rattle.ir_lexer.specs.declared.token.Number.{Number as Numeral}
+use Rattle.ir_grammar.specs.declared.operators.OverflowOp.TheVariants.{Add}
+use Rattle.ir_grammar.specs.declared.trees.ConstantWord.TheVariants.{True}
 use Rattle.ir_grammar.specs.declared.trees.DefinitionText.{DefinitionText}
+use Rattle.ir_grammar.specs.declared.trees.ExprText.{ExprText}
+use Rattle.ir_grammar.specs.declared.trees.ExprText.TheVariants.{Operation}
 use Rattle.ir_grammar.specs.declared.trees.LineText.{LineText}
 use Rattle.ir_grammar.specs.declared.trees.ModuleText.{ModuleText}
+use Rattle.ir_grammar.specs.declared.trees.OperandText.{OperandText}
+use Rattle.ir_grammar.specs.declared.trees.OperationText.{OperationText}
+use Rattle.ir_grammar.specs.declared.trees.OperationText.TheVariants.{Binary, Compare, Cast}
+use Rattle.ir_grammar.specs.declared.trees.OperatorText.TheVariants.{Overflow}
 use Rattle.ir_grammar.specs.declared.trees.Placed.{Placed}
 use Rattle.ir_grammar.specs.declared.trees.ValueText.{ValueText}
 use Rattle.ir_grammar.specs.declared.trees.ValueText.TheVariants as text
@@ -14,25 +24,52 @@ use Rattle.name_claims.specs.declared.claims.Claim.{Claim}
 use Rattle.name_claims.specs.declared.claims.Fault.{Fault}
 use Rattle.name_claims.specs.declared.claims.Meaning.TheVariants as meaning
 use Rattle.name_claims.specs.declared.claims.Reason.{Reason}
-use Rattle.name_claims.specs.declared.claims.Reason.TheVariants.{Twice, WrongNumber}
+use Rattle.name_claims.specs.declared.claims.Reason.TheVariants.{Twice, WrongNumber, WrongType}
 use Rattle.name_claims.specs.declared.claims.Says.{Says}
 use Rattle.name_claims.specs.declared.claims.Says.TheVariants as says
 use Rattle.name_claims.specs.Faults.{IsFirst}
+use Rattle.ir_naming.specs.Expressions.{expression_claims}
 use Rattle.ir_naming.specs.Naming.{claims_of}
+use Rattle.ir_naming.specs.Values.{kept}
 
 -- ---- words
 
 abbrev name : ℕ → ℕ → Name → Placed Name
 name start end what = record { what = what; start = start; end = end }
 
+abbrev local : ℕ → ℕ → Name → ValueText
+local start end what = text.Local (name start end what)
+
 abbrev number : ℕ → ℕ → ℕ → ValueText
 number start end magnitude = text.Number (record { what = record { negative = false; magnitude = magnitude }; start = start; end = end })
 
-abbrev add : Option (Placed Name) → ValueText → ValueText → LineText
-add register left right = record { register = register; operation = record { op = Add; flags = []; left = left; right = right } }
+-- a type that begins there
+abbrev i1 : ℕ → Placed ℕ
+i1 start = record { what = 1; start = start; end = start + 2 }
 
-abbrev definition : Placed Name → List LineText → ValueText → DefinitionText
-definition name lines result = record { name = name; params = []; block = record { label = None; lines = lines; result = result } }
+abbrev i8 : ℕ → Placed ℕ
+i8 start = record { what = 8; start = start; end = start + 2 }
+
+abbrev i32 : ℕ → Placed ℕ
+i32 start = record { what = 32; start = start; end = start + 3 }
+
+abbrev operand : Placed ℕ → ValueText → OperandText
+operand ty value = record { ty = ty; value = value }
+
+abbrev add : OperandText → ValueText → OperationText
+add left right = Binary (record { operator = Overflow Add []; left = left; right = right })
+
+abbrev line : Placed Name → OperationText → LineText
+line register operation = record { register = Some register; operation = operation }
+
+-- define result @name() { lines ret returned }
+abbrev definition : Placed ℕ → Placed Name → List LineText → OperandText → DefinitionText
+definition result name lines returned = record {
+  result = Some result;
+  name = name;
+  params = [];
+  block = record { label = None; lines = lines; result = Some returned };
+}
 
 abbrev written : List DefinitionText → ModuleText
 written definitions = record { definitions = definitions }
@@ -46,12 +83,24 @@ fault start end reason = record { start = start; end = end; reason = reason }
 abbrev f : Name
 f = Text (codes "f")
 
+abbrev c : Name
+c = Text (codes "c")
+
+abbrev x : Name
+x = Text (codes "x")
+
+abbrev y : Name
+y = Text (codes "y")
+
+abbrev z : Name
+z = Text (codes "z")
+
 -- ---- texts
 
 -- define i32 @f() { %5 = add i32 %z, 4294967296 ret i32 0 }
 abbrev pub three_faults : ModuleText
 three_faults =
-    written (definition (name 11 13 f) (add (Some (name 18 20 (Number 5))) (text.Local (name 31 33 (Text (codes "z")))) (number 35 45 4294967296) ∷ []) (number 54 55 0) ∷ [])
+    written (definition (i32 7) (name 11 13 f) (line (name 18 20 (Number 5)) (add (operand (i32 27) (local 31 33 z)) (number 35 45 4294967296)) ∷ []) (operand (i32 50) (number 54 55 0)) ∷ [])
 
 -- The number, the unknown register and the number out of range are at fault; the first place decides.
 abbrev pub FirstOfThree : Type 0
@@ -59,7 +108,8 @@ FirstOfThree = IsFirst (claims_of three_faults) (fault 18 20 (WrongNumber 1))
 
 -- define i32 @f() { ret i32 0 } define i32 @f() { ret i32 0 }
 abbrev pub same_names : ModuleText
-same_names = written (definition (name 11 13 f) [] (number 26 27 0) ∷ definition (name 41 43 f) [] (number 56 57 0) ∷ [])
+same_names =
+    written (definition (i32 7) (name 11 13 f) [] (operand (i32 22) (number 26 27 0)) ∷ definition (i32 37) (name 41 43 f) [] (operand (i32 52) (number 56 57 0)) ∷ [])
 
 abbrev pub SecondFunctionIsTwice : Type 0
 SecondFunctionIsTwice = IsFirst (claims_of same_names) (fault 41 43 Twice)
@@ -67,7 +117,7 @@ SecondFunctionIsTwice = IsFirst (claims_of same_names) (fault 41 43 Twice)
 -- define i32 @f() { %5 = add i32 1, 2 %2 = add i32 1, 2 ret i32 %2 }
 abbrev pub counted_on : ModuleText
 counted_on =
-    written (definition (name 11 13 f) (add (Some (name 18 20 (Number 5))) (number 31 32 1) (number 34 35 2) ∷ add (Some (name 36 38 (Number 2))) (number 49 50 1) (number 52 53 2) ∷ []) (text.Local (name 62 64 (Number 2))) ∷ [])
+    written (definition (i32 7) (name 11 13 f) (line (name 18 20 (Number 5)) (add (operand (i32 27) (number 31 32 1)) (number 34 35 2)) ∷ line (name 36 38 (Number 2)) (add (operand (i32 45) (number 49 50 1)) (number 52 53 2)) ∷ []) (operand (i32 58) (local 62 64 (Number 2))) ∷ [])
 
 -- Behind `%5`, where 1 is due, 2 is due: counting doesn't go on from the number that is written.
 abbrev pub CountingGoesOnByOne : Type 0
@@ -88,3 +138,62 @@ CountingGoesOnByOne =
     }
     ∷ record { definitions = record { name = f; meaning = meaning.Function } ∷ []; claims = claim 11 13 (says.New 0) ∷ [] }
     ∷ []
+
+-- define i1 @f(i8 %x) { %c = icmp eq i8 %x, 0 %y = zext i1 %c to i8 ret i1 %y }
+abbrev pub types_of_lines : ModuleText
+types_of_lines =
+    written (record {
+      result = Some (i1 7);
+      name = name 10 12 f;
+      params = record { ty = i8 13; name = Some (name 16 18 x) } ∷ [];
+      block = record {
+        label = None;
+        lines =
+            line (name 22 24 c) (Compare (record { pred = Eq; left = operand (i8 35) (local 38 40 x); right = number 42 43 0 }))
+            ∷ line (name 44 46 y) (Cast (record { op = ZExt; from = operand (i1 54) (local 57 59 c); to = i8 63 }))
+            ∷ [];
+        result = Some (operand (i1 70) (local 73 75 y));
+      };
+    }
+    ∷ [])
+
+-- `%c` is of i1, as each comparison is, and `%y` of i8, to which it is widened: only its use as an i1 is at fault.
+abbrev pub LinesHaveTypes : Type 0
+LinesHaveTypes = IsFirst (claims_of types_of_lines) (fault 73 75 WrongType)
+
+-- ---- expressions
+
+-- add i32 %x, V
+abbrev to_x : ValueText → ExprText
+to_x value = Operation (add (operand (i32 4) (local 8 10 x)) value)
+
+-- add i32 %x, 4294967296
+abbrev pub large_number : ExprText
+large_number = to_x (number 12 22 4294967296)
+
+abbrev pub LargeNumberIsWrongType : Type 0
+LargeNumberIsWrongType = IsFirst (expression_claims large_number) (fault 12 22 WrongType)
+
+-- add i32 %x, %y
+abbrev pub RegistersClaimNothing : Type 0
+RegistersClaimNothing = expression_claims (to_x (local 12 14 y)) ≡ record { definitions = []; claims = [] } ∷ []
+
+-- add i8 %x, true
+abbrev pub word_of_another_type : ExprText
+word_of_another_type = Operation (add (operand (i8 4) (local 7 9 x)) (text.Constant (record { what = True; start = 11; end = 15 })))
+
+abbrev pub TrueIsOfOneBit : Type 0
+TrueIsOfOneBit = IsFirst (expression_claims word_of_another_type) (fault 11 15 WrongType)
+
+-- ---- numbers
+
+abbrev numeral : Bool → ℕ → Numeral
+numeral negative magnitude = record { negative = negative; magnitude = magnitude }
+
+-- -1 of i8 is 255 and of i1 is 1
+abbrev pub NegativeNumbersAreKept : Type 0
+NegativeNumbersAreKept = (kept 8 (numeral true 1) ≡ Some 255) × (kept 1 (numeral true 1) ≡ Some 1)
+
+-- 300 and -129 are none of i8, 2 is none of i1
+abbrev pub NumbersHaveRanges : Type 0
+NumbersHaveRanges = (kept 8 (numeral false 300) ≡ None) × (kept 8 (numeral true 129) ≡ None) × (kept 1 (numeral false 2) ≡ None)

@@ -1,12 +1,16 @@
--- A text names a module exactly where none of its claims is at fault: the module that is built of it, and no other.
+-- A text names a module, or an expression of the logic, exactly where none of its claims is at fault: the one that is built of it,
+-- and no other.
 use Rattle.std.specs.Prelude.{◌+◌, ◌≤◌, ◌≡◌, length}
 use Rattle.std.specs.List.{AllByRecursion}
 use Rattle.ir_core.specs.declared.functions.Module.{Module}
+use Rattle.ir_core.specs.Expressions.{Expr0}
 use Rattle.ir_core.specs.Limits.{line_limit}
 use Rattle.ir_grammar.specs.declared.trees.DefinitionText.{DefinitionText}
+use Rattle.ir_grammar.specs.declared.trees.ExprText.{ExprText}
 use Rattle.ir_grammar.specs.declared.trees.ModuleText.{ModuleText}
 use Rattle.name_claims.specs.declared.claims.Fault.{Fault}
 use Rattle.name_claims.specs.Faults.{HasFault}
+use Rattle.ir_naming.specs.Expressions.{NamesExpression, expression_claims, expression_now}
 use Rattle.ir_naming.specs.Modules.{module_of}
 use Rattle.ir_naming.specs.Naming.{claims_of}
 use Rattle.ir_naming.specs.Spells.{NamesModule}
@@ -24,3 +28,15 @@ FaultlessTextsNameWhatIsBuilt = (w : ModuleText) → IsFaultless w → IsWithinL
 
 abbrev pub NamedTextsAreFaultless : Type 0
 NamedTextsAreFaultless = (w : ModuleText) (m : Module) → NamesModule w m → IsFaultless w × IsWithinLines w × (m ≡ module_of w)
+
+-- ---- expressions
+
+-- no number is out of range
+abbrev pub IsFaultlessExpression : ExprText → Type 0
+IsFaultlessExpression w = (f : Fault) → HasFault (expression_claims w) f → ⊥
+
+abbrev pub FaultlessExpressionsNameWhatIsBuilt : Type 0
+FaultlessExpressionsNameWhatIsBuilt = (w : ExprText) → IsFaultlessExpression w → NamesExpression w (expression_now w)
+
+abbrev pub NamedExpressionsAreFaultless : Type 0
+NamedExpressionsAreFaultless = (w : ExprText) (e : Expr0) → NamesExpression w e → IsFaultlessExpression w × (e ≡ expression_now w)

@@ -1,9 +1,9 @@
 //! The laws of what texts name: the claims of `name_claims`, as `ir_naming` takes them from a text, are what it takes for the text to
-//! name a module.
+//! name a module or an expression.
 #![tactic(auto)]
 
-ghost use Rattle.ir_naming_laws.specs.Laws.{FaultlessTextsNameWhatIsBuilt, NamedTextsAreFaultless};
-ghost use Rattle.ir_naming_laws.specs.Examples.{FirstOfThree, SecondFunctionIsTwice, CountingGoesOnByOne};
+ghost use Rattle.ir_naming_laws.specs.Laws.{FaultlessExpressionsNameWhatIsBuilt, FaultlessTextsNameWhatIsBuilt, NamedExpressionsAreFaultless, NamedTextsAreFaultless};
+ghost use Rattle.ir_naming_laws.specs.Examples.{CountingGoesOnByOne, FirstOfThree, LargeNumberIsWrongType, LinesHaveTypes, NegativeNumbersAreKept, NumbersHaveRanges, RegistersClaimNothing, SecondFunctionIsTwice, TrueIsOfOneBit};
 
 /// Empty on purpose: its contract is the law.
 ///
@@ -24,10 +24,43 @@ pub fn named_texts_are_faultless()
 
 /// Empty on purpose: its contract is the law.
 ///
+/// Where no number of an expression's text is out of range, the text names the expression that is built of it.
+pub fn faultless_expressions_name_what_is_built()
+    ensures { FaultlessExpressionsNameWhatIsBuilt }
+{}
+
+/// Empty on purpose: its contract is the law.
+///
+/// Where a text names an expression, none of its numbers is out of range, and the expression is the one that is built of it.
+pub fn named_expressions_are_faultless()
+    ensures { NamedExpressionsAreFaultless }
+{}
+
+/// Empty on purpose: its contract is the law.
+///
 /// Of three faults the first in the text is told; a function of the name of one before it is defined twice; behind a wrong number
-/// counting goes on by one.
+/// counting goes on by one; what a line sets is of the type that its operation gives.
 pub fn examples_of_claims()
     ensures place { FirstOfThree }
     ensures twice { SecondFunctionIsTwice }
     ensures count { CountingGoesOnByOne }
+    ensures types { LinesHaveTypes }
+{}
+
+/// Empty on purpose: its contract is the law.
+///
+/// A number out of range is at fault where it stands, and so is `true` of another type than `i1`; a register of an expression claims
+/// nothing.
+pub fn examples_of_expressions()
+    ensures number { LargeNumberIsWrongType }
+    ensures word { TrueIsOfOneBit }
+    ensures register { RegistersClaimNothing }
+{}
+
+/// Empty on purpose: its contract is the law.
+///
+/// A negative number is kept modulo 2 to its width, and each width has its range.
+pub fn examples_of_numbers()
+    ensures negative { NegativeNumbersAreKept }
+    ensures range { NumbersHaveRanges }
 {}

@@ -17,15 +17,18 @@ use Rattle.ir_core.specs.declared.operands.Atom.{Atom}
 use Rattle.ir_core.specs.declared.operands.Atom.TheVariants.{Constant, Register}
 use Rattle.ir_core.specs.declared.operands.Operand.{Operand}
 use Rattle.ir_core.specs.declared.operands.BinOp.{BinOp}
-use Rattle.ir_core.specs.declared.operands.BinOp.TheVariants.{Add, Sub}
+use Rattle.ir_core.specs.declared.operands.BinOp.TheVariants.{Add, Sub, Mul, Shl, UDiv, SDiv, LShr, AShr, URem, SRem, And, Or, Xor}
+use Rattle.ir_core.specs.declared.operands.Pred.{Pred}
+use Rattle.ir_core.specs.declared.operands.Pred.TheVariants.{Eq, Ne, Ugt, Uge, Ult, Ule, Sgt, Sge, Slt, Sle}
+use Rattle.ir_core.specs.declared.operands.CastOp.{CastOp}
+use Rattle.ir_core.specs.declared.operands.CastOp.TheVariants.{ZExt, SExt, Trunc, BitCast}
 use Rattle.ir_core.specs.declared.operands.Flags.{Flags}
 use Rattle.ir_core.specs.declared.expressions.Reg.{Reg}
 use Rattle.ir_core.specs.declared.expressions.Reg.TheVariants.{Now, Old, Ghost}
-use Rattle.ir_core.specs.declared.expressions.Binary.{Binary}
 use Rattle.ir_core.specs.declared.expressions.Expr.{Expr}
 use Rattle.ir_core.specs.declared.expressions.Expr.TheVariants as expr
 use Rattle.ir_core.specs.Names.{is_name_byte, is_plain}
-use Rattle.ir_core.specs.Words.{void_word, false_word, true_word, undef_word, op_word, nuw_word, nsw_word}
+use Rattle.ir_core.specs.Words.{void_word, false_word, true_word, undef_word, op_word, nuw_word, nsw_word, exact_word, icmp_word, pred_word, cast_word, select_word}
 use Rattle.ir_printer.specs.Printed.{hexadecimal_digit, escaped, quoted, name_text, printed_local, printed_type, is_negative, signed_text, number_text, printed_constant, printed_register, printed_atom, printed_operand, spaced, printed_op, printed_flag, printed_flags, printed_operands, printed_expr}
 
 record Ascii (bs : List ℕ) : Type 0 where
@@ -141,8 +144,46 @@ of_spaced : (word : List ℕ) → list_all (λ b. nat_lt b 128) word ≡ true �
 of_spaced word small = append word (32 ∷ []) (of_small word small) (of_small (32 ∷ []) refl)
 
 of_op : (op : BinOp) → Ascii (printed_op op)
-of_op Add = of_spaced (op_word Add) refl
-of_op Sub = of_spaced (op_word Sub) refl
+of_op op = of_spaced (op_word op) (small op)
+  where
+    small : (op : BinOp) → list_all (λ b. nat_lt b 128) (op_word op) ≡ true
+    small Add = refl
+    small Sub = refl
+    small Mul = refl
+    small Shl = refl
+    small UDiv = refl
+    small SDiv = refl
+    small LShr = refl
+    small AShr = refl
+    small URem = refl
+    small SRem = refl
+    small And = refl
+    small Or = refl
+    small Xor = refl
+
+of_pred : (pred : Pred) → Ascii (spaced (pred_word pred))
+of_pred pred = of_spaced (pred_word pred) (small pred)
+  where
+    small : (pred : Pred) → list_all (λ b. nat_lt b 128) (pred_word pred) ≡ true
+    small Eq = refl
+    small Ne = refl
+    small Ugt = refl
+    small Uge = refl
+    small Ult = refl
+    small Ule = refl
+    small Sgt = refl
+    small Sge = refl
+    small Slt = refl
+    small Sle = refl
+
+of_cast : (op : CastOp) → Ascii (spaced (cast_word op))
+of_cast op = of_spaced (cast_word op) (small op)
+  where
+    small : (op : CastOp) → list_all (λ b. nat_lt b 128) (cast_word op) ≡ true
+    small ZExt = refl
+    small SExt = refl
+    small Trunc = refl
+    small BitCast = refl
 
 of_nuw : Ascii (spaced nuw_word)
 of_nuw = of_spaced nuw_word refl
@@ -150,8 +191,19 @@ of_nuw = of_spaced nuw_word refl
 of_nsw : Ascii (spaced nsw_word)
 of_nsw = of_spaced nsw_word refl
 
+of_exact : Ascii (spaced exact_word)
+of_exact = of_spaced exact_word refl
+
+of_flag : (set : Bool) (word : List ℕ) → Ascii (spaced word) → Ascii (printed_flag set word)
+of_flag set word h = of_choice set (spaced word) [] (λ _. h) empty
+
 of_flags : (flags : Flags) → Ascii (printed_flags flags)
-of_flags flags = append (printed_flag flags.nuw nuw_word) (printed_flag flags.nsw nsw_word) (of_choice flags.nuw (spaced nuw_word) [] (λ _. of_nuw) empty) (of_choice flags.nsw (spaced nsw_word) [] (λ _. of_nsw) empty)
+of_flags flags =
+    append (printed_flag flags.nuw nuw_word) _ (of_flag flags.nuw nuw_word of_nuw)
+    (append (printed_flag flags.nsw nsw_word) (printed_flag flags.exact exact_word) (of_flag flags.nsw nsw_word of_nsw) (of_flag flags.exact exact_word of_exact))
+
+of_to : Ascii (codes " to ")
+of_to = of_small (codes " to ") refl
 
 of_comma : Ascii (codes ", ")
 of_comma = of_small (codes ", ") refl
@@ -165,13 +217,24 @@ module _ {R : Type 0} (register : R → List ℕ) (of : (r : R) → Ascii (regis
   of_operand : (o : Operand R) → Ascii (printed_operand register o)
   of_operand o = append (printed_type o.ty) (32 ∷ printed_atom register o.ty o.atom) (of_type o.ty) (begun 32 _ (lit< tt) (of_atom o.ty o.atom))
 
-  of_operands : (b : Binary R) → Ascii (printed_operands register b)
-  of_operands b = append (printed_type b.ty) _ (of_type b.ty) (begun 32 _ (lit< tt)
-      (append (printed_atom register b.ty b.left) _ (of_atom b.ty b.left) (append (codes ", ") _ of_comma (of_atom b.ty b.right))))
+  of_operands : (ty : Ty) (a b : Atom R) → Ascii (printed_operands register ty a b)
+  of_operands ty a b = append (printed_type ty) _ (of_type ty) (begun 32 _ (lit< tt)
+      (append (printed_atom register ty a) _ (of_atom ty a) (append (codes ", ") _ of_comma (of_atom ty b))))
 
   of_text : (e : Expr R) → Ascii (printed_expr register e)
   of_text (expr.Plain operand) = of_operand operand
-  of_text (expr.Binary b) = append (printed_op b.op) _ (of_op b.op) (append (printed_flags b.flags) (printed_operands register b) (of_flags b.flags) (of_operands b))
+  of_text (expr.Binary b) = append (printed_op b.op) _ (of_op b.op) (append (printed_flags b.flags) _ (of_flags b.flags) (of_operands b.ty b.left b.right))
+  of_text (expr.Icmp c) =
+      append (spaced icmp_word) _ (of_spaced icmp_word refl) (append (spaced (pred_word c.pred)) _ (of_pred c.pred) (of_operands c.ty c.left c.right))
+  of_text (expr.Cast c) =
+      append (spaced (cast_word c.op)) _ (of_cast c.op)
+      (append (printed_operand register c.operand) _ (of_operand c.operand) (append (codes " to ") _ of_to (of_type c.to)))
+  of_text (expr.Select s) =
+      append (spaced select_word) _ (of_spaced select_word refl)
+      (append (printed_operand register s.condition) _ (of_operand s.condition)
+      (append (codes ", ") _ of_comma
+      (append (printed_operand register s.left) _ (of_operand s.left)
+      (append (codes ", ") _ of_comma (of_operand s.right)))))
 
 pub logic_is_ascii : (e : Expr Reg) → IsAscii (printed_expr printed_register e)
 logic_is_ascii e = (of_text printed_register of_register e).bytes

@@ -18,10 +18,13 @@ use Rattle.ir_core.specs.declared.operands.Flags.{Flags}
 use Rattle.ir_core.specs.declared.expressions.Reg.{Reg}
 use Rattle.ir_core.specs.declared.expressions.Reg.TheVariants.{Now, Old, Ghost}
 use Rattle.ir_core.specs.declared.expressions.Binary.{Binary}
+use Rattle.ir_core.specs.declared.expressions.Icmp.{Icmp}
+use Rattle.ir_core.specs.declared.expressions.Cast.{Cast}
+use Rattle.ir_core.specs.declared.expressions.Select.{Select}
 use Rattle.ir_core.specs.declared.expressions.Expr.{Expr}
 use Rattle.ir_core.specs.declared.expressions.Expr.TheVariants as expr
 use Rattle.ir_core.specs.Names.{is_plain}
-use Rattle.ir_core.specs.Words.{void_word, false_word, true_word, undef_word, op_word, nuw_word, nsw_word}
+use Rattle.ir_core.specs.Words.{void_word, false_word, true_word, undef_word, op_word, nuw_word, nsw_word, exact_word, icmp_word, pred_word, cast_word, select_word}
 
 -- ---- names
 
@@ -105,16 +108,34 @@ abbrev pub printed_flag : Bool → List ℕ → List ℕ
 printed_flag set word = if set then spaced word else []
 
 abbrev pub printed_flags : Flags → List ℕ
-printed_flags flags = printed_flag flags.nuw nuw_word ++ printed_flag flags.nsw nsw_word
+printed_flags flags = printed_flag flags.nuw nuw_word ++ (printed_flag flags.nsw nsw_word ++ printed_flag flags.exact exact_word)
 
 -- the type, which stands once, and the two operands
-abbrev pub printed_operands : {R : Type 0} → (R → List ℕ) → Binary R → List ℕ
-printed_operands register b = printed_type b.ty ++ (32 ∷ (printed_atom register b.ty b.left ++ (codes ", " ++ printed_atom register b.ty b.right)))
+abbrev pub printed_operands : {R : Type 0} → (R → List ℕ) → Ty → Atom R → Atom R → List ℕ
+printed_operands register ty a b = printed_type ty ++ (32 ∷ (printed_atom register ty a ++ (codes ", " ++ printed_atom register ty b)))
 
+-- `add nuw i8 %x, 1`, `udiv exact i8 %x, %y`
 abbrev pub printed_binary : {R : Type 0} → (R → List ℕ) → Binary R → List ℕ
-printed_binary register b = printed_op b.op ++ (printed_flags b.flags ++ printed_operands register b)
+printed_binary register b = printed_op b.op ++ (printed_flags b.flags ++ printed_operands register b.ty b.left b.right)
+
+-- `icmp ult i8 %x, 4`
+abbrev pub printed_icmp : {R : Type 0} → (R → List ℕ) → Icmp R → List ℕ
+printed_icmp register c = spaced icmp_word ++ (spaced (pred_word c.pred) ++ printed_operands register c.ty c.left c.right)
+
+-- `zext i8 %x to i16`
+abbrev pub printed_cast : {R : Type 0} → (R → List ℕ) → Cast R → List ℕ
+printed_cast register c = spaced (cast_word c.op) ++ (printed_operand register c.operand ++ (codes " to " ++ printed_type c.to))
+
+-- `select i1 %c, i8 %x, i8 1`
+abbrev pub printed_select : {R : Type 0} → (R → List ℕ) → Select R → List ℕ
+printed_select register s =
+    spaced select_word ++ (printed_operand register s.condition
+    ++ (codes ", " ++ (printed_operand register s.left ++ (codes ", " ++ printed_operand register s.right))))
 
 -- the right side of a line, or an expression of the logic
 abbrev pub printed_expr : {R : Type 0} → (R → List ℕ) → Expr R → List ℕ
 printed_expr register (expr.Plain operand) = printed_operand register operand
 printed_expr register (expr.Binary binary) = printed_binary register binary
+printed_expr register (expr.Icmp icmp) = printed_icmp register icmp
+printed_expr register (expr.Cast cast) = printed_cast register cast
+printed_expr register (expr.Select select) = printed_select register select

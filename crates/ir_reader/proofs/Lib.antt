@@ -1,5 +1,1 @@
-pub mod Grammars
-pub mod Lexed
-pub mod Named
-pub mod Spans
 pub mod Whole

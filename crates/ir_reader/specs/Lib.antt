@@ -1,9 +1,3 @@
-pub use Rattle.ir_spelling.specs.Expressions
-pub use Rattle.ir_spelling.specs.Grammar
-pub use Rattle.ir_spelling.specs.Names
-pub use Rattle.ir_spelling.specs.Operations
-pub use Rattle.ir_spelling.specs.Reading
+pub use Rattle.ir_spelling.specs.Faults
+pub use Rattle.ir_spelling.specs.Forms
 pub use Rattle.ir_spelling.specs.Spells
-pub use Rattle.ir_spelling.specs.Terminals
-pub use Rattle.ir_spelling.specs.Values
-pub mod Told

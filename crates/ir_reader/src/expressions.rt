@@ -1,90 +1,87 @@
-ghost use Rattle.std.specs.Prelude.{◌≡◌, ◌<◌, ◌≤◌, length, IfOk, IfErr, Some, None, Err};
+ghost use Rattle.std.specs.Prelude.{◌≡◌, ◌≤◌, ◌<◌, length, map, IfOk, IfErr, Err};
 ghost use Rattle.ir_core.specs.Expressions.{Expr0};
 ghost use Rattle.ir_core.specs.Limits.{text_limit};
-ghost use Rattle.ir_spelling.specs.Expressions.{plain, binary, expression, expression_of, SpellsExpression};
-ghost use Rattle.ir_spelling.specs.Reading.{Reads};
+ghost use Rattle.ir_grammar.specs.Symbols.{placed_in, symbol_in};
+ghost use Rattle.ir_grammar.specs.Written.{expression};
+ghost use Rattle.ir_naming.specs.Expressions.{expression_now};
+ghost use Rattle.ir_naming_laws.specs.Laws.{IsFaultlessExpression};
+ghost use Rattle.ir_spelling.specs.Faults.{IsTextFault};
+ghost use Rattle.ir_spelling.specs.Forms.{expression_form};
+ghost use Rattle.ir_spelling.specs.Spells.{SpellsExpression};
+ghost use Rattle.spelling_laws.specs.Told.{IsTreeFault, IsTreeNameFault, IsTreeOf};
 
-use crate::NotRead;
-use crate::atoms::{Means, atom_of, operation_of};
-use contents::Exact;
-use ir_core::{Expr, Expr0, Name, Operand, Reg, Ty};
-use ir_lexer::TokenKind;
-use ir_parser::{end_at, is_i32, kinds_of, operation_at, split, value_at};
+use crate::faults::{of_grammar, of_names};
+use crate::tokens::read_tokens;
+use ir_core::{Expr0, Limit};
+use ir_grammar::ExprText;
+use ir_lexer::Token;
+use ir_naming::name_expression;
+use ir_spelling::TextFault;
+use name_claims::first_fault;
+use spelling_laws::texts_spell_one;
 use std::alloc::Global;
+use tree_reader::read_expression;
 
-/// Names of registers as they are now.
-struct AsNow;
-
-impl Means<Reg> for AsNow {
-    ghost use Rattle.ir_spelling.specs.Expressions.{now};
-
-    ghost meaning = { λ _. now };
-
-    fn register(&self, alloc: Global, name: &Name) -> Result<Reg, NotRead> {
-        Ok(Reg::Now(name.copy(alloc)?))
+/// The tree of the tokens of a text, or the first of them that is not expected.
+fn read_tree(alloc: Global, text: &[u8], tokens: &[Token]) -> Result<ExprText, TextFault>
+    ensures tree { IfOk result (λ tree. expression tree ≡ map (symbol_in text.now) tokens.now) }
+    ensures fault { IfErr result (λ fault. IsTreeFault expression_form (map (placed_in text.now) tokens.now) (length text.now) fault) }
+{
+    match read_expression(alloc, text, tokens)? {
+        Ok(tree) => Ok(tree),
+        Err(place) => Err(of_grammar(text, tokens, place)),
     }
 }
 
-/// `i32 V`, behind the type.
-#[tactic(auto, unfolding(ir_spelling::specs::Expressions::plain))]
-fn plain(alloc: Global, kinds: &[TokenKind]) -> Result<Expr0, NotRead>
-    ensures { Reads (λ expression. expression) result (plain kinds.now) }
+/// The tree of a text, or its first fault among tokens and grammar. The tokens are let go before it is used.
+fn tree_in(alloc: Global, text: &[u8]) -> Result<ExprText, TextFault>
+    ensures tree { IfOk result (λ tree. IsTreeOf expression_form text.now tree) }
+    ensures fault { IfErr result (λ fault. IsTextFault expression_form text.now fault) }
+    ensures long { text_limit < length text.now → result ≡ Err (TextFault.Limit Limit.Text) }
 {
-    let (value, rest) = value_at(alloc, kinds)?;
-    end_at(rest)?;
-    let atom = atom_of(alloc, &AsNow, &value)?;
-    let ty = Ty::Int(32);
-    Ok(Expr::Plain(Operand { ty, atom }))
+    let tokens = read_tokens(alloc, text)?;
+    read_tree(alloc, text, tokens.as_slice())
 }
 
-/// `op flags i32 V, V`.
-#[tactic(auto, unfolding(ir_spelling::specs::Expressions::binary))]
-fn binary(alloc: Global, kinds: &[TokenKind]) -> Result<Expr0, NotRead>
-    ensures { Reads (λ expression. expression) result (binary kinds.now) }
+/// The expression that is built of a tree, or the first of its constants that is none of its type.
+fn name_tree(alloc: Global, tree: ExprText) -> Result<Expr0, TextFault>
+    ensures expression { IfOk result (λ e. e ≡ expression_now tree) }
+    ensures faultless { IfOk result (λ e. IsFaultlessExpression tree) }
+    ensures fault { IfErr result (λ fault. IsTreeNameFault expression_form tree fault) }
 {
-    let (operation, rest) = operation_at(alloc, kinds)?;
-    end_at(rest)?;
-    operation_of(alloc, &AsNow, &operation)
-}
-
-/// The expression that the tokens are, all of them.
-#[tactic(auto, unfolding(ir_spelling::specs::Expressions::expression))]
-fn expression(alloc: Global, kinds: &[TokenKind]) -> Result<Expr0, NotRead>
-    ensures { Reads (λ expression. expression) result (expression kinds.now) }
-{
-    let Some((kind, rest)) = split(kinds) else {
-        return Err(NotRead::NotSpelled);
-    };
-    if is_i32(kind) {
-        plain(alloc, rest)
-    } else {
-        binary(alloc, kinds)
+    let (expression, items) = name_expression(alloc, tree)?;
+    match first_fault(alloc, items.as_slice())? {
+        None => Ok(expression),
+        Some(fault) => Err(of_names(fault)),
     }
 }
 
-/// The expression that is read from the text, from the left.
-fn expression_in(alloc: Global, text: &[u8]) -> Result<Expr0, NotRead>
-    ensures reads { Reads (λ e. e) result (expression_of text.now) }
-    ensures long { text_limit < length text.now → result ≡ Err NotRead.NotSpelled }
+/// The expression that the text spells, or its first fault.
+fn expression_in(alloc: Global, text: &[u8]) -> Result<Expr0, TextFault>
+    ensures spelled { IfOk result (λ e. SpellsExpression text.now e) }
+    ensures short { IfOk result (λ e. length text.now ≤ text_limit) }
+    ensures fault { IfErr result (λ fault. IsTextFault expression_form text.now fault) }
+    ensures long { text_limit < length text.now → result ≡ Err (TextFault.Limit Limit.Text) }
 {
-    let kinds = kinds_of(alloc, text)?;
-    expression(alloc, kinds.as_slice())
+    let tree = tree_in(alloc, text)?;
+    name_tree(alloc, tree)
 }
 
-/// The expression that the text spells.
-pub fn read_expr(alloc: Global, text: &[u8]) -> Result<Expr0, NotRead>
+/// The expression of the logic that the text spells.
+///
+/// # Errors
+///
+/// The first fault: of the text's length, else of its tokens, else of the grammar, else a constant that is none of its type; or want of memory.
+pub fn read_expr(alloc: Global, text: &[u8]) -> Result<Expr0, TextFault>
     ensures spelled { IfOk result (λ e. SpellsExpression text.now e) }
     // The text spells no other expression.
     ensures only { IfOk result (λ e. (other : Expr0) → SpellsExpression text.now other → other ≡ e) }
     // Only texts of at most 2 to the 24 bytes are read.
     ensures short { IfOk result (λ e. length text.now ≤ text_limit) }
-    ensures none { IfErr result (λ fault. fault ≡ NotRead.NotSpelled
-        → length text.now ≤ text_limit → (e : Expr0) → SpellsExpression text.now e → ⊥) }
+    ensures fault { IfErr result (λ fault. IsTextFault expression_form text.now fault) }
     // A text of more than 2 to the 24 bytes is refused before anything grows.
-    ensures long { text_limit < length text.now → result ≡ Err NotRead.NotSpelled }
-    // The same, said of what is read from the left.
-    ensures read { IfOk result (λ e. expression_of text.now ≡ Some e) }
-    ensures not_read { IfErr result (λ fault. fault ≡ NotRead.NotSpelled → expression_of text.now ≡ None) }
+    ensures long { text_limit < length text.now → result ≡ Err (TextFault.Limit Limit.Text) }
 {
+    texts_spell_one();
     expression_in(alloc, text)
 }

@@ -2,20 +2,21 @@ ghost use Rattle.std.specs.Prelude.{◌≡◌, ◌≤◌, ◌<◌, length, map, 
 ghost use Rattle.ir_core.specs.declared.functions.Module.{Module};
 ghost use Rattle.ir_core.specs.Limits.{text_limit};
 ghost use Rattle.ir_core.specs.Order.{IsInOrder};
-ghost use Rattle.ir_lexer.specs.Cut.{AreInOrder};
 ghost use Rattle.ir_grammar.specs.Symbols.{kind_in, placed_in, symbol_in};
 ghost use Rattle.ir_grammar.specs.Written.{written};
 ghost use Rattle.ir_naming.specs.Modules.{module_of};
 ghost use Rattle.ir_naming_laws.specs.Laws.{IsFaultless};
-ghost use Rattle.ir_spelling.specs.Faults.{HasTokens, IsTextFault, module_form};
+ghost use Rattle.ir_spelling.specs.Faults.{IsTextFault};
+ghost use Rattle.ir_spelling.specs.Forms.{module_form};
 ghost use Rattle.ir_spelling.specs.Spells.{Spells};
-ghost use Rattle.ir_reader.specs.Told.{IsTreeFault, IsTreeNameFault, IsTreeOf};
+ghost use Rattle.spelling_laws.specs.Told.{IsTreeFault, IsTreeNameFault, IsTreeOf};
 ghost use Rattle.tree_reader.specs.Lines.{IsPastLimit};
 
-use crate::faults::{of_lexer, of_names, of_stuck};
+use crate::faults::{of_names, of_stuck};
+use crate::tokens::read_tokens;
 use ir_core::{Limit, Module};
 use ir_grammar::ModuleText;
-use ir_lexer::{Token, lex};
+use ir_lexer::Token;
 use ir_naming::name_module;
 use ir_spelling::TextFault;
 use name_claims::first_fault;
@@ -23,24 +24,11 @@ use spelling_laws::texts_spell_one;
 use std::alloc::Global;
 use tree_reader::{line_past_limit, read_definitions};
 
-/// The tokens of a text, or its first fault among them.
-fn read_tokens(alloc: Global, text: &[u8]) -> Result<Vec<Token>, TextFault>
-    ensures tokens { IfOk result (λ tokens. HasTokens text.now (map (placed_in text.now) tokens.items)) }
-    ensures order { IfOk result (λ tokens. AreInOrder 0 (length text.now) tokens.items) }
-    ensures fault { IfErr result (λ fault. IsTextFault module_form text.now fault) }
-    ensures long { text_limit < length text.now → result ≡ Err (TextFault.Limit Limit.Text) }
-{
-    match lex(alloc, text) {
-        Ok(tokens) => Ok(tokens),
-        Err(fault) => Err(of_lexer(fault)),
-    }
-}
-
 /// The tree of the tokens of a text, or their first fault.
 fn read_tree(alloc: Global, text: &[u8], tokens: &[Token]) -> Result<ModuleText, TextFault>
     ensures tree { IfOk result (λ tree. written tree ≡ map (symbol_in text.now) tokens.now) }
     ensures lines { IfOk result (λ tree. (k : ℕ) → IsPastLimit (map (kind_in text.now) tokens.now) k → ⊥) }
-    ensures fault { IfErr result (λ fault. IsTreeFault (map (placed_in text.now) tokens.now) (length text.now) fault) }
+    ensures fault { IfErr result (λ fault. IsTreeFault module_form (map (placed_in text.now) tokens.now) (length text.now) fault) }
 {
     let past = line_past_limit(text, tokens);
     match read_definitions(alloc, text, tokens)? {
@@ -54,7 +42,7 @@ fn read_tree(alloc: Global, text: &[u8], tokens: &[Token]) -> Result<ModuleText,
 
 /// The tree of a text, or its first fault among tokens and grammar. The tokens are let go before it is used.
 fn tree_in(alloc: Global, text: &[u8]) -> Result<ModuleText, TextFault>
-    ensures tree { IfOk result (λ tree. IsTreeOf text.now tree) }
+    ensures tree { IfOk result (λ tree. IsTreeOf module_form text.now tree) }
     ensures fault { IfErr result (λ fault. IsTextFault module_form text.now fault) }
     ensures long { text_limit < length text.now → result ≡ Err (TextFault.Limit Limit.Text) }
 {
@@ -66,7 +54,7 @@ fn tree_in(alloc: Global, text: &[u8]) -> Result<ModuleText, TextFault>
 fn name_tree(alloc: Global, tree: ModuleText) -> Result<Module, TextFault>
     ensures module { IfOk result (λ m. m ≡ module_of tree) }
     ensures faultless { IfOk result (λ m. IsFaultless tree) }
-    ensures fault { IfErr result (λ fault. IsTreeNameFault tree fault) }
+    ensures fault { IfErr result (λ fault. IsTreeNameFault module_form tree fault) }
 {
     let (module, items) = name_module(alloc, tree)?;
     match first_fault(alloc, items.as_slice())? {

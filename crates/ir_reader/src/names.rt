@@ -1,65 +1,74 @@
-ghost use Rattle.std.specs.Prelude.{◌≡◌, ◌<◌, ◌≤◌, length, IfOk, IfErr, Some, None, Err};
+ghost use Rattle.std.specs.Prelude.{◌≡◌, ◌≤◌, ◌<◌, [], ◌∷◌, length, map, IfOk, IfErr, Err};
 ghost use Rattle.ir_core.specs.declared.names.Name.{Name};
 ghost use Rattle.ir_core.specs.Limits.{text_limit};
-ghost use Rattle.ir_spelling.specs.Names.{name_in, only_name, name_of, SpellsName};
-ghost use Rattle.ir_spelling.specs.Reading.{Reads};
+ghost use Rattle.ir_grammar.specs.Symbols.{placed_in, symbol_in};
+ghost use Rattle.ir_grammar.specs.Written as write;
+ghost use Rattle.ir_spelling.specs.Faults.{IsTextFault};
+ghost use Rattle.ir_spelling.specs.Forms.{name_form};
+ghost use Rattle.ir_spelling.specs.Spells.{SpellsName};
+ghost use Rattle.spelling_laws.specs.Told.{IsTreeFault, IsTreeOf};
 
-use crate::NotRead;
-use contents::Exact;
-use ir_core::{Name, Sigil};
-use ir_lexer::TokenKind;
-use ir_parser::{kinds_of, split};
-use std::alloc::{AllocError, Global};
+use crate::faults::of_grammar;
+use crate::tokens::read_tokens;
+use ir_core::{Limit, Name, Sigil};
+use ir_grammar::Placed;
+use ir_lexer::Token;
+use ir_spelling::TextFault;
+use spelling_laws::texts_spell_one;
+use std::alloc::Global;
 
-fn name_in(alloc: Global, sigil: Sigil, kind: &TokenKind) -> Result<Option<Name>, AllocError>
-    ensures { IfOk result (λ name. name ≡ name_in sigil kind.now) }
+/// The one token of a text, or the first token that is not expected.
+fn read_tree(
+    alloc: Global,
+    sigil: Sigil,
+    text: &[u8],
+    tokens: &[Token],
+) -> Result<Placed<Name>, TextFault>
+    ensures tree { IfOk result (λ name. write.name sigil name ∷ [] ≡ map (symbol_in text.now) tokens.now) }
+    ensures fault { IfErr result (λ fault. IsTreeFault (name_form sigil) (map (placed_in text.now) tokens.now) (length text.now) fault) }
 {
-    match (sigil, kind) {
-        (Sigil::Local, TokenKind::Local(name)) => Ok(Some(name.copy(alloc)?)),
-        (Sigil::Global, TokenKind::Global(name)) => Ok(Some(name.copy(alloc)?)),
-        _ => Ok(None),
+    match tree_reader::read_name(alloc, sigil, text, tokens)? {
+        Ok(name) => Ok(name),
+        Err(place) => Err(of_grammar(text, tokens, place)),
     }
 }
 
-#[tactic(auto, unfolding(ir_spelling::specs::Names::only_name))]
-fn only_name(alloc: Global, sigil: Sigil, kinds: &[TokenKind]) -> Result<Name, NotRead>
-    ensures { Reads (λ name. name) result (only_name sigil kinds.now) }
+/// The name as it is written, or the text's first fault. The tokens are let go before it is used.
+fn tree_in(alloc: Global, sigil: Sigil, text: &[u8]) -> Result<Placed<Name>, TextFault>
+    ensures tree { IfOk result (λ name. IsTreeOf (name_form sigil) text.now name) }
+    ensures fault { IfErr result (λ fault. IsTextFault (name_form sigil) text.now fault) }
+    ensures long { text_limit < length text.now → result ≡ Err (TextFault.Limit Limit.Text) }
 {
-    let Some((kind, rest)) = split(kinds) else {
-        return Err(NotRead::NotSpelled);
-    };
-    if !rest.is_empty() {
-        return Err(NotRead::NotSpelled);
-    }
-    match name_in(alloc, sigil, kind)? {
-        Some(name) => Ok(name),
-        None => Err(NotRead::NotSpelled),
-    }
+    let tokens = read_tokens(alloc, text)?;
+    read_tree(alloc, sigil, text, tokens.as_slice())
 }
 
-/// The name that is read from the text.
-fn name_of(alloc: Global, sigil: Sigil, text: &[u8]) -> Result<Name, NotRead>
-    ensures reads { Reads (λ name. name) result (name_of sigil text.now) }
-    ensures long { text_limit < length text.now → result ≡ Err NotRead.NotSpelled }
+/// The name that the text spells, or its first fault.
+fn name_in(alloc: Global, sigil: Sigil, text: &[u8]) -> Result<Name, TextFault>
+    ensures spelled { IfOk result (λ name. SpellsName sigil text.now name) }
+    ensures short { IfOk result (λ name. length text.now ≤ text_limit) }
+    ensures fault { IfErr result (λ fault. IsTextFault (name_form sigil) text.now fault) }
+    ensures long { text_limit < length text.now → result ≡ Err (TextFault.Limit Limit.Text) }
 {
-    let kinds = kinds_of(alloc, text)?;
-    only_name(alloc, sigil, kinds.as_slice())
+    let Placed { what, .. } = tree_in(alloc, sigil, text)?;
+    Ok(what)
 }
 
 /// The name that the text spells, with its sigil and nothing else.
-pub fn read_name(alloc: Global, sigil: Sigil, text: &[u8]) -> Result<Name, NotRead>
+///
+/// # Errors
+///
+/// The first fault: of the text's length, else of its tokens, else of the grammar; or want of memory.
+pub fn read_name(alloc: Global, sigil: Sigil, text: &[u8]) -> Result<Name, TextFault>
     ensures spelled { IfOk result (λ name. SpellsName sigil text.now name) }
     // The text spells no other name.
     ensures only { IfOk result (λ name. (other : Name) → SpellsName sigil text.now other → other ≡ name) }
     // Only texts of at most 2 to the 24 bytes are read.
     ensures short { IfOk result (λ name. length text.now ≤ text_limit) }
-    ensures none { IfErr result (λ fault. fault ≡ NotRead.NotSpelled
-        → length text.now ≤ text_limit → (name : Name) → SpellsName sigil text.now name → ⊥) }
+    ensures fault { IfErr result (λ fault. IsTextFault (name_form sigil) text.now fault) }
     // A text of more than 2 to the 24 bytes is refused before anything grows.
-    ensures long { text_limit < length text.now → result ≡ Err NotRead.NotSpelled }
-    // The same, said of what is read from the left.
-    ensures read { IfOk result (λ name. name_of sigil text.now ≡ Some name) }
-    ensures not_read { IfErr result (λ fault. fault ≡ NotRead.NotSpelled → name_of sigil text.now ≡ None) }
+    ensures long { text_limit < length text.now → result ≡ Err (TextFault.Limit Limit.Text) }
 {
-    name_of(alloc, sigil, text)
+    texts_spell_one();
+    name_in(alloc, sigil, text)
 }

@@ -1,35 +1,20 @@
 -- What is first at fault in a text: its length, then its tokens, then the grammar, then names and types, each over the whole text.
-use Rattle.std.specs.Prelude.{◌≡◌, ◌⊎◌, ◌≤◌, ◌<◌, ℕ, zero, suc, ◌+◌, Bool, true, false, List, [], ◌∷◌, length, map, take, Option, Some, None, Ok, Err, slice_get}
+use Rattle.std.specs.Prelude.{◌≡◌, ◌⊎◌, ◌≤◌, ◌<◌, ℕ, zero, suc, ◌+◌, Bool, true, false, List, [], ◌∷◌, length, map, take, Some, Ok, Err, slice_get}
 use Rattle.ir_core.specs.declared.limits.Limit.TheVariants as limit
 use Rattle.ir_core.specs.Limits.{text_limit}
 use Rattle.ir_lexer.specs.declared.token.LexFault.{LexFault}
 use Rattle.ir_lexer.specs.declared.token.LexFault.TheVariants as lexer
 use Rattle.ir_lexer.specs.Cut.{Placed, cut}
 use Rattle.typed_grammars.specs.Unexpected.{Begins, IsUnexpected}
-use Rattle.ir_grammar.specs.declared.trees.ModuleText.{ModuleText}
-use Rattle.ir_grammar.specs.Symbols.{Symbol, kind_of, kind_of_token, symbol}
-use Rattle.ir_grammar.specs.Written.{written}
+use Rattle.ir_grammar.specs.Symbols.{kind_of, kind_of_token, symbol}
 use Rattle.tree_reader.specs.LeftOut.{is_left_out}
-use Rattle.tree_reader.specs.Lines.{IsPastLimit}
 use Rattle.name_claims.specs.declared.claims.Fault.{Fault}
-use Rattle.name_claims.specs.declared.claims.Item.{Item}
 use Rattle.name_claims.specs.declared.claims.Reason.{Reason}
 use Rattle.name_claims.specs.declared.claims.Reason.TheVariants as reason
 use Rattle.name_claims.specs.Faults.{IsFirst}
-use Rattle.ir_naming.specs.Naming.{claims_of}
 use Rattle.ir_spelling.specs.declared.fault.TextFault.{TextFault}
 use Rattle.ir_spelling.specs.declared.fault.TextFault.TheVariants as fault
-
--- ---- what is read
-
--- what is read of a text: its trees, how one is written, and what it claims of its names and numbers
-pub record Form : Type 1 where
-  pub Tree : Type 0
-  pub written : Tree → List Symbol
-  pub claims : Tree → List Item
-
-abbrev pub module_form : Form
-module_form = record { Tree = ModuleText; written = written; claims = claims_of }
+use Rattle.ir_spelling.specs.Forms.{Form}
 
 -- ---- its tokens
 
@@ -56,18 +41,18 @@ place_at end (t ∷ tokens) (suc k) = place_at end tokens k
 abbrev pub IsStuck : Form → List Placed → ℕ → Type 0
 IsStuck form tokens k = IsUnexpected kind_of form.written (map kind_of_token tokens) k
 
--- the token of this index begins the line of a function that is one too many
-abbrev pub IsPastLines : List Placed → ℕ → Type 0
-IsPastLines tokens k = IsPastLimit (map kind_of_token tokens) k
+-- the token of this index begins a line that is one too many
+abbrev pub IsPastLines : Form → List Placed → ℕ → Type 0
+IsPastLines form tokens k = form.is_past (map kind_of_token tokens) k
 
 -- the token of this index is a line past the limit on a function's lines, the first one of the text, and up to it all is expected
 abbrev pub PassesLines : Form → List Placed → ℕ → Type 0
 PassesLines form tokens k =
-    IsPastLines tokens k × ((j : ℕ) → IsPastLines tokens j → k ≤ j) × Begins kind_of form.written (map kind_of_token (take (k + 1) tokens))
+    IsPastLines form tokens k × ((j : ℕ) → IsPastLines form tokens j → k ≤ j) × Begins kind_of form.written (map kind_of_token (take (k + 1) tokens))
 
 -- no line before the token of this index is past the limit
-abbrev pub IsWithinLines : List Placed → ℕ → Type 0
-IsWithinLines tokens k = (j : ℕ) → IsPastLines tokens j → j < k → ⊥
+abbrev pub IsWithinLines : Form → List Placed → ℕ → Type 0
+IsWithinLines form tokens k = (j : ℕ) → IsPastLines form tokens j → j < k → ⊥
 
 -- the token of this index is a word that is left out
 abbrev pub is_left_out_at : List Placed → ℕ → Bool
@@ -77,14 +62,14 @@ is_left_out_at (t ∷ tokens) (suc k) = is_left_out_at tokens k
 
 -- The token of this index is the first that isn't expected, and no limit is passed before it.
 abbrev pub IsGrammarFault : Form → List Placed → ℕ → Type 0
-IsGrammarFault form tokens k = IsStuck form tokens k × IsWithinLines tokens k
+IsGrammarFault form tokens k = IsStuck form tokens k × IsWithinLines form tokens k
 
 -- ---- names and types
 
 -- The text is written as a tree, within the limit on lines, and this is the first fault of what the tree claims.
 abbrev pub HasNameFault : Form → List ℕ → Fault → Type 0
 HasNameFault form bytes f =
-    (tokens : List Placed) × HasTokens bytes tokens × IsWithinLines tokens (length tokens)
+    (tokens : List Placed) × HasTokens bytes tokens × IsWithinLines form tokens (length tokens)
     × ((tree : form.Tree) × (map symbol tokens ≡ form.written tree) × IsFirst (form.claims tree) f)
 
 abbrev pub name_fault : ℕ → ℕ → Reason → Fault

@@ -1,10 +1,3 @@
-pub mod Expressions
 pub mod Faults
-pub mod Grammar
-pub mod Laws
-pub mod Names
-pub mod Operations
-pub mod Reading
+pub mod Forms
 pub mod Spells
-pub mod Terminals
-pub mod Values

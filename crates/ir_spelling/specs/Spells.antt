@@ -1,15 +1,17 @@
--- What module a text spells, however long the text is.
+-- What a text spells, however long the text is.
 use Rattle.std.specs.Prelude.{◌≡◌, ℕ, List, map, Option, Some, None, Ok, Err}
 use Rattle.ir_core.specs.declared.functions.Module.{Module}
+use Rattle.ir_core.specs.declared.names.Name.{Name}
+use Rattle.ir_core.specs.declared.names.Sigil.{Sigil}
+use Rattle.ir_core.specs.Expressions.{Expr0}
 use Rattle.ir_core.specs.WellFormed.{IsWellFormed}
 use Rattle.ir_lexer.specs.Cut.{Cut, cut}
-use Rattle.ir_grammar.specs.declared.trees.ModuleText.{ModuleText}
 use Rattle.ir_grammar.specs.Symbols.{Symbol, symbol}
-use Rattle.ir_grammar.specs.Written.{written}
 use Rattle.name_claims.specs.declared.claims.Fault.{Fault}
 use Rattle.name_claims.specs.Faults.{HasFault}
-use Rattle.ir_naming.specs.Naming.{claims_of}
+use Rattle.ir_naming.specs.Expressions.{IsNameOf, NamesExpression}
 use Rattle.ir_naming.specs.Spells.{NamesModule}
+use Rattle.ir_spelling.specs.Forms.{Form, expression_form, module_form, name_form}
 
 abbrev pub symbols_cut : Cut → Option (List Symbol)
 symbols_cut (Ok tokens) = Some (map symbol tokens)
@@ -19,17 +21,27 @@ symbols_cut (Err fault) = None
 abbrev pub symbols_of : List ℕ → Option (List Symbol)
 symbols_of text = symbols_cut (cut 0 0 text)
 
--- The symbols of the text are those of a tree, nothing that the tree claims of its names and numbers is at fault, and the module is
--- what the tree names.
---
+-- The symbols of the text are those of a tree, nothing that the tree claims of its names and numbers is at fault, and the tree names
+-- this.
+pub record IsSpelled (form : Form) {X : Type 0} (Names : form.Tree → X → Type 0) (bytes : List ℕ) (x : X) : Type 0 where
+  pub tree : form.Tree
+  pub symbols : symbols_of bytes ≡ Some (form.written tree)
+  pub no_fault : (f : Fault) → HasFault (form.claims tree) f → ⊥
+  pub names : Names tree x
+
 -- `define i32 @f(i32) { %x = add nsw i32 %0, 7 ret i32 %x }` spells the module of the one function `f`; an empty text spells the
 -- module without functions; and `define i32 @f() { ret i32 %x }` spells none, since it claims that `%x` is a register.
-pub record Spells (bytes : List ℕ) (m : Module) : Type 0 where
-  pub tree : ModuleText
-  pub symbols : symbols_of bytes ≡ Some (written tree)
-  pub no_fault : (f : Fault) → HasFault (claims_of tree) f → ⊥
-  pub names : NamesModule tree m
+abbrev pub Spells : List ℕ → Module → Type 0
+Spells = IsSpelled module_form NamesModule
 
 -- A text has a module that can be run where it spells one, and that is well-formed.
 abbrev pub SpellsWellFormed : List ℕ → Module → Type 0
 SpellsWellFormed bytes m = Spells bytes m × IsWellFormed m
+
+-- `sub nsw i32 %x, -1` spells `sub nsw` of i32, of the register `x` as it is now and the number 2^32 - 1; `i32 4294967296` spells none.
+abbrev pub SpellsExpression : List ℕ → Expr0 → Type 0
+SpellsExpression = IsSpelled expression_form NamesExpression
+
+-- The one token of the text is the name behind the sigil: ` %7 ; seven` spells the local name 7.
+abbrev pub SpellsName : Sigil → List ℕ → Name → Type 0
+SpellsName sigil = IsSpelled (name_form sigil) IsNameOf

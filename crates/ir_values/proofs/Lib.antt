@@ -1,3 +1,4 @@
-pub mod Numbers
+pub mod Widths
+pub mod Signs
 pub mod OperationLaws
 pub mod KindLaws

@@ -1,3 +1,9 @@
 pub mod Values
+pub mod Numbers
+pub mod Results
 pub mod Operations
+pub mod Comparisons
+pub mod Conversions
+pub mod Selections
+pub mod Private
 pub mod Laws

@@ -1,13 +1,14 @@
--- What a binary operation gives: the first case that fits.
-use Rattle.std.specs.Prelude.{ℕ, ℤ, ◌+◌, ◌-◌, ◌%◌, ◌^◌, ◌+ℤ◌, ◌-ℤ◌, neg_ℤ, pos, int_lt, int_le, Bool, ◌&&◌, ◌||◌, cond, nat_lt, nat_le, Option}
+-- What a binary operation gives (LangRef 3.7, Binary Operations, Bitwise Binary Operations, Undefined Values, Poison Values): the first
+-- case that fits.
+use Rattle.std.specs.Prelude.{ℕ, ◌-◌, ◌^◌, Bool, true, ◌&&◌, ◌||◌, cond, nat_eq, Option}
 use Rattle.ir_core.specs.declared.values.Value.{Value}
 use Rattle.ir_core.specs.declared.values.Value.TheVariants.{Num, Undef, Poison}
 use Rattle.ir_core.specs.declared.values.Kind.{Kind}
 use Rattle.ir_core.specs.declared.operands.BinOp.{BinOp}
-use Rattle.ir_core.specs.declared.operands.BinOp.TheVariants.{Add, Sub}
 use Rattle.ir_core.specs.declared.operands.Flags.{Flags}
 use Rattle.ir_values.specs.declared.operations.Outcome.{Outcome}
 use Rattle.ir_values.specs.declared.operations.Outcome.TheVariants.{Gives, Trap}
+use Rattle.ir_values.specs.Results.{breaks_flag, is_division, is_past_width, is_signed_division, result}
 use Rattle.ir_values.specs.Values.{IsInKindOf, IsLessDefined}
 
 -- an outcome is less defined than another: undefined behaviour than every outcome, a value as values are
@@ -21,39 +22,28 @@ abbrev pub GivesInKind : Option Kind → Outcome → Type 0
 GivesInKind k (Gives v) = IsInKindOf k v
 GivesInKind k Trap = Unit {0}
 
--- the number modulo 2 to the width
-abbrev pub wrapped : BinOp → ℕ → ℕ → ℕ → ℕ
-wrapped Add width a b = (a + b) % 2 ^ width
-wrapped Sub width a b = (a + (2 ^ width - b)) % 2 ^ width
+-- the value is that number, or it may be any, as undef and poison may
+abbrev pub may_be : ℕ → Value → Bool
+may_be n (Num m) = nat_eq m n
+may_be n Undef = true
+may_be n Poison = true
 
--- the exact unsigned result is no unsigned number of that width
-abbrev pub wraps_unsigned : BinOp → ℕ → ℕ → ℕ → Bool
-wraps_unsigned Add width a b = nat_le (2 ^ width) (a + b)
-wraps_unsigned Sub width a b = nat_lt a b
-
--- the number read in two's complement
-abbrev pub signed : ℕ → ℕ → ℤ
-signed width n = cond (nat_lt n (2 ^ (width - 1))) (pos n) (pos n -ℤ pos (2 ^ width))
-
-abbrev pub exact_signed : BinOp → ℤ → ℤ → ℤ
-exact_signed Add a b = a +ℤ b
-exact_signed Sub a b = a -ℤ b
-
--- the exact signed result is no signed number of that width
-abbrev pub wraps_signed : BinOp → ℕ → ℕ → ℕ → Bool
-wraps_signed op width a b =
-    let exact = exact_signed op (signed width a) (signed width b) in
-    int_lt exact (neg_ℤ (pos (2 ^ (width - 1)))) || int_le (pos (2 ^ (width - 1))) exact
-
--- a flag of the line is broken
-abbrev pub breaks_flag : BinOp → Flags → ℕ → ℕ → ℕ → Bool
-breaks_flag op flags width a b = (flags.nuw && wraps_unsigned op width a b) || (flags.nsw && wraps_signed op width a b)
+-- A division has undefined behaviour where the divisor may be 0; a signed one also where the divisor may be -1 and the dividend the least
+-- number: in i8, `sdiv 128, 255` traps, and `sdiv undef, 255` too. In i1, `sdiv 1, 1` traps.
+abbrev pub traps : BinOp → ℕ → Value → Value → Bool
+traps op width a b =
+    (is_division op && may_be 0 b) || (is_signed_division op && may_be (2 ^ width - 1) b && may_be (2 ^ (width - 1)) a)
 
 -- undef, or poison where the line has a flag
 abbrev pub undef_under : Flags → Value
-undef_under flags = cond (flags.nuw || flags.nsw) Poison Undef
+undef_under flags = cond (flags.nuw || flags.nsw || flags.exact) Poison Undef
 
--- poison, where an operand is; undef_under the flags, where an operand is undef; else a number, or poison for a broken flag
+-- Of two numbers: a shift by the width or more gives undef_under the flags, and a broken flag poison.
+abbrev pub number_value : BinOp → Flags → ℕ → ℕ → ℕ → Value
+number_value op flags width m n =
+    cond (is_past_width op width n) (undef_under flags) (cond (breaks_flag op flags width m n) Poison (Num (result op width m n)))
+
+-- poison, where an operand is; undef_under the flags, where an operand is undef; else what two numbers give
 abbrev pub binary_value : BinOp → Flags → ℕ → Value → Value → Value
 binary_value op flags width Poison b = Poison
 binary_value op flags width Undef Poison = Poison
@@ -61,8 +51,8 @@ binary_value op flags width (Num m) Poison = Poison
 binary_value op flags width Undef Undef = undef_under flags
 binary_value op flags width Undef (Num n) = undef_under flags
 binary_value op flags width (Num m) Undef = undef_under flags
-binary_value op flags width (Num m) (Num n) = cond (breaks_flag op flags width m n) Poison (Num (wrapped op width m n))
+binary_value op flags width (Num m) (Num n) = number_value op flags width m n
 
--- neither operator traps
+-- undefined behaviour before all else
 abbrev pub binary_outcome : BinOp → Flags → ℕ → Value → Value → Outcome
-binary_outcome op flags width a b = Gives (binary_value op flags width a b)
+binary_outcome op flags width a b = cond (traps op width a b) Trap (Gives (binary_value op flags width a b))

@@ -1,9 +1,13 @@
 -- What a register may hold, and when one value is less defined than another.
-use Rattle.std.specs.Prelude.{◌≡◌, ◌<◌, ◌^◌, Bool, nat_eq, Option, None, Some}
+use Rattle.std.specs.Prelude.{◌≡◌, ◌<◌, ◌≤◌, ◌^◌, Bool, nat_eq, Option, None, Some}
 use Rattle.ir_core.specs.declared.values.Value.{Value}
 use Rattle.ir_core.specs.declared.values.Value.TheVariants.{Num, Undef, Poison}
 use Rattle.ir_core.specs.declared.values.Kind.{Kind}
 use Rattle.ir_core.specs.declared.values.Kind.TheVariants.{Int}
+
+-- the kinds that there are: integers of 1 to 64 bits
+abbrev pub HasWidth : Kind → Type 0
+HasWidth (Int width) = (1 ≤ width) × (width ≤ 64)
 
 -- a number of iN lies below 2 to the N; undef and poison lie in every kind
 abbrev pub IsInKind : Kind → Value → Type 0

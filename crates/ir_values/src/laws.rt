@@ -1,20 +1,4 @@
-ghost use Rattle.ir_values.specs.Laws.{LessDefinedIsReflexive, LessDefinedIsTransitive, LessDefinedIsAntisymmetric, OperationsAreMonotone, OperationsStayInKind};
-
-/// Empty on purpose: its contract is the law.
-///
-/// More defined operands and fewer flags give a more defined outcome.
-#[tactic(auto, using(crate::proofs::OperationLaws::binary_monotone))]
-pub fn operations_are_monotone()
-    ensures { OperationsAreMonotone }
-{}
-
-/// Empty on purpose: its contract is the law.
-///
-/// An operation on iN gives a value of iN, if it gives one.
-#[tactic(auto, using(crate::proofs::OperationLaws::binary_outcome_in_kind))]
-pub fn operations_stay_in_kind()
-    ensures { OperationsStayInKind }
-{}
+ghost use Rattle.ir_values.specs.Laws.{LessDefinedIsReflexive, LessDefinedIsTransitive, LessDefinedIsAntisymmetric};
 
 /// Empty on purpose: its contract is the law.
 ///

@@ -1,8 +1,18 @@
-//! The operations on values (LangRef 3.7, Binary Operations, Undefined Values, Poison Values).
+//! The operations on values (LangRef 3.7, Binary Operations, Bitwise Binary Operations, Conversion Operations, icmp, select, Undefined
+//! Values, Poison Values).
 #![tactic(auto)]
 
+mod comparisons;
+mod conversions;
+mod flags;
 mod laws;
+mod numbers;
 mod operations;
+mod results;
+mod selections;
 
-pub use laws::{less_defined_is_an_order, operations_are_monotone, operations_stay_in_kind};
+pub use comparisons::eval_icmp;
+pub use conversions::eval_cast;
+pub use laws::less_defined_is_an_order;
 pub use operations::{Outcome, eval_binary, refines};
+pub use selections::eval_select;

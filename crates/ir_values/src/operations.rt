@@ -1,8 +1,13 @@
-ghost use Rattle.std.specs.Prelude.{◌≡◌, ◌↔◌, ◌<◌, ◌≤◌, ◌-◌, ◌^◌, pos, neg_ℤ, ◌≤ℤ◌, ◌<ℤ◌, IsTrue};
+ghost use Rattle.std.specs.Prelude.{◌≡◌, ◌↔◌, ◌<◌, ◌≤◌, ◌-◌, ◌^◌, IsTrue, false};
 ghost use Rattle.ir_core.specs.declared.values.Kind.TheVariants.{Int};
+ghost use Rattle.ir_core.specs.declared.values.Value.TheVariants.{Num};
 ghost use Rattle.ir_values.specs.Values.{IsInKind, IsLessDefined};
 ghost use Rattle.ir_values.specs.Operations as meaning;
+ghost use Rattle.ir_values.specs.Results as results;
 
+use crate::flags::breaks_flag;
+use crate::numbers::power_of_two;
+use crate::results::result;
 use ir_core::{BinOp, Flags, Value};
 
 /// What an operation leads to: a value, or undefined behaviour at once.
@@ -20,15 +25,15 @@ pub fn eval_binary(op: BinOp, flags: Flags, width: u32, a: &Value, b: &Value) ->
     requires right { IsInKind (Int width) b.now }
     ensures { result ≡ meaning.binary_outcome op flags width a.now b.now }
 {
+    if traps(op, width, a, b) {
+        return Outcome::Trap;
+    }
     let (left, right) = match (a, b) {
         (Value::Poison, _) | (_, Value::Poison) => return Outcome::Gives(Value::Poison),
         (Value::Undef, _) | (_, Value::Undef) => return Outcome::Gives(undef_under(flags)),
         (Value::Num(left), Value::Num(right)) => (*left, *right),
     };
-    if breaks_flag(op, flags, width, left, right) {
-        return Outcome::Gives(Value::Poison);
-    }
-    Outcome::Gives(Value::Num(wrapped(op, width, left, right)))
+    Outcome::Gives(number_value(op, flags, width, left, right))
 }
 
 /// Whether the target's value refines the source's: the source's is less defined (Crellvm's lessdef).
@@ -44,102 +49,86 @@ pub fn refines(source: &Value, target: &Value) -> bool
     }
 }
 
+fn is_division(op: BinOp) -> bool
+    ensures { result ≡ results.is_division op }
+{
+    match op {
+        BinOp::UDiv | BinOp::SDiv | BinOp::URem | BinOp::SRem => true,
+        _ => false,
+    }
+}
+
+fn is_signed_division(op: BinOp) -> bool
+    ensures { result ≡ results.is_signed_division op }
+{
+    match op {
+        BinOp::SDiv | BinOp::SRem => true,
+        _ => false,
+    }
+}
+
+fn is_shift(op: BinOp) -> bool
+    ensures { result ≡ results.is_shift op }
+{
+    match op {
+        BinOp::Shl | BinOp::LShr | BinOp::AShr => true,
+        _ => false,
+    }
+}
+
+/// Whether the value is that number, or undef or poison.
+fn may_be(number: u128, value: &Value) -> bool
+    ensures { result ≡ meaning.may_be number value.now }
+{
+    match value {
+        Value::Num(mine) => u128::from(*mine) == number,
+        Value::Undef => true,
+        Value::Poison => true,
+    }
+}
+
+fn traps(op: BinOp, width: u32, a: &Value, b: &Value) -> bool
+    requires narrow { width ≤ 64 }
+    requires wide { 1 ≤ width }
+    ensures { result ≡ meaning.traps op width a.now b.now }
+{
+    (is_division(op) && may_be(0, b))
+        || (is_signed_division(op)
+            && may_be(power_of_two(width) - 1, b)
+            && may_be(power_of_two(width - 1), a))
+}
+
 fn undef_under(flags: Flags) -> Value
     ensures { result ≡ meaning.undef_under flags }
 {
-    if flags.nuw || flags.nsw {
+    if flags.nuw || flags.nsw || flags.exact {
         Value::Poison
     } else {
         Value::Undef
     }
 }
 
-fn power_of_two(exponent: u32) -> u128
-    requires { exponent ≤ 64 }
-    ensures { result ≡ 2 ^ exponent }
+fn is_past_width(op: BinOp, width: u32, places: u64) -> bool
+    ensures { result ≡ results.is_past_width op width places }
 {
-    1 << exponent
+    is_shift(op) && u64::from(width) <= places
 }
 
-#[tactic(auto, using(crate::proofs::Numbers::remainder_fits, crate::proofs::Numbers::power_fits))]
-fn wrapped(op: BinOp, width: u32, a: u64, b: u64) -> u64
+/// What two numbers give where the operation doesn't trap.
+#[tactic(auto, using(crate::proofs::Widths::divisor_above_zero, crate::proofs::Widths::places_below_width))]
+fn number_value(op: BinOp, flags: Flags, width: u32, left: u64, right: u64) -> Value
     requires narrow { width ≤ 64 }
-    requires left { a < 2 ^ width }
-    requires right { b < 2 ^ width }
-    ensures { result ≡ meaning.wrapped op width a b }
+    requires wide { 1 ≤ width }
+    requires left { left < 2 ^ width }
+    requires right { right < 2 ^ width }
+    requires defined { meaning.traps op width (Num left) (Num right) ≡ false }
+    ensures { result ≡ meaning.number_value op flags width left right }
 {
-    let modulus = power_of_two(width);
-    let exact = match op {
-        BinOp::Add => u128::from(a) + u128::from(b),
-        BinOp::Sub => u128::from(a) + (modulus - u128::from(b)),
-    };
-    (exact % modulus) as u64
-}
-
-fn wraps_unsigned(op: BinOp, width: u32, a: u64, b: u64) -> bool
-    requires { width ≤ 64 }
-    ensures { result ≡ meaning.wraps_unsigned op width a b }
-{
-    match op {
-        BinOp::Add => power_of_two(width) <= u128::from(a) + u128::from(b),
-        BinOp::Sub => a < b,
+    if is_past_width(op, width, right) {
+        return undef_under(flags);
     }
-}
-
-/// The number read in two's complement.
-#[tactic(auto, using(crate::proofs::Numbers::power_fits))]
-fn signed(width: u32, n: u64) -> i128
-    requires narrow { width ≤ 64 }
-    requires wide { 1 ≤ width }
-    ensures value { result ≡ meaning.signed width n }
-    ensures low { neg_ℤ (pos (2 ^ 64)) ≤ℤ result }
-    ensures high { result <ℤ pos (2 ^ 64) }
-{
-    if u128::from(n) < power_of_two(width - 1) {
-        i128::from(n)
-    } else {
-        i128::from(n) - power_of_two(width) as i128
+    if breaks_flag(op, flags, width, left, right) {
+        return Value::Poison;
     }
-}
-
-fn exact_signed(op: BinOp, width: u32, a: u64, b: u64) -> i128
-    requires narrow { width ≤ 64 }
-    requires wide { 1 ≤ width }
-    ensures value { result ≡ meaning.exact_signed op (meaning.signed width a) (meaning.signed width b) }
-    ensures low { neg_ℤ (pos (2 ^ 65)) ≤ℤ result }
-    ensures high { result ≤ℤ pos (2 ^ 65) }
-{
-    match op {
-        BinOp::Add => signed(width, a) + signed(width, b),
-        BinOp::Sub => signed(width, a) - signed(width, b),
-    }
-}
-
-/// The least number that two's complement has no place for.
-#[tactic(auto, using(crate::proofs::Numbers::power_fits))]
-fn signed_end(width: u32) -> i128
-    requires narrow { width ≤ 64 }
-    requires wide { 1 ≤ width }
-    ensures value { result ≡ pos (2 ^ (width - 1)) }
-    ensures high { result ≤ℤ pos (2 ^ 64) }
-{
-    power_of_two(width - 1) as i128
-}
-
-fn wraps_signed(op: BinOp, width: u32, a: u64, b: u64) -> bool
-    requires narrow { width ≤ 64 }
-    requires wide { 1 ≤ width }
-    ensures { result ≡ meaning.wraps_signed op width a b }
-{
-    let exact = exact_signed(op, width, a, b);
-    let end = signed_end(width);
-    exact < -end || end <= exact
-}
-
-fn breaks_flag(op: BinOp, flags: Flags, width: u32, a: u64, b: u64) -> bool
-    requires narrow { width ≤ 64 }
-    requires wide { 1 ≤ width }
-    ensures { result ≡ meaning.breaks_flag op flags width a b }
-{
-    (flags.nuw && wraps_unsigned(op, width, a, b)) || (flags.nsw && wraps_signed(op, width, a, b))
+    Value::Num(result(op, width, left, right))
 }

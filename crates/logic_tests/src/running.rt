@@ -234,11 +234,13 @@ fn sample_shows(
 const PLAIN: Flags = Flags {
     nuw: false,
     nsw: false,
+    exact: false,
 };
 
 const NO_UNSIGNED_WRAP: Flags = Flags {
     nuw: true,
     nsw: false,
+    exact: false,
 };
 
 /// A sum is returned; poison that is returned is undefined behaviour; undef is shown as what is picked for it.

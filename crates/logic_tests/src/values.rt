@@ -33,7 +33,11 @@ fn gives(op: BinOp, flags: Flags, width: u32, a: &Value, b: &Value, want: &Value
 }
 
 const fn flags(nuw: bool, nsw: bool) -> Flags {
-    Flags { nuw, nsw }
+    Flags {
+        nuw,
+        nsw,
+        exact: false,
+    }
 }
 
 #[test]

@@ -1,20 +1,24 @@
 -- The first faults of a text are of one kind, and where there is one no well-formed module is spelled.
-use Rattle.std.proofs.Common.{◌≡◌, ◌≢◌, ◌∙◌, ◌≤◌, ℕ, List, [], ◌∷◌, ◌++◌, length, refl, sym, ap, subst}
+use Rattle.std.proofs.Common.{◌≡◌, ◌≢◌, ◌∙◌, ◌≤◌, ℕ, List, ◌∷◌, ◌++◌, length, None, Some, refl, sym, ap, subst}
 use Rattle.std.specs.List.{AllByRecursion}
 use Rattle.ir_core.specs.declared.functions.Function.{Function}
 use Rattle.ir_core.specs.declared.functions.Module.{Module}
 use Rattle.ir_core.specs.declared.limits.Limit.{Limit}
 use Rattle.ir_core.specs.Limits.{text_limit}
-use Rattle.ir_core.specs.WellFormed.{HasFunctionShape}
+use Rattle.ir_shape.specs.declared.fault.ShapeFault.{ShapeFault}
+use Rattle.ir_shape.specs.Laws.{ShapelyModulesAreFaultless}
+use Rattle.ir_shape.specs.Shape.{first_fault}
 use Rattle.ir_spelling.specs.declared.fault.TextFault.{TextFault}
 use Rattle.ir_spelling.specs.declared.fault.TextFault.TheVariants as text
-use Rattle.ir_spelling.specs.Faults.{IsTextFault, module_form}
-use Rattle.ir_spelling.specs.Spells.{Spells, SpellsWellFormed}
-use Rattle.spelling_laws.specs.Laws.{FaultsExcludeSpelling, ModulesAreOne}
+use Rattle.ir_naming.specs.Spells.{NamesModule}
+use Rattle.ir_spelling.specs.Faults.{IsTextFault}
+use Rattle.ir_spelling.specs.Forms.{module_form}
+use Rattle.ir_spelling.specs.Spells.{SpellsWellFormed}
+use Rattle.spelling_laws.specs.Laws.{FaultsExclude, ModulesAreOne}
 use Rattle.module_input.specs.declared.fault.ModuleFault.{ModuleFault}
 use Rattle.module_input.specs.declared.fault.ModuleFault.TheVariants as fault
-use Rattle.module_input.specs.Faults.{FirstWithout, HasPlainName, IsModuleFault}
-use Rattle.module_input.specs.Laws.{FaultKind, PastLimit, Misspelled, IllFormed, Silent, text_kind, fault_kind}
+use Rattle.module_input.specs.Faults.{FirstWithout, IsModuleFault}
+use Rattle.module_input.specs.Laws.{PastLimit, Misspelled, text_kind, fault_kind}
 use Rattle.module_input.proofs.Limits.{limit_alone}
 use Rattle.module_input.proofs.NotDefined.{of_all}
 
@@ -43,25 +47,24 @@ text_kinds bytes short =
     (λ l p q. absurd (limit_alone bytes l f short q kind p))
     (λ g also p q. kind ∙ sym also))
 
-module _ (excludes : FaultsExcludeSpelling) (one : ModulesAreOne) (bytes : List ℕ) (short : length bytes ≤ text_limit) where
+module _ (excludes : FaultsExclude module_form NamesModule) (one : ModulesAreOne) (faultless : ShapelyModulesAreFaultless) (bytes : List ℕ) (short : length bytes ≤ text_limit) where
   pub kinds : (f g : ModuleFault) → IsModuleFault bytes f → f ≢ fault.Memory → IsModuleFault bytes g → g ≢ fault.Memory → fault_kind f ≡ fault_kind g
   kinds fault.Memory g p said q also = absurd (said refl)
   kinds (fault.Text f) fault.Memory p said q also = absurd (also refl)
   kinds (fault.Text f) (fault.Text g) p said q also = text_kinds bytes short f p.1 g q.1 p.0 q.0
-  kinds (fault.Text f) (fault.Name name) p said q also = absurd (excludes bytes f q.0 short p.0 p.1 q.1)
-  kinds (fault.Text f) (fault.Undefined function u) p said q also = absurd (excludes bytes f q.0 short p.0 p.1 q.1)
-  kinds (fault.Name name) fault.Memory p said q also = absurd (also refl)
-  kinds (fault.Name name) (fault.Text g) p said q also = absurd (excludes bytes g p.0 short q.0 q.1 p.1)
-  kinds (fault.Name name) (fault.Name other) p said q also = refl
-  kinds (fault.Name name) (fault.Undefined function u) p said q also = refl
+  kinds (fault.Text f) (fault.Shape g) p said q also = absurd (excludes bytes f q.0 short p q.1)
+  kinds (fault.Text f) (fault.Undefined function u) p said q also = absurd (excludes bytes f q.0 short p q.1)
+  kinds (fault.Shape f) fault.Memory p said q also = absurd (also refl)
+  kinds (fault.Shape f) (fault.Text g) p said q also = absurd (excludes bytes g p.0 short q p.1)
+  kinds (fault.Shape f) (fault.Shape g) p said q also = refl
+  kinds (fault.Shape f) (fault.Undefined function u) p said q also = refl
   kinds (fault.Undefined function u) fault.Memory p said q also = absurd (also refl)
-  kinds (fault.Undefined function u) (fault.Text g) p said q also = absurd (excludes bytes g p.0 short q.0 q.1 p.1)
-  kinds (fault.Undefined function u) (fault.Name name) p said q also = refl
+  kinds (fault.Undefined function u) (fault.Text g) p said q also = absurd (excludes bytes g p.0 short q p.1)
+  kinds (fault.Undefined function u) (fault.Shape f) p said q also = refl
   kinds (fault.Undefined function u) (fault.Undefined other v) p said q also = refl
 
-  all_plain : (fs : List Function) → AllByRecursion HasFunctionShape fs → AllByRecursion HasPlainName fs
-  all_plain [] all = tt
-  all_plain (f ∷ fs) all = (all.0.name, all_plain fs all.1)
+  no_fault : (m other : Module) (f : ShapeFault) → other ≡ m → first_fault m ≡ None → first_fault other ≡ Some f → ⊥
+  no_fault m other f same none some = let e = sym (ap first_fault same ∙ none) ∙ some in cc
 
   none_without : (P : Function → Type 0) (m other : Module) (f : Function) → other ≡ m → AllByRecursion P m.functions → FirstWithout P other.functions f → ⊥
   none_without P m other f same all first =
@@ -70,8 +73,8 @@ module _ (excludes : FaultsExcludeSpelling) (one : ModulesAreOne) (bytes : List 
 
   pub no_module : (f : ModuleFault) (m : Module) → IsModuleFault bytes f → f ≢ fault.Memory → SpellsWellFormed bytes m → ⊥
   no_module fault.Memory m p said s = said refl
-  no_module (fault.Text f) m p said s = excludes bytes f m short p.0 p.1 s.0
-  no_module (fault.Name name) m (other, spells, (f, first, e)) said s =
-      none_without HasPlainName m other f (one bytes other m spells s.0) (all_plain m.functions s.1.shape.functions) first
-  no_module (fault.Undefined function u) m (other, spells, plain, (f, first, undefined, e)) said s =
+  no_module (fault.Text f) m p said s = excludes bytes f m short p s.0
+  no_module (fault.Shape f) m (other, spells, first) said s =
+      no_fault m other f (one bytes other m spells s.0) (faultless m s.1.shape) first
+  no_module (fault.Undefined function u) m (other, spells, none, (f, first, undefined, e)) said s =
       none_without _ m other f (one bytes other m spells s.0) s.1.defined first

@@ -1,5 +1,5 @@
 -- A text that passes a limit has no other fault, since all others come behind what is within the limits.
-use Rattle.std.proofs.Common.{◌≡◌, ◌∙◌, ◌≤◌, ◌<◌, ℕ, zero, suc, ◌+◌, List, [], ◌∷◌, ◌++◌, length, map, take, drop, Bool, true, false, Result, Ok, Err, refl, sym, ap, subst, append_assoc, ⊎_elim, ltb-true, ltb-false, arith}
+use Rattle.std.proofs.Common.{◌≡◌, ◌∙◌, ◌≤◌, ◌<◌, ℕ, zero, suc, ◌+◌, List, [], ◌∷◌, ◌++◌, length, map, take, drop, true, false, Ok, Err, refl, sym, ap, subst, append_assoc, ⊎_elim, ltb-true, ltb-false, arith}
 use Rattle.std.specs.Prelude.{nat_lt}
 use Rattle.std.proofs.lemmas.List.{append-nil, length-map, take-map}
 use Rattle.ir_core.specs.declared.limits.Limit.{Limit}
@@ -7,16 +7,16 @@ use Rattle.ir_core.specs.declared.limits.Limit.TheVariants as limit
 use Rattle.ir_core.specs.Limits.{text_limit}
 use Rattle.ir_lexer.specs.declared.token.LexFault.{LexFault}
 use Rattle.ir_lexer.specs.Cut.{Placed}
-use Rattle.ir_lexer.specs.Cut.{Cut, cut}
+use Rattle.ir_lexer.specs.Cut.{Cut}
 use Rattle.typed_grammars.specs.Unexpected.{Begins, GoesNowhere}
-use Rattle.ir_grammar.specs.declared.trees.ModuleText.{ModuleText}
-use Rattle.ir_grammar.specs.Symbols.{Symbol, kind_of, kind_of_token}
+use Rattle.ir_grammar.specs.Symbols.{kind_of, kind_of_token}
 use Rattle.ir_grammar.specs.Written.{written}
 use Rattle.name_claims.specs.declared.claims.Fault.{Fault}
 use Rattle.ir_spelling.specs.declared.fault.TextFault.{TextFault}
 use Rattle.ir_spelling.specs.declared.fault.TextFault.TheVariants as text
-use Rattle.ir_spelling.specs.Faults.{HasLexFault, HasNameFault, HasTokens, IsGrammarFault, IsTextFault, IsWithinLines, PassesLines, module_form}
-use Rattle.module_input.specs.Laws.{FaultKind, Misspelled, text_kind}
+use Rattle.ir_spelling.specs.Faults.{HasLexFault, HasNameFault, HasTokens, IsGrammarFault, IsTextFault, IsWithinLines, PassesLines}
+use Rattle.ir_spelling.specs.Forms.{module_form}
+use Rattle.module_input.specs.Laws.{Misspelled, text_kind}
 
 abbrev Starts : List ℕ → Type 0
 Starts = Begins kind_of written
@@ -65,7 +65,7 @@ module _ (bytes : List ℕ) (tokens : List Placed) (has : HasTokens bytes tokens
   named : (f : Fault) → HasNameFault module_form bytes f → ⊥
   named f (others, also, within, (tree, e, first)) =
       let same = tokens_same bytes others tokens also has in
-      let here : IsWithinLines tokens (length tokens) = subst (λ ts. IsWithinLines ts (length ts)) same within in
+      let here : IsWithinLines module_form tokens (length tokens) = subst (λ ts. IsWithinLines module_form ts (length ts)) same within in
       let long = length-map tokens kind_of_token in
       here k passes.0 (subst (λ n. k < n) long passes.0.0)
 

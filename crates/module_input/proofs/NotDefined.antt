@@ -12,9 +12,9 @@ use Rattle.ir_core.specs.declared.operands.Atom.TheVariants.{Constant, Register}
 use Rattle.ir_core.specs.declared.operands.Operand.{Operand}
 use Rattle.ir_core.specs.declared.operands.Ty.{Ty}
 use Rattle.ir_core.specs.Functions.{names_in, operands_at_end, operands_of, params_of, phi_registers, set_by}
-use Rattle.ir_core.specs.WellFormed.{AllUseDefined, BlockUsesDefined, IsFunctionDefined, LinesUseDefined, UsesDefined}
+use Rattle.ir_core.specs.WellFormed.{AllUseDefined, IsFunctionDefined, LinesUseDefined, UsesDefined}
 use Rattle.definedness.specs.declared.paths.Undefined.{Undefined}
-use Rattle.definedness.specs.Undefined.{Use, IsFirstUndefined, defined_before, last_of, names_used, used_by, uses_from, uses_in, uses_of}
+use Rattle.definedness.specs.Undefined.{Use, IsFirstUndefined, defined_before, last_of, names_used, used_by, uses_from, uses_in}
 use Rattle.definedness.proofs.FirstUse.{all_joined, behind, no_further, one_more}
 
 used_defined : (ds : List Name) (a : Atom Name) (more : List Name) → UsesDefined ds a → AllByRecursion (Contains ds) more → AllByRecursion (Contains ds) (used_by a more)

@@ -1,39 +1,61 @@
 -- What is said of a module that is spelled is said of the text.
-use Rattle.std.proofs.Common.{◌≡◌, ℕ, List, Result, Ok, Err, IfOk, IfErr}
+use Rattle.std.proofs.Common.{◌≡◌, ◌<◌, ◌^◌, ℕ, suc, List, [], ◌∷◌, get_or, Fits, w8, Result, None, Some, Ok, Err, IfOk, IfErr, arith}
 use Rattle.std.specs.List.{AllByRecursion}
 use Rattle.ir_core.specs.declared.functions.Module.{Module}
 use Rattle.ir_core.specs.Ranges.{AreBytes}
-use Rattle.ir_core.specs.WellFormed.{IsFunctionDefined}
-use Rattle.ir_spelling.specs.Spells.{Spells, SpellsWellFormed}
+use Rattle.ir_core.specs.WellFormed.{IsFunctionDefined, IsWellFormed}
+use Rattle.ir_shape.specs.Shape.{first_fault}
+use Rattle.ir_spelling.specs.Spells.{Spells}
 use Rattle.spelling_laws.specs.Laws.{ModulesHaveShape, ModulesAreInRange}
 use Rattle.module_input.specs.declared.fault.ModuleFault.{ModuleFault}
 use Rattle.module_input.specs.declared.fault.ModuleFault.TheVariants as fault
-use Rattle.module_input.specs.Faults.{HasPlainName, IsModuleFault}
-use Rattle.module_input.specs.Private.{HasFault, UndefinedAmong}
+use Rattle.module_input.specs.Faults.{IsModuleFault}
+use Rattle.module_input.specs.Private.{HasFault, ShapeAmong, UndefinedAmong}
 
-pub well_formed : ModulesHaveShape → ModulesAreInRange → (bytes : List ℕ) (m : Module) → AreBytes bytes → Spells bytes m
-    → AllByRecursion HasPlainName m.functions → AllByRecursion IsFunctionDefined m.functions → SpellsWellFormed bytes m
-well_formed shapes ranges bytes m small s plain defined =
-    (s, record { shape = shapes bytes m s plain; defined = defined; range = ranges bytes m small s })
+below_byte : (b : ℕ) → Fits w8 b → b < 2 ^ 8
+below_byte b fit = omega (arith, fit)
 
-pub told : (bytes : List ℕ) (m : Module) → Spells bytes m → (e : ModuleFault) → HasFault m e → IsModuleFault bytes e
-told bytes m s (fault.Text f) h = absurd h
-told bytes m s (fault.Name name) h = (m, s, h)
-told bytes m s (fault.Undefined function u) h = (m, s, h.0, h.1)
-told bytes m s fault.Memory h = tt
+pub are_bytes : (bytes : List ℕ) → ((i : ℕ) → Fits w8 (get_or bytes i 0)) → AreBytes bytes
+are_bytes [] fit = tt
+are_bytes (b ∷ bytes) fit = (below_byte b (fit 0), are_bytes bytes (λ i. fit (suc i)))
+
+module _ (bytes : List ℕ) (m : Module) (spells : Spells bytes m) where
+  -- a spelled module without fault, in which all functions are defined, is well-formed
+  pub fitting : {A E : Type 0} → ModulesHaveShape → ModulesAreInRange → AreBytes bytes → (r : Result A E) → IfOk r (λ _. first_fault m ≡ None)
+      → IfOk r (λ _. AllByRecursion IsFunctionDefined m.functions) → IfOk r (λ _. IsWellFormed m)
+  fitting shapes ranges small (Ok a) faultless defined = record { shape = shapes bytes m spells faultless; defined = defined; range = ranges bytes m small spells }
+  fitting shapes ranges small (Err e) faultless defined = tt
+
+  told : (e : ModuleFault) → HasFault m e → IsModuleFault bytes e
+  told (fault.Text f) has = absurd has
+  told (fault.Shape f) has = (m, spells, has)
+  told (fault.Undefined function u) has = (m, spells, has.0, has.1)
+  told fault.Memory has = tt
+
+  -- its first fault is the text's
+  pub told_of_text : {A : Type 0} (r : Result A ModuleFault) → IfErr r (HasFault m) → IfErr r (IsModuleFault bytes)
+  told_of_text (Ok a) has = tt
+  told_of_text (Err e) has = told e has
+
+-- a fault of shape is the module's first
+pub of_shape : (m : Module) (e : ModuleFault) → ShapeAmong m e → HasFault m e
+of_shape m (fault.Text f) among = among
+of_shape m (fault.Shape f) among = among
+of_shape m (fault.Undefined function u) among = absurd among
+of_shape m fault.Memory among = tt
+
+of_uses : (m : Module) → first_fault m ≡ None → (e : ModuleFault) → UndefinedAmong m.functions e → HasFault m e
+of_uses m faultless (fault.Text f) among = among
+of_uses m faultless (fault.Shape f) among = absurd among
+of_uses m faultless (fault.Undefined function u) among = (faultless, among)
+of_uses m faultless fault.Memory among = tt
+
+-- where the module has shape, a use that isn't defined is its first fault
+pub undefined_is_first : {A : Type 0} (m : Module) → first_fault m ≡ None → (r : Result A ModuleFault) → IfErr r (UndefinedAmong m.functions)
+    → IfErr r (HasFault m)
+undefined_is_first m faultless (Ok a) among = tt
+undefined_is_first m faultless (Err e) among = of_uses m faultless e among
 
 pub always_ok : {A E : Type 0} (r : Result A E) (P : Type 0) → P → IfOk r (λ _. P)
 always_ok (Ok a) P p = p
 always_ok (Err e) P p = tt
-
-undefined_told : (m : Module) → AllByRecursion HasPlainName m.functions → (e : ModuleFault) → UndefinedAmong m.functions e → HasFault m e
-undefined_told m plain (fault.Text f) h = h
-undefined_told m plain (fault.Name name) h = absurd h
-undefined_told m plain (fault.Undefined function u) h = (plain, h)
-undefined_told m plain fault.Memory h = tt
-
--- where names are plain, what is undefined is the module's first fault
-pub undefined_is_first : {A : Type 0} (m : Module) → AllByRecursion HasPlainName m.functions → (r : Result A ModuleFault)
-    → IfErr r (UndefinedAmong m.functions) → IfErr r (HasFault m)
-undefined_is_first m plain (Ok a) h = tt
-undefined_is_first m plain (Err e) h = undefined_told m plain e h

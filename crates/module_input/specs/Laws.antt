@@ -23,7 +23,7 @@ text_kind _ = Misspelled
 
 abbrev pub fault_kind : ModuleFault → FaultKind
 fault_kind (fault.Text f) = text_kind f
-fault_kind (fault.Name function) = IllFormed
+fault_kind (fault.Shape f) = IllFormed
 fault_kind (fault.Undefined function u) = IllFormed
 fault_kind fault.Memory = Silent
 

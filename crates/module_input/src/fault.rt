@@ -3,6 +3,7 @@ ghost use Rattle.module_input.specs.declared.fault.ModuleFault.TheVariants as fa
 
 use definedness::Undefined;
 use ir_core::Name;
+use ir_shape::ShapeFault;
 use ir_spelling::TextFault;
 use std::alloc::AllocError;
 
@@ -11,8 +12,8 @@ use std::alloc::AllocError;
 pub enum ModuleFault {
     /// The text spells no module, or passes a limit.
     Text(TextFault),
-    /// A function has a name that begins with `llvm.dbg.`.
-    Name(Name),
+    /// A line, a terminator or a function's name is out of shape.
+    Shape(ShapeFault),
     /// In the function of that name a register is used where it isn't defined on a path.
     Undefined {
         function: Name,

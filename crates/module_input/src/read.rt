@@ -1,49 +1,20 @@
-ghost use Rattle.std.specs.Prelude.{◌≡◌, find, codes, nat_eq, IfOk, IfErr};
-ghost use Rattle.std.specs.List.{AllByRecursion, starts_with};
-ghost use Rattle.std.specs.Option.{option_copied};
-ghost use Rattle.ir_core.specs.declared.functions.Function.{Function};
+ghost use Rattle.std.specs.Prelude.{◌≡◌, None, IfOk, IfErr};
+ghost use Rattle.std.specs.List.{AllByRecursion};
 ghost use Rattle.ir_core.specs.declared.functions.Module.{Module};
-ghost use Rattle.ir_core.specs.Functions.{is_debug};
-ghost use Rattle.ir_core.specs.WellFormed.{IsFunctionDefined};
+ghost use Rattle.ir_core.specs.WellFormed.{IsFunctionDefined, IsWellFormed};
+ghost use Rattle.ir_shape.specs.Shape.{first_fault};
 ghost use Rattle.ir_spelling.specs.Spells.{Spells, SpellsWellFormed};
-ghost use Rattle.module_input.specs.Faults.{HasPlainName, IsModuleFault};
-ghost use Rattle.module_input.specs.Private.{HasFault, UndefinedAmong};
+ghost use Rattle.module_input.specs.Faults.{IsModuleFault};
+ghost use Rattle.module_input.specs.Private.{HasFault, ShapeAmong, UndefinedAmong};
 
 use crate::ModuleFault;
 use contents::Exact;
 use definedness::{DefEnd, defined};
-use ir_core::{Function, Module, Name};
+use ir_core::{Function, Module};
 use ir_reader::{TextFault, read_module};
+use ir_shape::{ShapeEnd, shape};
 use spelling_laws::spelled_modules_fit;
 use std::alloc::Global;
-
-fn begins_debug(bytes: &[u8]) -> bool
-    ensures { result ≡ starts_with nat_eq bytes.now (codes "llvm.dbg.") }
-{
-    bytes.starts_with(b"llvm.dbg.")
-}
-
-/// Whether the name is one of debugging.
-fn is_debug(name: &Name) -> bool
-    ensures { result ≡ is_debug name.now }
-{
-    match name {
-        Name::Text(bytes) => begins_debug(bytes.as_slice()),
-        Name::Number(_) => false,
-    }
-}
-
-/// The first function whose name is one of debugging.
-fn first_debug(functions: &[Function]) -> Option<&Function>
-    ensures { option_copied result ≡ find (λ f. is_debug f.name) functions.now }
-{
-    for function in functions {
-        if is_debug(&function.name) {
-            return Some(function);
-        }
-    }
-    None
-}
 
 /// Whether each of the functions is defined; if not, the first use that isn't, in the first that isn't.
 fn all_defined(alloc: Global, functions: &[Function]) -> Result<(), ModuleFault>
@@ -65,16 +36,48 @@ fn all_defined(alloc: Global, functions: &[Function]) -> Result<(), ModuleFault>
     Ok(())
 }
 
+/// Whether a module is without fault of shape; if not, the first.
+fn shaped(alloc: Global, module: &Module) -> Result<(), ModuleFault>
+    ensures faultless { IfOk result (λ _. first_fault «module».now ≡ None) }
+    ensures fault { IfErr result (ShapeAmong «module».now) }
+{
+    match shape(alloc, module) {
+        Ok(()) => Ok(()),
+        Err(ShapeEnd::Fault(fault)) => Err(ModuleFault::Shape(fault)),
+        Err(ShapeEnd::Memory) => Err(ModuleFault::Memory),
+    }
+}
+
 /// Whether a module that is spelled is well-formed; if not, its first fault.
 fn fits(alloc: Global, module: &Module) -> Result<(), ModuleFault>
-    ensures plain { IfOk result (λ _. AllByRecursion HasPlainName «module».now.functions) }
+    ensures faultless { IfOk result (λ _. first_fault «module».now ≡ None) }
     ensures defined { IfOk result (λ _. AllByRecursion IsFunctionDefined «module».now.functions) }
     ensures fault { IfErr result (HasFault «module».now) }
 {
-    let functions = module.functions.as_slice();
-    match first_debug(functions) {
-        Some(function) => Err(ModuleFault::Name(function.name.copy(alloc)?)),
-        None => all_defined(alloc, functions),
+    shaped(alloc, module)?;
+    all_defined(alloc, module.functions.as_slice())
+}
+
+/// Whether the module that the text spells is well-formed; if not, the text's first fault.
+fn well_formed(alloc: Global, text: &[u8], module: &Module) -> Result<(), ModuleFault>
+    requires { Spells text.now «module».now }
+    ensures well_formed { IfOk result (λ _. IsWellFormed «module».now) }
+    ensures fault { IfErr result (IsModuleFault text.now) }
+{
+    spelled_modules_fit();
+    fits(alloc, module)
+}
+
+/// The module that the text spells.
+fn spelled(alloc: Global, text: &[u8]) -> Result<Module, ModuleFault>
+    ensures spelled { IfOk result (Spells text.now) }
+    ensures only { IfOk result (λ m. (other : Module) → Spells text.now other → other ≡ m) }
+    ensures fault { IfErr result (IsModuleFault text.now) }
+{
+    match read_module(alloc, text) {
+        Ok(module) => Ok(module),
+        Err(TextFault::Memory) => Err(ModuleFault::Memory),
+        Err(fault) => Err(ModuleFault::Text(fault)),
     }
 }
 
@@ -85,13 +88,7 @@ pub fn read_input(alloc: Global, text: &[u8]) -> Result<Module, ModuleFault>
     ensures only { IfOk result (λ m. (other : Module) → Spells text.now other → other ≡ m) }
     ensures fault { IfErr result (IsModuleFault text.now) }
 {
-    spelled_modules_fit();
-    match read_module(alloc, text) {
-        Ok(module) => {
-            fits(alloc, &module)?;
-            Ok(module)
-        }
-        Err(TextFault::Memory) => Err(ModuleFault::Memory),
-        Err(fault) => Err(ModuleFault::Text(fault)),
-    }
+    let module = spelled(alloc, text)?;
+    well_formed(alloc, text, &module)?;
+    Ok(module)
 }

@@ -23,13 +23,13 @@ impl Index {
     ghost use Rattle.ir_core.specs.declared.names.Name.{Name};
     ghost use Rattle.name_claims.specs.Indexes.{position, or_else, at_name};
 
-    /// No name is defined.
-    pub fn new(alloc: Global) -> Index
-        ensures { (name : Name) → position result name ≡ None }
+    /// No name is defined, and there is room for so many.
+    pub fn new(alloc: Global, names: usize) -> Result<Index, AllocError>
+        ensures { IfOk result (λ index. (name : Name) → position index name ≡ None) }
     {
-        Index {
-            first: IndexMap::new(alloc),
-        }
+        Ok(Index {
+            first: IndexMap::with_capacity(alloc, names)?,
+        })
     }
 
     /// The index of the name's first definition, if it has one.
@@ -54,7 +54,7 @@ impl Index {
 pub fn index_of(alloc: Global, definitions: &[Definition]) -> Result<Index, AllocError>
     ensures { IfOk result (λ index. Indexes index definitions.now) }
 {
-    let mut index = Index::new(alloc);
+    let mut index = Index::new(alloc, definitions.len())?;
     for at in 0..definitions.len() {
         index.add(alloc, &definitions[at].name, at)?;
     }

@@ -39,6 +39,15 @@ impl NameIndex {
         }
     }
 
+    /// No name is defined, and there is room for so many.
+    pub fn with_room(alloc: Global, names: usize) -> Result<NameIndex, AllocError>
+        ensures { IfOk result (λ index. index ≡ []) }
+    {
+        Ok(NameIndex {
+            names: IndexSet::with_capacity(alloc, names)?,
+        })
+    }
+
     pub fn has(&self, name: &Name) -> bool
         ensures { result ≡ is_among name.now self.now }
     {

@@ -1,8 +1,11 @@
-//! What is known after an aligned line.
+//! Whether an aligned line is allowed, and what is known after it.
 #![tactic(auto)]
 
+mod agreement;
+mod allowed;
 mod ends;
 mod lines;
+mod naming;
 
 pub use ends::LineEnd;
 pub use lines::{Line, after_line};

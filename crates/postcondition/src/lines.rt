@@ -1,97 +1,38 @@
 //! What is known after an aligned line.
-ghost use Rattle.std.specs.Prelude.{◌≡◌, IfOk, IfErr, OnOk, None, Some, cond, true, false};
+ghost use Rattle.std.specs.Prelude.{◌≡◌, IfErr, OnOk, None, Some, cond, true, false};
 ghost use Rattle.std.specs.Option.{option_copied};
 ghost use Rattle.ir_core.specs.declared.expressions.Reg.TheVariants.{Now};
-ghost use Rattle.ir_core.specs.declared.expressions.Expr.TheVariants as expr;
 ghost use Rattle.ir_core.specs.declared.functions.Instr.TheVariants as line;
-ghost use Rattle.ir_core.specs.Same.{same_reg};
-ghost use Rattle.ir_core.specs.Expressions.{map_atom, map_operand, map_binary, map_expr, atom_has};
-ghost use Rattle.ir_values.specs.Laws.{flags_among};
-ghost use Rattle.erhl_assert.specs.declared.facts.Fact.TheVariants.{LessDef};
 ghost use Rattle.ir_core.specs.declared.limits.Limit.{Limit};
 ghost use Rattle.ir_core.specs.declared.limits.Limit.TheVariants.{Facts};
-ghost use Rattle.erhl_assert.specs.Facts.{expr_names};
+ghost use Rattle.erhl_assert.specs.declared.facts.Fact.TheVariants.{LessDef};
+ghost use Rattle.erhl_assert.specs.declared.verdict.Reason.{Reason};
+ghost use Rattle.erhl_assert.specs.Allowed.{line_fault_of};
 ghost use Rattle.erhl_assert.specs.Course.{and_then, are_too_many};
-ghost use Rattle.erhl_assert.specs.Growth.{adds, forgetting, over_calm, over_line};
-ghost use Rattle.erhl_assert.specs.Postcondition.{right_side, left_side, rights_agree, lines_agree, without_reg, with_reg, after_line};
+ghost use Rattle.erhl_assert.specs.Growth.{adds, forgetting, over_calm, over_allowed, over_line};
+ghost use Rattle.erhl_assert.specs.Postcondition.{right_side, left_side, without_reg, with_reg, after_line};
 ghost use Rattle.postcondition.specs.declared.ends.LineEnd.TheVariants as line_end;
 ghost use Rattle.postcondition.specs.Ends.{Follows};
 
 use crate::LineEnd;
+use crate::agreement::lines_agree;
+use crate::allowed::line_fault;
+use crate::ends::AddEnd;
+use crate::naming::{left_side, less_def, names, now_expr};
 use contents::Exact;
 use erhl_assert::{Fact, FactSet, Kill, Side};
-use erhl_sides::{Sides, atoms_matched, matched};
-use ir_core::{
-    Atom, Binary, Calm, Expr, Expr0, Flags, Instr, Limit, Module, Name, Operand, Reg, same_name,
-    same_op, same_ty,
-};
+use erhl_sides::Sides;
+use ir_core::{Calm, Expr0, Instr, Limit, Module, Name, Reg};
 use std::alloc::{AllocError, Global};
 
-fn now_atom(alloc: Global, atom: &Atom<Name>) -> Result<Atom<Reg>, AllocError>
-    ensures { IfOk result (λ named. named ≡ map_atom Now atom.now) }
-{
-    match atom {
-        Atom::Constant(constant) => Ok(Atom::Constant(constant.copy(alloc)?)),
-        Atom::Register(name) => Ok(Atom::Register(Reg::Now(name.copy(alloc)?))),
-    }
-}
-
-fn now_operand(alloc: Global, operand: &Operand<Name>) -> Result<Operand<Reg>, AllocError>
-    ensures { IfOk result (λ named. named ≡ map_operand Now operand.now) }
-{
-    Ok(Operand {
-        ty: operand.ty.copy(alloc)?,
-        atom: now_atom(alloc, &operand.atom)?,
-    })
-}
-
-fn now_binary(alloc: Global, binary: &Binary<Name>) -> Result<Binary<Reg>, AllocError>
-    ensures { IfOk result (λ named. named ≡ map_binary Now binary.now) }
-{
-    Ok(Binary {
-        op: binary.op,
-        flags: binary.flags,
-        ty: binary.ty.copy(alloc)?,
-        left: now_atom(alloc, &binary.left)?,
-        right: now_atom(alloc, &binary.right)?,
-    })
-}
-
-/// An expression of a function, as the logic names its registers.
-fn now_expr(alloc: Global, expr: &Expr<Name>) -> Result<Expr0, AllocError>
-    ensures { IfOk result (λ named. named ≡ map_expr Now expr.now) }
-{
-    match expr {
-        Expr::Plain(operand) => Ok(Expr::Plain(now_operand(alloc, operand)?)),
-        Expr::Binary(binary) => Ok(Expr::Binary(now_binary(alloc, binary)?)),
-    }
-}
-
-/// The register of a line, as an expression.
-fn left_side(alloc: Global, line: &Calm) -> Result<Expr0, AllocError>
-    ensures { IfOk result (λ register. register ≡ left_side line.now) }
-{
-    Ok(Expr::Plain(Operand {
-        ty: line.right.ty().copy(alloc)?,
-        atom: Atom::Register(Reg::Now(line.name.copy(alloc)?)),
-    }))
-}
-
-fn less_def(alloc: Global, a: &Expr0, b: &Expr0) -> Result<Fact, AllocError>
-    ensures { IfOk result (λ fact. fact ≡ LessDef a.now b.now) }
-{
-    let a = a.copy(alloc)?;
-    Ok(Fact::LessDef(a, b.copy(alloc)?))
-}
-
 /// Adds the fact to the side's.
-fn add<S: FactSet>(side: Side, fact: Fact, sides: &mut Sides<S>) -> Result<(), LineEnd>
+fn add<S: FactSet>(side: Side, fact: Fact, sides: &mut Sides<S>) -> Result<(), AddEnd>
     ensures { Follows result sides.new (adds side fact sides.old) }
 {
     if sides.add_within(side, fact)? {
         Ok(())
     } else {
-        Err(LineEnd::Limit(Limit::Facts))
+        Err(AddEnd::Limit(Limit::Facts))
     }
 }
 
@@ -103,7 +44,7 @@ fn add_equal<S: FactSet>(
     a: Expr0,
     b: Expr0,
     sides: &mut Sides<S>,
-) -> Result<(), LineEnd>
+) -> Result<(), AddEnd>
     ensures { Follows result sides.new (and_then (adds side (LessDef a b) sides.old) (adds side (LessDef b a))) }
 {
     let back = less_def(alloc, &b, &a)?;
@@ -117,7 +58,7 @@ fn add_line<S: FactSet>(
     side: Side,
     line: &Calm,
     sides: &mut Sides<S>,
-) -> Result<(), LineEnd>
+) -> Result<(), AddEnd>
     ensures { Follows result sides.new
         (and_then
         (adds side (LessDef (left_side line.now) (right_side line.now)) sides.old)
@@ -125,25 +66,6 @@ fn add_line<S: FactSet>(
 {
     let register = left_side(alloc, line)?;
     add_equal(alloc, side, register, now_expr(alloc, &line.right)?, sides)
-}
-
-fn is_named(name: &Name, atom: &Atom<Name>) -> bool
-    ensures { result ≡ atom_has (same_reg (Now name.now)) (map_atom Now atom.now) }
-{
-    match atom {
-        Atom::Constant(_) => false,
-        Atom::Register(other) => same_name(name, other),
-    }
-}
-
-/// Whether the register stands in the expression.
-fn names(name: &Name, expr: &Expr<Name>) -> bool
-    ensures { result ≡ expr_names (Now name.now) (map_expr Now expr.now) }
-{
-    match expr {
-        Expr::Plain(operand) => is_named(name, &operand.atom),
-        Expr::Binary(binary) => is_named(name, &binary.left) || is_named(name, &binary.right),
-    }
 }
 
 #[tactic(auto, using(crate::proofs::LineFacts::forgotten))]
@@ -166,7 +88,7 @@ fn facts_after<S: FactSet>(
     side: Side,
     line: &Calm,
     sides: &mut Sides<S>,
-) -> Result<(), LineEnd>
+) -> Result<(), AddEnd>
     ensures { Follows result sides.new (over_calm side line.now sides.old) }
 {
     forget(alloc, side, &line.name, sides)?;
@@ -175,41 +97,6 @@ fn facts_after<S: FactSet>(
     } else {
         add_line(alloc, side, line, sides)
     }
-}
-
-/// Whether each flag of the first is one of the second's.
-fn flags_among(few: &Flags, many: &Flags) -> bool
-    ensures { result ≡ flags_among few.now many.now }
-{
-    (!few.nuw || many.nuw) && (!few.nsw || many.nsw)
-}
-
-/// Whether the operators are one, and the operands are matched.
-fn binaries_agree<S: FactSet>(known: &Sides<S>, s: &Binary<Name>, t: &Binary<Name>) -> bool
-    ensures { result ≡ rights_agree known.now (expr.Binary s.now) (expr.Binary t.now) }
-{
-    same_op(&s.op, &t.op)
-        && same_ty(&s.ty, &t.ty)
-        && flags_among(&t.flags, &s.flags)
-        && atoms_matched(&s.ty, &s.left, &t.ty, &t.left, known)
-        && atoms_matched(&s.ty, &s.right, &t.ty, &t.right, known)
-}
-
-fn rights_agree<S: FactSet>(known: &Sides<S>, s: &Expr<Name>, t: &Expr<Name>) -> bool
-    ensures { result ≡ rights_agree known.now s.now t.now }
-{
-    match (s, t) {
-        (Expr::Plain(a), Expr::Plain(b)) => matched(a, b, known),
-        (Expr::Binary(a), Expr::Binary(b)) => binaries_agree(known, a, b),
-        _ => false,
-    }
-}
-
-/// Whether the lines define one register, and agree.
-fn lines_agree<S: FactSet>(known: &Sides<S>, s: &Calm, t: &Calm) -> bool
-    ensures { result ≡ lines_agree known.now s.now t.now }
-{
-    same_name(&s.name, &t.name) && rights_agree(known, &s.right, &t.right)
 }
 
 fn differ<S: FactSet>(alloc: Global, name: &Name, sides: &mut Sides<S>) -> Result<(), AllocError>
@@ -255,9 +142,9 @@ fn after_both<S: FactSet>(
     s: &Calm,
     t: &Calm,
     sides: &mut Sides<S>,
-) -> Result<(), LineEnd>
+) -> Result<(), AddEnd>
     ensures { Follows result sides.new
-        (over_line (record { source = Some (line.Calm s.now); target = Some (line.Calm t.now) }) sides.old) }
+        (over_allowed (record { source = Some (line.Calm s.now); target = Some (line.Calm t.now) }) sides.old) }
 {
     let agreed = lines_agree(sides, s, t);
     facts_after(alloc, Side::Src, s, sides)?;
@@ -267,9 +154,9 @@ fn after_both<S: FactSet>(
 }
 
 #[tactic(auto, using(crate::proofs::LineFacts::source_done, crate::proofs::LineFacts::source_over))]
-fn after_source<S: FactSet>(alloc: Global, s: &Calm, sides: &mut Sides<S>) -> Result<(), LineEnd>
+fn after_source<S: FactSet>(alloc: Global, s: &Calm, sides: &mut Sides<S>) -> Result<(), AddEnd>
     ensures { Follows result sides.new
-        (over_line (record { source = Some (line.Calm s.now); target = None }) sides.old) }
+        (over_allowed (record { source = Some (line.Calm s.now); target = None }) sides.old) }
 {
     facts_after(alloc, Side::Src, s, sides)?;
     differ(alloc, &s.name, sides)?;
@@ -277,9 +164,9 @@ fn after_source<S: FactSet>(alloc: Global, s: &Calm, sides: &mut Sides<S>) -> Re
 }
 
 #[tactic(auto, using(crate::proofs::LineFacts::target_done, crate::proofs::LineFacts::target_alone_over))]
-fn after_target<S: FactSet>(alloc: Global, t: &Calm, sides: &mut Sides<S>) -> Result<(), LineEnd>
+fn after_target<S: FactSet>(alloc: Global, t: &Calm, sides: &mut Sides<S>) -> Result<(), AddEnd>
     ensures { Follows result sides.new
-        (over_line (record { source = None; target = Some (line.Calm t.now) }) sides.old) }
+        (over_allowed (record { source = None; target = Some (line.Calm t.now) }) sides.old) }
 {
     facts_after(alloc, Side::Tgt, t, sides)?;
     differ(alloc, &t.name, sides)?;
@@ -305,9 +192,9 @@ fn past<S: FactSet>(
     sides: &mut Sides<S>,
     source: Option<&Instr>,
     target: Option<&Instr>,
-) -> Result<(), LineEnd>
+) -> Result<(), AddEnd>
     ensures { Follows result sides.new
-        (over_line (record { source = option_copied source.entry; target = option_copied target.entry }) sides.old) }
+        (over_allowed (record { source = option_copied source.entry; target = option_copied target.entry }) sides.old) }
 {
     match source {
         Some(s) => match target {
@@ -321,8 +208,8 @@ fn past<S: FactSet>(
     }
 }
 
-/// What is known after a line, of what was known before it. No line of today asks the module. After an error nothing is said
-/// of the sides, which are to be given up.
+/// What is known after a line, of what was known before it, where the line is allowed. No line of today asks the module. After an error
+/// nothing is said of the sides, which are to be given up.
 #[tactic(auto, using(crate::proofs::LineFacts::known_after, crate::proofs::LineFacts::few_after, crate::proofs::LineFacts::too_many_after))]
 pub fn after_line<S: FactSet>(
     alloc: Global,
@@ -336,12 +223,19 @@ pub fn after_line<S: FactSet>(
           source = option_copied line.now.source;
           target = option_copied line.now.target;
         })) }
+    // The line is allowed.
+    ensures allowed { OnOk result
+        (line_fault_of sides.old (option_copied line.now.source) (option_copied line.now.target) ≡ None) }
     // Where each fact of the line is added, no more are known than the limit allows.
     ensures few { OnOk result
         (are_too_many
         (over_line (record { source = option_copied line.now.source; target = option_copied line.now.target }) sides.old).sizes
         ≡ false) }
-    // Somewhere on the line more would be known.
+    // The line isn't allowed, for the reason that is told.
+    ensures refused { IfErr result
+        (λ fault. (r : Reason) → fault ≡ line_end.Refused r
+        → line_fault_of sides.old (option_copied line.now.source) (option_copied line.now.target) ≡ Some r) }
+    // The line is allowed, and somewhere on it more facts would be known.
     ensures limit { IfErr result
         (λ fault. (l : Limit) → fault ≡ line_end.Limit l
         → (l ≡ Facts)
@@ -349,5 +243,12 @@ pub fn after_line<S: FactSet>(
         (over_line (record { source = option_copied line.now.source; target = option_copied line.now.target }) sides.old).sizes
         ≡ true)) }
 {
-    past(alloc, sides, line.source, line.target)
+    if let Some(reason) = line_fault(alloc, sides, line.source, line.target)? {
+        return Err(LineEnd::Refused(reason));
+    }
+    match past(alloc, sides, line.source, line.target) {
+        Ok(()) => Ok(()),
+        Err(AddEnd::Limit(limit)) => Err(LineEnd::Limit(limit)),
+        Err(AddEnd::Memory) => Err(LineEnd::Memory),
+    }
 }

@@ -1,8 +1,7 @@
 -- Whatever the shipped rules take is sound.
-use Rattle.std.proofs.Common.{◌≡◌, ◌||◌, ℕ, ◌<◌, ◌^◌, true, false, ◌&&◌, cond, List, [], ◌∷◌, sym, ap, subst}
+use Rattle.std.proofs.Common.{◌≡◌, ◌||◌, ℕ, ◌<◌, ◌^◌, true, ◌&&◌, cond, List, [], ◌∷◌, sym, ap, subst}
 use Rattle.std.specs.List.{AllByRecursion}
-use Rattle.std.proofs.lemmas.Bool.{eqb-true, ltb-true}
-use Rattle.std.proofs.Math.Nat.{mod-eq_of_lt, add-mod_right, add-zero, sub-zero}
+use Rattle.std.proofs.lemmas.Bool.{cond_both, eqb-true, ltb-true}
 use Rattle.ir_core.specs.declared.values.Value.{Value}
 use Rattle.ir_core.specs.declared.values.Value.TheVariants as value
 use Rattle.ir_core.specs.declared.values.Kind.{Kind}
@@ -23,19 +22,23 @@ use Rattle.ir_core.specs.Expressions.{Expr0, type_of}
 use Rattle.ir_core.specs.Modules.{Scope}
 use Rattle.ir_core.specs.Same.{same_ty, same_atom, same_reg, same_expr}
 use Rattle.ir_core.proofs.SameLaws.{left_true, right_true, same_ty_true, same_reg_atom_true, same_reg_expr_true}
-use Rattle.ir_values.specs.declared.operations.Outcome.TheVariants.{Gives}
+use Rattle.ir_values.specs.declared.operations.Outcome.TheVariants.{Gives, Trap}
 use Rattle.ir_values.specs.Values.{IsInKind, IsLessDefined}
-use Rattle.ir_values.specs.Operations.{IsOutcomeLessDefined, binary_value, breaks_flag, wrapped}
+use Rattle.ir_core.specs.Ranges.{may_have}
+use Rattle.ir_values.specs.Results.{breaks_flag, is_past_width, result}
+use Rattle.ir_values.specs.Operations.{IsOutcomeLessDefined, traps, undef_under, binary_value, binary_outcome}
 use Rattle.ir_values.proofs.OperationLaws.{outcome_less_defined_trans}
+use Rattle.value_laws.proofs.Zero.{add_zero, sub_zero, or_zero, xor_zero, shl_zero, lshr_zero, ashr_zero}
 use Rattle.ir_machine.specs.Registers.{atom_value, atom_at}
 use Rattle.erhl_assert.specs.declared.facts.Fact.{Fact}
 use Rattle.erhl_assert.specs.declared.facts.Fact.TheVariants.{LessDef}
 use Rattle.erhl_assert.specs.declared.facts.Schema.{Schema}
 use Rattle.erhl_assert.specs.Sides.{SideState, IsSideInKind, read_reg, worth}
-use Rattle.erhl_assert.specs.Facts.{IsSound, Holds, kind_of_expr, has_values, has_type, atom_fits, fits_constants}
+use Rattle.erhl_assert.specs.Facts.{IsSound, Holds, kind_of_expr}
+use Rattle.erhl_assert.specs.Typed.{has_values, has_type, atom_fits, fits_constants}
 use Rattle.rule_base.specs.declared.shipped.Rule.{Rule}
 use Rattle.rule_base.specs.declared.shipped.Rule.TheVariants.{Trans, UndefConst, ZeroRight}
-use Rattle.rule_base.specs.Rows.{takes_row, is_typed, have_one_type, is_trans, is_undef, is_constant, is_zero, is_undef_const, is_zero_right}
+use Rattle.rule_base.specs.Rows.{keeps_beside_zero, has_zero_right, takes_row, is_typed, have_one_type, is_trans, is_undef, is_constant, is_zero, is_undef_const, is_zero_right}
 
 trans_holds : (side : SideState) (a b c d e f : Expr0) → b ≡ c → e ≡ a → f ≡ d → Holds side (LessDef a b) → Holds side (LessDef c d) → Holds side (LessDef e f)
 trans_holds side a b c d e f p q r first second =
@@ -96,9 +99,7 @@ module _ (side : SideState) (fine : IsSideInKind side) where
         rw t (undef_less b.ty a.atom b.atom (right_true (have_one_type (Plain a) (Plain b)) (is_undef a.atom) h1)
             (right_true (have_one_type (Plain a) (Plain b) && is_undef a.atom) (is_constant b.atom) h) values typed.right),
       )
-  undef_const_is_sound [] (LessDef (Plain a) (Binary e)) h = cc
-  undef_const_is_sound [] (LessDef (Binary e) b) h = cc
-  undef_const_is_sound (x ∷ more) to h = cc
+  undef_const_is_sound from to h = absurd (cc)
 
   reg_in_kind : (k : Kind) (r : Reg) → IsInKind k (read_reg side k r)
   reg_in_kind k (reg.Now x) = fine.now x k
@@ -110,40 +111,66 @@ module _ (side : SideState) (fine : IsSideInKind side) where
   atom_in_kind w (atom.Constant constant.Undef) h = tt
   atom_in_kind w (atom.Register r) h = reg_in_kind (kind.Int w) r
 
-  wrapped_zero : (o : BinOp) (w m : ℕ) → m < 2 ^ w → wrapped o w m 0 ≡ m
-  wrapped_zero op.Add w m h = rw add-zero (mod-eq_of_lt h)
-  wrapped_zero op.Sub w m h = rw (sub-zero, add-mod_right m (2 ^ w)) (mod-eq_of_lt h)
+  -- of a number and 0 the operator gives the number
+  zero_kept : (o : BinOp) (w m : ℕ) → keeps_beside_zero o ≡ true → m < 2 ^ w → result o w m 0 ≡ m
+  zero_kept op.Add w m k h = add_zero w m h
+  zero_kept op.Sub w m k h = sub_zero w m h
+  zero_kept op.Or w m k h = or_zero w m h
+  zero_kept op.Xor w m k h = xor_zero w m h
+  zero_kept op.Shl w m k h = shl_zero w m h
+  zero_kept op.LShr w m k h = lshr_zero w m h
+  zero_kept op.AShr w m k h = ashr_zero w m h
+  zero_kept o w m k h = absurd (cc)
 
-  zero_less : (o : BinOp) (flags : Flags) (w : ℕ) (v : Value) → IsInKind (kind.Int w) v → IsLessDefined (binary_value o flags w v (value.Num 0)) v
-  zero_less o flags w value.Poison h = tt
-  zero_less o flags w value.Undef h = elim (flags.nuw || flags.nsw) as (λ b. IsLessDefined (cond b value.Poison value.Undef) value.Undef) [ true ↦ tt | false ↦ tt ]
-  zero_less o flags w (value.Num m) h = elim (breaks_flag o flags w m 0) as (λ b. IsLessDefined (cond b value.Poison (value.Num (wrapped o w m 0))) (value.Num m))
-      [ true ↦ tt | false ↦ ap value.Num (sym (wrapped_zero o w m h)) ]
+  -- undef, or poison, is less defined than a number, and than undef
+  under_less : (flags : Flags) (v : Value) → IsLessDefined value.Undef v → IsLessDefined (undef_under flags) v
+  under_less flags v h = cond_both (flags.nuw || flags.nsw || flags.exact) value.Poison value.Undef (λ u. IsLessDefined u v) (λ e. tt) (λ e. h)
+
+  zero_less : (o : BinOp) (flags : Flags) (w : ℕ) (v : Value) → keeps_beside_zero o ≡ true → IsInKind (kind.Int w) v → IsLessDefined (binary_value o flags w v (value.Num 0)) v
+  zero_less o flags w value.Poison k h = tt
+  zero_less o flags w value.Undef k h = under_less flags value.Undef tt
+  zero_less o flags w (value.Num m) k h =
+      let number = cond (breaks_flag o flags w m 0) value.Poison (value.Num (result o w m 0)) in
+      cond_both (is_past_width o w 0) (undef_under flags) number (λ v. IsLessDefined v (value.Num m))
+      (λ e. under_less flags (value.Num m) tt)
+      (λ e. cond_both (breaks_flag o flags w m 0) value.Poison (value.Num (result o w m 0)) (λ v. IsLessDefined v (value.Num m))
+      (λ e. tt) (λ e. ap value.Num (sym (zero_kept o w m k h))))
+
+  -- also where it would trap
+  zero_outcome_less : (o : BinOp) (flags : Flags) (w : ℕ) (v : Value) → keeps_beside_zero o ≡ true → IsInKind (kind.Int w) v
+      → IsOutcomeLessDefined (binary_outcome o flags w v (value.Num 0)) (Gives v)
+  zero_outcome_less o flags w v k h =
+      cond_both (traps o w v (value.Num 0)) Trap (Gives (binary_value o flags w v (value.Num 0))) (λ o. IsOutcomeLessDefined o (Gives v))
+      (λ e. tt) (λ e. zero_less o flags w v k h)
 
   zero_is_worth : (w : ℕ) (z : Atom Reg) → is_zero z ≡ true → atom_fits (ty.Int w) z ≡ true → atom_at (read_reg side) (kind.Int w) z ≡ value.Num 0
   zero_is_worth w (atom.Constant (constant.Number n)) p q = rw q (ap value.Num (eqb-true n 0 p))
   zero_is_worth w (atom.Constant constant.Undef) p q = cc
   zero_is_worth w (atom.Register r) p q = cc
 
-  zero_right_less : (o : BinOp) (flags : Flags) (t : Ty) (x z : Atom Reg) → is_zero z ≡ true → has_values t ≡ true → atom_fits t z ≡ true → atom_fits t x ≡ true
+  zero_right_less : (o : BinOp) (flags : Flags) (t : Ty) (x z : Atom Reg) → keeps_beside_zero o ≡ true → is_zero z ≡ true → has_values t ≡ true
+      → atom_fits t z ≡ true → atom_fits t x ≡ true
       → IsOutcomeLessDefined (worth side (Binary (record { op = o; flags = flags; ty = t; left = x; right = z }))) (Gives (atom_value (read_reg side) (kind_of t) x))
-  zero_right_less o flags ty.Void x z p v q r = tt
-  zero_right_less o flags (ty.Int w) x z p v q r =
-      rw (v, zero_is_worth w z p q) (zero_less o flags w (atom_at (read_reg side) (kind.Int w) x) (atom_in_kind w x r))
+  zero_right_less o flags ty.Void x z k p v q r = tt
+  zero_right_less o flags (ty.Int w) x z k p v q r =
+      rw (v, zero_is_worth w z p q) (zero_outcome_less o flags w (atom_at (read_reg side) (kind.Int w) x) k (atom_in_kind w x r))
 
   zero_right_is_sound : (from : List Fact) (to : Fact) → is_zero_right from to ≡ true → Holds side to
   zero_right_is_sound [] (LessDef (Binary e) (Plain x)) h =
-      let h1 : (have_one_type (Binary e) (Plain x) && is_zero e.right) ≡ true = left_true _ (same_atom same_reg e.left x.atom) h in
-      let typed = one_type (Binary e) (Plain x) (left_true _ (is_zero e.right) h1) in
+      let one = have_one_type (Binary e) (Plain x) in
+      let keeps = keeps_beside_zero e.op in
+      let right = has_zero_right e in
+      let h1 : (one && right) ≡ true = left_true (one && right) (same_atom same_reg e.left x.atom) h in
+      let h2 : (keeps && is_zero e.right) ≡ true = right_true one right h1 in
+      let typed = one_type (Binary e) (Plain x) (left_true one right h1) in
       let t : e.ty ≡ x.ty = typed.type in
-      let l : e.left ≡ x.atom = same_reg_atom_true e.left x.atom (right_true (have_one_type (Binary e) (Plain x) && is_zero e.right) (same_atom same_reg e.left x.atom) h) in
-      let zero : is_zero e.right ≡ true = right_true (have_one_type (Binary e) (Plain x)) (is_zero e.right) h1 in
-      let less = zero_right_less e.op e.flags e.ty e.left e.right zero typed.values
+      let l : e.left ≡ x.atom = same_reg_atom_true e.left x.atom (right_true (one && right) (same_atom same_reg e.left x.atom) h) in
+      let zero : is_zero e.right ≡ true = right_true keeps (is_zero e.right) h2 in
+      let values : has_values e.ty ≡ true = left_true (has_values e.ty) (may_have e.op e.flags) typed.values in
+      let less = zero_right_less e.op e.flags e.ty e.left e.right (left_true keeps (is_zero e.right) h2) zero values
       (right_true (atom_fits e.ty e.left) (atom_fits e.ty e.right) typed.left) (left_true (atom_fits e.ty e.left) (atom_fits e.ty e.right) typed.left) in
       (ap kind_of t, rw (← t, ← l) less)
-  zero_right_is_sound [] (LessDef (Binary e) (Binary f)) h = cc
-  zero_right_is_sound [] (LessDef (Plain a) b) h = cc
-  zero_right_is_sound (x ∷ more) to h = cc
+  zero_right_is_sound from to h = absurd (cc)
 
 pub row_is_sound : (rule : Rule) (scope : Scope) (schema : Schema) → takes_row rule scope schema ≡ true → IsSound scope schema
 row_is_sound Trans scope schema h side same fine all = trans_is_sound side fine schema.from schema.to h all

@@ -4,15 +4,18 @@ use Rattle.std.specs.List.{list_any}
 use Rattle.ir_core.specs.declared.operands.Const.TheVariants as constant
 use Rattle.ir_core.specs.declared.operands.Atom.{Atom}
 use Rattle.ir_core.specs.declared.operands.Atom.TheVariants as atom
+use Rattle.ir_core.specs.declared.operands.BinOp.{BinOp}
+use Rattle.ir_core.specs.declared.operands.BinOp.TheVariants.{Add, Sub, Or, Xor, Shl, LShr, AShr}
 use Rattle.ir_core.specs.declared.expressions.Reg.{Reg}
-use Rattle.ir_core.specs.declared.expressions.Expr.TheVariants.{Plain, Binary}
+use Rattle.ir_core.specs.declared.expressions.Binary.{Binary}
+use Rattle.ir_core.specs.declared.expressions.Expr.TheVariants as expr
 use Rattle.ir_core.specs.Expressions.{Expr0, type_of}
 use Rattle.ir_core.specs.Modules.{Scope}
 use Rattle.ir_core.specs.Same.{same_list, same_ty, same_atom, same_reg, same_expr}
 use Rattle.erhl_assert.specs.declared.facts.Fact.{Fact}
 use Rattle.erhl_assert.specs.declared.facts.Fact.TheVariants.{LessDef}
 use Rattle.erhl_assert.specs.declared.facts.Schema.{Schema}
-use Rattle.erhl_assert.specs.Facts.{has_type, fits_constants}
+use Rattle.erhl_assert.specs.Typed.{has_type, fits_constants}
 use Rattle.erhl_assert.specs.Steps.{Meaning, Rules}
 use Rattle.rule_base.specs.declared.shipped.Rule.{Rule}
 use Rattle.rule_base.specs.declared.shipped.Rule.TheVariants.{Trans, UndefConst, ZeroRight}
@@ -49,18 +52,29 @@ is_zero (atom.Register r) = false
 
 -- `undef >= C`, C a number or undef
 abbrev pub is_undef_const : List Fact → Fact → Bool
-is_undef_const [] (LessDef (Plain a) (Plain b)) = have_one_type (Plain a) (Plain b) && is_undef a.atom && is_constant b.atom
-is_undef_const [] (LessDef (Plain a) (Binary e)) = false
-is_undef_const [] (LessDef (Binary e) b) = false
-is_undef_const (x ∷ more) to = false
+is_undef_const [] (LessDef (expr.Plain a) (expr.Plain b)) = have_one_type (expr.Plain a) (expr.Plain b) && is_undef a.atom && is_constant b.atom
+is_undef_const from to = false
 
--- `op F x 0 >= x`, op add or sub
+-- the operators that leave x as it is where the right operand is 0: `sub x 0` is x, and `mul x 0` isn't
+abbrev pub keeps_beside_zero : BinOp → Bool
+keeps_beside_zero Add = true
+keeps_beside_zero Sub = true
+keeps_beside_zero Or = true
+keeps_beside_zero Xor = true
+keeps_beside_zero Shl = true
+keeps_beside_zero LShr = true
+keeps_beside_zero AShr = true
+keeps_beside_zero op = false
+
+-- 0 stands on the right of such an operator
+abbrev pub has_zero_right : Binary Reg → Bool
+has_zero_right e = keeps_beside_zero e.op && is_zero e.right
+
+-- `op F x 0 >= x`, op one of add, sub, or, xor, shl, lshr and ashr: `shl nuw i8 %x, 0 >= i8 %x`
 abbrev pub is_zero_right : List Fact → Fact → Bool
-is_zero_right [] (LessDef (Binary e) (Plain x)) =
-    have_one_type (Binary e) (Plain x) && is_zero e.right && same_atom same_reg e.left x.atom
-is_zero_right [] (LessDef (Binary e) (Binary f)) = false
-is_zero_right [] (LessDef (Plain a) b) = false
-is_zero_right (x ∷ more) to = false
+is_zero_right [] (LessDef (expr.Binary e) (expr.Plain x)) =
+    have_one_type (expr.Binary e) (expr.Plain x) && has_zero_right e && same_atom same_reg e.left x.atom
+is_zero_right from to = false
 
 abbrev pub rule_name : Rule → List ℕ
 rule_name Trans = codes "trans"

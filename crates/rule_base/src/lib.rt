@@ -7,6 +7,7 @@ mod passes;
 mod rule_book;
 mod rule_set;
 mod shipped;
+mod typed;
 
 pub use infer::InferRule;
 pub use passes::Pass;

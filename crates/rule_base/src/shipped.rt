@@ -1,13 +1,11 @@
 ghost use Rattle.std.specs.Prelude.{◌≡◌, true, [], ◌∷◌, map, Contains};
-ghost use Rattle.erhl_assert.specs.Facts.{has_values, has_type, constant_fits, atom_fits, fits_constants};
 ghost use Rattle.rule_base.specs.declared.shipped.Rule.{Rule};
-ghost use Rattle.rule_base.specs.Rows.{rule_name, stand_apart, is_typed, have_one_type, is_trans, is_undef_const, is_zero_right, is_undef, is_constant, is_zero};
+ghost use Rattle.rule_base.specs.Rows.{rule_name, stand_apart, keeps_beside_zero, has_zero_right, is_trans, is_undef_const, is_zero_right, is_undef, is_constant, is_zero};
 
 use crate::InferRule;
+use crate::typed::have_one_type;
 use erhl_assert::{Fact, Schema};
-use ir_core::{
-    Atom, Const, Expr, Expr0, Module, Reg, Ty, fits, is_width, same_expr, same_reg_atom, same_ty,
-};
+use ir_core::{Atom, BinOp, Binary, Const, Expr, Module, Reg, same_expr, same_reg_atom};
 
 /// The rules that are shipped.
 #[derive(Drop, Clone, Copy)]
@@ -16,7 +14,7 @@ pub enum Rule {
     Trans,
     /// `undef >= C`, C a number or undef.
     UndefConst,
-    /// `op F x 0 >= x`, for add and sub with any flags.
+    /// `op F x 0 >= x`, for add, sub, or, xor, shl, lshr and ashr with any flags.
     ZeroRight,
 }
 
@@ -59,65 +57,6 @@ pub fn rules_stand_in_the_table()
     ensures whole { (rule : Rule) → Contains Rule.ALL rule }
     ensures named_apart { stand_apart (map rule_name Rule.ALL) ≡ true }
 {}
-
-fn has_values(ty: &Ty) -> bool
-    ensures { result ≡ has_values ty.now }
-{
-    match ty {
-        Ty::Int(width) => is_width(*width),
-        Ty::Void => false,
-    }
-}
-
-fn has_type(expr: &Expr0) -> bool
-    ensures { result ≡ has_type expr.now }
-{
-    match expr {
-        Expr::Plain(operand) => has_values(&operand.ty),
-        Expr::Binary(binary) => has_values(&binary.ty),
-    }
-}
-
-fn constant_fits(ty: &Ty, constant: &Const) -> bool
-    ensures { result ≡ constant_fits ty.now constant.now }
-{
-    match (ty, constant) {
-        (Ty::Int(width), Const::Number(number)) => fits(number.get(), *width),
-        (Ty::Int(_), Const::Undef) => true,
-        (Ty::Void, _) => false,
-    }
-}
-
-fn atom_fits(ty: &Ty, atom: &Atom<Reg>) -> bool
-    ensures { result ≡ atom_fits ty.now atom.now }
-{
-    match atom {
-        Atom::Constant(constant) => constant_fits(ty, constant),
-        Atom::Register(_) => true,
-    }
-}
-
-fn fits_constants(expr: &Expr0) -> bool
-    ensures { result ≡ fits_constants expr.now }
-{
-    match expr {
-        Expr::Plain(operand) => atom_fits(&operand.ty, &operand.atom),
-        Expr::Binary(binary) => atom_fits(&binary.ty, &binary.left)
-            && atom_fits(&binary.ty, &binary.right),
-    }
-}
-
-fn is_typed(expr: &Expr0) -> bool
-    ensures { result ≡ is_typed expr.now }
-{
-    has_type(expr) && fits_constants(expr)
-}
-
-fn have_one_type(a: &Expr0, b: &Expr0) -> bool
-    ensures { result ≡ have_one_type a.now b.now }
-{
-    is_typed(a) && is_typed(b) && same_ty(a.ty(), b.ty())
-}
 
 fn is_trans(from: &[Fact], to: &Fact) -> bool
     ensures { result ≡ is_trans from.now to.now }
@@ -169,6 +108,25 @@ fn is_undef_const(from: &[Fact], to: &Fact) -> bool
     }
 }
 
+/// Whether the operator leaves what stands on the left as it is where 0 stands on the right.
+fn keeps_beside_zero(op: BinOp) -> bool
+    ensures { result ≡ keeps_beside_zero op }
+{
+    match op {
+        BinOp::Add | BinOp::Sub | BinOp::Or | BinOp::Xor => true,
+        BinOp::Shl | BinOp::LShr | BinOp::AShr => true,
+        BinOp::Mul | BinOp::And => false,
+        BinOp::UDiv | BinOp::SDiv | BinOp::URem | BinOp::SRem => false,
+    }
+}
+
+/// Whether 0 stands on the right of such an operator.
+fn has_zero_right(binary: &Binary<Reg>) -> bool
+    ensures { result ≡ has_zero_right binary.now }
+{
+    keeps_beside_zero(binary.op) && is_zero(&binary.right)
+}
+
 fn is_zero_right(from: &[Fact], to: &Fact) -> bool
     ensures { result ≡ is_zero_right from.now to.now }
 {
@@ -178,7 +136,7 @@ fn is_zero_right(from: &[Fact], to: &Fact) -> bool
     let Fact::LessDef(a, b) = to;
     match (a, b) {
         (Expr::Binary(binary), Expr::Plain(x)) => {
-            have_one_type(a, b) && is_zero(&binary.right) && same_reg_atom(&binary.left, &x.atom)
+            have_one_type(a, b) && has_zero_right(binary) && same_reg_atom(&binary.left, &x.atom)
         }
         _ => false,
     }

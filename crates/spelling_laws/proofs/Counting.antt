@@ -1,28 +1,29 @@
 -- A text of definitions passes the limit on lines exactly where one of them has too many.
-use Rattle.std.proofs.Common.{◌≡◌, ◌<◌, ◌≤◌, ℕ, zero, suc, ◌+◌, Bool, true, false, cond, List, [], ◌∷◌, ◌++◌, length, get_or, map, reverse, take, Option, Some, None, ⊎_elim, refl, ap, sym, ◌∙◌, subst, append_assoc, arith}
-use Rattle.std.specs.List.{AllByRecursion, filter, flat_map, take_while}
-use Rattle.std.proofs.lemmas.List.{append-nil, reverse-append}
-use Rattle.std.proofs.lemmas.List.Sums.{take_while-cons}
+use Rattle.std.proofs.Common.{◌≡◌, ◌<◌, ◌≤◌, ℕ, zero, suc, ◌+◌, Bool, true, false, List, [], ◌∷◌, ◌++◌, length, get_or, map, take, Option, Some, None, ⊎_elim, refl, ap, sym, ◌∙◌, subst, append_assoc, arith}
+use Rattle.std.specs.List.{AllByRecursion, flat_map}
+use Rattle.std.proofs.lemmas.List.{append-nil}
 use Rattle.std.proofs.lemmas.Bool.Decides.{eqb_tells}
 use Rattle.ir_core.specs.declared.names.Name.{Name}
-use Rattle.ir_core.specs.declared.operands.BinOp.{BinOp}
-use Rattle.ir_core.specs.declared.operands.BinOp.TheVariants.{Add, Sub}
 use Rattle.ir_core.specs.Limits.{line_limit}
+use Rattle.ir_grammar.specs.declared.operators.FlagWord.{FlagWord}
 use Rattle.ir_grammar.specs.declared.trees.BlockText.{BlockText}
 use Rattle.ir_grammar.specs.declared.trees.DefinitionText.{DefinitionText}
-use Rattle.ir_grammar.specs.declared.trees.FlagWord.{FlagWord}
-use Rattle.ir_grammar.specs.declared.trees.FlagWord.TheVariants.{Nuw, Nsw}
 use Rattle.ir_grammar.specs.declared.trees.LineText.{LineText}
+use Rattle.ir_grammar.specs.declared.trees.OperandText.{OperandText}
 use Rattle.ir_grammar.specs.declared.trees.OperationText.{OperationText}
+use Rattle.ir_grammar.specs.declared.trees.OperationText.TheVariants as form
+use Rattle.ir_grammar.specs.declared.trees.OperatorText.{OperatorText}
+use Rattle.ir_grammar.specs.declared.trees.OperatorText.TheVariants as operators
 use Rattle.ir_grammar.specs.declared.trees.ParamText.{ParamText}
 use Rattle.ir_grammar.specs.declared.trees.Placed.{Placed}
 use Rattle.ir_grammar.specs.declared.trees.ValueText.{ValueText}
 use Rattle.ir_grammar.specs.declared.trees.ValueText.TheVariants as text
-use Rattle.ir_grammar.specs.Symbols.{Symbol, close_brace, close_paren, comma, i32, kind_of, open_brace, open_paren, ret}
+use Rattle.ir_grammar.specs.Symbols.{Symbol, close_brace, close_paren, comma, icmp, kind_of, open_brace, open_paren, ret, select, to}
 use Rattle.ir_grammar.specs.Symbols as symbols
 use Rattle.ir_grammar.specs.Written as write
+use Rattle.tree_reader.proofs.Counting.{one_more as one_more_back}
 use Rattle.tree_reader.specs.Lines.{IsPastLimit, heads_line, is_no_define, lines_after, lines_back}
-use Rattle.spelling_laws.proofs.Lists.{all_append}
+use Rattle.ir_naming_laws.proofs.Lists.{all_append}
 
 -- the word of a line
 abbrev is_line : Symbol → Bool
@@ -39,21 +40,6 @@ PassesFrom lines (s ∷ ss) zero = (is_line s ≡ true) × (lines ≡ line_limit
 PassesFrom lines (s ∷ ss) (suc index) = PassesFrom (lines_behind lines s) ss index
 
 -- ---- the same by tokens back to the last `define`
-
-counted : (k : ℕ) (before : List ℕ) (b : Bool) → length (filter heads_line (cond b (k ∷ before) [])) ≡ cond b (length (filter heads_line (k ∷ before))) 0
-counted k before true = refl
-counted k before false = refl
-
-headed : (b : Bool) (k : ℕ) (before : List ℕ) → length (cond b (k ∷ before) before) ≡ cond b (suc (length before)) (length before)
-headed true k before = refl
-headed false k before = refl
-
-one_more_back : (done : List ℕ) (k : ℕ) → lines_back (done ++ (k ∷ [])) ≡ lines_after k (lines_back done)
-one_more_back done k =
-    ap (λ l. length (filter heads_line (take_while is_no_define l))) (reverse-append done (k ∷ []))
-    ∙ ap (λ l. length (filter heads_line l)) (take_while-cons is_no_define k (reverse done))
-    ∙ counted k (take_while is_no_define (reverse done)) (is_no_define k)
-    ∙ ap (λ n. cond (is_no_define k) n 0) (headed (heads_line k) k (filter heads_line (take_while is_no_define (reverse done))))
 
 passes_from : (done : List ℕ) (ss : List Symbol) (k : ℕ) → k < length (map kind_of ss) → heads_line (get_or (map kind_of ss) k 0) ≡ true → lines_back (done ++ take k (map kind_of ss)) ≡ line_limit → PassesFrom (lines_back done) ss k
 passes_from done [] k inside heads back = absurd (omega (arith, inside))
@@ -180,17 +166,21 @@ no_more n = omega arith
 
 value_quiet : (v : ValueText) → IsQuiet (write.value v)
 value_quiet (text.Number n) = (refl, refl)
-value_quiet text.Undef = (refl, refl)
+value_quiet (text.Constant c) = (refl, refl)
 value_quiet (text.Local w) = (refl, refl)
 
-flag_quiet : (f : FlagWord) → IsQuiet (write.flag f)
-flag_quiet Nuw = (refl, refl)
-flag_quiet Nsw = (refl, refl)
+-- an operand, and then what is quiet
+operand_quiet : (o : OperandText) (ss : List Symbol) → AllByRecursion IsQuiet ss → AllByRecursion IsQuiet (write.operand o ++ ss)
+operand_quiet o ss quiet = ((refl, refl), (value_quiet o.value, quiet))
 
 -- flags, and then what is quiet
-flags_quiet : (fs : List FlagWord) (ss : List Symbol) → AllByRecursion IsQuiet ss → AllByRecursion IsQuiet (map write.flag fs ++ ss)
+flags_quiet : (fs : List FlagWord) (ss : List Symbol) → AllByRecursion IsQuiet ss → AllByRecursion IsQuiet (map symbols.Flag fs ++ ss)
 flags_quiet [] ss quiet = quiet
-flags_quiet (f ∷ fs) ss quiet = (flag_quiet f, flags_quiet fs ss quiet)
+flags_quiet (f ∷ fs) ss quiet = ((refl, refl), flags_quiet fs ss quiet)
+
+exactness_quiet : (is_exact : Bool) (ss : List Symbol) → AllByRecursion IsQuiet ss → AllByRecursion IsQuiet (write.exactness is_exact ++ ss)
+exactness_quiet true ss quiet = ((refl, refl), quiet)
+exactness_quiet false ss quiet = quiet
 
 local_quiet : (name : Option (Placed Name)) → AllByRecursion IsQuiet (write.local name)
 local_quiet None = tt
@@ -218,15 +208,27 @@ params_quiet : (ps : List ParamText) → AllByRecursion IsQuiet (write.params ps
 params_quiet [] = tt
 params_quiet (p ∷ ps) = both_quiet (write.param p) (flat_map write.next_param ps) (param_quiet p) (more_quiet ps)
 
-word_counts : (op : BinOp) → (is_line (write.operator op) ≡ true) × (is_no_define (kind_of (write.operator op)) ≡ true)
-word_counts Add = (refl, refl)
-word_counts Sub = (refl, refl)
+-- an operator, and then what is quiet
+operator_run : (n : ℕ) (o : OperatorText) (ss : List Symbol) → AllByRecursion IsQuiet ss → Run n (write.operator o ++ ss) 1
+operator_run n (operators.Overflow op flags) ss quiet = line_run n (symbols.Overflow op) (map symbols.Flag flags ++ ss) refl refl (flags_quiet flags ss quiet)
+operator_run n (operators.Exact op is_exact) ss quiet = line_run n (symbols.Exact op) (write.exactness is_exact ++ ss) refl refl (exactness_quiet is_exact ss quiet)
+operator_run n (operators.Plain op) ss quiet = line_run n (symbols.Plain op) ss refl refl quiet
+
+-- `iN left, right`
+pair_quiet : (left : OperandText) (right : ValueText) → AllByRecursion IsQuiet (write.operand left ++ (comma ∷ write.value right ∷ []))
+pair_quiet left right = operand_quiet left (comma ∷ write.value right ∷ []) ((refl, refl), (value_quiet right, tt))
 
 operation_run : (n : ℕ) (o : OperationText) → Run n (write.operation o) 1
-operation_run n o =
-    let word = word_counts o.op in
-    line_run n (write.operator o.op) (map write.flag o.flags ++ (i32 ∷ write.value o.left ∷ comma ∷ write.value o.right ∷ [])) word.0 word.1
-    (flags_quiet o.flags (i32 ∷ write.value o.left ∷ comma ∷ write.value o.right ∷ []) ((refl, refl), (value_quiet o.left, ((refl, refl), (value_quiet o.right, tt)))))
+operation_run n (form.Binary b) = operator_run n b.operator (write.operand b.left ++ (comma ∷ write.value b.right ∷ [])) (pair_quiet b.left b.right)
+operation_run n (form.Compare c) =
+    line_run n icmp (symbols.Pred c.pred ∷ (write.operand c.left ++ (comma ∷ write.value c.right ∷ []))) refl refl ((refl, refl), pair_quiet c.left c.right)
+operation_run n (form.Cast c) =
+    line_run n (symbols.Cast c.op) (write.operand c.from ++ (to ∷ symbols.Width c.to ∷ [])) refl refl
+    (operand_quiet c.from (to ∷ symbols.Width c.to ∷ []) ((refl, refl), ((refl, refl), tt)))
+operation_run n (form.Select s) =
+    line_run n select (write.operand s.condition ++ (comma ∷ (write.operand s.then ++ (comma ∷ write.operand s.other)))) refl refl
+    (operand_quiet s.condition (comma ∷ (write.operand s.then ++ (comma ∷ write.operand s.other)))
+    ((refl, refl), operand_quiet s.then (comma ∷ write.operand s.other) ((refl, refl), ((refl, refl), (value_quiet s.other.value, tt)))))
 
 -- quiet symbols, and then others
 after_quiet : (n more : ℕ) (xs ys : List Symbol) → AllByRecursion IsQuiet xs → Run n ys more → Run n (xs ++ ys) more
@@ -240,22 +242,31 @@ lines_run n (l ∷ ls) =
     (after_quiet n 1 (write.register l.register) (write.operation l.operation) (register_quiet l.register) (operation_run n l.operation))
     (lines_run (n + 1) ls))
 
-ending_run : (n : ℕ) (v : ValueText) → Run n (ret ∷ i32 ∷ write.value v ∷ []) 1
-ending_run n v = line_run n ret (i32 ∷ write.value v ∷ []) refl refl ((refl, refl), (value_quiet v, tt))
+returned_quiet : (o : Option OperandText) → AllByRecursion IsQuiet (write.returned o)
+returned_quiet None = ((refl, refl), tt)
+returned_quiet (Some o) = ((refl, refl), (value_quiet o.value, tt))
+
+ending_run : (n : ℕ) (o : Option OperandText) → Run n (ret ∷ write.returned o) 1
+ending_run n o = line_run n ret (write.returned o) refl refl (returned_quiet o)
 
 block_run : (n : ℕ) (b : BlockText) → Run n (write.block b) (length b.lines + 1)
 block_run n b =
-    after_quiet n (length b.lines + 1) (write.label b.label) (flat_map write.line b.lines ++ (ret ∷ i32 ∷ write.value b.result ∷ [])) (label_quiet b.label)
-    (joined n (length b.lines) 1 (flat_map write.line b.lines) (ret ∷ i32 ∷ write.value b.result ∷ []) (lines_run n b.lines) (ending_run (n + length b.lines) b.result))
+    after_quiet n (length b.lines + 1) (write.label b.label) (flat_map write.line b.lines ++ (ret ∷ write.returned b.result)) (label_quiet b.label)
+    (joined n (length b.lines) 1 (flat_map write.line b.lines) (ret ∷ write.returned b.result) (lines_run n b.lines) (ending_run (n + length b.lines) b.result))
+
+result_quiet : (ty : Option (Placed ℕ)) → AllByRecursion IsQuiet (write.result ty)
+result_quiet None = ((refl, refl), tt)
+result_quiet (Some ty) = ((refl, refl), tt)
 
 -- behind `define`
-rest_run : (d : DefinitionText) → Run 0 (i32 ∷ symbols.Global d.name ∷ open_paren ∷ (write.params d.params ++ (close_paren ∷ open_brace ∷ (write.block d.block ++ (close_brace ∷ []))))) (length d.block.lines + 1)
+rest_run : (d : DefinitionText) → Run 0 (write.result d.result ++ (symbols.Global d.name ∷ open_paren ∷ (write.params d.params ++ (close_paren ∷ open_brace ∷ (write.block d.block ++ (close_brace ∷ [])))))) (length d.block.lines + 1)
 rest_run d =
     let count : ℕ = length d.block.lines + 1 in
     let ends : Run 0 (write.block d.block ++ (close_brace ∷ [])) count = subst (Run 0 (write.block d.block ++ (close_brace ∷ []))) (no_more count) (joined 0 count 0 (write.block d.block) (close_brace ∷ []) (block_run 0 d.block) (quiet_run (0 + count) (close_brace ∷ []) ((refl, refl), tt))) in
-    after_quiet 0 count (i32 ∷ symbols.Global d.name ∷ open_paren ∷ []) _ ((refl, refl), ((refl, refl), ((refl, refl), tt)))
+    after_quiet 0 count (write.result d.result) _ (result_quiet d.result)
+    (after_quiet 0 count (symbols.Global d.name ∷ open_paren ∷ []) _ ((refl, refl), ((refl, refl), tt))
     (after_quiet 0 count (write.params d.params) _ (params_quiet d.params)
-    (after_quiet 0 count (close_paren ∷ open_brace ∷ []) _ ((refl, refl), ((refl, refl), tt)) ends))
+    (after_quiet 0 count (close_paren ∷ open_brace ∷ []) _ ((refl, refl), ((refl, refl), tt)) ends)))
 
 -- not too many lines
 abbrev pub IsFew : DefinitionText → Type 0

@@ -1,13 +1,12 @@
 -- The names in the tokens of a text of bytes are in range.
-use Rattle.std.proofs.Common.{◌≡◌, ℕ, suc, zero, ◌+◌, ◌-◌, ◌*◌, ◌^◌, ◌<◌, Bool, true, false, cond, List, [], ◌∷◌, ◌++◌, length, drop, map, codes, Option, Some, None, Ok, Err, refl, ap, sym, ◌∙◌, subst, arith, ltb-true}
+use Rattle.std.proofs.Common.{◌≡◌, ℕ, suc, zero, ◌+◌, ◌-◌, ◌*◌, ◌^◌, ◌<◌, Bool, true, false, cond, List, [], ◌∷◌, length, drop, codes, Option, Some, None, Ok, Err, refl, ap, sym, ◌∙◌, subst, arith, ltb-true}
 use Rattle.std.specs.Prelude.{◌==◌, ◌&&◌, nat_lt, slice_index}
-use Rattle.std.specs.List.{AllByRecursion, flat_map, take_while}
+use Rattle.std.specs.List.{AllByRecursion, take_while}
 use Rattle.std.specs.Char.{is_ascii_digit}
 use Rattle.std.specs.Str.{bytes_eq}
 use Rattle.std.proofs.lemmas.Bool.{and_parts, cond_both}
 use Rattle.std.proofs.lemmas.Bool.Decides.{nat_tests}
 use Rattle.std.proofs.lemmas.List.Sums.{take_while-cons}
-use Rattle.ir_core.specs.declared.names.Name.{Name}
 use Rattle.ir_core.specs.declared.names.Name.TheVariants.{Text}
 use Rattle.ir_core.specs.Names.{is_name_byte}
 use Rattle.ir_core.specs.Ranges.{AreBytes, IsNameInRange}
@@ -22,7 +21,7 @@ use Rattle.ir_lexer.specs.Numbers.{if_below, value_of}
 use Rattle.ir_lexer.specs.Pieces.{Piece, attribute, closed, label, metadata, named, number, numbered_block, piece, piece_len, plain, quoted, run}
 use Rattle.ir_lexer.specs.Runs.{digits_at, is_no_quote, quoted_at, run_at}
 use Rattle.ir_lexer.specs.Strings.{hex_value, is_hex, spelled, symbol, unescaped, unescaped_after}
-use Rattle.ir_spelling.proofs.Tools.{guard_ok}
+use Rattle.spelling_laws.proofs.Tools.{guard_ok}
 
 -- ---- bytes
 

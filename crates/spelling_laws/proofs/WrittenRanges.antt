@@ -1,73 +1,123 @@
--- A definition that is written in tokens of a text of bytes has names in range.
-use Rattle.std.proofs.Common.{◌≡◌, ℕ, Bool, true, false, cond, List, [], ◌∷◌, ◌++◌, map, Option, Some, None, Ok, Err, subst}
-use Rattle.std.specs.Prelude.{◌==◌}
-use Rattle.std.specs.List.{AllByRecursion, flat_map}
-use Rattle.std.specs.Str.{bytes_eq}
-use Rattle.ir_core.specs.declared.names.Name.{Name}
-use Rattle.ir_core.specs.declared.operands.BinOp.TheVariants as op
+-- A definition that is written in tokens of a text of bytes has names and types in range.
+use Rattle.std.proofs.Common.{◌≡◌, ℕ, Bool, true, false, cond, List, [], ◌∷◌, map, Option, Some, None, Ok, Err, subst}
+use Rattle.std.specs.Prelude.{◌==◌, ◌&&◌, not, option_map, unwrap_or}
+use Rattle.std.specs.List.{AllByRecursion}
+use Rattle.std.proofs.lemmas.Bool.{and_parts, cond_both}
 use Rattle.ir_core.specs.Ranges.{AreBytes, IsNameInRange}
-use Rattle.ir_core.specs.Words as words
+use Rattle.ir_core.specs.Types.{is_width}
 use Rattle.ir_lexer.specs.declared.token.TokenKind.{TokenKind}
 use Rattle.ir_lexer.specs.declared.token.TokenKind.TheVariants as kind
+use Rattle.ir_lexer.specs.Bytes.{are_digits}
 use Rattle.ir_lexer.specs.Cut.{Cut, Placed as PlacedToken, cut}
+use Rattle.ir_lexer.specs.Numbers.{value_of}
 use Rattle.ir_grammar.specs.declared.trees.DefinitionText.{DefinitionText}
-use Rattle.ir_grammar.specs.declared.trees.LineText.{LineText}
 use Rattle.ir_grammar.specs.declared.trees.ModuleText.{ModuleText}
-use Rattle.ir_grammar.specs.declared.trees.ParamText.{ParamText}
-use Rattle.ir_grammar.specs.declared.trees.Placed.{Placed}
+use Rattle.ir_grammar.specs.declared.words.Word.{Word}
+use Rattle.ir_grammar.specs.declared.words.Word.TheVariants as word
 use Rattle.ir_grammar.specs.Symbols.{Symbol, mark_symbol, symbol, symbol_at, word_symbol}
 use Rattle.ir_grammar.specs.Symbols as symbols
+use Rattle.ir_grammar.specs.Words.{are_width, begins_with_zero, cast_of, constant_of, exact_of, flag_of, key_of, named_word, other_word, overflow_of, plain_of, pred_of, width_in, width_of, word_said}
 use Rattle.ir_grammar.specs.Written as write
 use Rattle.ir_spelling.specs.Spells.{symbols_cut, symbols_of}
-use Rattle.ir_spelling.proofs.Tools.{some_is}
-use Rattle.spelling_laws.proofs.Lists.{all_left, all_lists, all_right}
+use Rattle.spelling_laws.proofs.Tools.{some_is}
+use Rattle.spelling_laws.proofs.Lists.{all_lists}
 use Rattle.spelling_laws.proofs.Ranges.{IsCutInRange, IsKindInRange, cut_range}
-use Rattle.spelling_laws.proofs.Shaped.{AreWrittenInRange, IsOptionInRange}
+use Rattle.spelling_laws.proofs.Trees.{DefinitionHas, definition_has}
+
+-- ---- words
+
+-- the type that a word says has a width of an integer
+abbrev IsWordInRange : Word → Type 0
+IsWordInRange (word.Width n) = is_width n ≡ true
+IsWordInRange w = Unit {0}
+
+-- one of a group, or another word
+either : {X : Type 0} (of : X → Word) (x : Option X) (other : Word) → ((x : X) → IsWordInRange (of x)) → IsWordInRange other → IsWordInRange (unwrap_or (option_map of x) other)
+either of None other each rest = rest
+either of (Some x) other each rest = each x
+
+others_range : (w : List ℕ) → IsWordInRange (other_word w)
+others_range w =
+    either word.Constant (constant_of w) _ (λ x. tt)
+    (either word.Pred (pred_of w) _ (λ x. tt)
+    (either word.Flag (flag_of w) _ (λ x. tt)
+    (either word.Key (key_of w) word.Foreign (λ x. tt) tt)))
+
+named_range : (w : List ℕ) → IsWordInRange (named_word w)
+named_range w =
+    either word.Overflow (overflow_of w) _ (λ x. tt)
+    (either word.Exact (exact_of w) _ (λ x. tt)
+    (either word.Plain (plain_of w) _ (λ x. tt)
+    (either word.Cast (cast_of w) (other_word w) (λ x. tt) (others_range w))))
+
+abbrev IsOneInRange : Option ℕ → Type 0
+IsOneInRange None = Unit {0}
+IsOneInRange (Some n) = is_width n ≡ true
+
+digits_range : (digits : List ℕ) → IsOneInRange (width_in digits)
+digits_range digits =
+    cond_both (are_width digits) (Some (value_of digits)) None IsOneInRange
+    (λ are.
+    let parts = and_parts (are_digits digits) (is_width (value_of digits) && not (begins_with_zero digits)) are in
+    (and_parts (is_width (value_of digits)) (not (begins_with_zero digits)) parts.1).0)
+    (λ no. tt)
+
+width_range : (w : List ℕ) → IsOneInRange (width_of w)
+width_range [] = tt
+width_range (letter ∷ digits) = cond_both (letter == 105) (width_in digits) None IsOneInRange (λ yes. digits_range digits) (λ no. tt)
+
+typed_range : (n : Option ℕ) (other : Word) → IsOneInRange n → IsWordInRange other → IsWordInRange (unwrap_or (option_map word.Width n) other)
+typed_range None other range rest = rest
+typed_range (Some n) other range rest = range
+
+words_range : (w : List ℕ) → IsWordInRange (word_said w)
+unfolding word_said
+words_range w = typed_range (width_of w) (named_word w) (width_range w) (named_range w)
 
 -- ---- symbols
 
-abbrev IsSymbolInRange : Symbol → Type 0
+abbrev pub IsSymbolInRange : Symbol → Type 0
 IsSymbolInRange (symbols.Local w) = IsNameInRange w.what
 IsSymbolInRange (symbols.Global w) = IsNameInRange w.what
 IsSymbolInRange (symbols.Label w) = IsNameInRange w.what
-IsSymbolInRange (symbols.Numeral w) = Unit {0}
-IsSymbolInRange (symbols.Fixed k) = Unit {0}
+IsSymbolInRange (symbols.Width w) = is_width w.what ≡ true
+IsSymbolInRange s = Unit {0}
 
 abbrev AllInRange : List Symbol → Type 0
 AllInRange = AllByRecursion IsSymbolInRange
 
-word_in : (b : Bool) (s t : Symbol) → IsSymbolInRange s → IsSymbolInRange t → IsSymbolInRange (cond b s t)
-word_in true s t here there = here
-word_in false s t here there = there
+said_range : (w : Word) (start end : ℕ) → IsWordInRange w → IsSymbolInRange (word_symbol w start end)
+said_range (word.Width n) start end range = range
+said_range (word.Constant c) start end range = tt
+said_range (word.Overflow op) start end range = tt
+said_range (word.Exact op) start end range = tt
+said_range (word.Plain op) start end range = tt
+said_range (word.Cast op) start end range = tt
+said_range (word.Pred pred) start end range = tt
+said_range (word.Flag flag) start end range = tt
+said_range (word.Key k) start end range = tt
+said_range word.Foreign start end range = tt
 
-words_range : (w : List ℕ) → IsSymbolInRange (word_symbol w)
-unfolding word_symbol
-words_range w =
-    word_in (bytes_eq w words.define_word) _ _ tt
-    (word_in (bytes_eq w words.i32_word) _ _ tt
-    (word_in (bytes_eq w words.undef_word) _ _ tt
-    (word_in (bytes_eq w words.ret_word) _ _ tt
-    (word_in (bytes_eq w (words.op_word op.Add)) _ _ tt
-    (word_in (bytes_eq w (words.op_word op.Sub)) _ _ tt
-    (word_in (bytes_eq w words.nuw_word) _ _ tt
-    (word_in (bytes_eq w words.nsw_word) _ _ tt tt)))))))
+mark_in : (b : Bool) (s t : Symbol) → IsSymbolInRange s → IsSymbolInRange t → IsSymbolInRange (cond b s t)
+mark_in true s t here there = here
+mark_in false s t here there = there
 
 marks_range : (b : ℕ) → IsSymbolInRange (mark_symbol b)
 unfolding mark_symbol
 marks_range b =
-    word_in (b == 44) _ _ tt
-    (word_in (b == 61) _ _ tt
-    (word_in (b == 40) _ _ tt
-    (word_in (b == 41) _ _ tt
-    (word_in (b == 123) _ _ tt
-    (word_in (b == 125) _ _ tt tt)))))
+    mark_in (b == 44) _ _ tt
+    (mark_in (b == 61) _ _ tt
+    (mark_in (b == 40) _ _ tt
+    (mark_in (b == 41) _ _ tt
+    (mark_in (b == 123) _ _ tt
+    (mark_in (b == 125) _ _ tt tt)))))
 
 symbol_range : (k : TokenKind) (start end : ℕ) → IsKindInRange k → IsSymbolInRange (symbol_at k start end)
 symbol_range (kind.Local name) start end range = range
 symbol_range (kind.Global name) start end range = range
 symbol_range (kind.Label name) start end range = range
 symbol_range (kind.Number number) start end range = tt
-symbol_range (kind.Word w) start end range = words_range w
+symbol_range (kind.Word w) start end range = said_range (word_said w) start end (words_range w)
 symbol_range (kind.Mark b) start end range = marks_range b
 symbol_range (kind.Attribute digits) start end range = tt
 symbol_range kind.Bang start end range = tt
@@ -83,48 +133,11 @@ symbols_range : (text : Cut) (symbols : List Symbol) → IsCutInRange text → s
 symbols_range (Ok tokens) symbols range e = subst AllInRange (some_is _ symbols e) (each tokens range)
 symbols_range (Err fault) symbols range e = cc
 
--- ---- what is written in such symbols
-
-local_written : (name : Option (Placed Name)) → AllInRange (write.local name) → IsOptionInRange name
-local_written None range = tt
-local_written (Some name) range = range.0
-
-label_written : (name : Option (Placed Name)) → AllInRange (write.label name) → IsOptionInRange name
-label_written None range = tt
-label_written (Some name) range = range.0
-
-register_written : (name : Option (Placed Name)) → AllInRange (write.register name) → IsOptionInRange name
-register_written None range = tt
-register_written (Some name) range = range.0
-
-line_written : (l : LineText) → AllInRange (write.line l) → IsOptionInRange l.register
-line_written l range = register_written l.register (all_left IsSymbolInRange (write.register l.register) (write.operation l.operation) range)
-
-params_written : (ps : List ParamText) → AllInRange (write.params ps) → AllByRecursion (λ (p : ParamText). IsOptionInRange p.name) ps
-params_written [] range = tt
-params_written (p ∷ ps) range =
-    let front = all_left IsSymbolInRange (write.param p) (flat_map write.next_param ps) range in
-    let more = all_right IsSymbolInRange (write.param p) (flat_map write.next_param ps) range in
-    (local_written p.name front.1, all_lists IsSymbolInRange (λ (p : ParamText). IsOptionInRange p.name) write.next_param ps (λ p next. local_written p.name next.1.1) more)
-
-definition_range : (d : DefinitionText) → AllInRange (write.definition d) → AreWrittenInRange d
-definition_range d range =
-    let b = d.block in
-    let ending = symbols.ret ∷ symbols.i32 ∷ write.value b.result ∷ [] in
-    let body = flat_map write.line b.lines ++ ending in
-    let opened = symbols.close_paren ∷ symbols.open_brace ∷ (write.block b ++ (symbols.close_brace ∷ [])) in
-    let rest = range.1.1.1.1 in
-    let behind = all_left IsSymbolInRange (write.block b) (symbols.close_brace ∷ []) (all_right IsSymbolInRange (write.params d.params) opened rest).1.1 in
-    let lines = all_right IsSymbolInRange (write.label b.label) body behind in
-    record {
-      name = range.1.1.0;
-      params = params_written d.params (all_left IsSymbolInRange (write.params d.params) opened rest);
-      label = label_written b.label (all_left IsSymbolInRange (write.label b.label) body behind);
-      lines = all_lists IsSymbolInRange (λ (l : LineText). IsOptionInRange l.register) write.line b.lines line_written (all_left IsSymbolInRange (flat_map write.line b.lines) ending lines);
-    }
-
 -- definitions whose symbols a text of bytes has
+abbrev pub AreWrittenInRange : DefinitionText → Type 0
+AreWrittenInRange = DefinitionHas IsSymbolInRange
+
 pub spelled_range : (bytes : List ℕ) (m : ModuleText) → AreBytes bytes → symbols_of bytes ≡ Some (write.written m) → AllByRecursion AreWrittenInRange m.definitions
 spelled_range bytes m small e =
-    all_lists IsSymbolInRange AreWrittenInRange write.definition m.definitions definition_range
+    all_lists IsSymbolInRange AreWrittenInRange write.definition m.definitions (definition_has IsSymbolInRange)
     (symbols_range (cut 0 0 bytes) (write.written m) (cut_range 0 0 bytes small) e)

@@ -1,5 +1,10 @@
-ghost use Rattle.spelling_laws.specs.Laws.{ModulesAreOne, ExpressionsAreOne, NamesAreOne, ModulesAreInOrder, ModulesHaveShape, ModulesAreInRange, FaultsExcludeSpelling};
+ghost use Rattle.ir_core.specs.declared.names.Sigil.{Sigil};
+ghost use Rattle.ir_naming.specs.Expressions.{IsNameOf, NamesExpression};
+ghost use Rattle.ir_naming.specs.Spells.{NamesModule};
+ghost use Rattle.ir_spelling.specs.Forms.{expression_form, module_form, name_form};
+ghost use Rattle.spelling_laws.specs.Laws.{ModulesAreOne, ExpressionsAreOne, NamesAreOne, ModulesAreInOrder, ModulesHaveShape, ModulesAreInRange, FaultsExclude, FaultsAreOne, EachIsJudged};
 
+use ir_shape::no_fault_is_left;
 use tree_reader::written_once;
 
 /// The body calls a law alone, since the clauses are laws.
@@ -13,21 +18,46 @@ pub fn texts_spell_one()
     written_once();
 }
 
-/// Empty on purpose: its contract is the law.
+/// The body calls a law alone, since the clauses are laws.
 ///
-/// Each module that a text spells has its names in order and has shape, but for names of debugging; all of it is in range. So it is
-/// well-formed where its registers are defined before they are used.
+/// Each module that a text spells has its names in order, and all of it is in range. It has shape where it has no fault of shape; so it
+/// is well-formed where its registers are defined before they are used, too.
 pub fn spelled_modules_fit()
     ensures order { ModulesAreInOrder }
     ensures shape { ModulesHaveShape }
     ensures range { ModulesAreInRange }
-{}
+{
+    no_fault_is_left();
+}
 
-/// The body calls a law alone, since the clause is a law.
+/// The body calls a law alone, since the clauses are laws.
 ///
-/// A text of at most 2 to the 24 bytes that has a fault spells no module.
+/// A text of at most 2 to the 24 bytes that has a fault spells nothing.
 pub fn faults_and_spelling_exclude()
-    ensures { FaultsExcludeSpelling }
+    ensures modules { FaultsExclude module_form NamesModule }
+    ensures expressions { FaultsExclude expression_form NamesExpression }
+    ensures names { (sigil : Sigil) → FaultsExclude (name_form sigil) IsNameOf }
 {
     written_once();
 }
+
+/// The body calls a law alone, since the clauses are laws.
+///
+/// A text has one first fault at most: its kind and its place.
+pub fn faults_are_one()
+    ensures modules { FaultsAreOne module_form }
+    ensures expressions { FaultsAreOne expression_form }
+    ensures names { (sigil : Sigil) → FaultsAreOne (name_form sigil) }
+{
+    written_once();
+}
+
+/// Empty on purpose: its contract is the law.
+///
+/// Each text of at most 2 to the 24 bytes spells a module or has a first fault, and so for expressions and names; a longer one has the
+/// fault that it is too long.
+pub fn each_text_is_judged()
+    ensures modules { EachIsJudged module_form NamesModule }
+    ensures expressions { EachIsJudged expression_form NamesExpression }
+    ensures names { (sigil : Sigil) → EachIsJudged (name_form sigil) IsNameOf }
+{}

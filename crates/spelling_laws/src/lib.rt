@@ -1,6 +1,9 @@
-//! The laws of what texts spell: one thing alone, in order, of shape and in range, and none where there is a fault.
+//! The laws of what texts spell: one thing alone, in order, of shape and in range, or else one first fault.
 #![tactic(auto)]
 
 mod laws;
 
-pub use laws::{faults_and_spelling_exclude, spelled_modules_fit, texts_spell_one};
+pub use laws::{
+    each_text_is_judged, faults_and_spelling_exclude, faults_are_one, spelled_modules_fit,
+    texts_spell_one,
+};

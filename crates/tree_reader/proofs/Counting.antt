@@ -17,7 +17,7 @@ headed true kind before = refl
 headed false kind before = refl
 
 -- one more token
-one_more : (kinds : List ℕ) (kind : ℕ) → lines_back (kinds ++ (kind ∷ [])) ≡ lines_after kind (lines_back kinds)
+pub one_more : (kinds : List ℕ) (kind : ℕ) → lines_back (kinds ++ (kind ∷ [])) ≡ lines_after kind (lines_back kinds)
 one_more kinds kind =
     ap (λ l. length (filter heads_line (take_while is_no_define l))) (reverse-append kinds (kind ∷ []))
     ∙ ap (λ l. length (filter heads_line l)) (take_while-cons is_no_define kind (reverse kinds))

@@ -1,4 +1,4 @@
-mod Counting
-mod Single
-mod Whole
+pub mod Counting
+pub mod Single
+pub mod Whole
 mod Wide

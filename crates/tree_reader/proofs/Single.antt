@@ -27,10 +27,10 @@ module _ {Token Tree : Type 0} (kind_of : Token → ℕ) (written : Tree → Lis
       go before [] e none = none tree (sym (sym (append-nil before) ∙ e))
       go before (k ∷ rest) e none = none (tree, rest, sym e ∙ sym (append_assoc before (k ∷ []) rest))
 
-  earlier : (kinds : List ℕ) (p q : ℕ) → p < q → IsUnexpected kind_of written kinds p → IsUnexpected kind_of written kinds q → ⊥
-  earlier kinds p q below first second =
-      let begins = second.1 in
-      let l = longer kinds begins.1 p q below second.0 in
+  -- with the first unexpected one and more nothing begins
+  pub none_longer : (kinds : List ℕ) (p q : ℕ) → p < q → q ≤ length kinds → IsUnexpected kind_of written kinds p → Begins kind_of written (take q kinds) → ⊥
+  none_longer kinds p q below inside first begins =
+      let l = longer kinds begins.1 p q below inside in
       go (drop p kinds) l.0 l.1 l.3 first.2 (begins.0, l.2, begins.2 ∙ l.4)
     where
       go : (rest : List ℕ) (k : ℕ) (more : List ℕ) → rest ≡ k ∷ more → GoesNowhere kind_of written (take p kinds) rest → Begins kind_of written (take p kinds ++ (k ∷ [])) → ⊥
@@ -38,6 +38,9 @@ module _ {Token Tree : Type 0} (kind_of : Token → ℕ) (written : Tree → Lis
         where
           stuck : GoesNowhere kind_of written (take p kinds) (k ∷ more) → Begins kind_of written (take p kinds ++ (k ∷ [])) → ⊥
           stuck none begins = none begins
+
+  earlier : (kinds : List ℕ) (p q : ℕ) → p < q → IsUnexpected kind_of written kinds p → IsUnexpected kind_of written kinds q → ⊥
+  earlier kinds p q below first second = none_longer kinds p q below second.0 first second.1
 
   pub one_place : (kinds : List ℕ) (p q : ℕ) → IsUnexpected kind_of written kinds p → IsUnexpected kind_of written kinds q → p ≡ q
   one_place kinds p q first second = go (nat_lt p q) refl (nat_lt q p) refl

@@ -1,6 +1,7 @@
 -- What a whole run leaves is the one tree that is written so.
 use Rattle.std.proofs.Common.{◌≡◌, ℕ, List, [], ◌∷◌, map, Option, Some, None, Result, Ok, Err, MatchOption, refl, ap, sym, ◌∙◌, subst}
 use Rattle.std.proofs.lemmas.Bool.{ltb-true}
+use Rattle.std.proofs.lemmas.Simd.{map-map}
 use Rattle.ir_grammar.proofs.Reading.{back_at, lawful}
 use Rattle.ir_grammar.specs.declared.parts.Part.{Part}
 use Rattle.ir_grammar.specs.Rules.{grammar, meaning, written_at}
@@ -18,8 +19,7 @@ use Rattle.typed_grammars.specs.Meaning.{State, shifted, reduced}
 use Rattle.typed_grammars.specs.Typed.{top}
 
 pub kinds_are : (text : List ℕ) (tokens : List Token) → map (kind_in text) tokens ≡ map kind_of (map (symbol_in text) tokens)
-kinds_are text [] = refl
-kinds_are text (t ∷ ts) = ap (λ ks. kind_in text t ∷ ks) (kinds_are text ts)
+kinds_are text tokens = sym (map-map kind_of (symbol_in text) tokens)
 
 -- what is left on the stack where there is no fault
 pub left :
@@ -52,16 +52,16 @@ once n one made a b e =
     cc
 
 pub module_ends : MayEnd sets 0
-module_ends = (ltb-true 0 19 refl, refl)
+module_ends = (ltb-true 0 22 refl, refl)
 
-pub expression_ends : MayEnd sets 16
-expression_ends = (ltb-true 16 19 refl, refl)
+pub expression_ends : MayEnd sets 19
+expression_ends = (ltb-true 19 22 refl, refl)
 
-pub local_ends : MayEnd sets 17
-local_ends = (ltb-true 17 19 refl, refl)
+pub local_ends : MayEnd sets 20
+local_ends = (ltb-true 20 22 refl, refl)
 
-pub global_ends : MayEnd sets 18
-global_ends = (ltb-true 18 19 refl, refl)
+pub global_ends : MayEnd sets 21
+global_ends = (ltb-true 21 22 refl, refl)
 
 -- a run's fault is a reading's
 pub faulty :

@@ -1,5 +1,5 @@
 -- More digits make no smaller number.
-use Rattle.std.proofs.Common.{◌≡◌, ℕ, ◌+◌, ◌-◌, ◌*◌, ◌<◌, ◌≤◌, true, false, nat_lt, List, [], ◌∷◌, length, get_or, drop, sym, ap, ◌∙◌, arith, le-ltb, lt-ltb}
+use Rattle.std.proofs.Common.{◌≡◌, ℕ, ◌+◌, ◌-◌, ◌*◌, ◌<◌, ◌≤◌, List, [], ◌∷◌, length, get_or, drop, sym, ap, ◌∙◌, arith}
 use Rattle.std.proofs.lemmas.List.{drop_more, drop_all}
 use Rattle.std.specs.List.{fold}
 use Rattle.ir_lexer.specs.Numbers.{with_digit, value_of}
@@ -8,13 +8,11 @@ at_least : (n : ℕ) (digits : List ℕ) → n ≤ fold with_digit n digits
 at_least n [] = omega arith
 at_least n (d ∷ digits) = let more = at_least (with_digit n d) digits in omega arith
 
-pub above : (n i : ℕ) (digits : List ℕ) → fold with_digit n (drop i digits) ≡ value_of digits → i < length digits → 64 < n * 10 + (get_or digits i 0 - 48) → true ≡ nat_lt 64 (value_of digits)
+pub above : (n i : ℕ) (digits : List ℕ) → fold with_digit n (drop i digits) ≡ value_of digits → i < length digits → 64 < n * 10 + (get_or digits i 0 - 48) → 64 < value_of digits
 above n i digits same inside large =
     let step : fold with_digit n (drop i digits) ≡ fold with_digit (n * 10 + (get_or digits i 0 - 48)) (drop (i + 1) digits) = ap (fold with_digit n) (drop_more digits i 0 inside) in
     let more = at_least (n * 10 + (get_or digits i 0 - 48)) (drop (i + 1) digits) in
-    sym (lt-ltb 64 (value_of digits) (omega arith))
+    omega arith
 
-pub not_above : (n i : ℕ) (digits : List ℕ) → fold with_digit n (drop i digits) ≡ value_of digits → length digits ≤ i → n ≤ 64 → false ≡ nat_lt 64 (value_of digits)
-not_above n i digits same outside small =
-    let value : n ≡ value_of digits = sym (ap (fold with_digit n) (drop_all i digits outside)) ∙ same in
-    sym (le-ltb 64 (value_of digits) (omega arith))
+pub whole : (n i : ℕ) (digits : List ℕ) → fold with_digit n (drop i digits) ≡ value_of digits → length digits ≤ i → n ≡ value_of digits
+whole n i digits same outside = sym (ap (fold with_digit n) (drop_all i digits outside)) ∙ same

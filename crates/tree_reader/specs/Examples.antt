@@ -19,4 +19,7 @@ tokens_of_i32_x =
     ∷ []
 
 abbrev pub i32_x : ExprText
-i32_x = Plain (value.Local (record { what = name.Text (codes "x"); start = 4; end = 6 }))
+i32_x = Plain (record {
+  ty = record { what = 32; start = 0; end = 3 };
+  value = value.Local (record { what = name.Text (codes "x"); start = 4; end = 6 });
+})

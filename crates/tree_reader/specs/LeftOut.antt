@@ -5,6 +5,7 @@
 use Rattle.std.specs.Prelude.{ℕ, Bool, false, ◌==◌, ◌&&◌, ◌||◌, not, List, [], ◌∷◌, codes, nat_lt}
 use Rattle.std.specs.List.{list_any}
 use Rattle.std.specs.Str.{bytes_eq}
+use Rattle.ir_grammar.specs.Words.{begins_with_zero}
 use Rattle.ir_lexer.specs.Bytes.{are_digits}
 use Rattle.ir_lexer.specs.Numbers.{value_of}
 use Rattle.ir_lexer.specs.declared.token.TokenKind.{TokenKind}
@@ -41,10 +42,6 @@ left_out_items =
 
 abbrev pub is_among : List (List ℕ) → List ℕ → Bool
 is_among words word = list_any (λ other. bytes_eq word other) words
-
-abbrev pub begins_with_zero : List ℕ → Bool
-begins_with_zero [] = false
-begins_with_zero (digit ∷ digits) = digit == 48
 
 -- the N of an integer type that is above 64, and has no leading zero
 abbrev pub is_too_wide : List ℕ → Bool

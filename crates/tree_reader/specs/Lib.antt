@@ -2,6 +2,5 @@ pub mod Examples
 pub mod Lawful
 pub mod LeftOut
 pub mod Lines
-pub mod OperationWords
 pub mod Reading
 pub mod Tables

@@ -1,13 +1,17 @@
--- The limit on a function's lines, told by the tokens alone: in this grammar `add`, `sub` and `ret` stand nowhere but as the first
--- word of a line, and each function begins with `define`.
+-- The limit on a function's lines, told by the tokens alone: in this grammar the operators, the conversions, `icmp`, `select` and `ret`
+-- stand nowhere but as the first word of a line, and each function begins with `define`.
 use Rattle.std.specs.Prelude.{◌≡◌, ◌<◌, ℕ, suc, ◌==◌, ◌||◌, Bool, true, not, cond, List, length, take, get_or, reverse}
 use Rattle.std.specs.List.{filter, take_while}
 use Rattle.ir_core.specs.Limits.{line_limit}
-use Rattle.ir_grammar.specs.Symbols.{kind_of, define, add, sub, ret}
+use Rattle.ir_grammar.specs.Symbols.{kind_of, define, icmp, select, ret}
+
+-- a kind of token that is a binary operator (6, 7 and 8) or a conversion (9)
+abbrev pub is_operator : ℕ → Bool
+is_operator kind = kind == 6 || (kind == 7 || (kind == 8 || kind == 9))
 
 -- a kind of token that is the head of a line
 abbrev pub heads_line : ℕ → Bool
-heads_line kind = kind == kind_of add || kind == kind_of sub || kind == kind_of ret
+heads_line kind = is_operator kind || (kind == kind_of ret || (kind == kind_of icmp || kind == kind_of select))
 
 abbrev pub is_no_define : ℕ → Bool
 is_no_define kind = not (kind == kind_of define)

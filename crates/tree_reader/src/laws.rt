@@ -5,6 +5,7 @@ ghost use Rattle.ir_grammar.specs.declared.trees.ExprText.{ExprText as Expressio
 ghost use Rattle.ir_grammar.specs.declared.trees.ModuleText.{ModuleText as Module};
 ghost use Rattle.ir_grammar.specs.declared.trees.Placed.{Placed as PlacedName};
 ghost use Rattle.ir_grammar.specs.Symbols.{Symbol, foreign, kind_of_token, ret, symbol, symbol_in, word_symbol};
+ghost use Rattle.ir_grammar.specs.Words.{word_said};
 ghost use Rattle.ir_grammar.specs.Written.{expression, name, written};
 ghost use Rattle.tree_reader.specs.Examples.{i32_x, small_tokens_of_i32_x, tokens_of_i32_x};
 ghost use Rattle.tree_reader.specs.Lines.{lines_back};
@@ -28,12 +29,12 @@ pub fn one_answer()
     ensures names { (sigil : Sigil) (symbols : List Symbol) (a b : Result (PlacedName Name) ℕ) → IsReading (λ n. name sigil n ∷ []) symbols a → IsReading (λ n. name sigil n ∷ []) symbols b → a ≡ b }
 {}
 
-/// The body is empty on purpose: the clauses are examples. `ret` is a word of the grammar and `mul` none, and `i32 %x` is the text of an
-/// expression, whose name stands from byte 4 up to byte 6.
-#[tactic(auto, unfolding(ir_grammar::specs::Symbols::word_symbol, ir_lexer::specs::Said::name_said))]
+/// The body is empty on purpose: the clauses are examples. `ret` is a word of the grammar and `load` none, and `i32 %x` is the text of an
+/// expression, whose type stands from byte 0 up to byte 3 and its name from byte 4 up to byte 6.
+#[tactic(auto, unfolding(ir_grammar::specs::Words::word_said, ir_lexer::specs::Said::name_said))]
 pub fn examples()
-    ensures word { word_symbol (codes "ret") ≡ ret }
-    ensures other { word_symbol (codes "mul") ≡ foreign }
+    ensures word { word_symbol (word_said (codes "ret")) 0 3 ≡ ret }
+    ensures other { word_symbol (word_said (codes "load")) 0 4 ≡ foreign }
     ensures text { expression i32_x ≡ map symbol tokens_of_i32_x }
     ensures said { map (symbol_in (codes "i32 %x")) small_tokens_of_i32_x ≡ map symbol tokens_of_i32_x }
     ensures lines { lines_back (map kind_of_token tokens_of_i32_x) ≡ 0 }

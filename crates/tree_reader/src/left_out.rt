@@ -1,13 +1,11 @@
-ghost use Rattle.std.specs.Prelude.{◌≡◌, ℕ, List, nat_lt};
+ghost use Rattle.std.specs.Prelude.{◌≡◌, ℕ, List};
 ghost use Rattle.std.specs.Borrow.{Bor};
-ghost use Rattle.std.specs.Char.{is_ascii_digit};
-ghost use Rattle.std.specs.List.{list_all, list_any};
+ghost use Rattle.std.specs.List.{list_any};
 ghost use Rattle.std.specs.Str.{bytes_eq};
-ghost use Rattle.ir_lexer.specs.Bytes.{are_digits};
-ghost use Rattle.ir_lexer.specs.Numbers.{value_of};
 ghost use Rattle.ir_lexer.specs.Said.{said_in};
 ghost use Rattle.tree_reader.specs.LeftOut as profile;
 
+use crate::widths::{are_digits, begins_with_zero, is_above_64};
 use ir_lexer::{Kind, Token, bytes_of, mark_of};
 
 /// Whether the word is one of these.
@@ -125,46 +123,6 @@ fn is_left_out_item(word: &[u8]) -> bool
         ],
         word,
     )
-}
-
-/// Whether the digits write a number above 64.
-fn is_above_64(digits: &[u8]) -> bool
-    ensures { result ≡ nat_lt 64 (value_of digits.now) }
-{
-    let mut value: u32 = 0;
-    for digit in digits {
-        value = value * 10 + u32::from(digit.saturating_sub(b'0'));
-        if value > 64 {
-            return true;
-        }
-    }
-    false
-}
-
-fn are_all_digits(bytes: &[u8]) -> bool
-    ensures { result ≡ list_all is_ascii_digit bytes.now }
-{
-    bytes.iter().all(|byte| byte.is_ascii_digit())
-}
-
-/// Whether there is at least one byte, and each is a decimal digit.
-fn are_digits(bytes: &[u8]) -> bool
-    ensures { result ≡ are_digits bytes.now }
-{
-    if bytes.is_empty() {
-        false
-    } else {
-        are_all_digits(bytes)
-    }
-}
-
-fn begins_with_zero(digits: &[u8]) -> bool
-    ensures { result ≡ profile.begins_with_zero digits.now }
-{
-    match digits.split_first() {
-        Some((first, _)) => *first == b'0',
-        None => false,
-    }
 }
 
 /// Whether the digits write a number above 64 without a leading zero.

@@ -8,6 +8,8 @@ mod lines;
 mod reader;
 mod tables;
 mod tokens;
+mod widths;
+mod words;
 
 pub use laws::{examples, one_answer, written_once};
 pub use left_out::is_left_out;

@@ -1,17 +1,24 @@
 ghost use Rattle.std.specs.Prelude.{◌≡◌, ◌≤◌, ◌&&◌, MatchOption, map, nat_eq};
 ghost use Rattle.ir_core.specs.Limits.{line_limit};
 ghost use Rattle.ir_grammar.specs.Symbols.{kind_in};
-ghost use Rattle.tree_reader.specs.Lines.{IsFirstPast, IsPastLimit, heads_line, lines_after};
+ghost use Rattle.tree_reader.specs.Lines.{IsFirstPast, IsPastLimit, heads_line, is_operator, lines_after};
 
 use crate::tokens::kind_of;
 use ir_core::Limit;
 use ir_lexer::Token;
 
-/// Whether a token of this kind is the first word of a line: `add`, `sub` or `ret`.
+/// Whether a token of this kind is a binary operator or a conversion.
+fn is_operator(kind: u8) -> bool
+    ensures { result ≡ is_operator kind }
+{
+    kind == 6 || kind == 7 || kind == 8 || kind == 9
+}
+
+/// Whether a token of this kind is the first word of a line: an operator, a conversion, `icmp`, `select` or `ret`.
 fn heads_line(kind: u8) -> bool
     ensures { result ≡ heads_line kind }
 {
-    kind == 9 || kind == 10 || kind == 8
+    is_operator(kind) || kind == 15 || kind == 17 || kind == 18
 }
 
 /// Whether one more line is one too many.
@@ -26,7 +33,7 @@ fn lines_after(kind: u8, lines: u64) -> u64
     requires { lines ≤ line_limit }
     ensures { result ≡ lines_after kind lines }
 {
-    if kind == 5 {
+    if kind == 13 {
         0
     } else if heads_line(kind) {
         lines + 1

@@ -8,10 +8,9 @@ ghost use Rattle.tree_reader.specs.Tables.{sets};
 
 use crate::tables::Grammar;
 use crate::tokens::{kinds_of, leaf};
+use grammar_acts::{reduce, take_expr, take_global, take_local, take_module};
 use ir_core::{Name, Sigil};
-use ir_grammar::{
-    ExprText, ModuleText, Part, Placed, reduce, take_expr, take_global, take_local, take_module,
-};
+use ir_grammar::{ExprText, ModuleText, Part, Placed};
 use ir_lexer::Token;
 use predictive::{Action, is_unambiguous, parse};
 use std::alloc::{AllocError, Global};
@@ -135,7 +134,7 @@ pub fn read_expression(
 ) -> Result<Result<ExprText, usize>, AllocError>
     ensures { IfOk result (λ read. IsReading write.expression (map (symbol_in text.now) tokens.now) read) }
 {
-    match run(alloc, text, tokens, 16)? {
+    match run(alloc, text, tokens, 19)? {
         Err(place) => Ok(Err(place)),
         Ok(mut parts) => match take_expr(&mut parts) {
             Some(expression) => Ok(Ok(expression)),
@@ -151,7 +150,7 @@ fn read_local(
 ) -> Result<Result<Placed<Name>, usize>, AllocError>
     ensures { IfOk result (λ read. IsReading (λ name. write.name Local name ∷ []) (map (symbol_in text.now) tokens.now) read) }
 {
-    match run(alloc, text, tokens, 17)? {
+    match run(alloc, text, tokens, 20)? {
         Err(place) => Ok(Err(place)),
         Ok(mut parts) => match take_local(&mut parts) {
             Some(name) => Ok(Ok(name)),
@@ -167,7 +166,7 @@ fn read_global(
 ) -> Result<Result<Placed<Name>, usize>, AllocError>
     ensures { IfOk result (λ read. IsReading (λ name. write.name GlobalSigil name ∷ []) (map (symbol_in text.now) tokens.now) read) }
 {
-    match run(alloc, text, tokens, 18)? {
+    match run(alloc, text, tokens, 21)? {
         Err(place) => Ok(Err(place)),
         Ok(mut parts) => match take_global(&mut parts) {
             Some(name) => Ok(Ok(name)),

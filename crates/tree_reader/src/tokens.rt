@@ -1,45 +1,42 @@
-ghost use Rattle.std.specs.Prelude.{◌≡◌, IfOk, map};
-ghost use Rattle.ir_grammar.specs.Sorts.{leaf_of};
-ghost use Rattle.ir_grammar.specs.Symbols.{kind_in, kind_of, mark_symbol, symbol_at, symbol_in, word_symbol};
-ghost use Rattle.tree_reader.specs.OperationWords.{operation_symbol};
+ghost use Rattle.std.specs.Prelude.{◌≡◌, ℕ, IfOk, map};
+ghost use Rattle.ir_grammar.specs.Kinds.{leaf_of};
+ghost use Rattle.ir_grammar.specs.Symbols.{behind_others, key_number, kind_in, kind_of, mark_symbol, symbol_at, symbol_in, word_symbol};
 
-use ir_core::{BinOp, op_word};
-use ir_grammar::{Leaf, Placed};
+use crate::words::word_said;
+use ir_grammar::{KeyWord, Leaf, Placed, Word};
 use ir_lexer::{Kind, Token, TokenKind, bytes_of, mark_of, says};
 use std::alloc::{AllocError, Global};
 
-/// The kind of an operator's or a flag's word.
-fn kind_of_operation_word(word: &[u8]) -> u8
-    ensures { result ≡ kind_of (operation_symbol word.now) }
+/// The kind of a word that stands alone.
+fn kind_of_key(key: KeyWord) -> u8
+    ensures { result ≡ behind_others (key_number key) }
 {
-    if word == op_word(BinOp::Add) {
-        9
-    } else if word == op_word(BinOp::Sub) {
-        10
-    } else if word == b"nuw".as_slice() {
-        11
-    } else if word == b"nsw".as_slice() {
-        12
-    } else {
-        4
+    match key {
+        KeyWord::Define => 13,
+        KeyWord::Void => 14,
+        KeyWord::Ret => 15,
+        KeyWord::Exact => 16,
+        KeyWord::Icmp => 17,
+        KeyWord::Select => 18,
+        KeyWord::To => 19,
     }
 }
 
-/// The kind of a word.
-#[tactic(auto, unfolding(ir_grammar::specs::Symbols::word_symbol))]
-fn kind_of_word(word: &[u8]) -> u8
-    ensures { result ≡ kind_of (word_symbol word.now) }
+/// The kind of what a word is.
+fn kind_of_said(said: Word) -> u8
+    ensures { (start end : ℕ) → result ≡ kind_of (word_symbol said start end) }
 {
-    if word == b"define".as_slice() {
-        5
-    } else if word == b"i32".as_slice() {
-        6
-    } else if word == b"undef".as_slice() {
-        7
-    } else if word == b"ret".as_slice() {
-        8
-    } else {
-        kind_of_operation_word(word)
+    match said {
+        Word::Width(_) => 4,
+        Word::Constant(_) => 5,
+        Word::Overflow(_) => 6,
+        Word::Exact(_) => 7,
+        Word::Plain(_) => 8,
+        Word::Cast(_) => 9,
+        Word::Pred(_) => 10,
+        Word::Flag(_) => 11,
+        Word::Key(key) => kind_of_key(key),
+        Word::Foreign => 12,
     }
 }
 
@@ -49,13 +46,13 @@ fn kind_of_mark(mark: u8) -> u8
     ensures { result ≡ kind_of (mark_symbol mark) }
 {
     match mark {
-        b',' => 13,
-        b'=' => 14,
-        b'(' => 15,
-        b')' => 16,
-        b'{' => 17,
-        b'}' => 18,
-        _ => 4,
+        b',' => 20,
+        b'=' => 21,
+        b'(' => 22,
+        b')' => 23,
+        b'{' => 24,
+        b'}' => 25,
+        _ => 12,
     }
 }
 
@@ -68,9 +65,9 @@ pub fn kind_of(text: &[u8], token: &Token) -> u8
         Kind::Global => 1,
         Kind::Label => 2,
         Kind::Number => 3,
-        Kind::Word => kind_of_word(bytes_of(text, token)),
+        Kind::Word => kind_of_said(word_said(bytes_of(text, token))),
         Kind::Mark => kind_of_mark(mark_of(text, token).unwrap_or(0)),
-        _ => 4,
+        _ => 12,
     }
 }
 
@@ -95,8 +92,25 @@ fn placed<T>(what: T, token: &Token) -> Placed<T>
     }
 }
 
+/// What a word says, at the token's place, where that is more than its kind.
+fn word_leaf(said: Word, token: &Token) -> Option<Leaf>
+    ensures { result ≡ leaf_of (word_symbol said token.now.start token.now.end) }
+{
+    match said {
+        Word::Width(width) => Some(Leaf::Width(placed(width, token))),
+        Word::Constant(constant) => Some(Leaf::Constant(placed(constant, token))),
+        Word::Overflow(op) => Some(Leaf::Overflow(op)),
+        Word::Exact(op) => Some(Leaf::Exact(op)),
+        Word::Plain(op) => Some(Leaf::Plain(op)),
+        Word::Cast(op) => Some(Leaf::Cast(op)),
+        Word::Pred(pred) => Some(Leaf::Pred(pred)),
+        Word::Flag(flag) => Some(Leaf::Flag(flag)),
+        Word::Key(_) | Word::Foreign => None,
+    }
+}
+
 /// What is said at the token's place, where it is more than a kind.
-#[tactic(auto, unfolding(ir_grammar::specs::Symbols::word_symbol, ir_grammar::specs::Symbols::mark_symbol))]
+#[tactic(auto, unfolding(ir_grammar::specs::Symbols::mark_symbol))]
 fn leaf_of(said: TokenKind, token: &Token) -> Option<Leaf>
     ensures { result ≡ leaf_of (symbol_at said token.now.start token.now.end) }
 {
@@ -105,12 +119,13 @@ fn leaf_of(said: TokenKind, token: &Token) -> Option<Leaf>
         TokenKind::Global(name) => Some(Leaf::Global(placed(name, token))),
         TokenKind::Label(name) => Some(Leaf::Label(placed(name, token))),
         TokenKind::Number(number) => Some(Leaf::Number(placed(number, token))),
+        TokenKind::Word(word) => word_leaf(word_said(word.as_slice()), token),
         _ => None,
     }
 }
 
 /// What the token of the text says with its place, where it says more than its kind.
-#[tactic(auto, unfolding(ir_grammar::specs::Symbols::word_symbol, ir_grammar::specs::Symbols::mark_symbol))]
+#[tactic(auto, unfolding(ir_grammar::specs::Symbols::mark_symbol))]
 pub fn leaf(alloc: Global, text: &[u8], token: &Token) -> Result<Option<Leaf>, AllocError>
     ensures { IfOk result (λ leaf. leaf ≡ leaf_of (symbol_in text.now token.now)) }
 {
@@ -118,6 +133,7 @@ pub fn leaf(alloc: Global, text: &[u8], token: &Token) -> Result<Option<Leaf>, A
         Kind::Local | Kind::Global | Kind::Label | Kind::Number => {
             Ok(leaf_of(says(alloc, text, token)?, token))
         }
+        Kind::Word => Ok(word_leaf(word_said(bytes_of(text, token)), token)),
         _ => Ok(None),
     }
 }

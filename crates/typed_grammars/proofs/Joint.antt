@@ -1,6 +1,6 @@
 -- What is derived is what is written, the first fault is the first unexpected kind, and what is written is written of one value.
 use Rattle.std.proofs.Common.{◌≡◌, ℕ, List, [], ◌∷◌, ◌++◌, map, take, drop, refl, ap, sym, ◌∙◌, append_assoc, subst}
-use Rattle.std.proofs.lemmas.List.{append-nil, take-append-drop}
+use Rattle.std.proofs.lemmas.List.{append-nil}
 use Rattle.predictive.specs.Grammar.{Forest, Forms, yield, after_trees, Derives, Agree, IsFirstFault, IsUnambiguous}
 use Rattle.predictive.specs.declared.symbol.Symbol.TheVariants.{Non}
 use Rattle.typed_grammars.specs.Meaning.{Meaning, State, shifted, reduced, IsLawful}
@@ -37,17 +37,6 @@ unexpected m lawful n made ks place fault =
     nowhere done [] none = λ v e. none [] tt (subst (λ l. Derives m.grammar (Non n ∷ []) l) (e ∙ sym (append-nil done)) (kinds_of_value m lawful n made v))
     nowhere done (k ∷ rest) none = λ begins.
         none (k ∷ begins.1) refl (subst (λ l. Derives m.grammar (Non n ∷ []) l) (begins.2 ∙ append_assoc done (k ∷ []) begins.1) (kinds_of_value m lawful n made begins.0))
-
--- a value is written, so the place of a fault isn't there
-pub no_fault : (m : Meaning) → IsLawful m → (n : ℕ) (v : m.Value n) (place : ℕ) → IsUnexpected m.kind_of (m.written n) (map m.kind_of (m.written n v)) place → ⊥
-no_fault m lawful n v place at = go (take place ks) (drop place ks) (take-append-drop place ks) at.2
-  where
-    ks : List ℕ
-    ks = map m.kind_of (m.written n v)
-
-    go : (done rest : List ℕ) → done ++ rest ≡ ks → GoesNowhere m.kind_of (m.written n) done rest → ⊥
-    go done [] e none = none v (sym (sym (append-nil done) ∙ e))
-    go done (k ∷ rest) e none = none (v, rest, sym e ∙ sym (append_assoc done (k ∷ []) rest))
 
 -- two values that are written alike leave the same part
 pub written_once : (m : Meaning) → IsLawful m → (n : ℕ) → IsUnambiguous m.grammar (Non n ∷ []) → ((v : m.Value n) → Made m n v) → (v w : m.Value n) → m.written n v ≡ m.written n w → m.part n v ∷ [] ≡ m.part n w ∷ []

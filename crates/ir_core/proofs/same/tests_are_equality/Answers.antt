@@ -13,6 +13,12 @@ returns-clause-constants c = law.equality _ law.same_const_true law.same_const_r
 pub returns-clause-operators : goal.returns-clause-operators
 returns-clause-operators c = law.equality _ law.same_op_true law.same_op_refl
 
+pub returns-clause-conversions : goal.returns-clause-conversions
+returns-clause-conversions c = law.equality _ law.same_cast_true law.same_cast_refl
+
+pub returns-clause-predicates : goal.returns-clause-predicates
+returns-clause-predicates c = law.equality _ law.same_pred_true law.same_pred_refl
+
 pub returns-clause-flags : goal.returns-clause-flags
 returns-clause-flags c = law.equality _ law.same_flags_true law.same_flags_refl
 

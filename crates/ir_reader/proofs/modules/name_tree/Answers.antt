@@ -1,8 +1,9 @@
 -- Where no claim has a fault, the tree is faultless.
 use Rattle.std.proofs.Common.{◌∙◌}
+use Rattle.ir_naming.specs.Naming.{claims_of}
 use Rattle.ir_reader.proofs.Whole.{faultless}
 use Rattle.ir_reader.proofs.modules.name_tree.Goals as goal
 
 pub returns-in-None-clause-faultless : goal.returns-in-None-clause-faultless
 returns-in-None-clause-faultless c =
-    faultless c.args.tree c.as_slice.result.now c.in_ok-first_fault.field-0 (c.as_slice.ensures.value ∙ c.in_ok-module.ensures.claims) c.in-None.is c.in_ok-first_fault.ensures.none
+    faultless (claims_of c.args.tree) c.as_slice.result.now c.in_ok-first_fault.field-0 (c.as_slice.ensures.value ∙ c.in_ok-module.ensures.claims) c.in-None.is c.in_ok-first_fault.ensures.none

@@ -1,11 +1,12 @@
 -- What is told of the tokens is told of their text.
+use Rattle.ir_spelling.specs.Forms.{module_form}
 use Rattle.ir_reader.proofs.Whole.{tree_by, tree_fault_by}
 use Rattle.ir_reader.proofs.modules.tree_in.Goals as goal
 
 pub returns-clause-tree : goal.returns-clause-tree
 returns-clause-tree c =
-    tree_by c.args.text.now c.in_ok-tokens.tokens.items c.as_slice.result.now c.as_slice.ensures.value c.in_ok-tokens.ensures.tokens c.in_ok-tokens.ensures.order c.read_tree.result c.read_tree.ensures.tree c.read_tree.ensures.lines
+    tree_by module_form c.args.text.now c.in_ok-tokens.tokens.items c.as_slice.result.now c.as_slice.ensures.value c.in_ok-tokens.ensures.tokens c.in_ok-tokens.ensures.order c.read_tree.result c.read_tree.ensures.tree c.read_tree.ensures.lines
 
 pub returns-clause-fault : goal.returns-clause-fault
 returns-clause-fault c =
-    tree_fault_by c.args.text.now c.in_ok-tokens.tokens.items c.as_slice.result.now c.as_slice.ensures.value c.in_ok-tokens.ensures.tokens c.in_ok-tokens.ensures.order c.read_tree.result c.read_tree.ensures.fault
+    tree_fault_by module_form c.args.text.now c.in_ok-tokens.tokens.items c.as_slice.result.now c.as_slice.ensures.value c.in_ok-tokens.ensures.tokens c.in_ok-tokens.ensures.order c.read_tree.result c.read_tree.ensures.fault

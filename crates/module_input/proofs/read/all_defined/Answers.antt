@@ -1,4 +1,4 @@
-use Rattle.std.proofs.Common.{rules, ◌≡◌, ◌+◌, ℕ, suc, subst, take, arith}
+use Rattle.std.proofs.Common.{rules, ◌≡◌, ◌+◌, suc, subst, take, arith}
 use Rattle.std.specs.List.{AllByRecursion}
 use Rattle.ir_core.specs.WellFormed.{IsFunctionDefined}
 use Rattle.module_input.proofs.First.{first_at, one_more_such}

@@ -1,15 +1,14 @@
 use Rattle.std.proofs.Common.{rules}
-use Rattle.module_input.proofs.First.{first_found, none_found}
-use Rattle.module_input.proofs.Told.{always_ok, undefined_is_first}
+use Rattle.module_input.proofs.Told.{always_ok, of_shape, undefined_is_first}
 use Rattle.module_input.proofs.read.fits.Goals as goal
 
-pub returns-in_ok-copy-in-Some-clause-fault : goal.returns-in_ok-copy-in-Some-clause-fault
-returns-in_ok-copy-in-Some-clause-fault c =
-    (c.in-Some.function.now, first_found c.args.module.now.functions c.in-Some.function.now (search rules), c.in_ok-copy-in-Some.ensures)
+pub returns-clause-faultless : goal.returns-clause-faultless
+returns-clause-faultless c = always_ok c.all_defined.result _ (search rules)
 
-pub returns-in-None-clause-plain : goal.returns-in-None-clause-plain
-returns-in-None-clause-plain c = always_ok c.all_defined.result _ (none_found c.args.module.now.functions (search rules))
+pub returns-clause-fault : goal.returns-clause-fault
+returns-clause-fault c = undefined_is_first c.args.module.now (search rules) c.all_defined.result (search rules)
 
-pub returns-in-None-clause-fault : goal.returns-in-None-clause-fault
-returns-in-None-clause-fault c =
-    undefined_is_first c.args.module.now (none_found c.args.module.now.functions (search rules)) c.all_defined.result (search rules)
+pub returns-in_err-shaped-clause-fault : goal.returns-in_err-shaped-clause-fault
+returns-in_err-shaped-clause-fault c =
+    let here = of_shape c.args.module.now c.in_err-shaped.field-0.0 c.in_err-shaped.ensures.fault in
+    search (rules, here)

@@ -6,7 +6,7 @@ pub returns-clause-order : goal.returns-clause-order
 returns-clause-order c = in_order
 
 pub returns-clause-shape : goal.returns-clause-shape
-returns-clause-shape c = has_shape
+returns-clause-shape c = has_shape c.no_fault_is_left.ensures.fits
 
 pub returns-clause-range : goal.returns-clause-range
 returns-clause-range c = in_range

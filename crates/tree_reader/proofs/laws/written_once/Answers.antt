@@ -9,4 +9,4 @@ pub returns-clause-modules : goal.returns-clause-modules
 returns-clause-modules c = once 0 (c.is_unambiguous.ensures grammar sets lawful 0 module_ends) module_text
 
 pub returns-clause-expressions : goal.returns-clause-expressions
-returns-clause-expressions c = once 16 (c.is_unambiguous.ensures grammar sets lawful 16 expression_ends) expression_text
+returns-clause-expressions c = once 19 (c.is_unambiguous.ensures grammar sets lawful 19 expression_ends) expression_text

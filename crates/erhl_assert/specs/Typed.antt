@@ -1,0 +1,42 @@
+-- Which expressions have a type: those whose types and flags some well-formed line could have (LangRef 3.7, Type System). And which of
+-- their constants fit the types that are stated for them.
+use Rattle.std.specs.Prelude.{Bool, true, false, ◌&&◌}
+use Rattle.ir_core.specs.declared.operands.Ty.{Ty}
+use Rattle.ir_core.specs.declared.operands.Ty.TheVariants.{Int, Void}
+use Rattle.ir_core.specs.declared.operands.Atom.{Atom}
+use Rattle.ir_core.specs.declared.operands.Atom.TheVariants as atom
+use Rattle.ir_core.specs.declared.expressions.Reg.{Reg}
+use Rattle.ir_core.specs.declared.expressions.Expr.TheVariants.{Plain, Binary, Icmp, Cast, Select}
+use Rattle.ir_core.specs.Expressions.{Expr0}
+use Rattle.ir_core.specs.Ranges.{may_have}
+use Rattle.ir_core.specs.Types.{converts, is_width}
+use Rattle.ir_machine.specs.Registers.{selects}
+pub use Rattle.ir_core.specs.Types.{constant_fits}
+
+-- the type has values: i1 to i64 have some, `void` has none
+abbrev pub has_values : Ty → Bool
+has_values (Int width) = is_width width
+has_values Void = false
+
+-- The expression has a type. `add i8 %x, 300` has one, though no i8 is 300; `add exact i8 %x, 1`, `zext i16 %x to i8` and `select i8 %c, ..`
+-- have none.
+abbrev pub has_type : Expr0 → Bool
+has_type (Plain o) = has_values o.ty
+has_type (Binary b) = has_values b.ty && may_have b.op b.flags
+has_type (Icmp c) = has_values c.ty
+has_type (Cast c) = has_values c.operand.ty && has_values c.to && converts c.op c.operand.ty c.to
+has_type (Select s) = has_values s.left.ty && selects s.condition.ty s.left.ty s.right.ty
+
+-- a number lies among those of its stated type: 255 among those of i8, 300 not
+abbrev pub atom_fits : Ty → Atom Reg → Bool
+atom_fits t (atom.Constant c) = constant_fits t c
+atom_fits t (atom.Register r) = true
+
+-- its constants fit their stated types; one that doesn't is worth poison
+abbrev pub fits_constants : Expr0 → Bool
+fits_constants (Plain o) = atom_fits o.ty o.atom
+fits_constants (Binary b) = atom_fits b.ty b.left && atom_fits b.ty b.right
+fits_constants (Icmp c) = atom_fits c.ty c.left && atom_fits c.ty c.right
+fits_constants (Cast c) = atom_fits c.operand.ty c.operand.atom
+fits_constants (Select s) =
+    atom_fits s.condition.ty s.condition.atom && atom_fits s.left.ty s.left.atom && atom_fits s.right.ty s.right.atom

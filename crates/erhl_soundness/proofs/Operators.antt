@@ -1,0 +1,66 @@
+-- Operators on related values have related outcomes.
+use Rattle.std.proofs.Common.{◌≡◌, true, cond, Bool, false, Option, None, Some, refl}
+use Rattle.ir_core.specs.declared.values.Value.{Value}
+use Rattle.ir_core.specs.declared.values.Value.TheVariants.{Poison}
+use Rattle.ir_core.specs.declared.values.Kind.{Kind}
+use Rattle.ir_core.specs.declared.values.Kind.TheVariants as kind
+use Rattle.ir_core.specs.declared.operands.BinOp.{BinOp}
+use Rattle.ir_core.specs.declared.operands.CastOp.{CastOp}
+use Rattle.ir_core.specs.declared.operands.Pred.{Pred}
+use Rattle.ir_core.specs.declared.operands.Ty.{Ty}
+use Rattle.ir_core.specs.Types.{converts, kind_of}
+use Rattle.ir_core.specs.declared.operands.Flags.{Flags}
+use Rattle.ir_values.specs.declared.operations.Outcome.{Outcome}
+use Rattle.ir_values.specs.declared.operations.Outcome.TheVariants.{Gives, Trap}
+use Rattle.ir_values.specs.Laws.{flags_among}
+use Rattle.ir_values.specs.Operations.{IsOutcomeLessDefined, traps, binary_value}
+use Rattle.ir_values.specs.Selections.{select_outcome}
+use Rattle.value_laws.proofs.Monotone.{binary_monotone, icmp_monotone, cast_monotone, select_monotone}
+use Rattle.ir_machine.specs.Registers.{binary_at, icmp_at, cast_at, selects}
+use Rattle.erhl_assert.specs.Sides.{IsRelated}
+
+pub binary_related : (op : BinOp) (many few : Flags) (k : Option Kind) (a b c d : Value) → flags_among few many ≡ true → IsRelated a c → IsRelated b d
+    → IsOutcomeLessDefined (binary_at op many k a b) (binary_at op few k c d)
+binary_related op many few None a b c d h p q = tt
+binary_related op many few (Some (kind.Int width)) a b c d h p q = binary_monotone op many few width h a b c d p q
+
+pub icmp_related : (pred : Pred) (k : Option Kind) (a b c d : Value) → IsRelated a c → IsRelated b d
+    → IsOutcomeLessDefined (icmp_at pred k a b) (icmp_at pred k c d)
+icmp_related pred None a b c d p q = tt
+icmp_related pred (Some k) a b c d p q = icmp_monotone pred k a b c d p q
+
+-- one choice between outcomes that are related
+chosen_related : (b : Bool) (o p : Outcome) → IsOutcomeLessDefined o p → IsOutcomeLessDefined (cond b o (Gives Poison)) (cond b p (Gives Poison))
+chosen_related true o p h = h
+chosen_related false o p h = tt
+
+cast_at_related : (op : CastOp) (j k : Option Kind) (a b : Value) → IsRelated a b → IsOutcomeLessDefined (cast_at op j k a) (cast_at op j k b)
+cast_at_related op None k a b p = tt
+cast_at_related op (Some j) None a b p = tt
+cast_at_related op (Some j) (Some k) a b p = cast_monotone op j k a b p
+
+pub cast_related : (op : CastOp) (from to : Ty) (a b : Value) → IsRelated a b
+    → IsOutcomeLessDefined (cond (converts op from to) (cast_at op (kind_of from) (kind_of to) a) (Gives Poison))
+    (cond (converts op from to) (cast_at op (kind_of from) (kind_of to) b) (Gives Poison))
+cast_related op from to a b p =
+    chosen_related (converts op from to) (cast_at op (kind_of from) (kind_of to) a) (cast_at op (kind_of from) (kind_of to) b)
+    (cast_at_related op (kind_of from) (kind_of to) a b p)
+
+pub select_related : (condition left right : Ty) (a b c d e f : Value) → IsRelated a d → IsRelated b e → IsRelated c f
+    → IsOutcomeLessDefined (cond (selects condition left right) (select_outcome a b c) (Gives Poison)) (cond (selects condition left right) (select_outcome d e f) (Gives Poison))
+select_related condition left right a b c d e f p q o =
+    chosen_related (selects condition left right) (select_outcome a b c) (select_outcome d e f) (select_monotone a d p b c e f q o)
+
+-- whether an operator traps doesn't rest on its flags
+traps_at : (b : Bool) (v w : Value) → cond b Trap (Gives v) ≡ Trap → cond b Trap (Gives w) ≡ Trap
+traps_at true v w h = refl
+traps_at false v w h = absurd (cc)
+
+pub traps_whatever_flags : (op : BinOp) (f g : Flags) (k : Option Kind) (a b : Value) → binary_at op f k a b ≡ Trap → binary_at op g k a b ≡ Trap
+traps_whatever_flags op f g None a b h = absurd (cc)
+traps_whatever_flags op f g (Some (kind.Int width)) a b h = traps_at (traps op width a b) (binary_value op f width a b) (binary_value op g width a b) h
+
+-- an outcome that is less defined than a trap is one
+pub only_trap : (o : Outcome) → IsOutcomeLessDefined o Trap → o ≡ Trap
+only_trap Trap h = refl
+only_trap (Gives v) h = absurd h

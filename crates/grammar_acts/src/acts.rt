@@ -1,0 +1,497 @@
+ghost use Rattle.std.specs.Prelude.{◌≡◌, OnOk};
+ghost use Rattle.ir_grammar.specs.Rules as rule;
+ghost use Rattle.ir_grammar.specs.Sorts.{vocabulary};
+ghost use Rattle.typed_grammars.specs.Typed.{action};
+
+use crate::forms::{
+    BlockPart, CastPart, ConstantPart, DefinitionPart, ExactPart, ExactnessPart, FlagPart,
+    FlagsPart, GlobalPart, LabelPart, LinePart, LinesPart, LocalPart, ModulePart, NamePart,
+    NumberPart, OperandPart, OperationPart, OperatorPart, OverflowPart, ParamPart, ParamsPart,
+    PlainPart, PredPart, ResultPart, ReturnedPart, ValuePart, WidthPart, take,
+};
+use ir_grammar::{
+    Atom, BinaryText, BlockText, CastText, CompareText, DefinitionText, ExprText, Leaf, LineText,
+    List, ModuleText, OperandText, OperationText, OperatorText, ParamText, Part, SelectText, Tree,
+    ValueText,
+};
+use std::alloc::{AllocError, Global};
+use typed_grammars::Stack;
+
+/// No more definitions.
+fn definitions_end(parts: &mut Stack<Part>, alloc: Global) -> Result<(), AllocError>
+    ensures { OnOk result (parts.new ≡ action vocabulary rule.definitions_end parts.old) }
+{
+    parts.push(Part::Tree(Tree::Module(ModuleText {
+        definitions: Stack::new(alloc),
+    })))
+}
+
+/// A definition before the others.
+fn definitions(parts: &mut Stack<Part>) -> Result<(), AllocError>
+    ensures { OnOk result (parts.new ≡ action vocabulary rule.definitions parts.old) }
+{
+    let Some(mut rest) = take::<ModulePart>(parts) else {
+        return Ok(());
+    };
+    let Some(definition) = take::<DefinitionPart>(parts) else {
+        return Ok(());
+    };
+    rest.definitions.push(definition)?;
+    parts.push(Part::Tree(Tree::Module(rest)))
+}
+
+/// `define result GLOBAL ( params ) { block }`
+fn definition(parts: &mut Stack<Part>) -> Result<(), AllocError>
+    ensures { OnOk result (parts.new ≡ action vocabulary rule.definition parts.old) }
+{
+    let Some(block) = take::<BlockPart>(parts) else {
+        return Ok(());
+    };
+    let Some(params) = take::<ParamsPart>(parts) else {
+        return Ok(());
+    };
+    let Some(name) = take::<GlobalPart>(parts) else {
+        return Ok(());
+    };
+    let Some(result) = take::<ResultPart>(parts) else {
+        return Ok(());
+    };
+    parts.push(Part::Tree(Tree::Definition(DefinitionText {
+        result,
+        name,
+        params,
+        block,
+    })))
+}
+
+/// `void`
+fn void_result(parts: &mut Stack<Part>) -> Result<(), AllocError>
+    ensures { OnOk result (parts.new ≡ action vocabulary rule.void_result parts.old) }
+{
+    parts.push(Part::Atom(Atom::Result(None)))
+}
+
+/// TYPE
+fn typed_result(parts: &mut Stack<Part>) -> Result<(), AllocError>
+    ensures { OnOk result (parts.new ≡ action vocabulary rule.typed_result parts.old) }
+{
+    let Some(ty) = take::<WidthPart>(parts) else {
+        return Ok(());
+    };
+    parts.push(Part::Atom(Atom::Result(Some(ty))))
+}
+
+/// No parameters, or no more of them.
+fn params_end(parts: &mut Stack<Part>, alloc: Global) -> Result<(), AllocError>
+    ensures { OnOk result (parts.new ≡ action vocabulary rule.params_end parts.old) }
+{
+    parts.push(Part::List(List::Params(Stack::new(alloc))))
+}
+
+/// A parameter before the others.
+fn params(parts: &mut Stack<Part>) -> Result<(), AllocError>
+    ensures { OnOk result (parts.new ≡ action vocabulary rule.params parts.old) }
+{
+    let Some(mut params) = take::<ParamsPart>(parts) else {
+        return Ok(());
+    };
+    let Some(param) = take::<ParamPart>(parts) else {
+        return Ok(());
+    };
+    params.push(param)?;
+    parts.push(Part::List(List::Params(params)))
+}
+
+/// `TYPE [LOCAL]`
+fn param(parts: &mut Stack<Part>) -> Result<(), AllocError>
+    ensures { OnOk result (parts.new ≡ action vocabulary rule.param parts.old) }
+{
+    let Some(name) = take::<NamePart>(parts) else {
+        return Ok(());
+    };
+    let Some(ty) = take::<WidthPart>(parts) else {
+        return Ok(());
+    };
+    parts.push(Part::Tree(Tree::Param(ParamText { ty, name })))
+}
+
+/// No LOCAL, no LABEL or no `LOCAL =`.
+fn unnamed(parts: &mut Stack<Part>) -> Result<(), AllocError>
+    ensures { OnOk result (parts.new ≡ action vocabulary rule.unnamed parts.old) }
+{
+    parts.push(Part::Atom(Atom::Name(None)))
+}
+
+/// LOCAL, or `LOCAL =`
+fn named(parts: &mut Stack<Part>) -> Result<(), AllocError>
+    ensures { OnOk result (parts.new ≡ action vocabulary rule.named parts.old) }
+{
+    let Some(name) = take::<LocalPart>(parts) else {
+        return Ok(());
+    };
+    parts.push(Part::Atom(Atom::Name(Some(name))))
+}
+
+/// `[LABEL] lines ret (void | TYPE value)`
+fn block(parts: &mut Stack<Part>) -> Result<(), AllocError>
+    ensures { OnOk result (parts.new ≡ action vocabulary rule.block parts.old) }
+{
+    let Some(result) = take::<ReturnedPart>(parts) else {
+        return Ok(());
+    };
+    let Some(lines) = take::<LinesPart>(parts) else {
+        return Ok(());
+    };
+    let Some(label) = take::<NamePart>(parts) else {
+        return Ok(());
+    };
+    parts.push(Part::Tree(Tree::Block(BlockText {
+        label,
+        lines,
+        result,
+    })))
+}
+
+/// LABEL
+fn label(parts: &mut Stack<Part>) -> Result<(), AllocError>
+    ensures { OnOk result (parts.new ≡ action vocabulary rule.label parts.old) }
+{
+    let Some(name) = take::<LabelPart>(parts) else {
+        return Ok(());
+    };
+    parts.push(Part::Atom(Atom::Name(Some(name))))
+}
+
+/// No more lines.
+fn lines_end(parts: &mut Stack<Part>, alloc: Global) -> Result<(), AllocError>
+    ensures { OnOk result (parts.new ≡ action vocabulary rule.lines_end parts.old) }
+{
+    parts.push(Part::List(List::Lines(Stack::new(alloc))))
+}
+
+/// A line before the others.
+fn lines(parts: &mut Stack<Part>) -> Result<(), AllocError>
+    ensures { OnOk result (parts.new ≡ action vocabulary rule.lines parts.old) }
+{
+    let Some(mut lines) = take::<LinesPart>(parts) else {
+        return Ok(());
+    };
+    let Some(line) = take::<LinePart>(parts) else {
+        return Ok(());
+    };
+    lines.push(line)?;
+    parts.push(Part::List(List::Lines(lines)))
+}
+
+/// `[LOCAL =] operation`
+fn line(parts: &mut Stack<Part>) -> Result<(), AllocError>
+    ensures { OnOk result (parts.new ≡ action vocabulary rule.line parts.old) }
+{
+    let Some(operation) = take::<OperationPart>(parts) else {
+        return Ok(());
+    };
+    let Some(register) = take::<NamePart>(parts) else {
+        return Ok(());
+    };
+    parts.push(Part::Tree(Tree::Line(LineText {
+        register,
+        operation,
+    })))
+}
+
+/// `void` behind `ret`
+fn returned_void(parts: &mut Stack<Part>) -> Result<(), AllocError>
+    ensures { OnOk result (parts.new ≡ action vocabulary rule.returned_void parts.old) }
+{
+    parts.push(Part::Tree(Tree::Returned(None)))
+}
+
+/// `TYPE value` behind `ret`
+fn returned(parts: &mut Stack<Part>) -> Result<(), AllocError>
+    ensures { OnOk result (parts.new ≡ action vocabulary rule.returned parts.old) }
+{
+    let Some(operand) = take::<OperandPart>(parts) else {
+        return Ok(());
+    };
+    parts.push(Part::Tree(Tree::Returned(Some(operand))))
+}
+
+/// `operator TYPE value, value`
+fn binary(parts: &mut Stack<Part>) -> Result<(), AllocError>
+    ensures { OnOk result (parts.new ≡ action vocabulary rule.binary parts.old) }
+{
+    let Some(right) = take::<ValuePart>(parts) else {
+        return Ok(());
+    };
+    let Some(left) = take::<OperandPart>(parts) else {
+        return Ok(());
+    };
+    let Some(operator) = take::<OperatorPart>(parts) else {
+        return Ok(());
+    };
+    parts.push(Part::Tree(Tree::Operation(OperationText::Binary(BinaryText {
+        operator,
+        left,
+        right,
+    }))))
+}
+
+/// `icmp PRED TYPE value, value`
+fn compare(parts: &mut Stack<Part>) -> Result<(), AllocError>
+    ensures { OnOk result (parts.new ≡ action vocabulary rule.compare parts.old) }
+{
+    let Some(right) = take::<ValuePart>(parts) else {
+        return Ok(());
+    };
+    let Some(left) = take::<OperandPart>(parts) else {
+        return Ok(());
+    };
+    let Some(pred) = take::<PredPart>(parts) else {
+        return Ok(());
+    };
+    parts.push(Part::Tree(Tree::Operation(OperationText::Compare(CompareText {
+        pred,
+        left,
+        right,
+    }))))
+}
+
+/// `CAST TYPE value to TYPE`
+fn cast(parts: &mut Stack<Part>) -> Result<(), AllocError>
+    ensures { OnOk result (parts.new ≡ action vocabulary rule.cast parts.old) }
+{
+    let Some(to) = take::<WidthPart>(parts) else {
+        return Ok(());
+    };
+    let Some(from) = take::<OperandPart>(parts) else {
+        return Ok(());
+    };
+    let Some(op) = take::<CastPart>(parts) else {
+        return Ok(());
+    };
+    parts.push(Part::Tree(Tree::Operation(OperationText::Cast(CastText { op, from, to }))))
+}
+
+/// `select TYPE value, TYPE value, TYPE value`
+fn select(parts: &mut Stack<Part>) -> Result<(), AllocError>
+    ensures { OnOk result (parts.new ≡ action vocabulary rule.select parts.old) }
+{
+    let Some(other) = take::<OperandPart>(parts) else {
+        return Ok(());
+    };
+    let Some(then) = take::<OperandPart>(parts) else {
+        return Ok(());
+    };
+    let Some(condition) = take::<OperandPart>(parts) else {
+        return Ok(());
+    };
+    parts.push(Part::Tree(Tree::Operation(OperationText::Select(SelectText {
+        condition,
+        then,
+        other,
+    }))))
+}
+
+/// OVERFLOW and flags
+fn overflow(parts: &mut Stack<Part>) -> Result<(), AllocError>
+    ensures { OnOk result (parts.new ≡ action vocabulary rule.overflow parts.old) }
+{
+    let Some(flags) = take::<FlagsPart>(parts) else {
+        return Ok(());
+    };
+    let Some(op) = take::<OverflowPart>(parts) else {
+        return Ok(());
+    };
+    parts.push(Part::Tree(Tree::Operator(OperatorText::Overflow { op, flags })))
+}
+
+/// EXACT, and `exact` or not
+fn exact(parts: &mut Stack<Part>) -> Result<(), AllocError>
+    ensures { OnOk result (parts.new ≡ action vocabulary rule.exact parts.old) }
+{
+    let Some(exact) = take::<ExactnessPart>(parts) else {
+        return Ok(());
+    };
+    let Some(op) = take::<ExactPart>(parts) else {
+        return Ok(());
+    };
+    parts.push(Part::Tree(Tree::Operator(OperatorText::Exact { op, exact })))
+}
+
+/// PLAIN
+fn plain(parts: &mut Stack<Part>) -> Result<(), AllocError>
+    ensures { OnOk result (parts.new ≡ action vocabulary rule.plain parts.old) }
+{
+    let Some(op) = take::<PlainPart>(parts) else {
+        return Ok(());
+    };
+    parts.push(Part::Tree(Tree::Operator(OperatorText::Plain(op))))
+}
+
+/// No more flags.
+fn flags_end(parts: &mut Stack<Part>, alloc: Global) -> Result<(), AllocError>
+    ensures { OnOk result (parts.new ≡ action vocabulary rule.flags_end parts.old) }
+{
+    parts.push(Part::List(List::Flags(Stack::new(alloc))))
+}
+
+/// A flag before the others.
+fn flags(parts: &mut Stack<Part>) -> Result<(), AllocError>
+    ensures { OnOk result (parts.new ≡ action vocabulary rule.flags parts.old) }
+{
+    let Some(mut flags) = take::<FlagsPart>(parts) else {
+        return Ok(());
+    };
+    let Some(flag) = take::<FlagPart>(parts) else {
+        return Ok(());
+    };
+    flags.push(flag)?;
+    parts.push(Part::List(List::Flags(flags)))
+}
+
+/// No `exact`.
+fn inexact(parts: &mut Stack<Part>) -> Result<(), AllocError>
+    ensures { OnOk result (parts.new ≡ action vocabulary rule.inexact parts.old) }
+{
+    parts.push(Part::Atom(Atom::Exactness(false)))
+}
+
+/// `exact`
+fn exactly(parts: &mut Stack<Part>) -> Result<(), AllocError>
+    ensures { OnOk result (parts.new ≡ action vocabulary rule.exactly parts.old) }
+{
+    parts.push(Part::Atom(Atom::Exactness(true)))
+}
+
+/// `TYPE value`
+fn operand(parts: &mut Stack<Part>) -> Result<(), AllocError>
+    ensures { OnOk result (parts.new ≡ action vocabulary rule.operand parts.old) }
+{
+    let Some(value) = take::<ValuePart>(parts) else {
+        return Ok(());
+    };
+    let Some(ty) = take::<WidthPart>(parts) else {
+        return Ok(());
+    };
+    parts.push(Part::Tree(Tree::Operand(OperandText { ty, value })))
+}
+
+/// NUMBER
+fn number(parts: &mut Stack<Part>) -> Result<(), AllocError>
+    ensures { OnOk result (parts.new ≡ action vocabulary rule.number parts.old) }
+{
+    let Some(number) = take::<NumberPart>(parts) else {
+        return Ok(());
+    };
+    parts.push(Part::Atom(Atom::Value(ValueText::Number(number))))
+}
+
+/// CONSTANT
+fn constant(parts: &mut Stack<Part>) -> Result<(), AllocError>
+    ensures { OnOk result (parts.new ≡ action vocabulary rule.constant parts.old) }
+{
+    let Some(constant) = take::<ConstantPart>(parts) else {
+        return Ok(());
+    };
+    parts.push(Part::Atom(Atom::Value(ValueText::Constant(constant))))
+}
+
+/// LOCAL as a value
+fn local(parts: &mut Stack<Part>) -> Result<(), AllocError>
+    ensures { OnOk result (parts.new ≡ action vocabulary rule.local parts.old) }
+{
+    let Some(name) = take::<LocalPart>(parts) else {
+        return Ok(());
+    };
+    parts.push(Part::Atom(Atom::Value(ValueText::Local(name))))
+}
+
+/// `TYPE value` as an expression.
+fn expression_operand(parts: &mut Stack<Part>) -> Result<(), AllocError>
+    ensures { OnOk result (parts.new ≡ action vocabulary rule.expression_operand parts.old) }
+{
+    let Some(operand) = take::<OperandPart>(parts) else {
+        return Ok(());
+    };
+    parts.push(Part::Tree(Tree::Expr(ExprText::Plain(operand))))
+}
+
+/// An operation as an expression.
+fn expression_operation(parts: &mut Stack<Part>) -> Result<(), AllocError>
+    ensures { OnOk result (parts.new ≡ action vocabulary rule.expression_operation parts.old) }
+{
+    let Some(operation) = take::<OperationPart>(parts) else {
+        return Ok(());
+    };
+    parts.push(Part::Tree(Tree::Expr(ExprText::Operation(operation))))
+}
+
+/// A LOCAL alone.
+fn local_name(parts: &mut Stack<Part>) -> Result<(), AllocError>
+    ensures { OnOk result (parts.new ≡ action vocabulary rule.local_name parts.old) }
+{
+    let Some(name) = take::<LocalPart>(parts) else {
+        return Ok(());
+    };
+    parts.push(Part::Leaf(Leaf::Local(name)))
+}
+
+/// A GLOBAL alone.
+fn global_name(parts: &mut Stack<Part>) -> Result<(), AllocError>
+    ensures { OnOk result (parts.new ≡ action vocabulary rule.global_name parts.old) }
+{
+    let Some(name) = take::<GlobalPart>(parts) else {
+        return Ok(());
+    };
+    parts.push(Part::Leaf(Leaf::Global(name)))
+}
+
+/// What the rule of this number does.
+pub fn reduce(parts: &mut Stack<Part>, alloc: Global, p: u16) -> Result<(), AllocError>
+    ensures { OnOk result (parts.new ≡ rule.acts p parts.old) }
+{
+    match p {
+        0 => definitions_end(parts, alloc),
+        1 => definitions(parts),
+        2 => definition(parts),
+        3 => void_result(parts),
+        4 => typed_result(parts),
+        5 => params_end(parts, alloc),
+        6 => params(parts),
+        7 => params_end(parts, alloc),
+        8 => params(parts),
+        9 => param(parts),
+        10 => unnamed(parts),
+        11 => named(parts),
+        12 => block(parts),
+        13 => unnamed(parts),
+        14 => label(parts),
+        15 => lines_end(parts, alloc),
+        16 => lines(parts),
+        17 => line(parts),
+        18 => unnamed(parts),
+        19 => named(parts),
+        20 => returned_void(parts),
+        21 => returned(parts),
+        22 => binary(parts),
+        23 => compare(parts),
+        24 => cast(parts),
+        25 => select(parts),
+        26 => overflow(parts),
+        27 => exact(parts),
+        28 => plain(parts),
+        29 => flags_end(parts, alloc),
+        30 => flags(parts),
+        31 => inexact(parts),
+        32 => exactly(parts),
+        33 => operand(parts),
+        34 => number(parts),
+        35 => constant(parts),
+        36 => local(parts),
+        37 => expression_operand(parts),
+        38 => expression_operation(parts),
+        39 => local_name(parts),
+        40 => global_name(parts),
+        _ => Ok(()),
+    }
+}

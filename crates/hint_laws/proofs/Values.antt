@@ -1,0 +1,170 @@
+-- A printed atom is one token, which is a value that names the atom.
+use Rattle.std.proofs.Common.{◌≡◌, ℕ, ◌-◌, ◌%◌, ◌^◌, ◌<◌, ◌≤◌, true, false, List, [], ◌∷◌, Option, Some, arith, refl, ap, sym, ◌∙◌, subst}
+use Rattle.std.specs.Prelude.{◌==◌, nat_le, nat_lt, option_map, if◌then◌else◌}
+use Rattle.std.specs.Fmt.{decimal}
+use Rattle.std.proofs.Math.Nat.{mod-eq_of_lt}
+use Rattle.std.proofs.Math.Pow.{pow_mono}
+use Rattle.std.proofs.lemmas.Bool.{and_parts, cond_both, cond-true, eqb-true, leb-true, le-leb, lt-ltb, ltb-true}
+use Rattle.std.proofs.lemmas.Bool.Decides.{nat_tests}
+use Rattle.ir_core.specs.declared.expressions.Reg.{Reg}
+use Rattle.ir_core.specs.declared.expressions.Reg.TheVariants.{Now, Old, Ghost}
+use Rattle.ir_core.specs.declared.names.Sigil.TheVariants.{Local}
+use Rattle.ir_core.specs.declared.operands.Atom.{Atom}
+use Rattle.ir_core.specs.declared.operands.Atom.TheVariants.{Constant, Register}
+use Rattle.ir_core.specs.declared.operands.Const.{Const}
+use Rattle.ir_core.specs.declared.operands.Const.TheVariants as const
+use Rattle.ir_core.specs.declared.operands.Ty.{Ty}
+use Rattle.ir_core.specs.declared.operands.Ty.TheVariants.{Int, Void}
+use Rattle.ir_core.specs.Types.{is_width}
+use Rattle.ir_core.specs.Words as words
+use Rattle.ir_lexer.specs.declared.token.Number.{Number}
+use Rattle.ir_lexer.specs.declared.token.TokenKind.{TokenKind}
+use Rattle.ir_lexer.specs.declared.token.TokenKind.TheVariants as kind
+use Rattle.ir_grammar.specs.declared.trees.ConstantWord.{ConstantWord}
+use Rattle.ir_grammar.specs.declared.trees.ConstantWord.TheVariants as constant
+use Rattle.ir_grammar.specs.declared.trees.ValueText.{ValueText}
+use Rattle.ir_grammar.specs.declared.trees.ValueText.TheVariants as text
+use Rattle.ir_grammar.specs.Symbols.{symbol_at, word_symbol}
+use Rattle.ir_grammar.specs.Words.{constant_text}
+use Rattle.ir_grammar.specs.Written as write
+use Rattle.ir_naming.specs.Expressions.{IsNow}
+use Rattle.ir_naming.specs.Values.{IsConstant, kept, number_of, word_of}
+use Rattle.ir_printer.specs.Printed.{is_negative, name_text, printed_atom, printed_register, signed_text}
+use Rattle.ir_printer.proofs.Powers.{power_is_two_halves}
+use Rattle.hint_laws.specs.Laws.{IsWritableAtom, IsWritableType}
+use Rattle.hint_laws.proofs.Decimals.{decimal_means}
+use Rattle.hint_laws.proofs.Lexed as lexed
+use Rattle.hint_laws.proofs.Names.{name_found}
+use Rattle.hint_laws.proofs.ReadTexts.{Reads}
+use Rattle.hint_laws.proofs.ReadTexts as reads
+use Rattle.hint_laws.proofs.Runs.{run_stops, positive, negative}
+use Rattle.hint_laws.proofs.TokenWords as kinds
+use Rattle.hint_laws.proofs.Types.{at_least_one, at_most_64, width}
+use Rattle.hint_laws.proofs.WordSymbols.{constant_is, constant_said}
+
+-- the token is, wherever it stands, a value that is this atom of so many bits
+pub record IsValue (w : ℕ) (atom : Atom Reg) (token : TokenKind) : Type 0 where
+  pub value : ℕ → ℕ → ValueText
+  pub stands : (start end : ℕ) → symbol_at token start end ≡ write.value (value start end)
+  pub now : (start end : ℕ) → IsNow w (value start end) atom
+
+-- the text is such a token
+pub record ReadsValue (w : ℕ) (atom : Atom Reg) (bytes : List ℕ) : Type 0 where
+  pub token : TokenKind
+  pub is : IsValue w atom token
+  pub reads : Reads bytes (token ∷ [])
+
+-- ---- constants
+
+is_constant : (found : Option Const) (c : Const) → found ≡ Some c → IsConstant {R = Reg} found (Constant c)
+is_constant found c e = subst (λ o. IsConstant {R = Reg} o (Constant c)) (sym e) refl
+
+-- a word that is this constant
+word_read : (w : ℕ) (c : ConstantWord) (is : Const) → word_of w c ≡ Some is → ReadsValue w (Constant is) (constant_text c)
+word_read w c is found = record {
+  token = kinds.word (constant_text c);
+  is = record {
+    value = λ start end. text.Constant (record { what = c; start = start; end = end });
+    stands = λ start end. ap (λ said. word_symbol said start end) (constant_said c);
+    now = λ start end. is_constant (word_of w c) is found;
+  };
+  reads = reads.word (constant_text c) (constant_is c);
+}
+
+-- a number that is kept as this one
+number_read : (w n : ℕ) (token : Number) (bytes : List ℕ) → kept w token ≡ Some n → Reads bytes (kind.Number token ∷ []) → ReadsValue w (Constant (const.Number n)) bytes
+number_read w n token bytes is lexes = record {
+  token = kind.Number token;
+  is = record {
+    value = λ start end. text.Number (record { what = token; start = start; end = end });
+    stands = λ start end. refl;
+    now = λ start end. is_constant (number_of w token) (const.Number n) (ap (λ o. option_map (λ v. const.Number v) o) is);
+  };
+  reads = lexes;
+}
+
+-- ---- numbers
+
+positive_kept : (w n : ℕ) → is_width w ≡ true → n < 2 ^ w → kept w (record { negative = false; magnitude = n }) ≡ Some n
+positive_kept w n is small = cond-true (is_width w) _ _ is ∙ cond-true _ _ _ (lt-ltb n (2 ^ w) small)
+
+negative_kept : (w n : ℕ) → is_width w ≡ true → 2 ^ (w - 1) ≤ n → n < 2 ^ w → kept w (record { negative = true; magnitude = 2 ^ w - n }) ≡ Some n
+negative_kept w n is large small =
+    let halves = power_is_two_halves w (at_least_one w is) in
+    let within : 2 ^ w - n ≤ 2 ^ (w - 1) = omega (arith, halves) in
+    let back : 2 ^ w - (2 ^ w - n) ≡ n = omega arith in
+    cond-true (is_width w) _ _ is
+    ∙ cond-true _ _ _ (le-leb (2 ^ w - n) (2 ^ (w - 1)) within)
+    ∙ ap (λ m. Some (m % 2 ^ w)) back
+    ∙ ap Some (mod-eq_of_lt small)
+
+power_small : (w : ℕ) → is_width w ≡ true → 2 ^ w ≤ 2 ^ 64
+power_small w is = pow_mono {i = w} {j = 64} (at_most_64 w is)
+
+positive_reads : (n : ℕ) → n < 2 ^ 64 → Reads (decimal n) (kind.Number (record { negative = false; magnitude = n }) ∷ [])
+positive_reads n small = record {
+  lexes = λ rest more stop lexes. positive n (decimal n) rest more (decimal_means n small) (omega arith) stop lexes;
+}
+
+negative_reads : (n : ℕ) → n < 2 ^ 64 → Reads (45 ∷ decimal n) (kind.Number (record { negative = true; magnitude = n }) ∷ [])
+negative_reads n small = record {
+  lexes = λ rest more stop lexes. negative n (decimal n) rest more (decimal_means n small) (omega arith) stop lexes;
+}
+
+signed_read : (w n : ℕ) → is_width w ≡ true → n < 2 ^ w → ReadsValue w (Constant (const.Number n)) (signed_text w n)
+signed_read w n is small =
+    cond_both (is_negative w n) (45 ∷ decimal (2 ^ w - n)) (decimal n) (ReadsValue w (Constant (const.Number n)))
+    (λ below.
+    let large = leb-true (2 ^ (w - 1)) n (and_parts (nat_le (2 ^ (w - 1)) n) (nat_lt n (2 ^ w)) below).0 in
+    let halves = power_is_two_halves w (at_least_one w is) in
+    let fits : 2 ^ w - n < 2 ^ 64 = omega (arith, power_small w is, halves) in
+    number_read w n (record { negative = true; magnitude = 2 ^ w - n }) (45 ∷ decimal (2 ^ w - n)) (negative_kept w n is large small)
+    (negative_reads (2 ^ w - n) fits))
+    (λ _.
+    let fits : n < 2 ^ 64 = omega (arith, power_small w is) in
+    number_read w n (record { negative = false; magnitude = n }) (decimal n) (positive_kept w n is small) (positive_reads n fits))
+
+-- ---- truth values
+
+one_of_bit : (n : ℕ) → n < 2 ^ 1 → (n == 0) ≡ false → 1 ≡ n
+one_of_bit n small other = grind (arith, nat_tests)
+
+bit_read : (w n : ℕ) → (w == 1) ≡ true → n < 2 ^ w
+    → ReadsValue w (Constant (const.Number n)) (if n == 0 then words.false_word else words.true_word)
+bit_read w n one small =
+    cond_both (n == 0) words.false_word words.true_word (ReadsValue w (Constant (const.Number n)))
+    (λ zero. word_read w constant.False (const.Number n)
+    (cond-true (w == 1) _ _ one ∙ ap (λ m. Some (const.Number m)) (sym (eqb-true n 0 zero))))
+    (λ other. word_read w constant.True (const.Number n)
+    (cond-true (w == 1) _ _ one ∙ ap (λ m. Some (const.Number m)) (one_of_bit n (subst (λ v. n < 2 ^ v) (eqb-true w 1 one) small) other)))
+
+-- ---- atoms
+
+constant_number : (w n : ℕ) → is_width w ≡ true → n < 2 ^ w
+    → ReadsValue w (Constant (const.Number n)) (printed_atom printed_register (Int w) (Constant (const.Number n)))
+constant_number w n is small =
+    cond_both (w == 1) (if n == 0 then words.false_word else words.true_word) (signed_text w n) (ReadsValue w (Constant (const.Number n)))
+    (λ one. bit_read w n one small)
+    (λ _. signed_read w n is small)
+
+atom_read : (w : ℕ) (atom : Atom Reg) → is_width w ≡ true → IsWritableAtom (Int w) atom → ReadsValue w atom (printed_atom printed_register (Int w) atom)
+atom_read w (Constant (const.Number n)) is small = constant_number w n is (ltb-true n (2 ^ w) small)
+atom_read w (Constant const.Undef) is fits = word_read w constant.Undef const.Undef refl
+atom_read w (Register (Now name)) is writable =
+    record {
+      token = kind.Local name;
+      is = record {
+        value = λ start end. text.Local (record { what = name; start = start; end = end });
+        stands = λ start end. refl;
+        now = λ start end. (Now name, refl, refl);
+      };
+      reads = record {
+        lexes = λ rest more stop lexes. lexed.name Local name (name_text name) rest more (name_found name rest writable (run_stops rest stop)) lexes;
+      };
+    }
+atom_read w (Register (Old name)) is none = absurd none
+atom_read w (Register (Ghost name)) is none = absurd none
+
+pub value_read : (t : Ty) (atom : Atom Reg) → IsWritableType t → IsWritableAtom t atom → ReadsValue (width t) atom (printed_atom printed_register t atom)
+value_read (Int w) atom typed writable = atom_read w atom typed writable
+value_read Void atom none writable = absurd none

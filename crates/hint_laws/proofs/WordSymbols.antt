@@ -1,0 +1,147 @@
+-- Each word of an expression is a word of a text, and the symbol that the grammar has for it.
+use Rattle.std.proofs.Common.{◌≡◌, refl}
+use Rattle.ir_core.specs.declared.operands.BinOp.{BinOp}
+use Rattle.ir_core.specs.declared.operands.BinOp.TheVariants.{Add, Sub, Mul, Shl, UDiv, SDiv, LShr, AShr, URem, SRem, And, Or, Xor}
+use Rattle.ir_core.specs.declared.operands.CastOp.{CastOp}
+use Rattle.ir_core.specs.declared.operands.CastOp.TheVariants.{ZExt, SExt, Trunc, BitCast}
+use Rattle.ir_core.specs.declared.operands.Pred.{Pred}
+use Rattle.ir_core.specs.declared.operands.Pred.TheVariants.{Eq, Ne, Ugt, Uge, Ult, Ule, Sgt, Sge, Slt, Sle}
+use Rattle.ir_core.specs.Words as words
+use Rattle.ir_lexer.specs.Pieces.{plain}
+use Rattle.ir_grammar.specs.declared.operators.ExactOp.{ExactOp}
+use Rattle.ir_grammar.specs.declared.operators.ExactOp.TheVariants as exact
+use Rattle.ir_grammar.specs.declared.operators.FlagWord.{FlagWord}
+use Rattle.ir_grammar.specs.declared.operators.FlagWord.TheVariants.{Nuw, Nsw}
+use Rattle.ir_grammar.specs.declared.operators.OverflowOp.{OverflowOp}
+use Rattle.ir_grammar.specs.declared.operators.OverflowOp.TheVariants as overflow
+use Rattle.ir_grammar.specs.declared.operators.PlainOp.{PlainOp}
+use Rattle.ir_grammar.specs.declared.operators.PlainOp.TheVariants as flagless
+use Rattle.ir_grammar.specs.declared.trees.ConstantWord.{ConstantWord}
+use Rattle.ir_grammar.specs.declared.trees.ConstantWord.TheVariants as constant
+use Rattle.ir_grammar.specs.declared.words.KeyWord.{KeyWord}
+use Rattle.ir_grammar.specs.declared.words.KeyWord.TheVariants as key
+use Rattle.ir_grammar.specs.declared.words.Word.TheVariants as word
+use Rattle.ir_grammar.specs.Operators.{exact_op, overflow_op, plain_op}
+use Rattle.ir_grammar.specs.Words.{constant_text, flag_text, key_text, word_said}
+use Rattle.hint_laws.proofs.ReadTexts.{IsWord}
+
+-- ---- words of a text
+
+pub op_is : (op : BinOp) → IsWord (words.op_word op)
+unfolding plain
+op_is Add = record { all = refl; is = refl }
+op_is Sub = record { all = refl; is = refl }
+op_is Mul = record { all = refl; is = refl }
+op_is Shl = record { all = refl; is = refl }
+op_is UDiv = record { all = refl; is = refl }
+op_is SDiv = record { all = refl; is = refl }
+op_is LShr = record { all = refl; is = refl }
+op_is AShr = record { all = refl; is = refl }
+op_is URem = record { all = refl; is = refl }
+op_is SRem = record { all = refl; is = refl }
+op_is And = record { all = refl; is = refl }
+op_is Or = record { all = refl; is = refl }
+op_is Xor = record { all = refl; is = refl }
+
+pub pred_is : (p : Pred) → IsWord (words.pred_word p)
+unfolding plain
+pred_is Eq = record { all = refl; is = refl }
+pred_is Ne = record { all = refl; is = refl }
+pred_is Ugt = record { all = refl; is = refl }
+pred_is Uge = record { all = refl; is = refl }
+pred_is Ult = record { all = refl; is = refl }
+pred_is Ule = record { all = refl; is = refl }
+pred_is Sgt = record { all = refl; is = refl }
+pred_is Sge = record { all = refl; is = refl }
+pred_is Slt = record { all = refl; is = refl }
+pred_is Sle = record { all = refl; is = refl }
+
+pub cast_is : (op : CastOp) → IsWord (words.cast_word op)
+unfolding plain
+cast_is ZExt = record { all = refl; is = refl }
+cast_is SExt = record { all = refl; is = refl }
+cast_is Trunc = record { all = refl; is = refl }
+cast_is BitCast = record { all = refl; is = refl }
+
+pub constant_is : (c : ConstantWord) → IsWord (constant_text c)
+unfolding plain
+constant_is constant.True = record { all = refl; is = refl }
+constant_is constant.False = record { all = refl; is = refl }
+constant_is constant.Undef = record { all = refl; is = refl }
+
+pub icmp_is : IsWord words.icmp_word
+unfolding plain
+icmp_is = record { all = refl; is = refl }
+
+pub select_is : IsWord words.select_word
+unfolding plain
+select_is = record { all = refl; is = refl }
+
+pub to_is : IsWord words.to_word
+unfolding plain
+to_is = record { all = refl; is = refl }
+
+-- ---- words of the grammar
+
+pub overflow_said : (op : OverflowOp) → word_said (words.op_word (overflow_op op)) ≡ word.Overflow op
+unfolding word_said
+overflow_said overflow.Add = refl
+overflow_said overflow.Sub = refl
+overflow_said overflow.Mul = refl
+overflow_said overflow.Shl = refl
+
+pub exact_said : (op : ExactOp) → word_said (words.op_word (exact_op op)) ≡ word.Exact op
+unfolding word_said
+exact_said exact.UDiv = refl
+exact_said exact.SDiv = refl
+exact_said exact.LShr = refl
+exact_said exact.AShr = refl
+
+pub plain_said : (op : PlainOp) → word_said (words.op_word (plain_op op)) ≡ word.Plain op
+unfolding word_said
+plain_said flagless.URem = refl
+plain_said flagless.SRem = refl
+plain_said flagless.And = refl
+plain_said flagless.Or = refl
+plain_said flagless.Xor = refl
+
+pub pred_said : (p : Pred) → word_said (words.pred_word p) ≡ word.Pred p
+unfolding word_said
+pred_said Eq = refl
+pred_said Ne = refl
+pred_said Ugt = refl
+pred_said Uge = refl
+pred_said Ult = refl
+pred_said Ule = refl
+pred_said Sgt = refl
+pred_said Sge = refl
+pred_said Slt = refl
+pred_said Sle = refl
+
+pub cast_said : (op : CastOp) → word_said (words.cast_word op) ≡ word.Cast op
+unfolding word_said
+cast_said ZExt = refl
+cast_said SExt = refl
+cast_said Trunc = refl
+cast_said BitCast = refl
+
+pub flag_said : (f : FlagWord) → word_said (flag_text f) ≡ word.Flag f
+unfolding word_said
+flag_said Nuw = refl
+flag_said Nsw = refl
+
+pub constant_said : (c : ConstantWord) → word_said (constant_text c) ≡ word.Constant c
+unfolding word_said
+constant_said constant.True = refl
+constant_said constant.False = refl
+constant_said constant.Undef = refl
+
+pub key_said : (k : KeyWord) → word_said (key_text k) ≡ word.Key k
+unfolding word_said
+key_said key.Define = refl
+key_said key.Void = refl
+key_said key.Ret = refl
+key_said key.Exact = refl
+key_said key.Icmp = refl
+key_said key.Select = refl
+key_said key.To = refl

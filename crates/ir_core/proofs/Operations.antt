@@ -1,0 +1,280 @@
+-- Functions of one line: which conversions, selections, comparisons and flags are well-formed.
+use Rattle.std.proofs.Common.{◌≡◌, ℕ, zero, true, false, [], refl, ap, arith}
+use Rattle.ir_core.specs.declared.operands.BinOp.{BinOp}
+use Rattle.ir_core.specs.declared.operands.BinOp.TheVariants.{Add, UDiv, And}
+use Rattle.ir_core.specs.declared.operands.CastOp.{CastOp}
+use Rattle.ir_core.specs.declared.operands.CastOp.TheVariants.{ZExt, SExt, Trunc, BitCast}
+use Rattle.ir_core.specs.declared.operands.Flags.{Flags}
+use Rattle.ir_core.specs.declared.operands.Ty.{Ty}
+use Rattle.ir_core.specs.declared.operands.Ty.TheVariants.{Int, Void}
+use Rattle.ir_core.specs.Examples.{alone, compared, f, of_cast, of_flags, of_select, returning_nothing, x}
+use Rattle.ir_core.specs.Laws.{ComparisonsGiveBits, ConversionsChangeWidths, FlagsHaveOperators, LacksShapeAlone, SelectionsHaveOneType, VoidReturns}
+use Rattle.ir_core.specs.Ranges.{IsInRange, IsTypeInRange, may_have}
+use Rattle.ir_core.specs.Same.{same_ty}
+use Rattle.ir_core.specs.Types.{converts, fits, is_width}
+use Rattle.ir_core.specs.WellFormed.{HasShape, IsDefined, IsWellFormed}
+use Rattle.ir_core.proofs.WellFormed.{defined, in_none, in_one, name_f, name_x}
+
+other_type : (v w : Ty) → same_ty v v ≡ true → same_ty v w ≡ false → v ≡ w → ⊥
+other_type v w same other e =
+    let both : same_ty v v ≡ same_ty v w = ap (same_ty v) e in cc
+
+-- ---- conversions
+
+cast_shape : (op : CastOp) (v w : ℕ) → converts op (Int v) (Int w) ≡ true → HasShape (alone (of_cast op (Int v) (Int w)))
+cast_shape op v w h = record {
+  functions = (
+    record {
+      first = _;
+      further = [];
+      blocks = refl;
+      not_entered = refl;
+      name = refl;
+      names = (in_none f, (in_one f x refl refl, tt));
+      registers = (tt, tt);
+      operands = (tt, (tt, tt));
+      each = (record { phis = tt; operators = (h, tt); labels = tt; returns = refl }, tt);
+    },
+    tt,
+  );
+  names = (in_none f, tt);
+}
+
+cast_defined : (op : CastOp) (v w : ℕ) → IsDefined (alone (of_cast op (Int v) (Int w)))
+cast_defined op v w = (defined (of_cast op (Int v) (Int w)) _ [] refl ((tt, tt), (tt, tt)), tt)
+
+cast_range : (op : CastOp) (v w : ℕ) → is_width v ≡ true → fits 1 v ≡ true → is_width w ≡ true → IsInRange (alone (of_cast op (Int v) (Int w)))
+cast_range op v w width one to = (
+  record {
+    name = name_f;
+    names = (name_f, (name_x, tt));
+    result = refl;
+    registers = (to, tt);
+    operands = ((width, one), ((refl, refl), tt));
+    flags = (tt, tt);
+    lines = omega arith;
+  },
+  tt,
+)
+
+cast_stands : (op : CastOp) (v w : ℕ) → converts op (Int v) (Int w) ≡ true → is_width v ≡ true → fits 1 v ≡ true → is_width w ≡ true
+    → IsWellFormed (alone (of_cast op (Int v) (Int w)))
+cast_stands op v w h width one to = record { shape = cast_shape op v w h; defined = cast_defined op v w; range = cast_range op v w width one to }
+
+no_conversion : (op : CastOp) (v w : ℕ) → converts op (Int v) (Int w) ≡ false → converts op (Int v) (Int w) ≡ true → ⊥
+no_conversion op v w not is = cc
+
+cast_lacks : (op : CastOp) (v w : ℕ) → converts op (Int v) (Int w) ≡ false → is_width v ≡ true → fits 1 v ≡ true → is_width w ≡ true
+    → LacksShapeAlone (alone (of_cast op (Int v) (Int w)))
+cast_lacks op v w not width one to = (λ shape. no_conversion op v w not shape.functions.0.each.0.operators.0, cast_defined op v w, cast_range op v w width one to)
+
+pub conversions_change_widths : ConversionsChangeWidths
+conversions_change_widths = record {
+  zext = cast_stands ZExt 8 16 refl refl refl refl;
+  sext = cast_stands SExt 8 16 refl refl refl refl;
+  trunc = cast_stands Trunc 16 8 refl refl refl refl;
+  bitcast = cast_stands BitCast 8 8 refl refl refl refl;
+  zext_same = cast_lacks ZExt 8 8 refl refl refl refl;
+  zext_narrower = cast_lacks ZExt 16 8 refl refl refl refl;
+  sext_same = cast_lacks SExt 8 8 refl refl refl refl;
+  sext_narrower = cast_lacks SExt 16 8 refl refl refl refl;
+  trunc_same = cast_lacks Trunc 8 8 refl refl refl refl;
+  trunc_wider = cast_lacks Trunc 8 16 refl refl refl refl;
+  bitcast_wider = cast_lacks BitCast 8 16 refl refl refl refl;
+}
+
+-- ---- selections
+
+select_defined : (c l r : ℕ) → IsDefined (alone (of_select (Int c) (Int l) (Int r)))
+select_defined c l r = (defined (of_select (Int c) (Int l) (Int r)) _ [] refl ((tt, (tt, (tt, tt))), (tt, tt)), tt)
+
+select_range : (c l r : ℕ) → is_width c ≡ true → fits 1 c ≡ true → is_width l ≡ true → fits 1 l ≡ true → is_width r ≡ true → fits 1 r ≡ true
+    → IsInRange (alone (of_select (Int c) (Int l) (Int r)))
+select_range c l r c_width c_fits l_width l_fits r_width r_fits = (
+  record {
+    name = name_f;
+    names = (name_f, (name_x, tt));
+    result = refl;
+    registers = (l_width, tt);
+    operands = ((c_width, c_fits), ((l_width, l_fits), ((r_width, r_fits), ((refl, refl), tt))));
+    flags = (tt, tt);
+    lines = omega arith;
+  },
+  tt,
+)
+
+pub selections_have_one_type : SelectionsHaveOneType
+selections_have_one_type = record {
+  select = record {
+    shape = record {
+      functions = (
+        record {
+          first = _;
+          further = [];
+          blocks = refl;
+          not_entered = refl;
+          name = refl;
+          names = (in_none f, (in_one f x refl refl, tt));
+          registers = (tt, tt);
+          operands = (tt, (tt, (tt, (tt, tt))));
+          each = (record { phis = tt; operators = ((refl, refl), tt); labels = tt; returns = refl }, tt);
+        },
+        tt,
+      );
+      names = (in_none f, tt);
+    };
+    defined = select_defined 1 8 8;
+    range = select_range 1 8 8 refl refl refl refl refl refl;
+  };
+  wide_condition = (
+    λ shape. other_type (Int 8) (Int 1) refl refl shape.functions.0.each.0.operators.0.0,
+    select_defined 8 8 8,
+    select_range 8 8 8 refl refl refl refl refl refl,
+  );
+  two_types = (
+    λ shape. other_type (Int 8) (Int 16) refl refl shape.functions.0.each.0.operators.0.1,
+    select_defined 1 8 16,
+    select_range 1 8 16 refl refl refl refl refl refl,
+  );
+}
+
+-- ---- comparisons
+
+pub comparisons_give_bits : ComparisonsGiveBits
+comparisons_give_bits = record {
+  shape = record {
+    functions = (
+      record {
+        first = _;
+        further = [];
+        blocks = refl;
+        not_entered = refl;
+        name = refl;
+        names = (in_none f, (in_one f x refl refl, tt));
+        registers = (tt, tt);
+        operands = (tt, (tt, ((zero, omega arith, refl), tt)));
+        each = (record { phis = tt; operators = (tt, tt); labels = tt; returns = refl }, tt);
+      },
+      tt,
+    );
+    names = (in_none f, tt);
+  };
+  defined = (defined compared _ [] refl ((tt, (tt, tt)), ((zero, omega arith, refl), tt)), tt);
+  range = (
+    record {
+      name = name_f;
+      names = (name_f, (name_x, tt));
+      result = refl;
+      registers = (refl, tt);
+      operands = ((refl, refl), ((refl, refl), ((refl, tt), tt)));
+      flags = (tt, tt);
+      lines = omega arith;
+    },
+    tt,
+  );
+}
+
+-- ---- flags
+
+flags_shape : (op : BinOp) (flags : Flags) → HasShape (alone (of_flags op flags))
+flags_shape op flags = record {
+  functions = (
+    record {
+      first = _;
+      further = [];
+      blocks = refl;
+      not_entered = refl;
+      name = refl;
+      names = (in_none f, (in_one f x refl refl, tt));
+      registers = (tt, tt);
+      operands = (tt, (tt, (tt, tt)));
+      each = (record { phis = tt; operators = (tt, tt); labels = tt; returns = refl }, tt);
+    },
+    tt,
+  );
+  names = (in_none f, tt);
+}
+
+flags_defined : (op : BinOp) (flags : Flags) → IsDefined (alone (of_flags op flags))
+flags_defined op flags = (defined (of_flags op flags) _ [] refl ((tt, (tt, tt)), (tt, tt)), tt)
+
+flags_stand : (op : BinOp) (flags : Flags) → may_have op flags ≡ true → IsWellFormed (alone (of_flags op flags))
+flags_stand op flags h = record {
+  shape = flags_shape op flags;
+  defined = flags_defined op flags;
+  range = (
+    record {
+      name = name_f;
+      names = (name_f, (name_x, tt));
+      result = refl;
+      registers = (refl, tt);
+      operands = ((refl, refl), ((refl, refl), ((refl, refl), tt)));
+      flags = (h, tt);
+      lines = omega arith;
+    },
+    tt,
+  );
+}
+
+may_not : (op : BinOp) (flags : Flags) → may_have op flags ≡ false → IsInRange (alone (of_flags op flags)) → ⊥
+may_not op flags not range =
+    let may : may_have op flags ≡ true = range.0.flags.0 in
+    cc
+
+pub flags_have_operators : FlagsHaveOperators
+flags_have_operators = record {
+  wraps = flags_stand Add _ refl;
+  leaves = flags_stand UDiv _ refl;
+  add_exact = (flags_shape Add _, flags_defined Add _, may_not Add _ refl);
+  udiv_nuw = (flags_shape UDiv _, flags_defined UDiv _, may_not UDiv _ refl);
+  and_nsw = (flags_shape And _, flags_defined And _, may_not And _ refl);
+}
+
+-- ---- `ret void`
+
+nothing_defined : (ty : Ty) → IsDefined (alone (returning_nothing ty))
+nothing_defined ty = (defined (returning_nothing ty) _ [] refl tt, tt)
+
+nothing_range : (ty : Ty) → IsTypeInRange ty → IsInRange (alone (returning_nothing ty))
+nothing_range ty result = (
+  record {
+    name = name_f;
+    names = (name_f, tt);
+    result = result;
+    registers = tt;
+    operands = tt;
+    flags = tt;
+    lines = omega arith;
+  },
+  tt,
+)
+
+pub void_returns : VoidReturns
+void_returns = record {
+  void = record {
+    shape = record {
+      functions = (
+        record {
+          first = _;
+          further = [];
+          blocks = refl;
+          not_entered = refl;
+          name = refl;
+          names = (in_none f, tt);
+          registers = tt;
+          operands = tt;
+          each = (record { phis = tt; operators = tt; labels = tt; returns = refl }, tt);
+        },
+        tt,
+      );
+      names = (in_none f, tt);
+    };
+    defined = nothing_defined Void;
+    range = nothing_range Void tt;
+  };
+  other = (
+    λ shape. other_type (Int 32) Void refl refl shape.functions.0.each.0.returns,
+    nothing_defined (Int 32),
+    nothing_range (Int 32) refl,
+  );
+}

@@ -1,0 +1,33 @@
+ghost use Rattle.std.specs.Prelude.{◌≡◌, codes};
+ghost use Rattle.ir_core.specs.declared.operands.Pred.TheVariants.{Ult};
+ghost use Rattle.ir_grammar.specs.declared.operators.OverflowOp.TheVariants.{Mul};
+ghost use Rattle.ir_grammar.specs.declared.words.KeyWord.TheVariants.{Exact as ExactKey};
+ghost use Rattle.ir_grammar.specs.declared.words.Word.TheVariants.{Foreign, Key, Overflow, Pred as PredWord, Width};
+ghost use Rattle.ir_grammar.specs.Examples.{add_nsw, add_nsw_symbols, i8_x, i8_x_symbols, icmp_ult, icmp_ult_symbols, lshr_exact, lshr_exact_symbols, select_x, select_x_symbols, void_x, void_x_symbols, xor_true, xor_true_symbols, zext_x, zext_x_symbols};
+ghost use Rattle.ir_grammar.specs.Words.{word_said};
+ghost use Rattle.ir_grammar.specs.Written.{operand, operation, written};
+
+/// The body is empty on purpose: the clauses are examples of how things are written.
+pub fn examples_of_writing()
+    ensures operand { operand i8_x ≡ i8_x_symbols }
+    ensures overflow { operation add_nsw ≡ add_nsw_symbols }
+    ensures exact { operation lshr_exact ≡ lshr_exact_symbols }
+    ensures plain { operation xor_true ≡ xor_true_symbols }
+    ensures compare { operation icmp_ult ≡ icmp_ult_symbols }
+    ensures cast { operation zext_x ≡ zext_x_symbols }
+    ensures select { operation select_x ≡ select_x_symbols }
+    ensures definition { written void_x ≡ void_x_symbols }
+{}
+
+/// The body is empty on purpose: the clauses are examples of what words are.
+#[tactic(auto, unfolding(crate::specs::Words::word_said))]
+pub fn examples_of_words()
+    ensures width { word_said (codes "i64") ≡ Width 64 }
+    ensures wide { word_said (codes "i65") ≡ Foreign }
+    ensures zero { word_said (codes "i0") ≡ Foreign }
+    ensures padded { word_said (codes "i08") ≡ Foreign }
+    ensures operator { word_said (codes "mul") ≡ Overflow Mul }
+    ensures predicate { word_said (codes "ult") ≡ PredWord Ult }
+    ensures alone { word_said (codes "exact") ≡ Key ExactKey }
+    ensures other { word_said (codes "load") ≡ Foreign }
+{}

@@ -1,0 +1,30 @@
+use crate::operators::{ExactOp, FlagWord, OverflowOp, PlainOp};
+use crate::trees::ConstantWord;
+use ir_core::{CastOp, Pred};
+
+/// A word that says nothing but itself.
+#[derive(Drop, Clone, Copy)]
+pub enum KeyWord {
+    Define,
+    Void,
+    Ret,
+    Exact,
+    Icmp,
+    Select,
+    To,
+}
+
+/// What a word is in the grammar: a type `iN` by its width, a word of a group, one that stands alone, or none of the grammar's.
+#[derive(Drop, Clone, Copy)]
+pub enum Word {
+    Width(u32),
+    Constant(ConstantWord),
+    Overflow(OverflowOp),
+    Exact(ExactOp),
+    Plain(PlainOp),
+    Cast(CastOp),
+    Pred(Pred),
+    Flag(FlagWord),
+    Key(KeyWord),
+    Foreign,
+}

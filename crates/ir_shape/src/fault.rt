@@ -1,0 +1,65 @@
+ghost use Rattle.std.specs.Prelude.{◌≡◌};
+ghost use Rattle.ir_shape.specs.Shape.{kind_text};
+
+use ir_core::Name;
+use std::alloc::AllocError;
+
+/// What is wrong at a place of a module.
+#[derive(Drop, Clone, Copy)]
+pub enum ShapeKind {
+    /// A function has a name that begins with `llvm.dbg.`.
+    Name,
+    /// An operator stands over operands of types that it doesn't take.
+    OperandType,
+    /// A terminator returns what isn't of the function's result type.
+    ReturnType,
+    /// A conversion doesn't lead from its operand's type to the one behind `to`.
+    CastWidth,
+}
+
+impl ShapeKind {
+    /// The words in which it is told.
+    pub fn text(self) -> &'static str
+        ensures { result.now ≡ kind_text self }
+    {
+        match self {
+            ShapeKind::Name => "name",
+            ShapeKind::OperandType => "operand type",
+            ShapeKind::ReturnType => "return type",
+            ShapeKind::CastWidth => "cast width",
+        }
+    }
+}
+
+/// A line of a function: its block, and its number among the block's phis, body lines and terminator, counted from 0.
+#[derive(Drop)]
+pub struct LinePlace {
+    pub block: Name,
+    pub line: usize,
+}
+
+/// What is wrong with a module, and where: in a line of the function of that name, or, where there is no line, in the
+/// function's own name.
+#[derive(Drop)]
+pub struct ShapeFault {
+    pub function: Name,
+    pub place: Option<LinePlace>,
+    pub kind: ShapeKind,
+}
+
+/// Why a module is not said to be without fault.
+#[derive(Drop)]
+pub enum ShapeEnd {
+    Fault(ShapeFault),
+    Memory,
+}
+
+impl From<AllocError> for ShapeEnd {
+    ghost use Rattle.ir_shape.specs.declared.fault.ShapeEnd.TheVariants as end;
+
+    ghost from_gives = { λ _ e. e ≡ end.Memory };
+
+    fn from(_error: AllocError) -> ShapeEnd {
+        ShapeEnd::Memory
+    }
+}

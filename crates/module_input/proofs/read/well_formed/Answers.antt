@@ -1,0 +1,10 @@
+use Rattle.module_input.proofs.Told.{are_bytes, fitting, told_of_text}
+use Rattle.module_input.proofs.read.well_formed.Goals as goal
+
+pub returns-clause-well_formed : goal.returns-clause-well_formed
+returns-clause-well_formed c =
+    fitting c.args.text.now c.args.module.now c.requires c.spelled_modules_fit.ensures.shape c.spelled_modules_fit.ensures.range (are_bytes c.args.text.now c.type_inv.text) c.fits.result
+    c.fits.ensures.faultless c.fits.ensures.defined
+
+pub returns-clause-fault : goal.returns-clause-fault
+returns-clause-fault c = told_of_text c.args.text.now c.args.module.now c.requires c.fits.result c.fits.ensures.fault

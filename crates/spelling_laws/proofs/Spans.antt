@@ -1,0 +1,269 @@
+-- What a tree of a text claims stands from a place up to one that isn't before it.
+use Rattle.std.proofs.Common.{◌<◌, ◌≤◌, ◌+◌, ◌^◌, ℕ, Bool, true, false, cond, List, [], ◌∷◌, ◌++◌, map, Option, Some, None, sym, subst, arith}
+use Rattle.std.specs.Prelude.{◌==◌, nat_lt}
+use Rattle.std.specs.List.{AllByRecursion, flat_map}
+use Rattle.ir_core.specs.declared.names.Name.{Name}
+use Rattle.ir_core.specs.declared.names.Name.TheVariants.{Text, Number}
+use Rattle.ir_core.specs.declared.names.Sigil.{Sigil}
+use Rattle.ir_core.specs.declared.operands.Const.{Const}
+use Rattle.ir_lexer.specs.declared.token.TokenKind.{TokenKind}
+use Rattle.ir_lexer.specs.declared.token.TokenKind.TheVariants as kind
+use Rattle.ir_lexer.specs.Cut.{Placed as PlacedToken}
+use Rattle.ir_grammar.specs.declared.trees.DefinitionText.{DefinitionText}
+use Rattle.ir_grammar.specs.declared.trees.ExprText.{ExprText}
+use Rattle.ir_grammar.specs.declared.trees.ExprText.TheVariants.{Plain, Operation}
+use Rattle.ir_grammar.specs.declared.trees.LineText.{LineText}
+use Rattle.ir_grammar.specs.declared.trees.ModuleText.{ModuleText}
+use Rattle.ir_grammar.specs.declared.trees.OperandText.{OperandText}
+use Rattle.ir_grammar.specs.declared.trees.OperationText.{OperationText}
+use Rattle.ir_grammar.specs.declared.trees.OperationText.TheVariants as form
+use Rattle.ir_grammar.specs.declared.trees.ParamText.{ParamText}
+use Rattle.ir_grammar.specs.declared.trees.Placed.{Placed}
+use Rattle.ir_grammar.specs.declared.trees.SelectText.{SelectText}
+use Rattle.ir_grammar.specs.declared.trees.ValueText.{ValueText}
+use Rattle.ir_grammar.specs.declared.trees.ValueText.TheVariants as text
+use Rattle.ir_grammar.specs.declared.words.Word.{Word}
+use Rattle.ir_grammar.specs.declared.words.Word.TheVariants as word
+use Rattle.ir_grammar.specs.Symbols.{Symbol, mark_symbol, symbol, symbol_at, word_symbol}
+use Rattle.ir_grammar.specs.Symbols as symbols
+use Rattle.ir_grammar.specs.Words.{word_said}
+use Rattle.ir_grammar.specs.Written as write
+use Rattle.name_claims.specs.declared.claims.Claim.{Claim}
+use Rattle.name_claims.specs.declared.claims.Fault.{Fault}
+use Rattle.name_claims.specs.declared.claims.Item.{Item}
+use Rattle.name_claims.specs.Faults.{HasFault}
+use Rattle.ir_naming.specs.Expressions.{expression_claims, number_range, operation_ranges, ranges_of}
+use Rattle.ir_naming.specs.Naming.{Thing, block_claims, block_things, claims_of, constant_claims, due_behind, function_thing, item_of, label_name, line_claims, line_thing, module_item, name_claims, name_claims_from, number_claims, operation_claims, param_thing, return_claims, things_of, value_claims}
+use Rattle.ir_naming.specs.Values.{number_of, word_of}
+use Rattle.ir_spelling.specs.Forms.{expression_form, module_form, name_form}
+use Rattle.ir_naming_laws.proofs.Lists.{all_append, all_to}
+use Rattle.spelling_laws.proofs.Lists.{all_lists}
+use Rattle.spelling_laws.proofs.Trees.{DefinitionHas, LineHas, OperationHas, PairHas, ParamHas, definition_has, operation_has}
+use Rattle.spelling_laws.specs.Told.{HasSpans, HaveBytes}
+
+-- ---- symbols
+
+abbrev Spans : {T : Type 0} → Placed T → Type 0
+Spans w = w.start < w.end
+
+abbrev SymbolSpans : Symbol → Type 0
+SymbolSpans (symbols.Local w) = Spans w
+SymbolSpans (symbols.Global w) = Spans w
+SymbolSpans (symbols.Label w) = Spans w
+SymbolSpans (symbols.Numeral w) = Spans w
+SymbolSpans (symbols.Width w) = Spans w
+SymbolSpans (symbols.Constant w) = Spans w
+SymbolSpans s = Unit {0}
+
+abbrev AllSpan : List Symbol → Type 0
+AllSpan = AllByRecursion SymbolSpans
+
+either : (b : Bool) (s t : Symbol) → SymbolSpans s → SymbolSpans t → SymbolSpans (cond b s t)
+either true s t here there = here
+either false s t here there = there
+
+word_spans : (w : Word) (start end : ℕ) → start < end → SymbolSpans (word_symbol w start end)
+word_spans (word.Width n) start end less = less
+word_spans (word.Constant c) start end less = less
+word_spans (word.Overflow op) start end less = tt
+word_spans (word.Exact op) start end less = tt
+word_spans (word.Plain op) start end less = tt
+word_spans (word.Cast op) start end less = tt
+word_spans (word.Pred pred) start end less = tt
+word_spans (word.Flag flag) start end less = tt
+word_spans (word.Key k) start end less = tt
+word_spans word.Foreign start end less = tt
+
+mark_spans : (b : ℕ) → SymbolSpans (mark_symbol b)
+unfolding mark_symbol
+mark_spans b =
+    either (b == 44) _ _ tt
+    (either (b == 61) _ _ tt
+    (either (b == 40) _ _ tt
+    (either (b == 41) _ _ tt
+    (either (b == 123) _ _ tt
+    (either (b == 125) _ _ tt tt)))))
+
+token_spans : (k : TokenKind) (start end : ℕ) → start < end → SymbolSpans (symbol_at k start end)
+token_spans (kind.Local name) start end less = less
+token_spans (kind.Global name) start end less = less
+token_spans (kind.Label name) start end less = less
+token_spans (kind.Number number) start end less = less
+token_spans (kind.Word w) start end less = word_spans (word_said w) start end less
+token_spans (kind.Mark b) start end less = mark_spans b
+token_spans (kind.Attribute digits) start end less = tt
+token_spans kind.Bang start end less = tt
+token_spans (kind.Metadata run) start end less = tt
+token_spans kind.Dots start end less = tt
+token_spans (kind.Text bytes) start end less = tt
+
+tokens_span : (tokens : List PlacedToken) → HaveBytes tokens → AllSpan (map symbol tokens)
+tokens_span [] each = tt
+tokens_span (t ∷ tokens) each = (token_spans t.kind t.start t.end each.0, tokens_span tokens each.1)
+
+-- ---- claims of values
+
+abbrev ClaimSpans : Claim → Type 0
+ClaimSpans c = c.start ≤ c.end
+
+abbrev Claims : List Claim → Type 0
+Claims = AllByRecursion ClaimSpans
+
+constant_spans : {T : Type 0} (w : Placed T) (c : Option Const) → Spans w → Claims (constant_claims w c)
+constant_spans w None spans = (omega (arith, spans), tt)
+constant_spans w (Some c) spans = tt
+
+value_spans : (width : ℕ) (v : ValueText) → SymbolSpans (write.value v) → Claims (value_claims width v)
+value_spans width (text.Number w) spans = constant_spans w (number_of width w.what) spans
+value_spans width (text.Constant w) spans = constant_spans w (word_of width w.what) spans
+value_spans width (text.Local w) spans = (omega (arith, spans), tt)
+
+number_in_range : (width : ℕ) (v : ValueText) → SymbolSpans (write.value v) → Claims (number_range width v)
+number_in_range width (text.Number w) spans = constant_spans w (number_of width w.what) spans
+number_in_range width (text.Constant w) spans = constant_spans w (word_of width w.what) spans
+number_in_range width (text.Local w) spans = tt
+
+-- what is claimed of values is claimed of operands
+module _ (claims : ℕ → ValueText → List Claim) (each : (width : ℕ) (v : ValueText) → SymbolSpans (write.value v) → Claims (claims width v)) where
+  operand_spans : (o : OperandText) → AllSpan (write.operand o) → Claims (claims o.ty.what o.value)
+  operand_spans o spans = each o.ty.what o.value spans.1.0
+
+  pair_spans : (left : OperandText) (right : ValueText) → PairHas SymbolSpans left right → Claims (claims left.ty.what left.value ++ claims left.ty.what right)
+  pair_spans left right spans =
+      all_append ClaimSpans (claims left.ty.what left.value) (claims left.ty.what right) (operand_spans left spans.0) (each left.ty.what right spans.1)
+
+  select_spans : (s : SelectText) → OperationHas SymbolSpans (form.Select s) → Claims (claims s.condition.ty.what s.condition.value ++ claims s.then.ty.what s.then.value ++ claims s.other.ty.what s.other.value)
+  select_spans s spans =
+      let condition = claims s.condition.ty.what s.condition.value in
+      let then = claims s.then.ty.what s.then.value in
+      all_append ClaimSpans (condition ++ then) (claims s.other.ty.what s.other.value)
+      (all_append ClaimSpans condition then (operand_spans s.condition spans.0) (operand_spans s.then spans.1))
+      (operand_spans s.other spans.2)
+
+operation_spans : (o : OperationText) → OperationHas SymbolSpans o → Claims (operation_claims o)
+operation_spans (form.Binary b) spans = pair_spans value_claims value_spans b.left b.right spans
+operation_spans (form.Compare c) spans = pair_spans value_claims value_spans c.left c.right spans
+operation_spans (form.Cast c) spans = operand_spans value_claims value_spans c.from spans.0
+operation_spans (form.Select s) spans = select_spans value_claims value_spans s spans
+
+lines_span : (ls : List LineText) → AllByRecursion (LineHas SymbolSpans) ls → Claims (flat_map line_claims ls)
+lines_span [] spans = tt
+lines_span (l ∷ ls) spans =
+    all_append ClaimSpans (line_claims l) (flat_map line_claims ls) (operation_spans l.operation spans.0.1) (lines_span ls spans.1)
+
+return_spans : (o : Option OperandText) → AllSpan (write.returned o) → Claims (return_claims o)
+return_spans None spans = tt
+return_spans (Some o) spans = operand_spans value_claims value_spans o spans
+
+-- ---- claims of names
+
+-- a thing's names, of which a label is without its `:`
+abbrev WrittenSpans : Option (Placed Name) → Type 0
+WrittenSpans None = Unit {0}
+WrittenSpans (Some w) = w.start ≤ w.end
+
+abbrev ThingSpans : Thing → Type 0
+ThingSpans t = (t.function.start ≤ t.function.end) × WrittenSpans t.written
+
+number_spans : (due : ℕ) (w : Placed Name) (name : Name) → w.start ≤ w.end → Claims (number_claims due w name)
+number_spans due w (Text bytes) spans = tt
+number_spans due w (Number n) spans = (spans, tt)
+
+unnamed_spans : (b : Bool) (c : Claim) → ClaimSpans c → Claims (cond b [] (c ∷ []))
+unnamed_spans true c spans = tt
+unnamed_spans false c spans = (spans, tt)
+
+name_spans : (function : Placed Name) (index due : ℕ) (w : Option (Placed Name)) → function.start ≤ function.end → WrittenSpans w → Claims (name_claims function index due w)
+name_spans function index due None outer spans = unnamed_spans (nat_lt due (2 ^ 32)) _ outer
+name_spans function index due (Some w) outer spans = (spans, number_spans due w w.what spans)
+
+things_span : (index due : ℕ) (ts : List Thing) → AllByRecursion ThingSpans ts → Claims (name_claims_from index due ts)
+things_span index due [] spans = tt
+things_span index due (t ∷ ts) spans =
+    all_append ClaimSpans (name_claims t.function index due t.written) (name_claims_from (index + 1) (due_behind due t.written) ts)
+    (name_spans t.function index due t.written spans.0.0 spans.0.1)
+    (things_span (index + 1) (due_behind due t.written) ts spans.1)
+
+local_spans : (w : Option (Placed Name)) → AllSpan (write.local w) → WrittenSpans w
+local_spans None spans = tt
+local_spans (Some w) spans = let less : w.start < w.end = spans.0 in omega (arith, less)
+
+register_spans : (w : Option (Placed Name)) → AllSpan (write.register w) → WrittenSpans w
+register_spans None spans = tt
+register_spans (Some w) spans = let less : w.start < w.end = spans.0 in omega (arith, less)
+
+label_spans : (w : Option (Placed Name)) → AllSpan (write.label w) → WrittenSpans (label_name w)
+label_spans None spans = tt
+label_spans (Some w) spans = let less : w.start < w.end = spans.0 in omega (arith, less)
+
+param_things_span : (function : Placed Name) (ps : List ParamText) → function.start ≤ function.end → AllByRecursion (ParamHas SymbolSpans) ps → AllByRecursion ThingSpans (map (param_thing function) ps)
+param_things_span function [] outer spans = tt
+param_things_span function (p ∷ ps) outer spans = ((outer, local_spans p.name spans.0.1), param_things_span function ps outer spans.1)
+
+line_things_span : (function : Placed Name) (ls : List LineText) → function.start ≤ function.end → AllByRecursion (LineHas SymbolSpans) ls → AllByRecursion ThingSpans (map (line_thing function) ls)
+line_things_span function [] outer spans = tt
+line_things_span function (l ∷ ls) outer spans = ((outer, register_spans l.register spans.0.0), line_things_span function ls outer spans.1)
+
+abbrev DefinitionSpans : DefinitionText → Type 0
+DefinitionSpans = DefinitionHas SymbolSpans
+
+abbrev ItemSpans : Item → Type 0
+ItemSpans item = Claims item.claims
+
+outer_spans : (d : DefinitionText) → DefinitionSpans d → d.name.start ≤ d.name.end
+outer_spans d s = let less : d.name.start < d.name.end = s.name in omega (arith, less)
+
+item_spans : (d : DefinitionText) → DefinitionSpans d → ItemSpans (item_of d)
+item_spans d s =
+    let outer = outer_spans d s in
+    all_append ClaimSpans (name_claims_from 0 0 (things_of d)) (block_claims d.block)
+    (things_span 0 0 (things_of d) (all_append ThingSpans (map (param_thing d.name) d.params) (block_things d.name d.block) (param_things_span d.name d.params outer s.params) ((outer, label_spans d.block.label s.label), line_things_span d.name d.block.lines outer s.lines)))
+    (all_append ClaimSpans (flat_map line_claims d.block.lines) (return_claims d.block.result) (lines_span d.block.lines s.lines) (return_spans d.block.result s.returned))
+
+items_span : (ds : List DefinitionText) → AllByRecursion DefinitionSpans ds → AllByRecursion ItemSpans (map item_of ds)
+items_span [] spans = tt
+items_span (d ∷ ds) spans = (item_spans d spans.0, items_span ds spans.1)
+
+function_things_span : (ds : List DefinitionText) → AllByRecursion DefinitionSpans ds → AllByRecursion ThingSpans (map function_thing ds)
+function_things_span [] spans = tt
+function_things_span (d ∷ ds) spans =
+    let outer = outer_spans d spans.0 in
+    ((outer, outer), function_things_span ds spans.1)
+
+claims_span : (m : ModuleText) → AllByRecursion DefinitionSpans m.definitions → AllByRecursion ItemSpans (claims_of m)
+claims_span m spans =
+    all_append ItemSpans (map item_of m.definitions) (module_item m ∷ []) (items_span m.definitions spans)
+    (things_span 0 0 (map function_thing m.definitions) (function_things_span m.definitions spans), tt)
+
+-- ---- faults
+
+spans_of : (items : List Item) → AllByRecursion ItemSpans items → (f : Fault) → HasFault items f → f.start ≤ f.end
+spans_of items each f (item, there, (claim, inside, is)) =
+    let claims = all_to ItemSpans items each item there in
+    let spans : claim.start ≤ claim.end = all_to ClaimSpans item.claims claims claim inside in
+    subst (λ n. n ≤ f.end) (sym is.0) (subst (λ n. claim.start ≤ n) (sym is.1) spans)
+
+pub module_spans : HasSpans module_form
+module_spans tokens m f order same has =
+    let symbols_span = subst AllSpan (sym same) (tokens_span tokens order) in
+    let definitions = all_lists SymbolSpans DefinitionSpans write.definition m.definitions (definition_has SymbolSpans) symbols_span in
+    spans_of (claims_of m) (claims_span m definitions) f has
+
+-- ---- expressions and names
+
+operation_in_range : (o : OperationText) → OperationHas SymbolSpans o → Claims (operation_ranges o)
+operation_in_range (form.Binary b) spans = pair_spans number_range number_in_range b.left b.right spans
+operation_in_range (form.Compare c) spans = pair_spans number_range number_in_range c.left c.right spans
+operation_in_range (form.Cast c) spans = operand_spans number_range number_in_range c.from spans.0
+operation_in_range (form.Select s) spans = select_spans number_range number_in_range s spans
+
+ranges_span : (e : ExprText) → AllSpan (write.expression e) → Claims (ranges_of e)
+ranges_span (Plain o) spans = operand_spans number_range number_in_range o spans
+ranges_span (Operation o) spans = operation_in_range o (operation_has SymbolSpans o spans)
+
+pub expression_spans : HasSpans expression_form
+expression_spans tokens e f order same has =
+    spans_of (expression_claims e) (ranges_span e (subst AllSpan (sym same) (tokens_span tokens order)), tt) f has
+
+pub no_spans : (sigil : Sigil) → HasSpans (name_form sigil)
+no_spans sigil tokens name f order same has = spans_of [] tt f has

@@ -1,9 +1,0 @@
-use Rattle.std.proofs.Common.{arith}
-use Rattle.tree_reader.proofs.Wide.{above, not_above}
-use Rattle.tree_reader.proofs.left_out.is_above_64.Goals as goal
-
-pub returns-then-value-gt64 : goal.returns-then-value-gt64
-returns-then-value-gt64 c = above c.loop-digit.value c.loop-digit.digit-index c.args.digits.now c.loop-digit.invariant.0 (omega arith) (omega arith)
-
-pub returns : goal.returns
-returns c = not_above c.loop-digit.value c.loop-digit.digit-index c.args.digits.now c.loop-digit.invariant.0 (omega arith) c.loop-digit.invariant.1
