@@ -24,15 +24,19 @@ BUILT = os.path.join(HERE, "..", "crates", "crell", "out", "crell")
 NO_HINTS = '{"format":1,"functions":{}}'
 
 
-def chain(count):
-    """A function of so many lines, each over some of the last registers; a fixed generator makes it the same text everywhere."""
-    state = 7
-
+def picker(state):
+    """Numbers below a given one, which look random and are the same everywhere."""
     def pick(among):
         nonlocal state
         state = (state * 6364136223846793005 + 1442695040888963407) % 2**64
         return (state >> 33) % among
 
+    return pick
+
+
+def chain(count):
+    """A function of so many lines, each over some of the last registers; a fixed generator makes it the same text everywhere."""
+    pick = picker(7)
     names = ["%x", "%y"]
     lines = ["define i32 @f(i32 %x, i32 %y) {", "entry:"]
     for k in range(count):
@@ -46,13 +50,7 @@ def chain(count):
 
 def mixed(count):
     """A function of so many lines of all operators over i8, i32 and i64, each over some of the last registers of its type."""
-    state = 11
-
-    def pick(among):
-        nonlocal state
-        state = (state * 6364136223846793005 + 1442695040888963407) % 2**64
-        return (state >> 33) % among
-
+    pick = picker(11)
     known = {"i1": ["%c"], "i8": ["%a"], "i32": ["%x", "%y"], "i64": ["%z"]}
     binary = ["add nsw", "sub", "mul nuw", "shl", "udiv exact", "sdiv", "lshr", "ashr exact", "urem", "srem", "and", "or", "xor"]
     predicates = ["eq", "ne", "ugt", "uge", "ult", "ule", "sgt", "sge", "slt", "sle"]
