@@ -5,8 +5,9 @@ usage: bench/count.py [--program PATH] [--only WORD] [--write FILE]
 
 A row of budgets.tsv has, between tabs: its name, an input, a command, a unit (byte or line), a budget (instructions a unit), the peak of
 memory in MB, and whether the count has to grow linearly (yes or no). In a command {} stands for the input's file, NONE for hints that
-say nothing, BASE for a module of one line. An input is made by rule: chain:N is a function of N lines of i32, mixed:N one of all operators
-over integers of several widths, steps:N a hint file of N steps, blocks:N one of N blocks.
+say nothing, STEP for one step before the first line, with which facts are kept along the block, BASE for a module of one line. An input is
+made by rule: chain:N is a function of N lines of i32, mixed:N one of all operators over integers of several widths, steps:N a hint file of
+N steps, blocks:N one of N blocks.
 
 Counts are callgrind's totals less those of the same command on an empty input, so they don't depend on the machine's load; two runs
 differ by less than 0.2 %. Peak memory is that of a run of its own. Where growth has to be linear the input is made at half its size too,
@@ -86,6 +87,7 @@ def blocks(count):
     return hints([f'{{"at":"%{k}"}}' for k in range(count)])
 
 
+ONE_STEP = hints(['{"at":"%entry","steps":[{"at":0,"rule":"undef_const","side":"src","from":[],"to":["ge","i32 undef","i32 7"]}]}'])
 MAKERS = {"chain": chain, "mixed": mixed, "steps": steps, "blocks": blocks}
 EMPTY = {"chain": "define i32 @f() {\n  ret i32 0\n}\n", "mixed": "define i32 @f() {\n  ret i32 0\n}\n", "steps": steps(0), "blocks": blocks(0)}
 
@@ -102,7 +104,7 @@ class Bench:
         return path
 
     def words(self, command, path):
-        files = {"{}": path, "NONE": self.put("none.json", NO_HINTS), "BASE": self.put("base.ll", chain(1))}
+        files = {"{}": path, "NONE": self.put("none.json", NO_HINTS), "STEP": self.put("step.json", ONE_STEP), "BASE": self.put("base.ll", chain(1))}
         return [self.program] + [files.get(word, word) for word in command.split()]
 
     def count(self, words):

@@ -1,5 +1,5 @@
 -- The bytes of a text.
-use Rattle.std.specs.Prelude.{ℕ, List, nat_eq}
+use Rattle.std.specs.Prelude.{ℕ, List, take, nat_eq}
 use Rattle.std.specs.Rc.{rc_slice_items}
 use Rattle.std.specs.Hash.{Alike, u8}
 use Rattle.std.proofs.Common.{ap}
@@ -8,7 +8,7 @@ use Rattle.contents.specs.declared.text.Held.{Held}
 use Rattle.contents.specs.declared.text.Held.TheVariants.{Short, Long}
 
 abbrev pub bytes_held : Held → List ℕ
-bytes_held (Short bytes) = bytes.items
+bytes_held (Short bytes) = take bytes.count bytes.bytes
 bytes_held (Long bytes) = rc_slice_items bytes
 
 -- equal bytes are hashed alike

@@ -6,6 +6,7 @@
 
 mod boxed;
 mod exact;
+mod in_place;
 mod seq;
 mod text;
 

@@ -2,7 +2,7 @@ ghost use Rattle.std.specs.Prelude.{◌≡◌, IfOk};
 ghost use Rattle.contents.specs.Text.{bytes_held};
 
 use crate::Exact;
-use arrayvec::ArrayVec;
+use crate::in_place::InPlace;
 use std::alloc::{AllocError, Global};
 use std::hash::{Hash, Hasher};
 use std::marker::Model;
@@ -11,7 +11,7 @@ use std::rc::RcSlice;
 /// How a text stands: at most 22 bytes in place, more of them shared by their owners.
 #[derive(Drop)]
 enum Held {
-    Short(ArrayVec<u8, 22>),
+    Short(InPlace),
     Long(RcSlice<u8>),
 }
 
@@ -39,13 +39,7 @@ fn copy_of(held: &Held) -> Result<Held, AllocError>
     ensures { IfOk result (λ copy. bytes_held copy ≡ bytes_held held.now) }
 {
     match held {
-        Held::Short(bytes) => {
-            let mut copy = ArrayVec::new();
-            match copy.try_extend_from_slice(bytes.as_slice()) {
-                Ok(()) => Ok(Held::Short(copy)),
-                Err(_) => Err(AllocError),
-            }
-        }
+        Held::Short(bytes) => Ok(Held::Short(*bytes)),
         Held::Long(bytes) => Ok(Held::Long(bytes.clone()?)),
     }
 }
@@ -55,12 +49,11 @@ impl Text {
     pub fn from_slice(alloc: Global, bytes: &[u8]) -> Result<Text, AllocError>
         ensures { IfOk result (λ text. text ≡ bytes.now) }
     {
-        let mut short = ArrayVec::new();
-        match short.try_extend_from_slice(bytes) {
-            Ok(()) => Ok(Text {
+        match InPlace::of(bytes) {
+            Some(short) => Ok(Text {
                 held: Held::Short(short),
             }),
-            Err(_) => Ok(Text {
+            None => Ok(Text {
                 held: Held::Long(RcSlice::from_slice(alloc, bytes)?),
             }),
         }

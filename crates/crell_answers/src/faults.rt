@@ -7,7 +7,7 @@ ghost use Rattle.crell_answers.specs.Answer as answer;
 ghost use Rattle.crell_answers.specs.Private.{use_behind};
 
 use crate::answer::{Answer, fault, past_limit};
-use crate::verdict_text::push_name;
+use crate::pieces::{push_name, push_number, push_place};
 use definedness::Undefined;
 use ir_core::{Name, Sigil};
 use ir_shape::{LinePlace, ShapeFault};
@@ -28,20 +28,6 @@ fn bytes_at(text: &[u8], place: usize, size: usize) -> &[u8]
     let (_, rest) = text.split_at(place.min(text.len()));
     let (word, _) = rest.split_at(size.min(rest.len()));
     word
-}
-
-fn push_number(alloc: Global, text: &mut Vec<u8>, number: u64) -> Result<(), AllocError>
-    ensures { OnOk result (text.new.items ≡ text.old.items ++ decimal number) }
-{
-    let printed = format!(in alloc; "{number}")?;
-    text.extend_from_slice(printed.as_bytes())
-}
-
-fn push_place(alloc: Global, text: &mut Vec<u8>, place: usize) -> Result<(), AllocError>
-    ensures { OnOk result (text.new.items ≡ text.old.items ++ decimal place) }
-{
-    let printed = format!(in alloc; "{place}")?;
-    text.extend_from_slice(printed.as_bytes())
 }
 
 /// The text spells no module; this is wrong at that place.

@@ -4,6 +4,7 @@
 
 mod answer;
 mod faults;
+mod pieces;
 mod verdict_text;
 
 pub use answer::{Answer, absent, past_limit, read_failed, unfit, usage_text};

@@ -4,11 +4,12 @@ ghost use Rattle.hint_format.specs.Form.{printed_fact};
 ghost use Rattle.crell_answers.specs.VerdictText as spec;
 
 use crate::answer::Answer;
+use crate::pieces::{push_name, push_number};
 use contents::Seq;
 use erhl_assert::{Difference, Fact, ModuleVerdict, Reason, Spot};
 use hint_format::print_fact;
 use ir_core::{Name, Operand, Sigil};
-use ir_printer::{print_name, print_value};
+use ir_printer::print_value;
 use std::alloc::{AllocError, Global};
 
 /// The verdict on a line of out: status 0 for a pair that is valid, 1 for one that is refused or differs.
@@ -109,28 +110,12 @@ fn push_at_spot(
     push_reason(alloc, text, reason)
 }
 
-/// The name behind its sigil.
-pub fn push_name(
-    alloc: Global,
-    text: &mut Vec<u8>,
-    sigil: Sigil,
-    name: &Name,
-) -> Result<(), AllocError>
-    ensures { OnOk result (text.new.items ≡ text.old.items ++ printed_name sigil name.now) }
-{
-    let printed = print_name(alloc, sigil, name)?;
-    text.extend_from_slice(printed.as_slice())
-}
-
 fn push_spot(alloc: Global, text: &mut Vec<u8>, spot: &Spot) -> Result<(), AllocError>
     ensures { OnOk result (text.new.items ≡ text.old.items ++ spec.spot_text spot.now) }
 {
     match spot {
         Spot::Start => text.extend_from_slice(b"start"),
-        Spot::Line(k) => {
-            let printed = format!(in alloc; "{k}")?;
-            text.extend_from_slice(printed.as_bytes())
-        }
+        Spot::Line(k) => push_number(alloc, text, *k),
     }
 }
 

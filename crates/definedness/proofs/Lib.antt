@@ -1,1 +1,10 @@
-pub mod FirstUse
+pub mod Names
+pub mod Graphs
+pub mod Ways
+pub mod Thinned
+pub mod Answered
+pub mod Everywhere
+pub mod Judged
+pub mod Reached
+pub mod Shaped
+pub mod NotDefined

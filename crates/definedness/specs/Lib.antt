@@ -1,2 +1,4 @@
 pub mod Undefined
 pub mod Along
+pub mod Flow
+pub mod Laws

@@ -1,6 +1,10 @@
 //! Whether each register of a function is defined on every path to its uses (LangRef 3.7, Well-Formedness).
 #![tactic(auto)]
 
+mod flow;
+mod laws;
 mod paths;
+mod uses;
 
-pub use paths::{DefEnd, Undefined, defined};
+pub use laws::{shape_knows_labels, undefined_uses_are_faults};
+pub use paths::{DefEnd, Undefined, defined, reachable};

@@ -2,7 +2,7 @@
 use Rattle.std.specs.Prelude.{◌≡◌, ℕ, ◌+◌, Bool, true, ◌&&◌, cond, List, [], ◌∷◌, ◌++◌, map, Option, None, Some, find}
 use Rattle.ir_core.specs.declared.names.Name.{Name}
 use Rattle.ir_core.specs.declared.functions.Term.{Term}
-use Rattle.ir_core.specs.declared.functions.Term.TheVariants.{Ret, RetVoid}
+use Rattle.ir_core.specs.declared.functions.Term.TheVariants.{Ret, RetVoid, Unreachable}
 use Rattle.ir_core.specs.declared.functions.Function.{Function}
 use Rattle.ir_core.specs.declared.functions.Module.{Module}
 use Rattle.ir_core.specs.Same.{same_list, same_name, same_ty}
@@ -28,12 +28,14 @@ use Rattle.erhl_assert.specs.Course.{and_then, tested, Judged, Good, Bad, placed
 use Rattle.erhl_assert.specs.Growth.{over_line}
 use Rattle.erhl_assert.specs.Steps.{Rules, Beside, beside, after_steps, steps_at}
 
--- Both return a value, and the two are matched, or neither returns one: `ret void` beside `ret i32 %x` is `kinds differ`.
+-- Both return a value, and the two are matched, or neither returns one: `ret void` beside `ret i32 %x` is `kinds differ`. Beside
+-- `unreachable` stands `unreachable`, where the source is undefined behaviour. What is known isn't followed into another block yet, so no
+-- `br` and no `switch` is accepted, whatever stands beside it.
 abbrev pub term_fault : Assertion → Term → Term → Option Reason
 term_fault known (Ret a) (Ret b) = cond (matched known a b) None (Some (Unmatched a b))
 term_fault known RetVoid RetVoid = None
-term_fault known (Ret a) RetVoid = Some KindsDiffer
-term_fault known RetVoid (Ret b) = Some KindsDiffer
+term_fault known Unreachable Unreachable = None
+term_fault known s t = Some KindsDiffer
 
 abbrev pub term_judged : Name → ℕ → Term → Term → Assertion → Judged
 term_judged block k s t known = placed block (spot.Line k) (tested (term_fault known s t) known) (λ done. Good [])
@@ -57,7 +59,7 @@ entry_fault known = first_missing_of (known.src ++ known.tgt)
 abbrev pub entry_judged : Beside → HintBlock → AlignedBlock → Judged
 entry_judged w h b = placed b.name spot.Start (tested (entry_fault h.entry) h.entry) (lines_judged w b.name h.steps 0 b.lines b.source b.target)
 
--- No terminator leads to another block yet, so the first alone is reached.
+-- No terminator is accepted that leads to another block, so of two functions that are accepted the first blocks alone are reached.
 abbrev pub reached_judged : Beside → Hint → List AlignedBlock → Judged
 reached_judged w hint [] = Good []
 reached_judged w hint (b ∷ bs) = entry_judged w (block_hint hint b.name) b

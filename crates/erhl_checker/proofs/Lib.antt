@@ -1,2 +1,3 @@
+pub mod Agreements
 pub mod Differing
 pub mod Progressing

@@ -1,9 +1,7 @@
 -- Steps and lines, one at a time.
 use Rattle.std.proofs.Common.{◌≡◌, ◌∙◌, ℕ, ◌+◌, ◌≤◌, true, false, cond, List, [], ◌∷◌, ◌++◌, length, drop, refl, sym, ap, ap₂, subst}
 use Rattle.std.proofs.lemmas.List.{drop_all}
-use Rattle.std.specs.Prelude.{Option, None, Some, Result, Ok, Err, IfOk, find}
-use Rattle.ir_core.specs.declared.limits.Limit.{Limit}
-use Rattle.ir_core.specs.declared.limits.Limit.TheVariants.{Facts}
+use Rattle.std.specs.Prelude.{Option, None, Some, Result, find}
 use Rattle.ir_core.specs.declared.names.Name.{Name}
 use Rattle.ir_core.specs.declared.functions.Instr.{Instr}
 use Rattle.ir_core.specs.declared.functions.Term.{Term}
@@ -24,7 +22,7 @@ use Rattle.ir_core.specs.Same.{same_name}
 use Rattle.erhl_assert.specs.Alignment.{Line, AlignedBlock, no_facts, entry_or_empty, block_hint}
 use Rattle.ir_core.specs.Modules.{Scope}
 use Rattle.erhl_assert.specs.Facts.{with_facts, each_once}
-use Rattle.erhl_assert.specs.Course.{Ends, Refuses, Gives, Course, gives, and_then, tested, Judged, placed, are_too_many, within, answer_at, judged_answer}
+use Rattle.erhl_assert.specs.Course.{Ends, Refuses, Gives, Course, and_then, tested, Judged, placed, are_too_many, within, answer_at, judged_answer}
 use Rattle.erhl_assert.specs.Allowed.{line_fault}
 use Rattle.erhl_assert.specs.Growth.{over_line}
 use Rattle.erhl_assert.specs.Postcondition.{after_line}

@@ -12,10 +12,11 @@ ghost use Rattle.line_align.specs.Lent.{lent_block};
 ghost use Rattle.erhl_checker.specs.Progress.{CameOf, Answers, past_line, term_answer, lines_answer, first_claim};
 
 use crate::CheckEnd;
+use crate::agreeing::block_agrees;
 use crate::steps::after_steps;
 use contents::Exact;
 use erhl_assert::{Assertion, Fact, Hint, HintBlock, Letter, PlacedStep, Reason, Spot, Verdict};
-use erhl_sides::{Sides, matched, sides_for};
+use erhl_sides::{Sides, matched, sides_for, sides_of};
 use fact_sets::IndexedSet;
 use ir_core::{Block, Instr, Module, Name, Operand, Term};
 use line_align::{AlignedBlock, StepsByLine, hint_of, left, on_source, on_target, taken};
@@ -64,6 +65,7 @@ fn at_terms(
     match (source, target) {
         (Term::Ret(a), Term::Ret(b)) => at_returns(alloc, block, k, a, b, known),
         (Term::RetVoid, Term::RetVoid) => Ok(Verdict::Valid),
+        (Term::Unreachable, Term::Unreachable) => Ok(Verdict::Valid),
         _ => refused(alloc, block, Spot::Line(k), Reason::KindsDiffer),
     }
 }
@@ -223,7 +225,12 @@ fn hinted<B: RuleSet>(
             Ok(verdict)
         }
         None => {
-            let entry = Sides::of(alloc, &hint.entry)?;
+            let entry = sides_of(
+                alloc,
+                &hint.entry,
+                block.source.body.len(),
+                block.target.body.len(),
+            )?;
             along(alloc, module, book, hint.steps.as_slice(), block, entry)
         }
     }
@@ -245,6 +252,10 @@ pub(crate) fn entry_verdict<B: RuleSet>(
     match hint_of(hint, &block.source.name) {
         Some(entry) => hinted(alloc, module, book, entry, block),
         None => {
+            let nothing = Sides::empty(alloc)?;
+            if block_agrees(&nothing, block) {
+                return Ok(Verdict::Valid);
+            }
             let entry = sides_for(alloc, block.source.body.len(), block.target.body.len())?;
             along(alloc, module, book, &[], block, entry)
         }

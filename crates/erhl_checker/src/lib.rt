@@ -2,6 +2,7 @@
 //! first place and the first reason.
 #![tactic(auto)]
 
+mod agreeing;
 mod blocks;
 mod ends;
 mod functions;

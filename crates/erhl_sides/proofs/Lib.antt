@@ -1,3 +1,4 @@
 pub mod Atoms
+pub mod Joining
 pub mod Walked
 pub mod Adding

@@ -3,8 +3,9 @@
 #![tactic(auto)]
 
 mod in_logic;
+mod joined;
 mod matching;
 mod sides;
 
 pub use matching::{atoms_matched, matched};
-pub use sides::{Sides, sides_for};
+pub use sides::{Sides, sides_for, sides_of};

@@ -11,6 +11,7 @@ ghost use Rattle.erhl_assert.specs.Matched.{now_operand, of_plain, from_fact, in
 
 use crate::Sides;
 use crate::in_logic::InLogic;
+use crate::joined::Joined;
 use erhl_assert::{Fact, FactSet, Side};
 use fact_sets::RegisterSet;
 use ir_core::{Atom, Expr, Expr0, Kind, Name, Operand, Reg, Ty, kind_of, same_const, same_ty};
@@ -153,9 +154,10 @@ fn some_leads_into<R: InLogic, S: FactSet>(
     false
 }
 
+#[tactic(auto, using(crate::proofs::Joining::none_leads_into))]
 fn reaches_among<R: InLogic, S: FactSet>(
     diff: &RegisterSet,
-    facts: &S,
+    facts: &Joined<S>,
     kind: Kind,
     s: &Ty,
     c: &Atom<R>,
@@ -166,9 +168,10 @@ fn reaches_among<R: InLogic, S: FactSet>(
         ≡ some_into
         (λ d. meet diff.now kind
         (record { ty = s.now; atom = map_atom R.in_logic c.now }) d)
-        (now_operand (record { ty = t.now; atom = b.now })) (S.contents facts.now) }
+        (now_operand (record { ty = t.now; atom = b.now })) facts.now }
 {
-    meets_now(diff, kind, s, c, t, b) || some_leads_into(facts, diff, kind, s, c, t, b)
+    meets_now(diff, kind, s, c, t, b)
+        || facts.may_join() && some_leads_into(facts.facts(), diff, kind, s, c, t, b)
 }
 
 /// Whether c is the target's operand, or is known on the target to be less defined than it.
@@ -186,7 +189,7 @@ fn reaches<R: InLogic, S: FactSet>(
         (record { ty = s.now; atom = map_atom R.in_logic c.now }) d)
         (now_operand (record { ty = t.now; atom = b.now })) known.now.tgt }
 {
-    reaches_among(known.diff(), known.facts(Side::Tgt), kind, s, c, t, b)
+    reaches_among(known.diff(), known.joined(Side::Tgt), kind, s, c, t, b)
 }
 
 fn plain_reaches<S: FactSet>(
@@ -229,7 +232,7 @@ fn leads_from<S: FactSet>(
 }
 
 /// Whether the source's operand is known to be less defined than some c that reaches the target's.
-#[tactic(auto, using(crate::proofs::Walked::found, crate::proofs::Walked::not_yet, crate::proofs::Walked::nowhere))]
+#[tactic(auto, using(crate::proofs::Joining::none_leads_from, crate::proofs::Walked::found, crate::proofs::Walked::not_yet, crate::proofs::Walked::nowhere))]
 fn reaches_by_fact<S: FactSet>(
     known: &Sides<S>,
     kind: Kind,
@@ -246,6 +249,9 @@ fn reaches_by_fact<S: FactSet>(
         (now_operand (record { ty = s.now; atom = a.now })))
         known.now.src }
 {
+    if !known.joined(Side::Src).may_join() {
+        return false;
+    }
     let facts = known.facts(Side::Src);
     for k in 0..facts.len() {
         if let Some(fact) = facts.at(k) {

@@ -7,6 +7,7 @@ ghost use Rattle.ir_core.specs.Limits.{fact_limit};
 ghost use Rattle.erhl_assert.specs.Course.{Gives, within};
 ghost use Rattle.erhl_assert.specs.Growth.{adds, facts_of, size, with_conclusion};
 
+use crate::joined::Joined;
 use contents::{Exact, Seq};
 use erhl_assert::{Assertion, Fact, FactSet, Kill, Side};
 use fact_sets::{IndexedSet, RegisterSet};
@@ -17,8 +18,8 @@ use std::marker::Model;
 /// What is known at a place, in a form in which facts and registers are found without a walk over all of them. Contracts
 /// see the assertion that it stands for.
 pub struct Sides<S: FactSet> {
-    pub(crate) src: S,
-    pub(crate) tgt: S,
+    pub(crate) src: Joined<S>,
+    pub(crate) tgt: Joined<S>,
     pub(crate) diff: RegisterSet,
 }
 
@@ -27,7 +28,7 @@ impl<S: FactSet> Model for Sides<S> {
 
     ghost Value = { Assertion };
 
-    ghost view = { λ it. record { src = S.contents it.src; tgt = S.contents it.tgt; diff = it.diff } };
+    ghost view = { λ it. record { src = it.src; tgt = it.tgt; diff = it.diff } };
 }
 
 impl<S: FactSet> Drop for Sides<S> {
@@ -40,15 +41,23 @@ impl<S: FactSet> Drop for Sides<S> {
     }
 }
 
-/// The facts, each once.
-fn set_of<S: FactSet>(alloc: Global, facts: &[Fact]) -> Result<S, AllocError>
-    ensures { IfOk result (λ set. S.contents set ≡ with_facts facts.now []) }
+/// The facts, each once, in a set that has none yet.
+fn filled<S: FactSet>(alloc: Global, facts: &[Fact], empty: S) -> Result<Joined<S>, AllocError>
+    requires { S.contents empty ≡ [] }
+    ensures { IfOk result (λ set. set ≡ with_facts facts.now []) }
 {
-    let mut set = S::empty(alloc);
+    let mut set = Joined::of_none(empty);
     for fact in facts {
         set.add(fact.copy(alloc)?)?;
     }
     Ok(set)
+}
+
+/// The facts, each once.
+fn set_of<S: FactSet>(alloc: Global, facts: &[Fact]) -> Result<Joined<S>, AllocError>
+    ensures { IfOk result (λ set. set ≡ with_facts facts.now []) }
+{
+    filled(alloc, facts, S::empty(alloc))
 }
 
 /// No facts, and room for those of so many lines, of which each leaves two, as far as the limit on facts goes.
@@ -67,10 +76,29 @@ pub fn sides_for(
 ) -> Result<Sides<IndexedSet>, AllocError>
     ensures { IfOk result (λ sides. sides ≡ no_facts) }
 {
-    let src = facts_for(alloc, source)?;
-    let tgt = facts_for(alloc, target)?;
+    let src = Joined::of_none(facts_for(alloc, source)?);
+    let tgt = Joined::of_none(facts_for(alloc, target)?);
     let diff = RegisterSet::of(alloc, Seq::new(alloc))?;
     Ok(Sides { src, tgt, diff })
+}
+
+/// What the assertion says. A fact that stands twice in it is there once. There is room as in `sides_for`.
+pub fn sides_of(
+    alloc: Global,
+    known: &Assertion,
+    source: usize,
+    target: usize,
+) -> Result<Sides<IndexedSet>, AllocError>
+    ensures { IfOk result (λ sides. sides ≡ each_once known.now) }
+{
+    let src = filled(alloc, known.src.as_slice(), facts_for(alloc, source)?)?;
+    let tgt = filled(alloc, known.tgt.as_slice(), facts_for(alloc, target)?)?;
+    let diff = known.diff.copy(alloc)?;
+    Ok(Sides {
+        src,
+        tgt,
+        diff: RegisterSet::of(alloc, diff)?,
+    })
 }
 
 impl<S: FactSet> Sides<S> {
@@ -79,8 +107,8 @@ impl<S: FactSet> Sides<S> {
         ensures { IfOk result (λ sides. sides ≡ no_facts) }
     {
         Ok(Sides {
-            src: S::empty(alloc),
-            tgt: S::empty(alloc),
+            src: Joined::of_none(S::empty(alloc)),
+            tgt: Joined::of_none(S::empty(alloc)),
             diff: RegisterSet::of(alloc, Seq::new(alloc))?,
         })
     }
@@ -100,6 +128,15 @@ impl<S: FactSet> Sides<S> {
     /// The facts of the side.
     pub fn facts(&self, side: Side) -> &S
         ensures { S.contents result.now ≡ facts_of side self.now }
+    {
+        match side {
+            Side::Src => self.src.facts(),
+            Side::Tgt => self.tgt.facts(),
+        }
+    }
+
+    pub(crate) fn joined(&self, side: Side) -> &Joined<S>
+        ensures { result.now ≡ facts_of side self.now }
     {
         match side {
             Side::Src => &self.src,
@@ -142,8 +179,8 @@ impl<S: FactSet> Sides<S> {
         ensures { result ≡ not (nat_lt fact_limit (size self.now)) }
     {
         let most = Limit::Facts.number() as usize;
-        let source = self.src.len();
-        source <= most && self.tgt.len() <= most - source
+        let source = self.src.facts().len();
+        source <= most && self.tgt.facts().len() <= most - source
     }
 
     /// The same, and whether no more facts are known then than the limit allows. A fact that is there already passes no limit.

@@ -4,7 +4,7 @@ use Rattle.ir_core.specs.declared.names.Name.{Name}
 use Rattle.ir_core.specs.declared.operands.Operand.{Operand}
 use Rattle.ir_core.specs.declared.functions.Instr.{Instr}
 use Rattle.ir_core.specs.declared.functions.Term.{Term}
-use Rattle.ir_core.specs.declared.functions.Term.TheVariants.{Ret, RetVoid}
+use Rattle.ir_core.specs.declared.functions.Term.TheVariants.{Ret, RetVoid, Br, CondBr, Switch, Unreachable}
 use Rattle.ir_core.specs.declared.functions.Module.{Module}
 use Rattle.ir_core.specs.Types.{kind_of}
 use Rattle.ir_core.specs.Modules.{Scope, scope_of}
@@ -116,8 +116,26 @@ module _ (rules : Rules) (source target : Module) (sound : AreSound rules) where
       inr (λ made follows. inr (returns_move x y a b rs rt known holds kind same made follows))
   terms_move x y block k RetVoid RetVoid known rs rt holds kind good =
       inr (λ made follows. let over = ap (λ (m : Made). m.after) follows in inr (inl (0, made, follows, refl, inr (over, over))))
+  terms_move x y block k Unreachable Unreachable known rs rt holds kind good =
+      inr (λ made follows. inr (inr (goes_wrong (ending x Unreachable rs) refl made)))
   terms_move x y block k (Ret a) RetVoid known rs rt holds kind good = absurd (kinds_agree block k (Ret a) RetVoid known refl good)
+  terms_move x y block k (Ret a) (Br b) known rs rt holds kind good = absurd (kinds_agree block k (Ret a) (Br b) known refl good)
+  terms_move x y block k (Ret a) (CondBr b) known rs rt holds kind good = absurd (kinds_agree block k (Ret a) (CondBr b) known refl good)
+  terms_move x y block k (Ret a) (Switch b) known rs rt holds kind good = absurd (kinds_agree block k (Ret a) (Switch b) known refl good)
+  terms_move x y block k (Ret a) Unreachable known rs rt holds kind good = absurd (kinds_agree block k (Ret a) Unreachable known refl good)
   terms_move x y block k RetVoid (Ret b) known rs rt holds kind good = absurd (kinds_agree block k RetVoid (Ret b) known refl good)
+  terms_move x y block k RetVoid (Br b) known rs rt holds kind good = absurd (kinds_agree block k RetVoid (Br b) known refl good)
+  terms_move x y block k RetVoid (CondBr b) known rs rt holds kind good = absurd (kinds_agree block k RetVoid (CondBr b) known refl good)
+  terms_move x y block k RetVoid (Switch b) known rs rt holds kind good = absurd (kinds_agree block k RetVoid (Switch b) known refl good)
+  terms_move x y block k RetVoid Unreachable known rs rt holds kind good = absurd (kinds_agree block k RetVoid Unreachable known refl good)
+  terms_move x y block k Unreachable (Ret b) known rs rt holds kind good = absurd (kinds_agree block k Unreachable (Ret b) known refl good)
+  terms_move x y block k Unreachable RetVoid known rs rt holds kind good = absurd (kinds_agree block k Unreachable RetVoid known refl good)
+  terms_move x y block k Unreachable (Br b) known rs rt holds kind good = absurd (kinds_agree block k Unreachable (Br b) known refl good)
+  terms_move x y block k Unreachable (CondBr b) known rs rt holds kind good = absurd (kinds_agree block k Unreachable (CondBr b) known refl good)
+  terms_move x y block k Unreachable (Switch b) known rs rt holds kind good = absurd (kinds_agree block k Unreachable (Switch b) known refl good)
+  terms_move x y block k (Br a) q known rs rt holds kind good = absurd (kinds_agree block k (Br a) q known refl good)
+  terms_move x y block k (CondBr a) q known rs rt holds kind good = absurd (kinds_agree block k (CondBr a) q known refl good)
+  terms_move x y block k (Switch a) q known rs rt holds kind good = absurd (kinds_agree block k (Switch a) q known refl good)
 
   -- two frames within aligned blocks
   module _ (x y : Frame) (block : Name) (steps : List PlacedStep) where

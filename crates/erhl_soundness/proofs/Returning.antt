@@ -9,9 +9,9 @@ use Rattle.ir_values.specs.Values.{IsInKindOf}
 use Rattle.ir_machine.specs.declared.items.Item.{Item}
 use Rattle.ir_machine.specs.declared.items.Item.TheVariants.{Turn, Returned, Wrong}
 use Rattle.ir_machine.specs.declared.items.Shown.TheVariants as shown
-use Rattle.ir_machine.specs.declared.items.Choice.TheVariants.{Pick}
+use Rattle.ir_machine.specs.declared.items.Choice.TheVariants.{Go, Pick}
 use Rattle.ir_machine.specs.State.{no_world, Over}
-use Rattle.ir_machine.specs.Machine.{Asks, Chosen, Made, Follows, picked, return_step}
+use Rattle.ir_machine.specs.Machine.{Asks, Chosen, Does, Made, Follows, picked, return_step}
 use Rattle.erhl_assert.specs.Sides.{IsRelated}
 
 -- the result of a run
@@ -28,13 +28,17 @@ IsLast made = (more : List Item) × (made.items ≡ Turn ∷ more) × (made.afte
 last_of : (made : Made) (told : List Chosen) (more : List Item) → made ≡ record { told = told; items = Turn ∷ more; after = Over } → IsLast made
 last_of made told more e = (more, ap (λ (x : Made). x.items) e, ap (λ (x : Made). x.after) e)
 
+picked_is_last : (c : Chosen) (more made : Made) → Follows (picked c (λ s. Does (Turn ∷ Returned (Some s) ∷ []) Over)) more
+    → made ≡ record { told = c ∷ more.told; items = more.items; after = more.after } → IsLast made
+picked_is_last (Pick s) more made is e =
+    last_of made (Pick s ∷ more.told) (Returned (Some s) ∷ []) (e ∙ ap (λ (x : Made). record { told = Pick s ∷ more.told; items = x.items; after = x.after }) is)
+picked_is_last (Go x) more made is e = absurd is
+
 pub result_is_last : (k : Option Kind) (v : Value) (made : Made) → Follows (result_step k v) made → IsLast made
 result_is_last k Poison made h = last_of made [] (Wrong ∷ []) h
 result_is_last k (Num n) made h = last_of made [] (Returned (Some (shown.Num n)) ∷ []) h
 result_is_last None Undef made h = last_of made [] (Wrong ∷ []) h
-result_is_last (Some k) Undef made h =
-    last_of made (h.0 ∷ h.1.told) (Returned (Some (picked h.0)) ∷ [])
-    (h.4 ∙ ap (λ (x : Made). record { told = h.0 ∷ h.1.told; items = x.items; after = x.after }) h.3)
+result_is_last (Some k) Undef made h = picked_is_last h.0 h.1 made h.3 h.4
 
 -- a step of the source that does as the target's, or is undefined behaviour
 abbrev pub DoesAs : Option Kind → Value → Made → Type 0

@@ -1,7 +1,8 @@
 ghost use Rattle.std.specs.Prelude.{◌≡◌, [], IfOk, OnOk};
 ghost use Rattle.ir_core.specs.declared.expressions.Reg.TheVariants.{Now};
 ghost use Rattle.erhl_assert.specs.Sides.{has_reg};
-ghost use Rattle.ir_core.specs.Same.{same_reg};
+ghost use Rattle.std.specs.List.{list_any};
+ghost use Rattle.ir_core.specs.Same.{same_name, same_reg};
 ghost use Rattle.erhl_assert.specs.Postcondition.{with_reg, without_reg};
 ghost use Rattle.fact_sets.specs.Names.{with_registers};
 
@@ -83,6 +84,13 @@ fn now_stands_in(name: &Name, registers: &[Reg]) -> bool
     false
 }
 
+/// Whether the name is there. Mostly no register differs, and then no name is hashed.
+fn is_among(name: &Name, names: &IndexSet<Name>) -> bool
+    ensures { result ≡ list_any (same_name name.now) names.now.keys }
+{
+    !names.is_empty() && names.contains(name)
+}
+
 impl RegisterSet {
     #[tactic(auto, using(crate::proofs::Indexing::registers_indexed))]
     pub fn of(alloc: Global, registers: Seq<Reg>) -> Result<RegisterSet, AllocError>
@@ -104,14 +112,14 @@ impl RegisterSet {
     pub fn has(&self, register: &Reg) -> bool
         ensures { result ≡ has_reg register.now self.now }
     {
-        self.names.contains(bare_name(register)) && stands_in(register, self.registers.as_slice())
+        is_among(bare_name(register), &self.names) && stands_in(register, self.registers.as_slice())
     }
 
     /// Whether the register of now is there.
     pub fn has_now(&self, name: &Name) -> bool
         ensures { result ≡ has_reg (Now name.now) self.now }
     {
-        self.names.contains(name) && now_stands_in(name, self.registers.as_slice())
+        is_among(name, &self.names) && now_stands_in(name, self.registers.as_slice())
     }
 
     /// Puts the register at the end, where it isn't there yet.
@@ -132,7 +140,7 @@ impl RegisterSet {
     pub fn remove(&mut self, register: &Reg)
         ensures { self.new ≡ without_reg register.now self.old }
     {
-        if self.names.contains(bare_name(register)) {
+        if is_among(bare_name(register), &self.names) {
             self.registers.retain(|other| !same_reg(register, other));
         }
     }

@@ -1,4 +1,6 @@
-ghost use Rattle.std.specs.Prelude.{◌≡◌, OnOk};
+ghost use Rattle.std.specs.Prelude.{◌≡◌, ◌∷◌, OnOk};
+ghost use Rattle.ir_grammar.specs.declared.parts.Part.TheVariants as part;
+ghost use Rattle.ir_grammar.specs.declared.parts.Tree.TheVariants as tree;
 ghost use Rattle.ir_grammar.specs.Rules as rule;
 ghost use Rattle.ir_grammar.specs.Sorts.{vocabulary};
 ghost use Rattle.typed_grammars.specs.Typed.{action};
@@ -9,6 +11,7 @@ use crate::forms::{
     NumberPart, OperandPart, OperationPart, OperatorPart, OverflowPart, ParamPart, ParamsPart,
     PlainPart, PredPart, ResultPart, ReturnedPart, ValuePart, WidthPart, take,
 };
+use contents::Boxed;
 use ir_grammar::{
     Atom, BinaryText, BlockText, CastText, CompareText, DefinitionText, ExprText, Leaf, LineText,
     List, ModuleText, OperandText, OperationText, OperatorText, ParamText, Part, SelectText, Tree,
@@ -16,6 +19,24 @@ use ir_grammar::{
 };
 use std::alloc::{AllocError, Global};
 use typed_grammars::Stack;
+
+/// An operation on top.
+fn push_operation(
+    parts: &mut Stack<Part>,
+    alloc: Global,
+    operation: OperationText,
+) -> Result<(), AllocError>
+    ensures { OnOk result (parts.new ≡ part.Tree (tree.Operation operation) ∷ parts.old) }
+{
+    parts.push(Part::Tree(Tree::Operation(Boxed::new(alloc, operation)?)))
+}
+
+/// An expression on top.
+fn push_expr(parts: &mut Stack<Part>, alloc: Global, expr: ExprText) -> Result<(), AllocError>
+    ensures { OnOk result (parts.new ≡ part.Tree (tree.Expr expr) ∷ parts.old) }
+{
+    parts.push(Part::Tree(Tree::Expr(Boxed::new(alloc, expr)?)))
+}
 
 /// No more definitions.
 fn definitions_end(parts: &mut Stack<Part>, alloc: Global) -> Result<(), AllocError>
@@ -41,7 +62,7 @@ fn definitions(parts: &mut Stack<Part>) -> Result<(), AllocError>
 }
 
 /// `define result GLOBAL ( params ) { block }`
-fn definition(parts: &mut Stack<Part>) -> Result<(), AllocError>
+fn definition(parts: &mut Stack<Part>, alloc: Global) -> Result<(), AllocError>
     ensures { OnOk result (parts.new ≡ action vocabulary rule.definition parts.old) }
 {
     let Some(block) = take::<BlockPart>(parts) else {
@@ -56,12 +77,13 @@ fn definition(parts: &mut Stack<Part>) -> Result<(), AllocError>
     let Some(result) = take::<ResultPart>(parts) else {
         return Ok(());
     };
-    parts.push(Part::Tree(Tree::Definition(DefinitionText {
+    let definition = DefinitionText {
         result,
         name,
         params,
         block,
-    })))
+    };
+    parts.push(Part::Tree(Tree::Definition(Boxed::new(alloc, definition)?)))
 }
 
 /// `void`
@@ -133,7 +155,7 @@ fn named(parts: &mut Stack<Part>) -> Result<(), AllocError>
 }
 
 /// `[LABEL] lines ret (void | TYPE value)`
-fn block(parts: &mut Stack<Part>) -> Result<(), AllocError>
+fn block(parts: &mut Stack<Part>, alloc: Global) -> Result<(), AllocError>
     ensures { OnOk result (parts.new ≡ action vocabulary rule.block parts.old) }
 {
     let Some(result) = take::<ReturnedPart>(parts) else {
@@ -145,11 +167,12 @@ fn block(parts: &mut Stack<Part>) -> Result<(), AllocError>
     let Some(label) = take::<NamePart>(parts) else {
         return Ok(());
     };
-    parts.push(Part::Tree(Tree::Block(BlockText {
+    let block = BlockText {
         label,
         lines,
         result,
-    })))
+    };
+    parts.push(Part::Tree(Tree::Block(Boxed::new(alloc, block)?)))
 }
 
 /// LABEL
@@ -184,7 +207,7 @@ fn lines(parts: &mut Stack<Part>) -> Result<(), AllocError>
 }
 
 /// `[LOCAL =] operation`
-fn line(parts: &mut Stack<Part>) -> Result<(), AllocError>
+fn line(parts: &mut Stack<Part>, alloc: Global) -> Result<(), AllocError>
     ensures { OnOk result (parts.new ≡ action vocabulary rule.line parts.old) }
 {
     let Some(operation) = take::<OperationPart>(parts) else {
@@ -193,10 +216,11 @@ fn line(parts: &mut Stack<Part>) -> Result<(), AllocError>
     let Some(register) = take::<NamePart>(parts) else {
         return Ok(());
     };
-    parts.push(Part::Tree(Tree::Line(LineText {
+    let line = LineText {
         register,
         operation,
-    })))
+    };
+    parts.push(Part::Tree(Tree::Line(Boxed::new(alloc, line)?)))
 }
 
 /// `void` behind `ret`
@@ -217,7 +241,7 @@ fn returned(parts: &mut Stack<Part>) -> Result<(), AllocError>
 }
 
 /// `operator TYPE value, value`
-fn binary(parts: &mut Stack<Part>) -> Result<(), AllocError>
+fn binary(parts: &mut Stack<Part>, alloc: Global) -> Result<(), AllocError>
     ensures { OnOk result (parts.new ≡ action vocabulary rule.binary parts.old) }
 {
     let Some(right) = take::<ValuePart>(parts) else {
@@ -229,15 +253,16 @@ fn binary(parts: &mut Stack<Part>) -> Result<(), AllocError>
     let Some(operator) = take::<OperatorPart>(parts) else {
         return Ok(());
     };
-    parts.push(Part::Tree(Tree::Operation(OperationText::Binary(BinaryText {
+    let binary = BinaryText {
         operator,
         left,
         right,
-    }))))
+    };
+    push_operation(parts, alloc, OperationText::Binary(binary))
 }
 
 /// `icmp PRED TYPE value, value`
-fn compare(parts: &mut Stack<Part>) -> Result<(), AllocError>
+fn compare(parts: &mut Stack<Part>, alloc: Global) -> Result<(), AllocError>
     ensures { OnOk result (parts.new ≡ action vocabulary rule.compare parts.old) }
 {
     let Some(right) = take::<ValuePart>(parts) else {
@@ -249,15 +274,12 @@ fn compare(parts: &mut Stack<Part>) -> Result<(), AllocError>
     let Some(pred) = take::<PredPart>(parts) else {
         return Ok(());
     };
-    parts.push(Part::Tree(Tree::Operation(OperationText::Compare(CompareText {
-        pred,
-        left,
-        right,
-    }))))
+    let compare = CompareText { pred, left, right };
+    push_operation(parts, alloc, OperationText::Compare(compare))
 }
 
 /// `CAST TYPE value to TYPE`
-fn cast(parts: &mut Stack<Part>) -> Result<(), AllocError>
+fn cast(parts: &mut Stack<Part>, alloc: Global) -> Result<(), AllocError>
     ensures { OnOk result (parts.new ≡ action vocabulary rule.cast parts.old) }
 {
     let Some(to) = take::<WidthPart>(parts) else {
@@ -269,11 +291,12 @@ fn cast(parts: &mut Stack<Part>) -> Result<(), AllocError>
     let Some(op) = take::<CastPart>(parts) else {
         return Ok(());
     };
-    parts.push(Part::Tree(Tree::Operation(OperationText::Cast(CastText { op, from, to }))))
+    let cast = CastText { op, from, to };
+    push_operation(parts, alloc, OperationText::Cast(cast))
 }
 
 /// `select TYPE value, TYPE value, TYPE value`
-fn select(parts: &mut Stack<Part>) -> Result<(), AllocError>
+fn select(parts: &mut Stack<Part>, alloc: Global) -> Result<(), AllocError>
     ensures { OnOk result (parts.new ≡ action vocabulary rule.select parts.old) }
 {
     let Some(other) = take::<OperandPart>(parts) else {
@@ -285,11 +308,12 @@ fn select(parts: &mut Stack<Part>) -> Result<(), AllocError>
     let Some(condition) = take::<OperandPart>(parts) else {
         return Ok(());
     };
-    parts.push(Part::Tree(Tree::Operation(OperationText::Select(SelectText {
+    let select = SelectText {
         condition,
         then,
         other,
-    }))))
+    };
+    push_operation(parts, alloc, OperationText::Select(select))
 }
 
 /// OVERFLOW and flags
@@ -407,23 +431,23 @@ fn local(parts: &mut Stack<Part>) -> Result<(), AllocError>
 }
 
 /// `TYPE value` as an expression.
-fn expression_operand(parts: &mut Stack<Part>) -> Result<(), AllocError>
+fn expression_operand(parts: &mut Stack<Part>, alloc: Global) -> Result<(), AllocError>
     ensures { OnOk result (parts.new ≡ action vocabulary rule.expression_operand parts.old) }
 {
     let Some(operand) = take::<OperandPart>(parts) else {
         return Ok(());
     };
-    parts.push(Part::Tree(Tree::Expr(ExprText::Plain(operand))))
+    push_expr(parts, alloc, ExprText::Plain(operand))
 }
 
 /// An operation as an expression.
-fn expression_operation(parts: &mut Stack<Part>) -> Result<(), AllocError>
+fn expression_operation(parts: &mut Stack<Part>, alloc: Global) -> Result<(), AllocError>
     ensures { OnOk result (parts.new ≡ action vocabulary rule.expression_operation parts.old) }
 {
     let Some(operation) = take::<OperationPart>(parts) else {
         return Ok(());
     };
-    parts.push(Part::Tree(Tree::Expr(ExprText::Operation(operation))))
+    push_expr(parts, alloc, ExprText::Operation(operation))
 }
 
 /// A LOCAL alone.
@@ -453,7 +477,7 @@ pub fn reduce(parts: &mut Stack<Part>, alloc: Global, p: u16) -> Result<(), Allo
     match p {
         0 => definitions_end(parts, alloc),
         1 => definitions(parts),
-        2 => definition(parts),
+        2 => definition(parts, alloc),
         3 => void_result(parts),
         4 => typed_result(parts),
         5 => params_end(parts, alloc),
@@ -463,20 +487,20 @@ pub fn reduce(parts: &mut Stack<Part>, alloc: Global, p: u16) -> Result<(), Allo
         9 => param(parts),
         10 => unnamed(parts),
         11 => named(parts),
-        12 => block(parts),
+        12 => block(parts, alloc),
         13 => unnamed(parts),
         14 => label(parts),
         15 => lines_end(parts, alloc),
         16 => lines(parts),
-        17 => line(parts),
+        17 => line(parts, alloc),
         18 => unnamed(parts),
         19 => named(parts),
         20 => returned_void(parts),
         21 => returned(parts),
-        22 => binary(parts),
-        23 => compare(parts),
-        24 => cast(parts),
-        25 => select(parts),
+        22 => binary(parts, alloc),
+        23 => compare(parts, alloc),
+        24 => cast(parts, alloc),
+        25 => select(parts, alloc),
         26 => overflow(parts),
         27 => exact(parts),
         28 => plain(parts),
@@ -488,8 +512,8 @@ pub fn reduce(parts: &mut Stack<Part>, alloc: Global, p: u16) -> Result<(), Allo
         34 => number(parts),
         35 => constant(parts),
         36 => local(parts),
-        37 => expression_operand(parts),
-        38 => expression_operation(parts),
+        37 => expression_operand(parts, alloc),
+        38 => expression_operation(parts, alloc),
         39 => local_name(parts),
         40 => global_name(parts),
         _ => Ok(()),

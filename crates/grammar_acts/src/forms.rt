@@ -67,7 +67,7 @@ impl Form for DefinitionPart {
 
     fn of(part: Part) -> Option<DefinitionText> {
         match part {
-            Part::Tree(Tree::Definition(x)) => Some(x),
+            Part::Tree(Tree::Definition(x)) => Some(x.into_inner()),
             other => {
                 drop(other);
                 None
@@ -167,7 +167,7 @@ impl Form for BlockPart {
 
     fn of(part: Part) -> Option<BlockText> {
         match part {
-            Part::Tree(Tree::Block(x)) => Some(x),
+            Part::Tree(Tree::Block(x)) => Some(x.into_inner()),
             other => {
                 drop(other);
                 None
@@ -227,7 +227,7 @@ impl Form for LinePart {
 
     fn of(part: Part) -> Option<LineText> {
         match part {
-            Part::Tree(Tree::Line(x)) => Some(x),
+            Part::Tree(Tree::Line(x)) => Some(x.into_inner()),
             other => {
                 drop(other);
                 None
@@ -247,7 +247,7 @@ impl Form for OperationPart {
 
     fn of(part: Part) -> Option<OperationText> {
         match part {
-            Part::Tree(Tree::Operation(x)) => Some(x),
+            Part::Tree(Tree::Operation(x)) => Some(x.into_inner()),
             other => {
                 drop(other);
                 None
@@ -367,7 +367,7 @@ impl Form for ExprPart {
 
     fn of(part: Part) -> Option<ExprText> {
         match part {
-            Part::Tree(Tree::Expr(x)) => Some(x),
+            Part::Tree(Tree::Expr(x)) => Some(x.into_inner()),
             other => {
                 drop(other);
                 None

@@ -4,3 +4,4 @@ pub mod WellFormed
 pub mod Shapes
 pub mod Operations
 pub mod Mapped
+pub mod Flow

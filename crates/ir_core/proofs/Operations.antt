@@ -15,7 +15,7 @@ use Rattle.ir_core.specs.Types.{converts, fits, is_width}
 use Rattle.ir_core.specs.WellFormed.{HasShape, IsDefined, IsWellFormed}
 use Rattle.ir_core.proofs.WellFormed.{defined, in_none, in_one, name_f, name_x}
 
-other_type : (v w : Ty) → same_ty v v ≡ true → same_ty v w ≡ false → v ≡ w → ⊥
+pub other_type : (v w : Ty) → same_ty v v ≡ true → same_ty v w ≡ false → v ≡ w → ⊥
 other_type v w same other e =
     let both : same_ty v v ≡ same_ty v w = ap (same_ty v) e in cc
 
@@ -33,7 +33,7 @@ cast_shape op v w h = record {
       names = (in_none f, (in_one f x refl refl, tt));
       registers = (tt, tt);
       operands = (tt, (tt, tt));
-      each = (record { phis = tt; operators = (h, tt); labels = tt; returns = refl }, tt);
+      each = (record { phis = tt; operators = (h, tt); labels = tt; branches = tt; returns = refl; cases = tt }, tt);
     },
     tt,
   );
@@ -41,7 +41,7 @@ cast_shape op v w h = record {
 }
 
 cast_defined : (op : CastOp) (v w : ℕ) → IsDefined (alone (of_cast op (Int v) (Int w)))
-cast_defined op v w = (defined (of_cast op (Int v) (Int w)) _ [] refl ((tt, tt), (tt, tt)), tt)
+cast_defined op v w = (defined (of_cast op (Int v) (Int w)) _ [] refl refl ((tt, tt), (tt, tt)), tt)
 
 cast_range : (op : CastOp) (v w : ℕ) → is_width v ≡ true → fits 1 v ≡ true → is_width w ≡ true → IsInRange (alone (of_cast op (Int v) (Int w)))
 cast_range op v w width one to = (
@@ -52,6 +52,7 @@ cast_range op v w width one to = (
     registers = (to, tt);
     operands = ((width, one), ((refl, refl), tt));
     flags = (tt, tt);
+    cases = tt;
     lines = omega arith;
   },
   tt,
@@ -86,7 +87,7 @@ conversions_change_widths = record {
 -- ---- selections
 
 select_defined : (c l r : ℕ) → IsDefined (alone (of_select (Int c) (Int l) (Int r)))
-select_defined c l r = (defined (of_select (Int c) (Int l) (Int r)) _ [] refl ((tt, (tt, (tt, tt))), (tt, tt)), tt)
+select_defined c l r = (defined (of_select (Int c) (Int l) (Int r)) _ [] refl refl ((tt, (tt, (tt, tt))), (tt, tt)), tt)
 
 select_range : (c l r : ℕ) → is_width c ≡ true → fits 1 c ≡ true → is_width l ≡ true → fits 1 l ≡ true → is_width r ≡ true → fits 1 r ≡ true
     → IsInRange (alone (of_select (Int c) (Int l) (Int r)))
@@ -98,6 +99,7 @@ select_range c l r c_width c_fits l_width l_fits r_width r_fits = (
     registers = (l_width, tt);
     operands = ((c_width, c_fits), ((l_width, l_fits), ((r_width, r_fits), ((refl, refl), tt))));
     flags = (tt, tt);
+    cases = tt;
     lines = omega arith;
   },
   tt,
@@ -117,7 +119,7 @@ selections_have_one_type = record {
           names = (in_none f, (in_one f x refl refl, tt));
           registers = (tt, tt);
           operands = (tt, (tt, (tt, (tt, tt))));
-          each = (record { phis = tt; operators = ((refl, refl), tt); labels = tt; returns = refl }, tt);
+          each = (record { phis = tt; operators = ((refl, refl), tt); labels = tt; branches = tt; returns = refl; cases = tt }, tt);
         },
         tt,
       );
@@ -153,13 +155,13 @@ comparisons_give_bits = record {
         names = (in_none f, (in_one f x refl refl, tt));
         registers = (tt, tt);
         operands = (tt, (tt, ((zero, omega arith, refl), tt)));
-        each = (record { phis = tt; operators = (tt, tt); labels = tt; returns = refl }, tt);
+        each = (record { phis = tt; operators = (tt, tt); labels = tt; branches = tt; returns = refl; cases = tt }, tt);
       },
       tt,
     );
     names = (in_none f, tt);
   };
-  defined = (defined compared _ [] refl ((tt, (tt, tt)), ((zero, omega arith, refl), tt)), tt);
+  defined = (defined compared _ [] refl refl ((tt, (tt, tt)), ((zero, omega arith, refl), tt)), tt);
   range = (
     record {
       name = name_f;
@@ -168,6 +170,7 @@ comparisons_give_bits = record {
       registers = (refl, tt);
       operands = ((refl, refl), ((refl, refl), ((refl, tt), tt)));
       flags = (tt, tt);
+      cases = tt;
       lines = omega arith;
     },
     tt,
@@ -188,7 +191,7 @@ flags_shape op flags = record {
       names = (in_none f, (in_one f x refl refl, tt));
       registers = (tt, tt);
       operands = (tt, (tt, (tt, tt)));
-      each = (record { phis = tt; operators = (tt, tt); labels = tt; returns = refl }, tt);
+      each = (record { phis = tt; operators = (tt, tt); labels = tt; branches = tt; returns = refl; cases = tt }, tt);
     },
     tt,
   );
@@ -196,7 +199,7 @@ flags_shape op flags = record {
 }
 
 flags_defined : (op : BinOp) (flags : Flags) → IsDefined (alone (of_flags op flags))
-flags_defined op flags = (defined (of_flags op flags) _ [] refl ((tt, (tt, tt)), (tt, tt)), tt)
+flags_defined op flags = (defined (of_flags op flags) _ [] refl refl ((tt, (tt, tt)), (tt, tt)), tt)
 
 flags_stand : (op : BinOp) (flags : Flags) → may_have op flags ≡ true → IsWellFormed (alone (of_flags op flags))
 flags_stand op flags h = record {
@@ -210,6 +213,7 @@ flags_stand op flags h = record {
       registers = (refl, tt);
       operands = ((refl, refl), ((refl, refl), ((refl, refl), tt)));
       flags = (h, tt);
+      cases = tt;
       lines = omega arith;
     },
     tt,
@@ -233,7 +237,7 @@ flags_have_operators = record {
 -- ---- `ret void`
 
 nothing_defined : (ty : Ty) → IsDefined (alone (returning_nothing ty))
-nothing_defined ty = (defined (returning_nothing ty) _ [] refl tt, tt)
+nothing_defined ty = (defined (returning_nothing ty) _ [] refl refl tt, tt)
 
 nothing_range : (ty : Ty) → IsTypeInRange ty → IsInRange (alone (returning_nothing ty))
 nothing_range ty result = (
@@ -244,6 +248,7 @@ nothing_range ty result = (
     registers = tt;
     operands = tt;
     flags = tt;
+    cases = tt;
     lines = omega arith;
   },
   tt,
@@ -263,7 +268,7 @@ void_returns = record {
           names = (in_none f, tt);
           registers = tt;
           operands = tt;
-          each = (record { phis = tt; operators = tt; labels = tt; returns = refl }, tt);
+          each = (record { phis = tt; operators = tt; labels = tt; branches = tt; returns = refl; cases = tt }, tt);
         },
         tt,
       );

@@ -25,7 +25,7 @@ no_other_width v w name other same (suc k, inside, is) = absurd (omega (arith, i
 pub other_widths_are_not : OtherWidthsAreNot
 other_widths_are_not = (
   λ shape. no_other_width (Int 64) (Int 32) x refl refl shape.functions.0.operands.0,
-  (defined other_width (block y [] (Int 32) (Register x)) [] refl ((zero, omega arith, refl), tt), tt),
+  (defined other_width (block y [] (Int 32) (Register x)) [] refl refl ((zero, omega arith, refl), tt), tt),
   (
     record {
       name = name_f;
@@ -34,6 +34,7 @@ other_widths_are_not = (
       registers = (refl, tt);
       operands = ((refl, tt), tt);
       flags = tt;
+      cases = tt;
       lines = omega arith;
     },
     tt,
@@ -46,7 +47,7 @@ other_results_are_not = (
       let returns : Int 64 ≡ Int 32 = shape.functions.0.each.0.returns in
       let both : true ≡ false = ap (same_ty (Int 64)) returns in
       cc,
-  (defined other_result (block y [] (Int 64) (Register x)) [] refl ((zero, omega arith, refl), tt), tt),
+  (defined other_result (block y [] (Int 64) (Register x)) [] refl refl ((zero, omega arith, refl), tt), tt),
   (
     record {
       name = name_f;
@@ -55,6 +56,7 @@ other_results_are_not = (
       registers = (refl, tt);
       operands = ((refl, tt), tt);
       flags = tt;
+      cases = tt;
       lines = omega arith;
     },
     tt,
@@ -64,7 +66,7 @@ other_results_are_not = (
 pub void_parameters_are_not : VoidParametersAreNot
 void_parameters_are_not = (
   λ shape. shape.functions.0.registers.0,
-  (defined void_parameter (block y [] (Int 32) (number 0)) [] refl (tt, tt), tt),
+  (defined void_parameter (block y [] (Int 32) (number 0)) [] refl refl (tt, tt), tt),
   (
     record {
       name = name_f;
@@ -73,6 +75,7 @@ void_parameters_are_not = (
       registers = (tt, tt);
       operands = ((refl, refl), tt);
       flags = tt;
+      cases = tt;
       lines = omega arith;
     },
     tt,
@@ -82,7 +85,7 @@ void_parameters_are_not = (
 pub void_numbers_are_not : VoidNumbersAreNot
 void_numbers_are_not = (
   λ shape. shape.functions.0.operands.0,
-  (defined void_number (block y [] Void (number 0)) [] refl (tt, tt), tt),
+  (defined void_number (block y [] Void (number 0)) [] refl refl (tt, tt), tt),
 )
 
 -- ---- lines and phis
@@ -90,7 +93,7 @@ void_numbers_are_not = (
 pub lines_without_operators_are_not : LinesWithoutOperatorsAreNot
 lines_without_operators_are_not = (
   λ shape. shape.functions.0.each.0.operators.0,
-  (defined no_operator _ [] refl ((tt, tt), ((zero, omega arith, refl), tt)), tt),
+  (defined no_operator _ [] refl refl ((tt, tt), ((zero, omega arith, refl), tt)), tt),
   (
     record {
       name = name_f;
@@ -99,6 +102,7 @@ lines_without_operators_are_not = (
       registers = (refl, tt);
       operands = ((refl, refl), ((refl, tt), tt));
       flags = (tt, tt);
+      cases = tt;
       lines = omega arith;
     },
     tt,
@@ -110,7 +114,7 @@ phis_of_no_edge_are_not = (
   λ shape.
       let many : 1 ≡ 0 = length_permutation _ _ shape.functions.0.each.0.phis.0.edges in
       absurd (omega (arith, many)),
-  (defined phi_of_no_edge _ [] refl ((zero, omega arith, refl), tt), tt),
+  (defined phi_of_no_edge _ [] refl refl ((zero, omega arith, refl), tt), tt),
   (
     record {
       name = name_f;
@@ -119,6 +123,7 @@ phis_of_no_edge_are_not = (
       registers = (refl, tt);
       operands = ((refl, refl), ((refl, tt), tt));
       flags = tt;
+      cases = tt;
       lines = omega arith;
     },
     tt,
@@ -130,7 +135,7 @@ phis_of_nothing_are_not = (
   λ shape.
       let some : 0 < 0 = shape.functions.0.each.0.phis.0.some in
       absurd (omega (arith, some)),
-  (defined phi_of_nothing _ [] refl ((zero, omega arith, refl), tt), tt),
+  (defined phi_of_nothing _ [] refl refl ((zero, omega arith, refl), tt), tt),
   (
     record {
       name = name_f;
@@ -139,6 +144,7 @@ phis_of_nothing_are_not = (
       registers = (refl, tt);
       operands = ((refl, tt), tt);
       flags = tt;
+      cases = tt;
       lines = omega arith;
     },
     tt,
@@ -155,11 +161,12 @@ returning_in_range name h = record {
   registers = tt;
   operands = ((refl, refl), tt);
   flags = tt;
+  cases = tt;
   lines = omega arith;
 }
 
 returning_defined : (name : Name) → IsFunctionDefined (returning name)
-returning_defined name = defined (returning name) (block x [] (Int 32) (number 0)) [] refl (tt, tt)
+returning_defined name = defined (returning name) (block x [] (Int 32) (number 0)) [] refl refl (tt, tt)
 
 pub functions_of_one_name_are_not : FunctionsOfOneNameAreNot
 functions_of_one_name_are_not = (
@@ -171,7 +178,7 @@ functions_of_one_name_are_not = (
 pub names_set_twice_are_not : NamesSetTwiceAreNot
 names_set_twice_are_not = (
   λ shape. shape.functions.0.names.1.1.0 (1, omega arith, refl),
-  (defined name_set_twice _ [] refl ((tt, (tt, tt)), ((tt, (tt, tt)), ((1, omega arith, refl), tt))), tt),
+  (defined name_set_twice _ [] refl refl ((tt, (tt, tt)), ((tt, (tt, tt)), ((1, omega arith, refl), tt))), tt),
   (
     record {
       name = name_f;
@@ -180,6 +187,7 @@ names_set_twice_are_not = (
       registers = (refl, (refl, tt));
       operands = ((refl, refl), ((refl, refl), ((refl, refl), ((refl, refl), ((refl, tt), tt)))));
       flags = (refl, (refl, tt));
+      cases = tt;
       lines = omega arith;
     },
     tt,
@@ -217,6 +225,7 @@ functions_without_blocks_are_not = (
       registers = tt;
       operands = tt;
       flags = tt;
+      cases = tt;
       lines = omega arith;
     },
     tt,

@@ -3,8 +3,6 @@ use Rattle.std.proofs.Common.{◌≡◌, suc, zero, true, false, List, [], ◌�
 use Rattle.std.specs.List.{Contains}
 use Rattle.ir_core.specs.declared.functions.Block.{Block}
 use Rattle.ir_core.specs.declared.functions.Function.{Function}
-use Rattle.ir_core.specs.declared.functions.Term.{Term}
-use Rattle.ir_core.specs.declared.functions.Term.TheVariants.{Ret, RetVoid}
 use Rattle.ir_core.specs.declared.names.Name.{Name}
 use Rattle.ir_core.specs.declared.names.Name.TheVariants.{Text}
 use Rattle.ir_core.specs.declared.operands.Atom.TheVariants.{Register}
@@ -19,27 +17,25 @@ use Rattle.ir_core.specs.WellFormed.{BlockUsesDefined, IsFunctionDefined}
 pub in_none : (name : Name) → Contains [] name → ⊥
 in_none name there = absurd (omega (arith, there.1))
 
-no_successors : (t : Term) → successors_of t ≡ []
-no_successors (Ret operand) = refl
-no_successors RetVoid = refl
-
 pub in_one : (a b : Name) → same_name a b ≡ false → same_name a a ≡ true → Contains (a ∷ []) b → ⊥
 in_one a b other same (zero, inside, is) =
     let both : same_name a a ≡ same_name a b = ap (same_name a) is in cc
 in_one a b other same (suc k, inside, is) = absurd (omega (arith, inside))
 
-in_two : (a b c : Name) → same_name a c ≡ false → same_name a a ≡ true → same_name b c ≡ false → same_name b b ≡ true → Contains (a ∷ b ∷ []) c → ⊥
+pub in_two : (a b c : Name) → same_name a c ≡ false → same_name a a ≡ true → same_name b c ≡ false → same_name b b ≡ true → Contains (a ∷ b ∷ []) c → ⊥
 in_two a b c other same further also (zero, inside, is) =
     let both : same_name a a ≡ same_name a c = ap (same_name a) is in cc
 in_two a b c other same further also (suc k, inside, is) = in_one b c further also (k, omega (arith, inside), is)
 
--- where the first block uses what is defined, each path does: it goes no further
-pub defined : (g : Function) (b : Block) (more : List Block) → g.blocks ≡ b ∷ more → BlockUsesDefined (names_in (params_of g)) b → IsFunctionDefined g
-defined g b more are uses first further [] blocks path =
+-- where the first block leads to no other and uses what is defined, each path does: it goes no further
+pub defined : (g : Function) (b : Block) (more : List Block) → g.blocks ≡ b ∷ more → successors_of b.term ≡ [] → BlockUsesDefined (names_in (params_of g)) b → IsFunctionDefined g
+defined g b more are last uses first further [] blocks path =
     let same : b ≡ first = cc (are, blocks) in
     subst (BlockUsesDefined (names_in (params_of g))) same uses
-defined g b more are uses first further (c ∷ path) blocks goes =
-    let there = subst (λ names. Contains names c.name) (no_successors first.term) goes.1 in
+defined g b more are last uses first further (c ∷ path) blocks goes =
+    let same : b ≡ first = cc (are, blocks) in
+    let none : successors_of first.term ≡ [] = subst (λ (a : Block). successors_of a.term ≡ []) same last in
+    let there = subst (λ names. Contains names c.name) none goes.1 in
     absurd (in_none c.name there)
 
 pub name_f : IsNameInRange f
@@ -64,13 +60,13 @@ two_blocks_are_well_formed = record {
         names = (in_none x, (in_one x y refl refl, tt));
         registers = tt;
         operands = (tt, (tt, tt));
-        each = (record { phis = tt; operators = tt; labels = tt; returns = refl }, (record { phis = tt; operators = tt; labels = tt; returns = refl }, tt));
+        each = (record { phis = tt; operators = tt; labels = tt; branches = tt; returns = refl; cases = tt }, (record { phis = tt; operators = tt; labels = tt; branches = tt; returns = refl; cases = tt }, tt));
       },
       tt,
     );
     names = (in_none f, tt);
   };
-  defined = (defined (function (Int 32) f (block x [] (Int 32) (number 0) ∷ block y [] (Int 32) (number 0) ∷ [])) (block x [] (Int 32) (number 0)) (block y [] (Int 32) (number 0) ∷ []) refl (tt, tt), tt);
+  defined = (defined (function (Int 32) f (block x [] (Int 32) (number 0) ∷ block y [] (Int 32) (number 0) ∷ [])) (block x [] (Int 32) (number 0)) (block y [] (Int 32) (number 0) ∷ []) refl refl (tt, tt), tt);
   range = (
     record {
       name = name_f;
@@ -79,6 +75,7 @@ two_blocks_are_well_formed = record {
       registers = tt;
       operands = ((refl, refl), ((refl, refl), tt));
       flags = tt;
+      cases = tt;
       lines = omega arith;
     },
     tt,
@@ -98,13 +95,13 @@ empty_names_are_not = (
         names = (in_none x, tt);
         registers = tt;
         operands = (tt, tt);
-        each = (record { phis = tt; operators = tt; labels = tt; returns = refl }, tt);
+        each = (record { phis = tt; operators = tt; labels = tt; branches = tt; returns = refl; cases = tt }, tt);
       },
       tt,
     );
     names = (in_none _, tt);
   },
-  (defined (function (Int 32) (Text []) (block x [] (Int 32) (number 0) ∷ [])) (block x [] (Int 32) (number 0)) [] refl (tt, tt), tt),
+  (defined (function (Int 32) (Text []) (block x [] (Int 32) (number 0) ∷ [])) (block x [] (Int 32) (number 0)) [] refl refl (tt, tt), tt),
   λ range. absurd (omega (arith, range.0.name.0)),
 )
 
@@ -121,7 +118,7 @@ early_uses_are_not = (
         names = (in_none f, (in_one f x refl refl, (in_two f x y refl refl refl refl, tt)));
         registers = (tt, (tt, tt));
         operands = ((1, omega arith, refl), (tt, (tt, (tt, ((0, omega arith, refl), tt)))));
-        each = (record { phis = tt; operators = (tt, (tt, tt)); labels = tt; returns = refl }, tt);
+        each = (record { phis = tt; operators = (tt, (tt, tt)); labels = tt; branches = tt; returns = refl; cases = tt }, tt);
       },
       tt,
     );
@@ -138,6 +135,7 @@ early_uses_are_not = (
       registers = (refl, (refl, tt));
       operands = ((refl, tt), ((refl, refl), ((refl, refl), ((refl, refl), ((refl, tt), tt)))));
       flags = (refl, (refl, tt));
+      cases = tt;
       lines = omega arith;
     },
     tt,
@@ -157,12 +155,12 @@ wide_numbers_are_not = (
         names = (in_none x, tt);
         registers = tt;
         operands = (tt, tt);
-        each = (record { phis = tt; operators = tt; labels = tt; returns = refl }, tt);
+        each = (record { phis = tt; operators = tt; labels = tt; branches = tt; returns = refl; cases = tt }, tt);
       },
       tt,
     );
     names = (in_none f, tt);
   },
-  (defined (function (Int 8) f (block x [] (Int 8) (number 256) ∷ [])) (block x [] (Int 8) (number 256)) [] refl (tt, tt), tt),
+  (defined (function (Int 8) f (block x [] (Int 8) (number 256) ∷ [])) (block x [] (Int 8) (number 256)) [] refl refl (tt, tt), tt),
   λ range. let wide = range.0.operands.0.1 in cc,
 )

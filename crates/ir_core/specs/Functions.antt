@@ -2,6 +2,7 @@
 use Rattle.std.specs.Prelude.{◌+◌, ℕ, Bool, false, List, [], ◌∷◌, ◌++◌, length, map, nat_eq, codes, Option, Some}
 use Rattle.std.specs.List.{filter, filter_map, flat_map, starts_with, sum_by}
 use Rattle.ir_core.specs.declared.functions.Block.{Block}
+use Rattle.ir_core.specs.declared.functions.Case.{Case}
 use Rattle.ir_core.specs.declared.functions.Entry.{Entry}
 use Rattle.ir_core.specs.declared.functions.Function.{Function}
 use Rattle.ir_core.specs.declared.functions.Instr.{Instr}
@@ -72,6 +73,10 @@ operands_of (instr.Calm c) = operands_in c.right
 abbrev pub operands_at_end : Term → List (Operand Name)
 operands_at_end (term.Ret operand) = operand ∷ []
 operands_at_end term.RetVoid = []
+operands_at_end (term.Br label) = []
+operands_at_end (term.CondBr c) = c.condition ∷ []
+operands_at_end (term.Switch s) = s.value ∷ []
+operands_at_end term.Unreachable = []
 
 abbrev pub operands_of_phi : Phi → List (Operand Name)
 operands_of_phi p = map (λ (e : Entry). record { ty = p.ty; atom = e.value }) p.entries
@@ -81,10 +86,24 @@ operands_in_block b = flat_map operands_of_phi b.phis ++ (flat_map operands_of b
 
 -- ---- blocks
 
--- the blocks to which a terminator leads, by their names, once for each edge
+-- the cases of a terminator, in order
+abbrev pub cases_of : Term → List Case
+cases_of (term.Ret operand) = []
+cases_of term.RetVoid = []
+cases_of (term.Br label) = []
+cases_of (term.CondBr c) = []
+cases_of (term.Switch s) = s.cases
+cases_of term.Unreachable = []
+
+-- The blocks to which a terminator leads, by their names, once for each edge: on true and then on false, or a switch's default and
+-- then its cases.
 abbrev pub successors_of : Term → List Name
 successors_of (term.Ret operand) = []
 successors_of term.RetVoid = []
+successors_of (term.Br label) = label ∷ []
+successors_of (term.CondBr c) = c.on_true ∷ c.on_false ∷ []
+successors_of (term.Switch s) = s.default ∷ map (λ (c : Case). c.label) s.cases
+successors_of term.Unreachable = []
 
 -- the blocks from which an edge enters the one of this name, once for each edge
 abbrev pub edges_into : Function → Name → List Name

@@ -13,3 +13,5 @@ pub mod Ranges
 pub mod WellFormed
 pub mod Examples
 pub mod Laws
+pub mod FlowExamples
+pub mod FlowLaws

@@ -6,10 +6,10 @@ use Rattle.ir_core.specs.declared.names.Name.{Name}
 use Rattle.ir_core.specs.declared.names.Name.TheVariants.{Text, Number}
 use Rattle.ir_core.specs.Functions.{function_names, names_of}
 
--- each of the names is new: it is none of those that are taken, and none before it
-abbrev pub AreNew : List Name → List Name → Type 0
+-- each of them is new: it is none of those that are taken, and none before it
+abbrev pub AreNew : {A : Type 0} → List A → List A → Type 0
 AreNew taken [] = Unit {0}
-AreNew taken (name ∷ names) = (Contains taken name → ⊥) × AreNew (taken ++ name ∷ []) names
+AreNew taken (x ∷ xs) = (Contains taken x → ⊥) × AreNew (taken ++ x ∷ []) xs
 
 -- A name that is a number is the one that is due, and the next one is due behind it; a text takes none.
 abbrev pub Counts : ℕ → Name → ℕ → Type 0

@@ -1,9 +1,10 @@
--- The ranges of names, types, constants, flags and lines within which text can write them; the types of the syntax tree hold more.
+-- The ranges of names, types, constants, flags, cases and lines within which text can write them; the types of the syntax tree hold more.
 use Rattle.std.specs.Prelude.{◌≡◌, ℕ, ◌<◌, ◌≤◌, ◌^◌, Bool, true, false, not, ◌&&◌, ◌||◌, List, length}
 use Rattle.std.specs.List.{AllByRecursion, flat_map}
 use Rattle.ir_core.specs.declared.expressions.Expr.{Expr}
 use Rattle.ir_core.specs.declared.expressions.Expr.TheVariants as expr
 use Rattle.ir_core.specs.declared.functions.Block.{Block}
+use Rattle.ir_core.specs.declared.functions.Case.{Case}
 use Rattle.ir_core.specs.declared.functions.Function.{Function}
 use Rattle.ir_core.specs.declared.functions.Instr.{Instr}
 use Rattle.ir_core.specs.declared.functions.Instr.TheVariants as instr
@@ -14,11 +15,12 @@ use Rattle.ir_core.specs.declared.operands.Atom.{Atom}
 use Rattle.ir_core.specs.declared.operands.Atom.TheVariants.{Constant, Register}
 use Rattle.ir_core.specs.declared.operands.BinOp.{BinOp}
 use Rattle.ir_core.specs.declared.operands.BinOp.TheVariants.{Add, Sub, Mul, Shl, UDiv, SDiv, LShr, AShr}
+use Rattle.ir_core.specs.declared.operands.Const.TheVariants as constant
 use Rattle.ir_core.specs.declared.operands.Flags.{Flags}
 use Rattle.ir_core.specs.declared.operands.Operand.{Operand}
 use Rattle.ir_core.specs.declared.operands.Ty.{Ty}
 use Rattle.ir_core.specs.declared.operands.Ty.TheVariants as ty
-use Rattle.ir_core.specs.Functions.{line_count, names_of, operands_in_block, typed_of}
+use Rattle.ir_core.specs.Functions.{cases_of, line_count, names_of, operands_in_block, typed_of}
 use Rattle.ir_core.specs.Limits.{line_limit}
 use Rattle.ir_core.specs.Types.{constant_fits, is_width}
 
@@ -70,6 +72,10 @@ AreFlagsInRange e = Unit {0}
 abbrev pub IsLineInRange : Instr → Type 0
 IsLineInRange (instr.Calm c) = AreFlagsInRange c.right
 
+-- a case's number has no more bits than its type
+abbrev pub IsCaseInRange : Case → Type 0
+IsCaseInRange c = IsTypeInRange c.ty × (constant_fits c.ty (constant.Number c.number) ≡ true)
+
 pub record IsFunctionInRange (f : Function) : Type 0 where
   pub name : IsNameInRange f.name
   pub names : AllByRecursion IsNameInRange (names_of f)
@@ -77,6 +83,7 @@ pub record IsFunctionInRange (f : Function) : Type 0 where
   pub registers : AllByRecursion (λ register. IsTypeInRange register.1) (typed_of f)
   pub operands : AllByRecursion IsOperandInRange (flat_map operands_in_block f.blocks)
   pub flags : AllByRecursion IsLineInRange (flat_map (λ (b : Block). b.body) f.blocks)
+  pub cases : AllByRecursion IsCaseInRange (flat_map (λ (b : Block). cases_of b.term) f.blocks)
   pub lines : line_count f ≤ line_limit
 
 abbrev pub IsInRange : Module → Type 0

@@ -1,5 +1,5 @@
 -- Which types there are, which have values, and between which there are conversions (LangRef 3.7, Type System, Conversion Operations).
-use Rattle.std.specs.Prelude.{ℕ, ◌&&◌, ◌^◌, Bool, false, true, cond, nat_le, nat_lt, Option, None, Some}
+use Rattle.std.specs.Prelude.{ℕ, ◌&&◌, ◌%◌, ◌^◌, Bool, false, true, cond, nat_le, nat_lt, Option, None, Some}
 use Rattle.ir_core.specs.declared.operands.CastOp.{CastOp}
 use Rattle.ir_core.specs.declared.operands.CastOp.TheVariants as conversion
 use Rattle.ir_core.specs.declared.operands.Const.{Const}
@@ -17,6 +17,11 @@ is_width width = nat_le 1 width && nat_le width 64
 -- the number is one of that many bits
 abbrev pub fits : ℕ → ℕ → Bool
 fits number width = nat_lt number (2 ^ width)
+
+-- A number at a type: an integer is kept modulo 2 to its width, so that 511 at i8 is 255.
+abbrev pub number_at : Ty → ℕ → ℕ
+number_at (ty.Int width) n = n % 2 ^ width
+number_at ty.Void n = n
 
 -- the constant is one of the type's values, or undef
 abbrev pub constant_fits : Ty → Const → Bool

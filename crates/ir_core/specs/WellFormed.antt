@@ -4,6 +4,7 @@ use Rattle.std.specs.List.{AllByRecursion, Contains, flat_map}
 use Rattle.ir_core.specs.declared.expressions.Expr.{Expr}
 use Rattle.ir_core.specs.declared.expressions.Expr.TheVariants as expr
 use Rattle.ir_core.specs.declared.functions.Block.{Block}
+use Rattle.ir_core.specs.declared.functions.Case.{Case}
 use Rattle.ir_core.specs.declared.functions.Entry.{Entry}
 use Rattle.ir_core.specs.declared.functions.Function.{Function}
 use Rattle.ir_core.specs.declared.functions.Instr.{Instr}
@@ -11,7 +12,7 @@ use Rattle.ir_core.specs.declared.functions.Instr.TheVariants as instr
 use Rattle.ir_core.specs.declared.functions.Module.{Module}
 use Rattle.ir_core.specs.declared.functions.Phi.{Phi}
 use Rattle.ir_core.specs.declared.functions.Term.{Term}
-use Rattle.ir_core.specs.declared.functions.Term.TheVariants.{Ret, RetVoid}
+use Rattle.ir_core.specs.declared.functions.Term.TheVariants as term
 use Rattle.ir_core.specs.declared.names.Name.{Name}
 use Rattle.ir_core.specs.declared.operands.Atom.{Atom}
 use Rattle.ir_core.specs.declared.operands.Atom.TheVariants.{Constant, Register}
@@ -21,7 +22,7 @@ use Rattle.ir_core.specs.declared.operands.Ty.TheVariants as ty
 use Rattle.ir_core.specs.Functions.{edges_into, function_names, is_debug, names_in, names_of, operands_at_end, operands_in_block, operands_of, params_of, phi_registers, registers_of, set_by, successors_of, typed_of}
 use Rattle.ir_core.specs.Order.{AreNew}
 use Rattle.ir_core.specs.Ranges.{IsInRange}
-use Rattle.ir_core.specs.Types.{converts}
+use Rattle.ir_core.specs.Types.{converts, number_at}
 
 -- ---- shape: names and labels are unique and known, edges and phis agree, and so do types
 
@@ -53,8 +54,34 @@ SetsByOperator (instr.Calm c) = IsOperator c.right
 
 -- what is returned is of the function's result type, and nothing is where that is void
 abbrev pub Returns : Ty → Term → Type 0
-Returns result (Ret operand) = operand.ty ≡ result
-Returns result RetVoid = result ≡ ty.Void
+Returns result (term.Ret operand) = operand.ty ≡ result
+Returns result term.RetVoid = result ≡ ty.Void
+Returns result (term.Br label) = Unit {0}
+Returns result (term.CondBr c) = Unit {0}
+Returns result (term.Switch s) = Unit {0}
+Returns result term.Unreachable = Unit {0}
+
+-- a condition is an i1, and a switch is over integers
+abbrev pub BranchesOn : Term → Type 0
+BranchesOn (term.Ret operand) = Unit {0}
+BranchesOn term.RetVoid = Unit {0}
+BranchesOn (term.Br label) = Unit {0}
+BranchesOn (term.CondBr c) = c.condition.ty ≡ ty.Int 1
+BranchesOn (term.Switch s) = IsInteger s.value.ty
+BranchesOn term.Unreachable = Unit {0}
+
+-- The cases of a switch are different values of its type: their numbers are different modulo 2 to its width.
+pub record AreCasesOf (value : Ty) (cases : List Case) : Type 0 where
+  pub typed : AllByRecursion (λ (c : Case). c.ty ≡ value) cases
+  pub apart : AreNew [] (map (λ (c : Case). number_at value c.number) cases)
+
+abbrev pub HasCases : Term → Type 0
+HasCases (term.Ret operand) = Unit {0}
+HasCases term.RetVoid = Unit {0}
+HasCases (term.Br label) = Unit {0}
+HasCases (term.CondBr c) = Unit {0}
+HasCases (term.Switch s) = AreCasesOf s.value.ty s.cases
+HasCases term.Unreachable = Unit {0}
 
 -- A phi has an entry, and one for each edge that enters its block; entries of one block are alike.
 pub record FitsEdges (f : Function) (b : Block) (p : Phi) : Type 0 where
@@ -66,7 +93,9 @@ pub record HasBlockShape (f : Function) (b : Block) : Type 0 where
   pub phis : AllByRecursion (FitsEdges f b) b.phis
   pub operators : AllByRecursion SetsByOperator b.body
   pub labels : AllByRecursion (Contains (map (λ (c : Block). c.name) f.blocks)) (successors_of b.term)
+  pub branches : BranchesOn b.term
   pub returns : Returns f.result b.term
+  pub cases : HasCases b.term
 
 -- A definition has a first block, which nothing enters.
 pub record HasFunctionShape (f : Function) : Type 0 where

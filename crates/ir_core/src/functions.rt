@@ -1,4 +1,4 @@
-use crate::{Atom, Expr, Name, Operand, Ty};
+use crate::{Atom, Bits, Expr, Name, Operand, Ty};
 use contents::Seq;
 
 /// `name = right`: a line that sets a register and does nothing else.
@@ -55,10 +55,66 @@ impl Drop for Entry {
     }
 }
 
-/// The last line of a block.
+/// `br i1 condition, label %on_true, label %on_false`.
+pub struct CondBr {
+    pub condition: Operand<Name>,
+    pub on_true: Name,
+    pub on_false: Name,
+}
+
+impl Drop for CondBr {
+    fn drop(self) {
+        let CondBr {
+            condition: _,
+            on_true: _,
+            on_false: _,
+        } = self;
+    }
+}
+
+/// `ty number, label %label` of a switch. The number is kept as it is modulo 2 to the width of its type.
+pub struct Case {
+    pub ty: Ty,
+    pub number: Bits,
+    pub label: Name,
+}
+
+impl Drop for Case {
+    fn drop(self) {
+        let Case {
+            ty: _,
+            number: _,
+            label: _,
+        } = self;
+    }
+}
+
+/// `switch value, label %default [ cases ]`.
+pub struct Switch {
+    pub value: Operand<Name>,
+    pub default: Name,
+    pub cases: Seq<Case>,
+}
+
+impl Drop for Switch {
+    fn drop(self) {
+        let Switch {
+            value: _,
+            default: _,
+            cases: _,
+        } = self;
+    }
+}
+
+/// The last line of a block (LangRef 3.7, Terminator Instructions).
 pub enum Term {
     Ret(Operand<Name>),
     RetVoid,
+    /// `br label`, to the block of that name.
+    Br(Name),
+    CondBr(CondBr),
+    Switch(Switch),
+    Unreachable,
 }
 
 impl Drop for Term {
@@ -66,6 +122,10 @@ impl Drop for Term {
         match self {
             Term::Ret(_) => {}
             Term::RetVoid => {}
+            Term::Br(_) => {}
+            Term::CondBr(_) => {}
+            Term::Switch(_) => {}
+            Term::Unreachable => {}
         }
     }
 }

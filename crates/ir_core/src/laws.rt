@@ -3,6 +3,7 @@ ghost use Rattle.ir_core.specs.Laws.{OtherWidthsAreNot, OtherResultsAreNot, Void
 ghost use Rattle.ir_core.specs.Laws.{LinesWithoutOperatorsAreNot, PhisOfNoEdgeAreNot, PhisOfNothingAreNot};
 ghost use Rattle.ir_core.specs.Laws.{FunctionsOfOneNameAreNot, NamesSetTwiceAreNot, DebugNamesAreNot, FunctionsWithoutBlocksAreNot};
 ghost use Rattle.ir_core.specs.Laws.{ConversionsChangeWidths, SelectionsHaveOneType, ComparisonsGiveBits, FlagsHaveOperators, OperatorsOfFlags, VoidReturns, ExpressionsAreRead, ExpressionsAreMapped};
+ghost use Rattle.ir_core.specs.FlowLaws.{JumpsGoToBlocks, PhisFollowEdges, CasesAreApart, PathsDefine, SuccessorsInOrder};
 
 /// Empty on purpose: its contract is the law.
 ///
@@ -66,4 +67,17 @@ pub fn examples_of_operations()
 pub fn examples_of_expressions()
     ensures read { ExpressionsAreRead }
     ensures mapped { ExpressionsAreMapped }
+{}
+
+/// Empty on purpose: its contract is the law.
+///
+/// Labels are those of blocks other than the first, phis have an entry for each edge and equal ones for edges of one block, the cases of a
+/// switch are different values of its type, and a register is defined where each path sets it.
+#[tactic(auto, using(crate::proofs::Flow::jumps_go_to_blocks, crate::proofs::Flow::phis_follow_edges, crate::proofs::Flow::cases_are_apart, crate::proofs::Flow::paths_define))]
+pub fn examples_of_control_flow()
+    ensures jumps { JumpsGoToBlocks }
+    ensures phis { PhisFollowEdges }
+    ensures cases { CasesAreApart }
+    ensures paths { PathsDefine }
+    ensures successors { SuccessorsInOrder }
 {}

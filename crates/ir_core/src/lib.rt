@@ -1,5 +1,5 @@
-//! The syntax tree of textual LLVM IR (Language Reference 3.7), as far as it is built: the operations on integers and
-//! `ret`, and the expressions over them that facts of the logic speak of.
+//! The syntax tree of textual LLVM IR (Language Reference 3.7), as far as it is built: the operations on integers, phis
+//! and the terminators `ret`, `br`, `switch` and `unreachable`, and the expressions over operations that facts of the logic speak of.
 //!
 //! A value of these types is plain data to a contract: two are equal exactly where `Exact::is` says so.
 #![tactic(auto)]
@@ -18,10 +18,13 @@ mod words;
 
 pub use bits::Bits;
 pub use expressions::{Binary, Cast, Expr, Expr0, Icmp, Reg, Select};
-pub use functions::{Block, Calm, Entry, Function, Instr, Module, Param, Phi, Term};
+pub use functions::{
+    Block, Calm, Case, CondBr, Entry, Function, Instr, Module, Param, Phi, Switch, Term,
+};
 pub use laws::{
-    examples_of_expressions, examples_of_lines, examples_of_names_and_blocks,
-    examples_of_operations, examples_of_types, examples_of_well_formedness,
+    examples_of_control_flow, examples_of_expressions, examples_of_lines,
+    examples_of_names_and_blocks, examples_of_operations, examples_of_types,
+    examples_of_well_formedness,
 };
 pub use limits::Limit;
 pub use names::{Name, Sigil};

@@ -3,6 +3,7 @@ use crate::trees::{
     BlockText, ConstantWord, DefinitionText, ExprText, LineText, ModuleText, OperandText,
     OperationText, OperatorText, ParamText, Placed, ValueText,
 };
+use contents::Boxed;
 use ir_core::{CastOp, Name, Pred};
 use ir_lexer::Number;
 use typed_grammars::Stack;
@@ -41,19 +42,19 @@ pub enum List {
     Flags(Stack<FlagWord>),
 }
 
-/// What more tokens were read as.
+/// What more tokens were read as. The large ones are boxed, so that a part is small where it is moved.
 #[derive(Drop)]
 pub enum Tree {
     Module(ModuleText),
-    Definition(DefinitionText),
+    Definition(Boxed<DefinitionText>),
     Param(ParamText),
-    Block(BlockText),
+    Block(Boxed<BlockText>),
     Returned(Option<OperandText>),
-    Line(LineText),
-    Operation(OperationText),
+    Line(Boxed<LineText>),
+    Operation(Boxed<OperationText>),
     Operator(OperatorText),
     Operand(OperandText),
-    Expr(ExprText),
+    Expr(Boxed<ExprText>),
 }
 
 /// What stands on the stack: a leaf, or what tokens were read as. In groups, so that each is taken by few cases.

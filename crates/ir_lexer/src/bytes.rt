@@ -37,7 +37,10 @@ pub fn is_in_line(byte: u8) -> bool
 pub fn is_mark(byte: u8) -> bool
     ensures { result ≡ is_mark byte }
 {
-    b"=,(){}[]*<>|".contains(&byte)
+    matches!(
+        byte,
+        b'=' | b',' | b'(' | b')' | b'{' | b'}' | b'[' | b']' | b'*' | b'<' | b'>' | b'|'
+    )
 }
 
 /// A byte that begins a word.

@@ -19,7 +19,7 @@ use Rattle.ir_machine.proofs.Refining.{alone, entering}
 use Rattle.ir_machine.proofs.Runs.{over_shows, shows_nothing}
 
 -- a step that asks for nothing, and after which the run is over
-abbrev EndsAtOnce : Module → State → List Item → Type 0
+abbrev pub EndsAtOnce : Module → State → List Item → Type 0
 EndsAtOnce m s items = asks m s ≡ Does items Over
 
 shown : (m : Module) (s : State) (items : List Item) → EndsAtOnce m s items → (n : ℕ) (seen : List Item) → ShowsFrom m (suc n) s seen → (seen ≡ []) ⊎ (seen ≡ items)
@@ -41,7 +41,7 @@ shows m s items ends n seen (inr e) =
       shows_nothing m n Over,
     )
 
-at_once : (m : Module) (f : Name) (s : State) (items : List Item) → start m f (record { args = [] }) ≡ Some s → EndsAtOnce m s items → AreShownAtOnce m f items
+pub at_once : (m : Module) (f : Name) (s : State) (items : List Item) → start m f (record { args = [] }) ≡ Some s → EndsAtOnce m s items → AreShownAtOnce m f items
 at_once m f s items starts ends n seen = (
   λ h. shown m s items ends n seen (subst (λ (o : Option State). MatchOption o ⊥ (λ t. ShowsFrom m (suc n) t seen)) starts h),
   λ h. subst (λ (o : Option State). MatchOption o ⊥ (λ t. ShowsFrom m (suc n) t seen)) (sym starts) (shows m s items ends n seen h),

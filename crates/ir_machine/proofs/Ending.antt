@@ -7,7 +7,7 @@ use Rattle.ir_core.specs.declared.values.Kind.{Kind}
 use Rattle.ir_core.specs.declared.functions.Instr.{Instr}
 use Rattle.ir_core.specs.declared.functions.Instr.TheVariants as line
 use Rattle.ir_core.specs.declared.functions.Term.{Term}
-use Rattle.ir_core.specs.declared.functions.Term.TheVariants.{Ret, RetVoid}
+use Rattle.ir_core.specs.declared.functions.Term.TheVariants.{Ret, RetVoid, Br, CondBr, Switch, Unreachable}
 use Rattle.ir_core.specs.declared.functions.Param.{Param}
 use Rattle.ir_core.specs.declared.functions.Block.{Block}
 use Rattle.ir_core.specs.declared.functions.Function.{Function}
@@ -23,7 +23,7 @@ use Rattle.ir_machine.specs.Registers.{Registers, no_registers, set, read, opera
 use Rattle.ir_machine.specs.State.{Frame, no_world, State, Running, Over}
 use Rattle.ir_machine.specs.Machine.{Made, Follows, asks, at_block, at_entry, entered, return_step, shown_value, start, started, term_step, ShowsFrom}
 use Rattle.ir_machine.specs.Refinement.{MayShowFrom, EndTheRun}
-use Rattle.ir_machine.specs.Laws.{Leads, RunsAreSteps, Fit, OneBlockRunsEnd, FirstsAreShown, StartsAreKept, RefinedRunsAreShown}
+use Rattle.ir_machine.specs.Laws.{EndsByReturn, Leads, RunsAreSteps, Fit, OneBlockRunsEnd, FirstsAreShown, StartsAreKept, RefinedRunsAreShown}
 use Rattle.ir_machine.proofs.Trees.{AllDo, all_do_made, all_do_show}
 use Rattle.ir_machine.proofs.NeverStuck.{none_is_stuck, ends_are_shown}
 use Rattle.ir_machine.proofs.Runs.{step_on, shows_more}
@@ -71,23 +71,28 @@ IsOver items after = after ≡ Over
 return_is_over : (k : Option Kind) (v : Value) → AllDo IsOver (return_step k v [] no_world)
 return_is_over k v = all_do_show IsOver k v no_world _ _ refl (λ s after. refl)
 
-returns_over : (t : Term) (frame : Frame) → AllDo IsOver (term_step t frame [] no_world)
-returns_over (Ret o) frame = return_is_over (kind_of o.ty) (operand_value (read frame.registers) o)
-returns_over RetVoid frame = refl
+returns_over : (t : Term) (frame : Frame) → EndsByReturn t → AllDo IsOver (term_step t frame [] no_world)
+returns_over (Ret o) frame returns = return_is_over (kind_of o.ty) (operand_value (read frame.registers) o)
+returns_over RetVoid frame returns = refl
+returns_over (Br label) frame returns = absurd returns
+returns_over (CondBr c) frame returns = absurd returns
+returns_over (Switch s) frame returns = absurd returns
+returns_over Unreachable frame returns = absurd returns
 
 abbrev left_in : Frame → List Instr → State
 left_in frame lines = Running (record frame { lines = lines }) [] no_world
 
-ends_from : (m : Module) (lines : List Instr) (frame : Frame) → EndsFrom m (left_in frame lines)
-ends_from m [] frame =
+ends_from : (m : Module) (lines : List Instr) (frame : Frame) → EndsByReturn frame.term → EndsFrom m (left_in frame lines)
+ends_from m [] frame returns =
     let made : (made : Made) × Follows (asks m (left_in frame [])) made = none_is_stuck m (left_in frame []) (λ e. cc) in
-    last_step m (left_in frame []) made.0 made.1 (all_do_made IsOver (asks m (left_in frame [])) made.0 (returns_over frame.term (record frame { lines = [] })) made.1)
-ends_from m (line.Calm b ∷ lines) frame = by_outcome (outcome (read frame.registers) b.right) refl (λ next. ends_from m lines next)
+    last_step m (left_in frame []) made.0 made.1 (all_do_made IsOver (asks m (left_in frame [])) made.0 (returns_over frame.term (record frame { lines = [] }) returns) made.1)
+ends_from m (line.Calm b ∷ lines) frame returns = by_outcome (outcome (read frame.registers) b.right) refl
+    (λ registers. ends_from m lines (record frame { registers = registers }) returns)
   where
-    by_outcome : (o : Outcome) → outcome (read frame.registers) b.right ≡ o → ((next : Frame) → EndsFrom m (left_in next lines)) → EndsFrom m (left_in frame (line.Calm b ∷ lines))
+    by_outcome : (o : Outcome) → outcome (read frame.registers) b.right ≡ o → ((registers : Registers) → EndsFrom m (left_in (record frame { registers = registers }) lines)) → EndsFrom m (left_in frame (line.Calm b ∷ lines))
     by_outcome (Gives v) e rest =
         later m (left_in frame (line.Calm b ∷ lines)) (left_in (record frame { registers = set frame.registers b.name (kind_of (type_of b.right)) v }) lines)
-        (rw e refl) (rest (record frame { registers = set frame.registers b.name (kind_of (type_of b.right)) v }))
+        (rw e refl) (rest (set frame.registers b.name (kind_of (type_of b.right)) v))
     by_outcome Trap e rest = last_step m (left_in frame (line.Calm b ∷ lines)) (record { told = []; items = Wrong ∷ []; after = Over }) (rw e refl) refl
 
 fit_enters : (ps : List Param) (args : List Shown) (registers : Registers) → Fit ps args → (after : Registers) × (entered ps args registers ≡ Some after)
@@ -104,7 +109,7 @@ one_block_runs_end m x f b input named blocks phis term fit =
     let starts : start m x input ≡ Some (Running (at_block f b registers.0) [] no_world) =
     ap (λ (o : Option Function). option_and_then (λ g. started g input) o) named ∙ ap (λ (bs : List Block). at_entry f bs (entered f.params input.args no_registers)) blocks
     ∙ ap (λ (o : Option Registers). at_entry f (b ∷ []) o) registers.1 in
-    let ends : EndsFrom m (Running (at_block f b registers.0) [] no_world) = ends_from m b.body (at_block f b registers.0) in
+    let ends : EndsFrom m (Running (at_block f b registers.0) [] no_world) = ends_from m b.body (at_block f b registers.0) term in
     (ends.0, ends.1, subst (λ (o : Option State). MatchOption o ⊥ (λ s. ShowsFrom m ends.0 s ends.1)) (sym starts) ends.2, ends.3)
 
 pub firsts_are_shown : FirstsAreShown

@@ -1,6 +1,6 @@
 -- Every state that a run comes to holds values of their kinds.
 use Rattle.std.proofs.Common.{◌≡◌, ℕ, ◌<◌, ◌^◌, Bool, true, false, cond, List, [], ◌∷◌, Option, None, Some, refl, sym, subst}
-use Rattle.std.specs.Prelude.{nat_le, nat_lt, option_and_then}
+use Rattle.std.specs.Prelude.{IfSome, nat_le, nat_lt, option_and_then, option_map}
 use Rattle.std.proofs.lemmas.Bool.{leb-true, ltb-true}
 use Rattle.ir_core.specs.declared.names.Name.{Name}
 use Rattle.ir_core.specs.declared.values.Value.{Value}
@@ -23,8 +23,10 @@ use Rattle.ir_core.specs.declared.expressions.Expr.TheVariants as expr
 use Rattle.ir_core.specs.declared.functions.Instr.{Instr}
 use Rattle.ir_core.specs.declared.functions.Instr.TheVariants as line
 use Rattle.ir_core.specs.declared.functions.Term.{Term}
-use Rattle.ir_core.specs.declared.functions.Term.TheVariants.{Ret, RetVoid}
+use Rattle.ir_core.specs.declared.functions.Term.TheVariants.{Ret, RetVoid, Br, CondBr, Switch, Unreachable}
+use Rattle.ir_core.specs.declared.functions.Entry.{Entry}
 use Rattle.ir_core.specs.declared.functions.Param.{Param}
+use Rattle.ir_core.specs.declared.functions.Phi.{Phi}
 use Rattle.ir_core.specs.declared.functions.Block.{Block}
 use Rattle.ir_core.specs.declared.functions.Function.{Function}
 use Rattle.ir_core.specs.declared.functions.Module.{Module}
@@ -45,8 +47,8 @@ use Rattle.ir_core.specs.Types.{converts, is_width, kind_of}
 use Rattle.ir_core.specs.Expressions.{type_of}
 use Rattle.ir_machine.specs.Registers.{Registers, no_registers, read, set, AreInKind, constant_value, atom_at, atom_value, operand_value, binary_at, icmp_at, cast_at, selects, outcome}
 use Rattle.ir_machine.specs.State.{Frame, Pending, World, State, Running, Over}
-use Rattle.ir_machine.specs.Machine.{Made, Follows, asks, at_kind, set_into, frame_step, term_step, return_step, return_void, fits_kind, shown_value, entered, at_entry, started, start, function_named}
-use Rattle.ir_machine.proofs.Trees.{AllDo, all_do_made, all_do_show, all_do_set_to}
+use Rattle.ir_machine.specs.Machine.{Made, Follows, asks, at_kind, entry_from, jump, phi_value, set_into, with_phis, frame_step, term_step, return_step, return_void, fits_kind, shown_value, entered, at_entry, started, start, function_named}
+use Rattle.ir_machine.proofs.Trees.{AllDo, all_do_branch, all_do_jump, all_do_made, all_do_show, all_do_set_to}
 use Rattle.ir_machine.proofs.Runs.{holding_in_kind, set_in_kind}
 
 number_in_kind : (n width : ℕ) (below : Bool) → (below ≡ true → n < 2 ^ width) → IsInKind (Int width) (cond below (value.Num n) value.Poison)
@@ -154,10 +156,44 @@ void_in_kind : (rest : List Pending) (world : World) → AllInKind rest → AllD
 void_in_kind [] world h = tt
 void_in_kind (q ∷ qs) world h = (set_into_in_kind q.frame.registers q.into None value.Poison h.0 tt, h.1)
 
+-- ---- phis
+
+abbrev GivesOf : Option Kind → Option Value → Type 0
+GivesOf k o = IfSome o (IsInKindOf k)
+
+of_entry : (old : Registers) (k : Option Kind) → AreInKind old → (o : Option Entry) → GivesOf k (option_map (λ (e : Entry). atom_value (read old) k e.value) o)
+of_entry old k h (Some e) = atom_value_in_kind (read old) (λ j x. h x j) k e.value
+of_entry old k h None = tt
+
+pub phi_in_kind : (old : Registers) (from : Name) (p : Phi) → AreInKind old → GivesOf (kind_of p.ty) (phi_value old from p)
+phi_in_kind old from p h = of_entry old (kind_of p.ty) h (entry_from from p.entries)
+
+abbrev pub EntersInKind : Option Registers → Type 0
+EntersInKind None = Unit {0}
+EntersInKind (Some registers) = AreInKind registers
+
+set_each : (old : Registers) (from : Name) (p : Phi) (ps : List Phi) (registers : Registers) (o : Option Value)
+    → AreInKind registers → GivesOf (kind_of p.ty) o → ((next : Registers) → AreInKind next → EntersInKind (with_phis old from ps next))
+    → EntersInKind (option_and_then (λ v. with_phis old from ps (set registers p.name (kind_of p.ty) v)) o)
+set_each old from p ps registers (Some v) h is more = more (set registers p.name (kind_of p.ty) v) (set_in_kind registers p.name (kind_of p.ty) v h is)
+set_each old from p ps registers None h is more = tt
+
+pub phis_in_kind : (old : Registers) (from : Name) (ps : List Phi) (registers : Registers) → AreInKind old → AreInKind registers → EntersInKind (with_phis old from ps registers)
+phis_in_kind old from [] registers o h = h
+phis_in_kind old from (p ∷ ps) registers o h = set_each old from p ps registers (phi_value old from p) h (phi_in_kind old from p o) (λ next kept. phis_in_kind old from ps next o kept)
+
+jump_in_kind : (frame : Frame) (rest : List Pending) (world : World) → AreInKind frame.registers → AllInKind rest → (to : Name) → AllDo LeadsInKind (jump frame rest world to)
+jump_in_kind frame rest world h w to = all_do_jump LeadsInKind frame rest world to tt
+    (λ b registers named is. (subst EntersInKind is (phis_in_kind frame.registers frame.block b.phis frame.registers h h), w))
+
 term_in_kind : (t : Term) (frame : Frame) (rest : List Pending) (world : World) → AreInKind frame.registers → AllInKind rest → AllDo LeadsInKind (term_step t frame rest world)
 term_in_kind (Ret o) frame rest world h w =
     return_in_kind (kind_of o.ty) (operand_value (read frame.registers) o) rest world (operand_in_kind (read frame.registers) (λ k r. h r k) o) w
 term_in_kind RetVoid frame rest world h w = void_in_kind rest world w
+term_in_kind (Br label) frame rest world h w = jump_in_kind frame rest world h w label
+term_in_kind (CondBr c) frame rest world h w = all_do_branch LeadsInKind (operand_value (read frame.registers) c.condition) _ _ (jump frame rest world) tt (jump_in_kind frame rest world h w)
+term_in_kind (Switch s) frame rest world h w = all_do_branch LeadsInKind (operand_value (read frame.registers) s.value) _ _ (jump frame rest world) tt (jump_in_kind frame rest world h w)
+term_in_kind Unreachable frame rest world h w = tt
 
 frame_in_kind : (lines : List Instr) (frame : Frame) (rest : List Pending) (world : World) → AreInKind frame.registers → AllInKind rest → AllDo LeadsInKind (frame_step lines frame rest world)
 frame_in_kind (line.Calm b ∷ left) frame rest world h w =
@@ -184,10 +220,6 @@ no_registers_in_kind x k = poison_in_kind k
 pub argument_in_kind : (k : Option Kind) (a : Shown) → fits_kind k a ≡ true → IsInKindOf k (shown_value a)
 argument_in_kind None a h = tt
 argument_in_kind (Some (Int width)) (shown.Num n) h = ltb-true n (2 ^ width) h
-
-abbrev pub EntersInKind : Option Registers → Type 0
-EntersInKind None = Unit {0}
-EntersInKind (Some registers) = AreInKind registers
 
 fitting_in_kind : (fits : Bool) (entering : Option Registers) → (fits ≡ true → EntersInKind entering) → EntersInKind (cond fits entering None)
 fitting_in_kind true entering h = h refl

@@ -13,3 +13,8 @@ pub mod Returning
 pub mod Refining
 pub mod Ending
 pub mod AtOnce
+pub mod Landing
+pub mod Branching
+pub mod Flow
+pub mod Finding
+pub mod Setting

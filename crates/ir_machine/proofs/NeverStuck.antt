@@ -1,5 +1,5 @@
 -- A run that isn't over can make a step, and shows how it ends.
-use Rattle.std.proofs.Common.{◌≡◌, ◌↔◌, ◌^◌, Bool, true, false, cond, List, [], ◌∷◌, ◌++◌, Option, None, Some, refl, subst}
+use Rattle.std.proofs.Common.{◌≡◌, ◌↔◌, ◌^◌, ℕ, map, Bool, true, false, cond, List, [], ◌∷◌, ◌++◌, Option, None, Some, refl, subst}
 use Rattle.std.specs.Prelude.{nat_lt}
 use Rattle.std.proofs.lemmas.Bool.{lt-ltb}
 use Rattle.std.proofs.lemmas.Nat.{pow_pos}
@@ -8,10 +8,13 @@ use Rattle.ir_core.specs.declared.values.Value.{Value}
 use Rattle.ir_core.specs.declared.values.Value.TheVariants as value
 use Rattle.ir_core.specs.declared.values.Kind.{Kind}
 use Rattle.ir_core.specs.declared.values.Kind.TheVariants.{Int}
+use Rattle.ir_core.specs.declared.functions.Block.{Block}
+use Rattle.ir_core.specs.declared.functions.Case.{Case}
+use Rattle.ir_core.specs.declared.functions.Function.{Function}
 use Rattle.ir_core.specs.declared.functions.Instr.{Instr}
 use Rattle.ir_core.specs.declared.functions.Instr.TheVariants as line
 use Rattle.ir_core.specs.declared.functions.Term.{Term}
-use Rattle.ir_core.specs.declared.functions.Term.TheVariants.{Ret, RetVoid}
+use Rattle.ir_core.specs.declared.functions.Term.TheVariants.{Ret, RetVoid, Br, CondBr, Switch, Unreachable}
 use Rattle.ir_core.specs.declared.functions.Module.{Module}
 use Rattle.ir_values.specs.declared.operations.Outcome.{Outcome}
 use Rattle.ir_values.specs.declared.operations.Outcome.TheVariants.{Gives, Trap}
@@ -20,15 +23,16 @@ use Rattle.ir_machine.specs.declared.items.Item.TheVariants.{Turn, Returned, Wro
 use Rattle.ir_machine.specs.declared.items.Shown.{Shown}
 use Rattle.ir_machine.specs.declared.items.Shown.TheVariants as shown
 use Rattle.ir_machine.specs.declared.items.Choice.{Choice}
-use Rattle.ir_machine.specs.declared.items.Choice.TheVariants.{Pick}
+use Rattle.ir_machine.specs.declared.items.Choice.TheVariants.{Go, Pick}
 use Rattle.ir_core.specs.Types.{kind_of}
 use Rattle.ir_core.specs.Expressions.{type_of}
-use Rattle.ir_machine.specs.Registers.{read, operand_value, outcome}
+use Rattle.ir_machine.specs.Registers.{Registers, read, operand_value, outcome}
 use Rattle.ir_machine.specs.State.{Frame, Pending, World, State, Running, Over}
-use Rattle.ir_machine.specs.Machine.{Asks, Does, Ask, Never, Made, Follows, asks, picked, show, set_to, frame_step, term_step, return_step, return_void}
+use Rattle.ir_machine.specs.Machine.{Asks, Does, Ask, Never, Made, Follows, asks, block_named, branch, entering, gone, is_label, is_pick, jump, landed, picked, show, set_to, frame_step, term_step, with_phis, return_step, return_void}
 use Rattle.ir_machine.specs.Choices.{Lacks, NoStep, answer, RunsAnswer}
 use Rattle.ir_machine.specs.Refinement.{IsEnd, EndTheRun, NoneIsStuck, EndsAreShown}
-use Rattle.ir_machine.proofs.Trees.{AllDo, all_do_made, all_do_show, all_do_set_to}
+use Rattle.ir_core.proofs.SameLaws.{same_name_refl}
+use Rattle.ir_machine.proofs.Trees.{AllDo, all_do_branch, all_do_jump, all_do_made, all_do_show, all_do_set_to}
 
 abbrev CanStep : Asks → Type 0
 CanStep tree = (made : Made) × Follows tree made
@@ -56,9 +60,35 @@ void_can_step : (rest : List Pending) (world : World) → CanStep (return_void r
 void_can_step [] world = does_step (Turn ∷ Returned None ∷ []) Over
 void_can_step (p ∷ ps) world = does_step (Turn ∷ []) _
 
+landed_can_step : (f : Function) (b : Block) (rest : List Pending) (world : World) (entered : Option Registers) → CanStep (landed f b rest world entered)
+landed_can_step f b rest world (Some registers) = does_step (Turn ∷ []) _
+landed_can_step f b rest world None = does_step (Wrong ∷ []) Over
+
+entering_can_step : (frame : Frame) (rest : List Pending) (world : World) (o : Option Block) → CanStep (entering frame rest world o)
+entering_can_step frame rest world (Some b) = landed_can_step frame.function b rest world (with_phis frame.registers frame.block b.phis frame.registers)
+entering_can_step frame rest world None = does_step (Wrong ∷ []) Over
+
+jump_can_step : (frame : Frame) (rest : List Pending) (world : World) (to : Name) → CanStep (jump frame rest world to)
+jump_can_step frame rest world to = entering_can_step frame rest world (block_named to frame.function.blocks)
+
+-- undef may go to the first of the labels
+branch_can_step : (v : Value) (label : ℕ → Name) (x : Name) (labels : List Name) (next : Name → Asks) → ((y : Name) → CanStep (next y)) → CanStep (branch v label (x ∷ labels) next)
+branch_can_step (value.Num n) label x labels next h = h (label n)
+branch_can_step value.Undef label x labels next h =
+    let more : CanStep (next x) = h x in
+    let fits : is_label (x ∷ labels) (Go x) ≡ true = rw (same_name_refl x) refl in (
+      record { told = Go x ∷ more.0.told; items = more.0.items; after = more.0.after },
+      (Go x, more.0, fits, more.1, refl),
+    )
+branch_can_step value.Poison label x labels next h = does_step (Wrong ∷ []) Over
+
 term_can_step : (t : Term) (frame : Frame) (rest : List Pending) (world : World) → CanStep (term_step t frame rest world)
 term_can_step (Ret o) frame rest world = return_can_step (kind_of o.ty) (operand_value (read frame.registers) o) rest world
 term_can_step RetVoid frame rest world = void_can_step rest world
+term_can_step (Br label) frame rest world = jump_can_step frame rest world label
+term_can_step (CondBr c) frame rest world = branch_can_step (operand_value (read frame.registers) c.condition) _ c.on_true (c.on_false ∷ []) (jump frame rest world) (jump_can_step frame rest world)
+term_can_step (Switch s) frame rest world = branch_can_step (operand_value (read frame.registers) s.value) _ s.default (map (λ (c : Case). c.label) s.cases) (jump frame rest world) (jump_can_step frame rest world)
+term_can_step Unreachable frame rest world = does_step (Wrong ∷ []) Over
 
 set_can_step : (k : Option Kind) (x : Name) (o : Outcome) (frame : Frame) (rest : List Pending) (world : World) → CanStep (set_to k x o frame rest world)
 set_can_step k x (Gives v) frame rest world = does_step [] _
@@ -101,9 +131,19 @@ void_shows_end : (rest : List Pending) (world : World) → AllDo ShowsItsEnd (re
 void_shows_end [] world = ends (Turn ∷ Returned None ∷ []) (Turn ∷ []) (Returned None) refl tt
 void_shows_end (p ∷ ps) world = goes_on (Turn ∷ []) _ ps world turn_is_no_end
 
+wrong_ends : ShowsItsEnd (Wrong ∷ []) Over
+wrong_ends = ends (Wrong ∷ []) [] Wrong refl tt
+
+jump_shows_end : (frame : Frame) (rest : List Pending) (world : World) (to : Name) → AllDo ShowsItsEnd (jump frame rest world to)
+jump_shows_end frame rest world to = all_do_jump ShowsItsEnd frame rest world to wrong_ends (λ b registers named is. goes_on (Turn ∷ []) _ rest world turn_is_no_end)
+
 term_shows_end : (t : Term) (frame : Frame) (rest : List Pending) (world : World) → AllDo ShowsItsEnd (term_step t frame rest world)
 term_shows_end (Ret o) frame rest world = return_shows_end (kind_of o.ty) (operand_value (read frame.registers) o) rest world
 term_shows_end RetVoid frame rest world = void_shows_end rest world
+term_shows_end (Br label) frame rest world = jump_shows_end frame rest world label
+term_shows_end (CondBr c) frame rest world = all_do_branch ShowsItsEnd (operand_value (read frame.registers) c.condition) _ _ (jump frame rest world) wrong_ends (jump_shows_end frame rest world)
+term_shows_end (Switch s) frame rest world = all_do_branch ShowsItsEnd (operand_value (read frame.registers) s.value) _ _ (jump frame rest world) wrong_ends (jump_shows_end frame rest world)
+term_shows_end Unreachable frame rest world = wrong_ends
 
 frame_shows_end : (lines : List Instr) (frame : Frame) (rest : List Pending) (world : World) → AllDo ShowsItsEnd (frame_step lines frame rest world)
 frame_shows_end (line.Calm b ∷ left) frame rest world =
@@ -124,11 +164,15 @@ AlwaysSteps (Does items after) = Unit {0}
 AlwaysSteps (Ask fits next) = (c : Choice) → fits c ≡ true → AlwaysSteps (next c)
 AlwaysSteps Never = ⊥
 
+picked_always : (k : Kind) (c : Choice) (next : Shown → Asks) → is_pick k c ≡ true → ((s : Shown) → AlwaysSteps (next s)) → AlwaysSteps (picked c next)
+picked_always k (Pick s) next fits good = good s
+picked_always k (Go x) next fits good = cc
+
 show_always : (k : Option Kind) (v : Value) (world : World) (poison : Asks) (next : Shown → World → Asks) → AlwaysSteps poison → ((s : Shown) (after : World) → AlwaysSteps (next s after)) → AlwaysSteps (show k v world poison next)
 show_always k value.Poison world poison next bad good = bad
 show_always k (value.Num n) world poison next bad good = good (shown.Num n) world
 show_always None value.Undef world poison next bad good = bad
-show_always (Some k) value.Undef world poison next bad good = λ c fits. good (picked c) world
+show_always (Some k) value.Undef world poison next bad good = λ c fits. picked_always k c (λ s. next s world) fits (λ s. good s world)
 
 return_always : (k : Option Kind) (v : Value) (rest : List Pending) (world : World) → AlwaysSteps (return_step k v rest world)
 return_always k v [] world = show_always k v world _ _ tt (λ s after. tt)
@@ -138,9 +182,33 @@ void_always : (rest : List Pending) (world : World) → AlwaysSteps (return_void
 void_always [] world = tt
 void_always (p ∷ ps) world = tt
 
+landed_always : (f : Function) (b : Block) (rest : List Pending) (world : World) (entered : Option Registers) → AlwaysSteps (landed f b rest world entered)
+landed_always f b rest world (Some registers) = tt
+landed_always f b rest world None = tt
+
+entering_always : (frame : Frame) (rest : List Pending) (world : World) (o : Option Block) → AlwaysSteps (entering frame rest world o)
+entering_always frame rest world (Some b) = landed_always frame.function b rest world (with_phis frame.registers frame.block b.phis frame.registers)
+entering_always frame rest world None = tt
+
+jump_always : (frame : Frame) (rest : List Pending) (world : World) (to : Name) → AlwaysSteps (jump frame rest world to)
+jump_always frame rest world to = entering_always frame rest world (block_named to frame.function.blocks)
+
+gone_always : (labels : List Name) (c : Choice) (next : Name → Asks) → is_label labels c ≡ true → ((x : Name) → AlwaysSteps (next x)) → AlwaysSteps (gone c next)
+gone_always labels (Go x) next fits good = good x
+gone_always labels (Pick s) next fits good = cc
+
+branch_always : (v : Value) (label : ℕ → Name) (labels : List Name) (next : Name → Asks) → ((x : Name) → AlwaysSteps (next x)) → AlwaysSteps (branch v label labels next)
+branch_always (value.Num n) label labels next h = h (label n)
+branch_always value.Undef label labels next h = λ c fits. gone_always labels c next fits h
+branch_always value.Poison label labels next h = tt
+
 term_always : (t : Term) (frame : Frame) (rest : List Pending) (world : World) → AlwaysSteps (term_step t frame rest world)
 term_always (Ret o) frame rest world = return_always (kind_of o.ty) (operand_value (read frame.registers) o) rest world
 term_always RetVoid frame rest world = void_always rest world
+term_always (Br label) frame rest world = jump_always frame rest world label
+term_always (CondBr c) frame rest world = branch_always (operand_value (read frame.registers) c.condition) _ _ (jump frame rest world) (jump_always frame rest world)
+term_always (Switch s) frame rest world = branch_always (operand_value (read frame.registers) s.value) _ _ (jump frame rest world) (jump_always frame rest world)
+term_always Unreachable frame rest world = tt
 
 set_always : (k : Option Kind) (x : Name) (o : Outcome) (frame : Frame) (rest : List Pending) (world : World) → AlwaysSteps (set_to k x o frame rest world)
 set_always k x (Gives v) frame rest world = tt

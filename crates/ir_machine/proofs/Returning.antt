@@ -12,9 +12,9 @@ use Rattle.ir_machine.specs.declared.items.Item.TheVariants.{Turn, Returned, Wro
 use Rattle.ir_machine.specs.declared.items.Shown.{Shown}
 use Rattle.ir_machine.specs.declared.items.Shown.TheVariants as shown
 use Rattle.ir_machine.specs.declared.items.Choice.{Choice}
-use Rattle.ir_machine.specs.declared.items.Choice.TheVariants.{Pick}
+use Rattle.ir_machine.specs.declared.items.Choice.TheVariants.{Go, Pick}
 use Rattle.ir_machine.specs.State.{no_world, State, Over}
-use Rattle.ir_machine.specs.Machine.{Asks, Made, Follows, asks, is_pick, picked, return_step, ShowsFrom}
+use Rattle.ir_machine.specs.Machine.{Asks, Does, Made, Follows, asks, is_pick, picked, return_step, ShowsFrom}
 use Rattle.ir_machine.specs.Refinement.{MayShowFrom}
 use Rattle.ir_machine.proofs.Trees.{AllDo, all_do_made}
 use Rattle.ir_machine.proofs.Runs.{over_shows, may_show_nothing}
@@ -36,8 +36,9 @@ return_ends : (v : Value) → AllDo (EndsReturned v) (return_step (Some (Int 32)
 return_ends (value.Num n) = (refl, refl)
 return_ends value.Undef = picks
   where
-    picks : (c : Choice) → is_pick (Int 32) c ≡ true → EndsReturned value.Undef (Turn ∷ Returned (Some (picked c)) ∷ []) Over
+    picks : (c : Choice) → is_pick (Int 32) c ≡ true → AllDo (EndsReturned value.Undef) (picked c (λ s. Does (Turn ∷ Returned (Some s) ∷ []) Over))
     picks (Pick (shown.Num k)) fits = (refl, (k, ltb-true k (2 ^ 32) fits, refl))
+    picks (Go x) fits = tt
 return_ends value.Poison = (refl, refl)
 
 -- nothing is shown, or the return

@@ -17,9 +17,9 @@ use Rattle.ir_machine.specs.declared.machine.Place.{Place}
 use Rattle.ir_core.specs.Types.{kind_of}
 use Rattle.ir_core.specs.Expressions.{type_of}
 use Rattle.ir_machine.specs.Registers.{Registers, read, set, outcome}
-use Rattle.ir_machine.specs.State.{Frame, no_world, State, Running, Over}
+use Rattle.ir_machine.specs.State.{no_world, State, Running, Over}
 use Rattle.ir_machine.specs.Machine.{Asks, Does, asks, term_step, set_to}
-use Rattle.ir_machine.specs.Places.{state_at, in_function, in_block, next_line}
+use Rattle.ir_machine.specs.Places.{at_end, state_at, in_function, in_block, next_line}
 
 pub drop_at : {X : Type 0} (xs : List X) (k : ℕ) (x : X) → k < length xs → x ≡ get_or xs k x → drop k xs ≡ x ∷ drop (k + 1) xs
 drop_at xs k x h is = drop-cons xs k x h ∙ rw (add-one, ← is) refl
@@ -62,10 +62,6 @@ trap_asks m p registers f b i some block within is traps =
     let sets : asks_over m f b (line.Calm i ∷ drop (p.line + 1) b.body) registers ≡ Does (Wrong ∷ []) Over =
     ap (λ (o : Outcome). set_to (kind_of (type_of i.right)) i.name o (record { function = f; block = b.name; lines = drop (p.line + 1) b.body; term = b.term; registers = registers }) [] no_world) traps in
     here ∙ lines ∙ sets
-
--- the frame before the block's terminator
-abbrev pub at_end : Function → Block → Registers → Frame
-at_end f b registers = record { function = f; block = b.name; lines = []; term = b.term; registers = registers }
 
 pub term_asks : (m : Module) (p : Place) (registers : Registers) (f : Function) (b : Block)
     → slice_get m.functions p.function ≡ Some f → slice_get f.blocks p.block ≡ Some b → length b.body ≤ p.line

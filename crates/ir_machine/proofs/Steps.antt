@@ -25,8 +25,8 @@ use Rattle.ir_machine.specs.Registers.{Registers, read, set, outcome}
 use Rattle.ir_machine.specs.State.{no_world, State, Over}
 use Rattle.ir_machine.specs.Machine.{Asks, Does, asks, term_step}
 use Rattle.ir_machine.specs.Choices.{Did, Lacks, answer, Leaves, TakesAsked}
-use Rattle.ir_machine.specs.Places.{state_at, in_block, next_line, progress_of}
-use Rattle.ir_machine.proofs.Standing.{at_end, line_asks, trap_asks, term_asks, stands}
+use Rattle.ir_machine.specs.Places.{at_end, state_at, in_block, next_line, progress_of}
+use Rattle.ir_machine.proofs.Standing.{line_asks, trap_asks, term_asks, stands}
 
 -- a line that was done
 abbrev pub LineDid : Stepped → Place → Option Place → Registers → Registers → Type 0

@@ -9,10 +9,11 @@ use Rattle.ir_machine.specs.declared.items.Item.TheVariants.{Turn, Returned, Wro
 use Rattle.ir_machine.specs.declared.items.Shown.{Shown}
 use Rattle.ir_machine.specs.declared.items.Shown.TheVariants as shown
 use Rattle.ir_machine.specs.declared.items.Choice.{Choice}
+use Rattle.ir_machine.specs.declared.items.Choice.TheVariants.{Pick}
 use Rattle.ir_machine.specs.declared.choosing.Showing.{Showing}
 use Rattle.ir_machine.specs.declared.choosing.Showing.TheVariants as showing
 use Rattle.ir_machine.specs.State.{World, no_world, State, Over}
-use Rattle.ir_machine.specs.Machine.{Asks, Does, Ask, Never, Made, Follows, is_pick, picked, show, return_step}
+use Rattle.ir_machine.specs.Machine.{Asks, Does, Ask, Never, Made, Follows, is_pick, is_shown_of, show, return_step}
 use Rattle.ir_machine.specs.Choices.{Answer, Did, Lacks, answer, Leaves, TakesAsked, AnswersAreSteps, AnswersTakeAsked}
 use Rattle.ir_machine.specs.Showing.{ShowingAnswers}
 
@@ -87,9 +88,9 @@ pub show_kindless : (k : Option Kind) (v : Value) (world : World) (poison : Asks
     → answer (show k v world poison next) script ≡ answer poison script
 show_kindless k v world poison next script e none = rw (e, none) refl
 
-pub show_picks : (k : Option Kind) (v : Value) (own : Kind) (c : Choice) (world : World) (poison : Asks) (next : Shown → World → Asks) (before after : List Choice) → v ≡ value.Undef → k ≡ Some own
-    → before ≡ c ∷ after → is_pick own c ≡ true → answer (show k v world poison next) before ≡ answer (next (picked c) world) after
-show_picks k v own c world poison next before after e some taken fits = rw (e, some, taken, fits) refl
+pub show_picks : (k : Option Kind) (v : Value) (own : Kind) (s : Shown) (world : World) (poison : Asks) (next : Shown → World → Asks) (before after : List Choice) → v ≡ value.Undef → k ≡ Some own
+    → before ≡ Pick s ∷ after → is_shown_of own s ≡ true → answer (show k v world poison next) before ≡ answer (next s world) after
+show_picks k v own s world poison next before after e some taken fits = rw (e, some, taken, fits) refl
 
 pub show_lacks : (k : Option Kind) (v : Value) (own : Kind) (world : World) (poison : Asks) (next : Shown → World → Asks) (before after : List Choice) → v ≡ value.Undef → k ≡ Some own
     → before ≡ [] → after ≡ [] → answer (show k v world poison next) before ≡ Lacks after

@@ -2,12 +2,13 @@
 use Rattle.std.proofs.Common.{◌≡◌, ◌⊎◌, inl, inr, ℕ, zero, suc, List, [], ◌∷◌, ◌++◌, Option, None, Some, refl, sym, ap, ◌∙◌, subst}
 use Rattle.std.specs.Prelude.{MatchOption}
 use Rattle.std.proofs.lemmas.List.{append-nil}
+use Rattle.ir_core.specs.declared.names.Name.{Name}
 use Rattle.ir_core.specs.declared.values.Value.{Value}
 use Rattle.ir_core.specs.declared.values.Kind.{Kind}
 use Rattle.ir_core.specs.declared.functions.Instr.{Instr}
 use Rattle.ir_core.specs.declared.functions.Instr.TheVariants as line
 use Rattle.ir_core.specs.declared.functions.Term.{Term}
-use Rattle.ir_core.specs.declared.functions.Term.TheVariants.{Ret, RetVoid}
+use Rattle.ir_core.specs.declared.functions.Term.TheVariants.{Ret, RetVoid, Br, CondBr, Switch, Unreachable}
 use Rattle.ir_core.specs.declared.functions.Module.{Module}
 use Rattle.ir_machine.specs.declared.items.Item.{Item}
 use Rattle.ir_machine.specs.declared.items.Item.TheVariants.{Turn, Returned, Wrong}
@@ -15,9 +16,9 @@ use Rattle.ir_core.specs.Types.{kind_of}
 use Rattle.ir_core.specs.Expressions.{type_of}
 use Rattle.ir_machine.specs.Registers.{read, operand_value, outcome}
 use Rattle.ir_machine.specs.State.{Frame, Pending, World, State, Running, Over}
-use Rattle.ir_machine.specs.Machine.{Made, asks, start, ShowsFrom, frame_step, term_step, return_step, return_void}
+use Rattle.ir_machine.specs.Machine.{Made, asks, start, ShowsFrom, frame_step, jump, term_step, return_step, return_void}
 use Rattle.ir_machine.specs.Refinement.{WrongIsLast}
-use Rattle.ir_machine.proofs.Trees.{AllDo, all_do_made, all_do_show, all_do_set_to}
+use Rattle.ir_machine.proofs.Trees.{AllDo, all_do_branch, all_do_jump, all_do_made, all_do_show, all_do_set_to}
 use Rattle.ir_machine.proofs.Runs.{over_shows}
 
 -- undefined behaviour isn't among the items
@@ -73,9 +74,19 @@ void_ends : (rest : List Pending) (world : World) → AllDo WrongOnlyLast (retur
 void_ends [] world = inl (calm_more Turn (Returned None ∷ []) turn_other (returned_calm None))
 void_ends (p ∷ ps) world = inl (calm_more Turn [] turn_other calm_none)
 
+at_once : WrongOnlyLast (Wrong ∷ []) Over
+at_once = inr (refl, ends_here)
+
+jump_ends : (frame : Frame) (rest : List Pending) (world : World) (to : Name) → AllDo WrongOnlyLast (jump frame rest world to)
+jump_ends frame rest world to = all_do_jump WrongOnlyLast frame rest world to at_once (λ b registers named is. inl (calm_more Turn [] turn_other calm_none))
+
 term_ends : (t : Term) (frame : Frame) (rest : List Pending) (world : World) → AllDo WrongOnlyLast (term_step t frame rest world)
 term_ends (Ret o) frame rest world = return_ends (kind_of o.ty) (operand_value (read frame.registers) o) rest world
 term_ends RetVoid frame rest world = void_ends rest world
+term_ends (Br label) frame rest world = jump_ends frame rest world label
+term_ends (CondBr c) frame rest world = all_do_branch WrongOnlyLast (operand_value (read frame.registers) c.condition) _ _ (jump frame rest world) at_once (jump_ends frame rest world)
+term_ends (Switch s) frame rest world = all_do_branch WrongOnlyLast (operand_value (read frame.registers) s.value) _ _ (jump frame rest world) at_once (jump_ends frame rest world)
+term_ends Unreachable frame rest world = at_once
 
 frame_ends : (lines : List Instr) (frame : Frame) (rest : List Pending) (world : World) → AllDo WrongOnlyLast (frame_step lines frame rest world)
 frame_ends (line.Calm b ∷ left) frame rest world = all_do_set_to WrongOnlyLast (kind_of (type_of b.right)) b.name (outcome (read frame.registers) b.right) (record frame { lines = left }) rest world

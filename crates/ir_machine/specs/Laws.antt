@@ -11,7 +11,7 @@ use Rattle.ir_core.specs.declared.operands.Const.{Const}
 use Rattle.ir_core.specs.declared.operands.Atom.{Atom}
 use Rattle.ir_core.specs.declared.operands.Atom.TheVariants.{Constant, Register}
 use Rattle.ir_core.specs.declared.functions.Term.{Term}
-use Rattle.ir_core.specs.declared.functions.Term.TheVariants.{Ret, RetVoid}
+use Rattle.ir_core.specs.declared.functions.Term.TheVariants.{Ret, RetVoid, Br, CondBr, Switch, Unreachable}
 use Rattle.ir_core.specs.declared.functions.Param.{Param}
 use Rattle.ir_core.specs.declared.functions.Block.{Block}
 use Rattle.ir_core.specs.declared.functions.Function.{Function}
@@ -114,6 +114,10 @@ Fit (p ∷ ps) [] = ⊥
 abbrev pub EndsByReturn : Term → Type 0
 EndsByReturn (Ret operand) = Unit {0}
 EndsByReturn RetVoid = Unit {0}
+EndsByReturn (Br label) = ⊥
+EndsByReturn (CondBr c) = ⊥
+EndsByReturn (Switch s) = ⊥
+EndsByReturn Unreachable = ⊥
 
 -- On fitting input a function of one block, without a phi and with `ret` at its end, ends some run.
 abbrev pub OneBlockRunsEnd : Type 0

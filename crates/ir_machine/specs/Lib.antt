@@ -8,3 +8,8 @@ pub mod Kept
 pub mod Places
 pub mod Examples
 pub mod Laws
+pub mod Stepping
+pub mod FlowExamples
+pub mod FlowLaws
+pub mod Reached
+pub mod Reads

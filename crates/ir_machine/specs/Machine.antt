@@ -1,7 +1,9 @@
 -- The machine. A step is one body line, or one terminator. It is told as a tree of choices: from it are read which steps a
 -- run may make, and what a step needs to be chosen.
-use Rattle.std.specs.Prelude.{◌≡◌, ◌⊎◌, ℕ, zero, suc, Bool, true, false, cond, List, [], ◌∷◌, ◌++◌, Option, None, Some, find, option_and_then}
+use Rattle.std.specs.Prelude.{◌≡◌, ◌⊎◌, ℕ, zero, suc, Bool, true, false, cond, nat_eq, List, [], ◌∷◌, ◌++◌, Option, None, Some, find, option_and_then, option_map}
+use Rattle.std.specs.List.{list_any}
 use Rattle.ir_core.specs.declared.names.Name.{Name}
+use Rattle.ir_core.specs.declared.operands.Ty.{Ty}
 use Rattle.ir_core.specs.declared.values.Value.{Value}
 use Rattle.ir_core.specs.declared.values.Value.TheVariants as value
 use Rattle.ir_core.specs.declared.values.Kind.{Kind}
@@ -9,8 +11,11 @@ use Rattle.ir_core.specs.declared.values.Kind.TheVariants.{Int}
 use Rattle.ir_core.specs.declared.functions.Instr.{Instr}
 use Rattle.ir_core.specs.declared.functions.Instr.TheVariants as line
 use Rattle.ir_core.specs.declared.functions.Term.{Term}
-use Rattle.ir_core.specs.declared.functions.Term.TheVariants.{Ret, RetVoid}
+use Rattle.ir_core.specs.declared.functions.Term.TheVariants.{Ret, RetVoid, Br, CondBr, Switch, Unreachable}
+use Rattle.ir_core.specs.declared.functions.Case.{Case}
+use Rattle.ir_core.specs.declared.functions.Entry.{Entry}
 use Rattle.ir_core.specs.declared.functions.Param.{Param}
+use Rattle.ir_core.specs.declared.functions.Phi.{Phi}
 use Rattle.ir_core.specs.declared.functions.Block.{Block}
 use Rattle.ir_core.specs.declared.functions.Function.{Function}
 use Rattle.ir_core.specs.declared.functions.Module.{Module}
@@ -23,10 +28,11 @@ use Rattle.ir_machine.specs.declared.items.Item.TheVariants.{Turn, Returned, Wro
 use Rattle.ir_machine.specs.declared.items.Shown.{Shown}
 use Rattle.ir_machine.specs.declared.items.Shown.TheVariants as shown
 use Rattle.ir_machine.specs.declared.items.Choice.{Choice}
-use Rattle.ir_machine.specs.declared.items.Choice.TheVariants.{Pick}
+use Rattle.ir_machine.specs.declared.items.Choice.TheVariants.{Go, Pick}
 use Rattle.ir_machine.specs.declared.items.Input.{Input}
-use Rattle.ir_core.specs.Types.{fits, kind_of}
-use Rattle.ir_machine.specs.Registers.{Registers, no_registers, held_at, holding, read, set, operand_value, outcome}
+use Rattle.ir_core.specs.Functions.{successors_of}
+use Rattle.ir_core.specs.Types.{fits, kind_of, number_at}
+use Rattle.ir_machine.specs.Registers.{Registers, no_registers, held_at, holding, read, set, atom_value, operand_value, outcome}
 use Rattle.ir_machine.specs.State.{Frame, Pending, World, no_world, State, Running, Over}
 
 -- what a tree is told where it asks: a choice
@@ -44,12 +50,18 @@ pub data Asks : Type 0 where
 abbrev pub is_shown_of : Kind → Shown → Bool
 is_shown_of (Int width) (shown.Num n) = fits n width
 
+-- undefined behaviour: it is shown, and the run is over
+abbrev pub wrong : Asks
+wrong = Does (Wrong ∷ []) Over
+
 -- undef may be taken for any number of its kind
 abbrev pub is_pick : Kind → Chosen → Bool
 is_pick k (Pick s) = is_shown_of k s
+is_pick k (Go x) = false
 
-abbrev pub picked : Chosen → Shown
-picked (Pick s) = s
+abbrev pub picked : Chosen → (Shown → Asks) → Asks
+picked (Pick s) next = next s
+picked (Go x) next = Never
 
 -- A value is shown to the outside: a number as itself, undef as what is picked. Showing poison is undefined behaviour. What
 -- follows takes what is shown, and the world after it.
@@ -57,12 +69,12 @@ abbrev pub show : Option Kind → Value → World → Asks → (Shown → World 
 show k value.Poison world poison next = poison
 show k (value.Num n) world poison next = next (shown.Num n) world
 show None value.Undef world poison next = poison
-show (Some k) value.Undef world poison next = Ask (is_pick k) (λ c. next (picked c) world)
+show (Some k) value.Undef world poison next = Ask (is_pick k) (λ c. picked c (λ s. next s world))
 
 -- a line sets its register to its outcome; a trap is undefined behaviour
 abbrev pub set_to : Option Kind → Name → Outcome → Frame → List Pending → World → Asks
 set_to k x (Gives v) frame rest world = Does [] (Running (record frame { registers = set frame.registers x k v }) rest world)
-set_to k x Trap frame rest world = Does (Wrong ∷ []) Over
+set_to k x Trap frame rest world = wrong
 
 -- the frame stands after the line
 abbrev pub line_step : Instr → Frame → List Pending → World → Asks
@@ -92,9 +104,78 @@ abbrev pub return_void : List Pending → World → Asks
 return_void [] world = Does (Turn ∷ Returned None ∷ []) Over
 return_void (p ∷ ps) world = Does (Turn ∷ []) (Running (resumed p None value.Poison) ps world)
 
+-- ---- jumps
+
+-- the start of a block
+abbrev pub at_block : Function → Block → Registers → Frame
+at_block f b registers = record { function = f; block = b.name; lines = b.body; term = b.term; registers = registers }
+
+-- the first block of that name
+abbrev pub block_named : Name → List Block → Option Block
+block_named x bs = find (λ b. same_name b.name x) bs
+
+-- the first entry for that block
+abbrev pub entry_from : Name → List Entry → Option Entry
+entry_from x es = find (λ e. same_name e.from x) es
+
+-- what a phi gives on the edge from that block, over the registers before it
+abbrev pub phi_value : Registers → Name → Phi → Option Value
+phi_value old from p = option_map (λ (e : Entry). atom_value (read old) (kind_of p.ty) e.value) (entry_from from p.entries)
+
+-- All phis at once: each reads the registers before the edge. None where one has no entry for the block that is left.
+abbrev pub with_phis : Registers → Name → List Phi → Registers → Option Registers
+with_phis old from [] registers = Some registers
+with_phis old from (p ∷ ps) registers =
+    option_and_then (λ v. with_phis old from ps (set registers p.name (kind_of p.ty) v)) (phi_value old from p)
+
+-- The turn is shown, and the run stands at the start of the block. Where there are no registers for it, it is undefined behaviour.
+abbrev pub landed : Function → Block → List Pending → World → Option Registers → Asks
+landed f b rest world (Some registers) = Does (Turn ∷ []) (Running (at_block f b registers) rest world)
+landed f b rest world None = wrong
+
+abbrev pub entering : Frame → List Pending → World → Option Block → Asks
+entering frame rest world (Some b) = landed frame.function b rest world (with_phis frame.registers frame.block b.phis frame.registers)
+entering frame rest world None = wrong
+
+-- The frame goes on in the block of that name, with its phis set. Where there is no such block, it is undefined behaviour.
+abbrev pub jump : Frame → List Pending → World → Name → Asks
+jump frame rest world to = entering frame rest world (block_named to frame.function.blocks)
+
+-- one of the labels is told
+abbrev pub is_label : List Name → Chosen → Bool
+is_label labels (Go x) = list_any (same_name x) labels
+is_label labels (Pick s) = false
+
+abbrev pub gone : Chosen → (Name → Asks) → Asks
+gone (Go x) next = next x
+gone (Pick s) next = Never
+
+-- A number leads to its label, and undef to whichever of the labels is told. A branch on poison is undefined behaviour.
+abbrev pub branch : Value → (ℕ → Name) → List Name → (Name → Asks) → Asks
+branch (value.Num n) label labels next = next (label n)
+branch value.Undef label labels next = Ask (is_label labels) (λ c. gone c next)
+branch value.Poison label labels next = wrong
+
+-- 1 is true
+abbrev pub side_of : Name → Name → ℕ → Name
+side_of on_true on_false n = cond (nat_eq n 1) on_true on_false
+
+-- the label of the first case that is this number at the type, else the default
+abbrev pub case_of : Ty → Name → List Case → ℕ → Name
+case_of t default [] n = default
+case_of t default (c ∷ cs) n = cond (nat_eq (number_at t c.number) n) c.label (case_of t default cs n)
+
 abbrev pub term_step : Term → Frame → List Pending → World → Asks
 term_step (Ret o) frame rest world = return_step (kind_of o.ty) (operand_value (read frame.registers) o) rest world
 term_step RetVoid frame rest world = return_void rest world
+term_step (Br label) frame rest world = jump frame rest world label
+term_step (CondBr c) frame rest world =
+    branch (operand_value (read frame.registers) c.condition) (side_of c.on_true c.on_false) (successors_of (CondBr c)) (jump frame rest world)
+term_step (Switch s) frame rest world =
+    branch (operand_value (read frame.registers) s.value) (case_of s.value.ty s.default s.cases) (successors_of (Switch s)) (jump frame rest world)
+term_step Unreachable frame rest world = wrong
+
+-- ---- steps
 
 abbrev pub frame_step : List Instr → Frame → List Pending → World → Asks
 frame_step (i ∷ left) frame rest world = line_step i (record frame { lines = left }) rest world
@@ -142,10 +223,6 @@ entered (p ∷ ps) (a ∷ args) registers =
     cond (fits_kind (kind_of p.ty) a) (entered ps args (set registers p.name (kind_of p.ty) (shown_value a))) None
 entered [] (a ∷ args) registers = None
 entered (p ∷ ps) [] registers = None
-
--- the start of a block
-abbrev pub at_block : Function → Block → Registers → Frame
-at_block f b registers = record { function = f; block = b.name; lines = b.body; term = b.term; registers = registers }
 
 abbrev pub at_entry : Function → List Block → Option Registers → Option State
 at_entry f (b ∷ bs) (Some registers) = Some (Running (at_block f b registers) [] no_world)

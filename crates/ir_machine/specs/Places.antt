@@ -11,13 +11,17 @@ use Rattle.ir_machine.specs.declared.machine.Progress.{Progress}
 use Rattle.ir_machine.specs.declared.machine.Progress.TheVariants as progress
 use Rattle.ir_machine.specs.declared.registers.RegisterFile.{RegisterFile}
 use Rattle.ir_machine.specs.Registers.{Registers}
-use Rattle.ir_machine.specs.State.{no_world, State, Running, Over}
+use Rattle.ir_machine.specs.State.{Frame, no_world, State, Running, Over}
 use Rattle.ir_machine.specs.Kept.{kept_registers}
 
 abbrev pub in_block : Function → Option Block → ℕ → Registers → State
 in_block f (Some b) line registers =
     Running (record { function = f; block = b.name; lines = drop line b.body; term = b.term; registers = registers }) [] no_world
 in_block f None line registers = Over
+
+abbrev pub placed : Function → Option Place → Registers → State
+placed f None registers = Over
+placed f (Some p) registers = in_block f (slice_get f.blocks p.block) p.line registers
 
 abbrev pub in_function : Option Function → ℕ → ℕ → Registers → State
 in_function (Some f) block line registers = in_block f (slice_get f.blocks block) line registers
@@ -37,6 +41,14 @@ registers_in file = kept_registers file.entries.items
 -- THE state that the code keeps
 abbrev pub state_of : Module → RunState → State
 state_of m kept = state_at m kept.place (registers_in kept.registers)
+
+-- the same of a run that stands in that function
+abbrev pub state_in : Function → RunState → State
+state_in f kept = placed f kept.place (registers_in kept.registers)
+
+-- the frame before the block's terminator
+abbrev pub at_end : Function → Block → Registers → Frame
+at_end f b registers = record { function = f; block = b.name; lines = []; term = b.term; registers = registers }
 
 -- how a run stands that showed these items last and is in this state
 abbrev pub progress_of : List Item → State → Progress

@@ -1,7 +1,6 @@
 ghost use Rattle.std.specs.Prelude.{◌≡◌, List};
 ghost use Rattle.ir_machine.specs.declared.items.Choice.{Choice};
 ghost use Rattle.ir_machine.specs.declared.items.Shown.{Shown};
-ghost use Rattle.ir_machine.specs.Registers as registers;
 ghost use Rattle.ir_machine.specs.State.{World};
 ghost use Rattle.ir_machine.specs.Machine as machine;
 ghost use Rattle.ir_machine.specs.Choices.{TakesNext};
@@ -30,20 +29,6 @@ pub enum Showing {
     LacksChoice,
 }
 
-fn is_pick(kind: &Kind, choice: &Choice) -> bool
-    ensures { result ≡ machine.is_pick kind.now choice.now }
-{
-    let Choice::Pick(shown) = choice;
-    is_shown_of(kind, shown)
-}
-
-fn picked(choice: &Choice) -> Shown
-    ensures { result ≡ machine.picked choice.now }
-{
-    let Choice::Pick(shown) = choice;
-    *shown
-}
-
 #[tactic(auto, using(crate::proofs::Telling::show_number, crate::proofs::Telling::show_poison, crate::proofs::Telling::show_kindless, crate::proofs::Telling::show_picks, crate::proofs::Telling::show_lacks, crate::proofs::Telling::show_misfits))]
 pub(crate) fn show<C: Chooser>(kind: Option<Kind>, value: Value, chooser: &mut C) -> Showing
     ensures { (world : World) (poison : machine.Asks) (next : Shown → World → machine.Asks)
@@ -57,13 +42,14 @@ pub(crate) fn show<C: Chooser>(kind: Option<Kind>, value: Value, chooser: &mut C
         (Value::Undef, Some(own)) => own,
     };
     match chooser.take() {
-        Some(choice) => {
-            if is_pick(&own, &choice) {
-                Showing::Shows(picked(&choice))
+        Some(Choice::Pick(shown)) => {
+            if is_shown_of(&own, &shown) {
+                Showing::Shows(shown)
             } else {
                 Showing::LacksChoice
             }
         }
+        Some(Choice::Go(_)) => Showing::LacksChoice,
         None => Showing::LacksChoice,
     }
 }

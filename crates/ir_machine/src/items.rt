@@ -1,4 +1,5 @@
 use contents::Seq;
+use ir_core::Name;
 
 /// A value as the outside sees it: a number.
 #[derive(Drop, Clone, Copy)]
@@ -6,9 +7,12 @@ pub enum Shown {
     Num(u64),
 }
 
-/// What is chosen at a step that leaves a choice: what an undef that is shown is taken for.
+/// What is chosen at a step that leaves a choice.
 #[derive(Drop)]
 pub enum Choice {
+    /// The block to which a branch on undef goes.
+    Go(Name),
+    /// What an undef that is shown is taken for.
     Pick(Shown),
 }
 

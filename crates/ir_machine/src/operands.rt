@@ -42,7 +42,7 @@ fn constant_value(kind: &Kind, constant: &Const) -> Value
 }
 
 #[tactic(auto, using(crate::proofs::InKind::file_atom_in_kind))]
-fn atom_value(registers: &RegisterFile, kind: Option<Kind>, atom: &Atom<Name>) -> Value
+pub(crate) fn atom_value(registers: &RegisterFile, kind: Option<Kind>, atom: &Atom<Name>) -> Value
     ensures value { result ≡ meaning.atom_value (meaning.read (registers_in registers.now)) kind atom.now }
     ensures in_kind { IsInKindOf kind result }
 {

@@ -1,4 +1,4 @@
-ghost use Rattle.std.specs.Prelude.{◌≡◌, OnOk, OnErr};
+ghost use Rattle.std.specs.Prelude.{◌≡◌, IfOk, OnOk, OnErr};
 ghost use Rattle.ir_values.specs.Values.{IsInKind, IsInKindOf};
 ghost use Rattle.ir_values.specs.Values as values;
 ghost use Rattle.ir_machine.specs.Registers as meaning;
@@ -72,6 +72,20 @@ impl RegisterFile {
         RegisterFile {
             entries: Vec::new(alloc),
         }
+    }
+
+    /// The same registers.
+    pub(crate) fn copied(&self, alloc: Global) -> Result<RegisterFile, AllocError>
+        ensures { IfOk result (λ file. registers_in file ≡ registers_in self.now) }
+    {
+        let mut entries = Vec::new(alloc);
+        for entry in &self.entries {
+            entries.push(Assigned {
+                name: entry.name.copy(alloc)?,
+                held: entry.held,
+            })?;
+        }
+        Ok(RegisterFile { entries })
     }
 
     pub(crate) fn read(&self, kind: &Kind, name: &Name) -> Value

@@ -6,17 +6,21 @@ ghost use Rattle.ir_machine.specs.declared.machine.Progress.TheVariants as progr
 ghost use Rattle.ir_core.specs.Types.{kind_of};
 ghost use Rattle.ir_core.specs.Expressions.{type_of};
 ghost use Rattle.ir_machine.specs.Registers as registers;
-ghost use Rattle.ir_machine.specs.State.{Frame, no_world, Over};
+ghost use Rattle.ir_machine.specs.State.{no_world, Over};
 ghost use Rattle.ir_machine.specs.Machine as machine;
 ghost use Rattle.ir_machine.specs.Choices.{Did, Lacks, answer, TakesAsked};
-ghost use Rattle.ir_machine.specs.Places.{registers_in, state_of, progress_of, next_line};
+ghost use Rattle.ir_machine.specs.Machine.{Does};
+ghost use Rattle.ir_machine.specs.Places.{at_end, registers_in, state_in, state_of, progress_of, next_line};
+ghost use Rattle.ir_machine.specs.Stepping.{Answers, StaysIn};
+ghost use Rattle.ir_core.specs.Functions.{successors_of};
+ghost use Rattle.ir_core.specs.declared.values.Value.TheVariants.{Num};
 
 use crate::choosing::{Showing, show};
+use crate::jumping::{case_of, jump, side_of, told_label};
 use crate::operands::{operand_value, outcome};
-use crate::registers::RegisterFile;
 use crate::{Chooser, Item, Place, Progress, RunState, StepEnd, Stepped};
 use contents::Seq;
-use ir_core::{Calm, Instr, Kind, Module, Term, Value, kind_of};
+use ir_core::{Block, Calm, Function, Instr, Kind, Module, Name, Operand, Term, Value, kind_of};
 use ir_values::Outcome;
 use std::alloc::{AllocError, Global};
 
@@ -74,29 +78,144 @@ fn void_return(alloc: Global) -> Result<Stepped, AllocError>
     })
 }
 
-/// A terminator is executed in the only frame of a run: the run is over.
-fn do_terminator<C: Chooser>(
+/// Where a run stands: a block of a function, and its place in the module.
+pub(crate) struct Here<'a> {
+    pub(crate) function: &'a Function,
+    pub(crate) block: &'a Block,
+    pub(crate) place: Place,
+}
+
+impl<'a> Drop for Here<'a> {
+    fn drop(self) {
+        let Here {
+            function: _,
+            block: _,
+            place: _,
+        } = self;
+    }
+}
+
+/// The run is wrong, and over.
+fn go_wrong(alloc: Global, state: &mut RunState) -> Result<Stepped, AllocError>
+    ensures items { IfOk result (λ stepped. stepped.items ≡ item.Wrong ∷ []) }
+    ensures progress { IfOk result (λ stepped. stepped.progress ≡ progress.IsWrong) }
+    ensures over { IfOk result (λ stepped. state.new.place ≡ None) }
+    ensures same { OnErr result (state.new ≡ state.old) }
+{
+    let items = one_item(alloc, Item::Wrong)?;
+    state.place = None;
+    Ok(Stepped {
+        items,
+        progress: Progress::IsWrong,
+    })
+}
+
+/// The run goes to the block of that label, or is wrong where the jump finds nothing.
+fn go_to(
     alloc: Global,
-    term: &Term,
-    registers: &RegisterFile,
+    here: &Here,
+    label: &Name,
+    state: &mut RunState,
+) -> Result<Stepped, AllocError>
+    ensures made { IfOk result (λ stepped.
+        machine.jump (at_end here.now.function.now here.now.block.now (registers_in state.old.registers)) [] no_world label.now
+        ≡ Does stepped.items (state_in here.now.function.now state.new)) }
+    ensures progress { IfOk result
+        (λ stepped. stepped.progress ≡ progress_of stepped.items (state_in here.now.function.now state.new)) }
+    ensures place { IfOk result (λ stepped. StaysIn here.now.place state.new.place) }
+    ensures same { OnErr result (state.new ≡ state.old) }
+{
+    let Some(landing) = jump(alloc, here.function, here.block, label, &state.registers)? else {
+        return go_wrong(alloc, state);
+    };
+    let items = one_item(alloc, Item::Turn)?;
+    state.place = Some(Place {
+        function: here.place.function,
+        block: landing.block,
+        line: 0,
+    });
+    state.registers = landing.registers;
+    Ok(Stepped {
+        items,
+        progress: Progress::Goes,
+    })
+}
+
+/// A branch on a value: a number goes to its label, undef to the one that is told.
+fn do_branch<C: Chooser>(
+    alloc: Global,
+    here: &Here,
+    value: Value,
+    numbered: &Name,
+    state: &mut RunState,
     chooser: &mut C,
 ) -> Result<Stepped, StepEnd>
-    ensures made { IfOk result (λ stepped. (frame : Frame) → frame.registers ≡ registers_in registers.now
-        → answer (machine.term_step term.now frame [] no_world) (C.script chooser.old)
-        ≡ Did stepped.items Over (C.script chooser.new)) }
-    ensures progress { IfOk result (λ stepped. stepped.progress ≡ progress_of stepped.items Over) }
-    ensures no_choice { IsErrOf result StepEnd.NoChoice
-        → (frame : Frame) → frame.registers ≡ registers_in registers.now
-        → answer (machine.term_step term.now frame [] no_world) (C.script chooser.old) ≡ Lacks (C.script chooser.new) }
-    ensures told { (frame : Frame) → frame.registers ≡ registers_in registers.now
-        → TakesAsked (machine.term_step term.now frame [] no_world) (C.script chooser.old) (C.script chooser.new) }
+    ensures answers { (label : _ → _) → ((n : _) → value ≡ Num n → numbered.now ≡ label n)
+        → Answers (machine.branch value label (successors_of here.now.block.now.term)
+        (machine.jump (at_end here.now.function.now here.now.block.now (registers_in state.old.registers)) [] no_world))
+        (C.script chooser.old) (C.script chooser.new) (state_in here.now.function.now state.new) result }
+    ensures place { IfOk result (λ stepped. StaysIn here.now.place state.new.place) }
+    ensures same { OnErr result (state.new ≡ state.old) }
 {
-    match term {
-        Term::Ret(operand) => {
-            let value = operand_value(registers, operand);
-            last_return(alloc, kind_of(&operand.ty), value, chooser)
+    match value {
+        Value::Num(_) => Ok(go_to(alloc, here, numbered, state)?),
+        Value::Undef => match told_label(&here.block.term, chooser) {
+            Some(label) => Ok(go_to(alloc, here, &label, state)?),
+            None => Err(StepEnd::NoChoice),
+        },
+        Value::Poison => Ok(go_wrong(alloc, state)?),
+    }
+}
+
+/// The last return of a run, of that operand.
+fn do_return<C: Chooser>(
+    alloc: Global,
+    operand: &Operand<Name>,
+    state: &mut RunState,
+    chooser: &mut C,
+) -> Result<Stepped, StepEnd>
+    ensures answers { Answers (machine.return_step (kind_of operand.now.ty)
+        (registers.operand_value (registers.read (registers_in state.old.registers)) operand.now) [] no_world)
+        (C.script chooser.old) (C.script chooser.new) Over result }
+    ensures over { IfOk result (λ stepped. state.new.place ≡ None) }
+    ensures same { OnErr result (state.new ≡ state.old) }
+{
+    let value = operand_value(&state.registers, operand);
+    let stepped = last_return(alloc, kind_of(&operand.ty), value, chooser)?;
+    state.place = None;
+    Ok(stepped)
+}
+
+/// A terminator is executed in the only frame of a run.
+fn do_terminator<C: Chooser>(
+    alloc: Global,
+    here: &Here,
+    state: &mut RunState,
+    chooser: &mut C,
+) -> Result<Stepped, StepEnd>
+    ensures answers { Answers (machine.term_step here.now.block.now.term
+        (at_end here.now.function.now here.now.block.now (registers_in state.old.registers)) [] no_world)
+        (C.script chooser.old) (C.script chooser.new) (state_in here.now.function.now state.new) result }
+    ensures place { IfOk result (λ stepped. StaysIn here.now.place state.new.place) }
+    ensures same { OnErr result (state.new ≡ state.old) }
+{
+    match &here.block.term {
+        Term::Ret(operand) => do_return(alloc, operand, state, chooser),
+        Term::RetVoid => {
+            let stepped = void_return(alloc)?;
+            state.place = None;
+            Ok(stepped)
         }
-        Term::RetVoid => Ok(void_return(alloc)?),
+        Term::Br(label) => Ok(go_to(alloc, here, label, state)?),
+        Term::CondBr(branch) => {
+            let value = operand_value(&state.registers, &branch.condition);
+            do_branch(alloc, here, value, side_of(branch, &value), state, chooser)
+        }
+        Term::Switch(switch) => {
+            let value = operand_value(&state.registers, &switch.value);
+            do_branch(alloc, here, value, case_of(switch, &value), state, chooser)
+        }
+        Term::Unreachable => Ok(go_wrong(alloc, state)?),
     }
 }
 
@@ -136,14 +255,7 @@ fn do_line(
                 progress: Progress::Goes,
             })
         }
-        Outcome::Trap => {
-            let items = one_item(alloc, Item::Wrong)?;
-            state.place = None;
-            Ok(Stepped {
-                items,
-                progress: Progress::IsWrong,
-            })
-        }
+        Outcome::Trap => Ok(go_wrong(alloc, state)?),
     }
 }
 
@@ -188,7 +300,10 @@ pub fn step<C: Chooser>(
             Instr::Calm(line) => do_line(alloc, line, place, state),
         };
     }
-    let stepped = do_terminator(alloc, &block.term, &state.registers, chooser)?;
-    state.place = None;
-    Ok(stepped)
+    let here = Here {
+        function,
+        block,
+        place,
+    };
+    do_terminator(alloc, &here, state, chooser)
 }

@@ -1,3 +1,2 @@
 pub mod Widths
 pub mod Tallies
-pub mod Functions

@@ -1,5 +1,5 @@
 -- Things that are defined one after another are defined together.
-use Rattle.std.proofs.Common.{◌≡◌, ◌≤◌, ℕ, ◌+◌, List, [], ◌∷◌, ◌++◌, length, Option, Some, None, ap, sym, ◌∙◌, append_assoc, length-append, arith}
+use Rattle.std.proofs.Common.{◌≡◌, ◌≤◌, ℕ, ◌+◌, List, [], ◌∷◌, ◌++◌, length, Option, Some, None, ap, sym, ◌∙◌, append_assoc, length-append, refl, arith}
 use Rattle.std.proofs.lemmas.List.{append-nil}
 use Rattle.ir_core.specs.declared.names.Name.{Name}
 use Rattle.ir_core.specs.declared.names.Name.TheVariants.{Text, Number}
@@ -7,7 +7,7 @@ use Rattle.ir_grammar.specs.declared.trees.Placed.{Placed}
 use Rattle.name_claims.specs.declared.claims.Claim.{Claim}
 use Rattle.name_claims.specs.declared.claims.Definition.{Definition}
 use Rattle.ir_naming.specs.declared.tally.Tally.{Tally}
-use Rattle.ir_naming.specs.Naming.{Thing, definition_of, definitions_from, due_after, due_behind, due_from, name_claims, name_claims_from}
+use Rattle.ir_naming.specs.Naming.{Thing, definition_of, definitions_from, due_after, due_behind, due_from, name_claims, name_claims_from, name_due}
 use Rattle.ir_naming.specs.Walk.{HasRoom, with_thing, with_things}
 
 tally : List Definition → List Claim → ℕ → Tally
@@ -30,6 +30,11 @@ things_more thing ts t =
     ap (λ ds. tally ds ((t.claims ++ claims) ++ name_claims_from (length (t.definitions ++ d ∷ [])) next ts) last) (append_assoc t.definitions (d ∷ []) (definitions_from next ts))
     ∙ ap (λ n. tally (t.definitions ++ (d ∷ definitions_from next ts)) ((t.claims ++ claims) ++ name_claims_from n next ts) last) (one_more t.definitions d)
     ∙ ap (λ cs. tally (t.definitions ++ (d ∷ definitions_from next ts)) cs last) (append_assoc t.claims claims (name_claims_from (length t.definitions + 1) next ts))
+
+-- counting goes on behind what a thing is called as it does behind what is written of it
+pub due_after_name : (due : ℕ) (w : Option (Placed Name)) → due_after due (name_due due w) ≡ due_behind due w
+due_after_name due None = refl
+due_after_name due (Some w) = refl
 
 after_most : (due : ℕ) (name : Name) → due_after due name ≤ due + 1
 after_most due (Text bytes) = omega arith

@@ -2,98 +2,116 @@
 ghost use Rattle.std.specs.Prelude.{◌≡◌, ◌++◌, [], ◌∷◌, IfOk, OnOk};
 ghost use Rattle.ir_core.specs.declared.expressions.Reg.TheVariants.{Now};
 ghost use Rattle.ir_core.specs.Expressions.{map_atom, map_operand, map_binary, map_icmp, map_cast, map_select, map_expr};
+ghost use Rattle.ir_naming.specs.Values as meaning;
 ghost use Rattle.ir_naming.specs.Expressions.{expression_claims, expression_now, number_range, operand_range, operation_ranges, pair_ranges, ranges_of, select_ranges};
 
-use crate::constants::{number_of, word_of};
+use crate::constants::{built, number_of, word_of};
 use crate::operands::claim_constant;
-use crate::values::{expression_of, operand_of};
-use contents::{Exact, Seq};
-use ir_core::{Atom, Binary, Cast, Expr, Expr0, Icmp, Name, Operand, Reg, Select};
-use ir_grammar::{ExprText, OperandText, OperationText, SelectText, ValueText};
+use crate::values::{flags_of, name_of};
+use contents::Seq;
+use ir_core::{Atom, Binary, Cast, Expr, Expr0, Icmp, Operand, Reg, Select, Ty};
+use ir_grammar::{
+    BinaryText, CastText, CompareText, ExprText, OperandText, OperationText, SelectText, ValueText,
+};
 use name_claims::{Claim, Item};
 use std::alloc::{AllocError, Global};
 
-fn now_atom(alloc: Global, atom: &Atom<Name>) -> Result<Atom<Reg>, AllocError>
-    ensures { IfOk result (λ now. now ≡ map_atom Now atom.now) }
+/// What the value of this width is in an expression.
+fn atom_now(width: u32, value: ValueText) -> Atom<Reg>
+    ensures { result ≡ map_atom Now (meaning.atom_of width value) }
 {
-    match atom {
-        Atom::Constant(constant) => Ok(Atom::Constant(constant.copy(alloc)?)),
-        Atom::Register(name) => Ok(Atom::Register(Reg::Now(name.copy(alloc)?))),
+    match value {
+        ValueText::Number(number) => Atom::Constant(built(number_of(width, number.what))),
+        ValueText::Constant(word) => Atom::Constant(built(word_of(width, word.what))),
+        ValueText::Local(name) => Atom::Register(Reg::Now(name_of(name))),
     }
 }
 
-fn now_operand(alloc: Global, operand: &Operand<Name>) -> Result<Operand<Reg>, AllocError>
-    ensures { IfOk result (λ now. now ≡ map_operand Now operand.now) }
+fn operand_now(operand: OperandText) -> Operand<Reg>
+    ensures { result ≡ map_operand Now (meaning.operand_of operand) }
 {
-    Ok(Operand {
-        ty: operand.ty.copy(alloc)?,
-        atom: now_atom(alloc, &operand.atom)?,
-    })
+    let OperandText { ty, value } = operand;
+    Operand {
+        ty: Ty::Int(ty.what),
+        atom: atom_now(ty.what, value),
+    }
 }
 
-fn now_binary(alloc: Global, binary: &Binary<Name>) -> Result<Binary<Reg>, AllocError>
-    ensures { IfOk result (λ now. now ≡ map_binary Now binary.now) }
+fn binary_now(binary: BinaryText) -> Binary<Reg>
+    ensures { result ≡ map_binary Now (meaning.binary_of binary) }
 {
-    Ok(Binary {
-        op: binary.op,
-        flags: binary.flags,
-        ty: binary.ty.copy(alloc)?,
-        left: now_atom(alloc, &binary.left)?,
-        right: now_atom(alloc, &binary.right)?,
-    })
+    let BinaryText {
+        operator,
+        left,
+        right,
+    } = binary;
+    let OperandText { ty, value } = left;
+    Binary {
+        op: operator.op(),
+        flags: flags_of(operator),
+        ty: Ty::Int(ty.what),
+        left: atom_now(ty.what, value),
+        right: atom_now(ty.what, right),
+    }
 }
 
-fn now_compare(alloc: Global, compare: &Icmp<Name>) -> Result<Icmp<Reg>, AllocError>
-    ensures { IfOk result (λ now. now ≡ map_icmp Now compare.now) }
+fn compare_now(compare: CompareText) -> Icmp<Reg>
+    ensures { result ≡ map_icmp Now (meaning.compare_of compare) }
 {
-    Ok(Icmp {
-        pred: compare.pred,
-        ty: compare.ty.copy(alloc)?,
-        left: now_atom(alloc, &compare.left)?,
-        right: now_atom(alloc, &compare.right)?,
-    })
+    let CompareText { pred, left, right } = compare;
+    let OperandText { ty, value } = left;
+    Icmp {
+        pred,
+        ty: Ty::Int(ty.what),
+        left: atom_now(ty.what, value),
+        right: atom_now(ty.what, right),
+    }
 }
 
-fn now_cast(alloc: Global, cast: &Cast<Name>) -> Result<Cast<Reg>, AllocError>
-    ensures { IfOk result (λ now. now ≡ map_cast Now cast.now) }
+fn cast_now(cast: CastText) -> Cast<Reg>
+    ensures { result ≡ map_cast Now (meaning.cast_of cast) }
 {
-    Ok(Cast {
-        op: cast.op,
-        operand: now_operand(alloc, &cast.operand)?,
-        to: cast.to.copy(alloc)?,
-    })
+    let CastText { op, from, to } = cast;
+    Cast {
+        op,
+        operand: operand_now(from),
+        to: Ty::Int(to.what),
+    }
 }
 
-fn now_select(alloc: Global, select: &Select<Name>) -> Result<Select<Reg>, AllocError>
-    ensures { IfOk result (λ now. now ≡ map_select Now select.now) }
+fn select_now(select: SelectText) -> Select<Reg>
+    ensures { result ≡ map_select Now (meaning.select_of select) }
 {
-    Ok(Select {
-        condition: now_operand(alloc, &select.condition)?,
-        left: now_operand(alloc, &select.left)?,
-        right: now_operand(alloc, &select.right)?,
-    })
+    let SelectText {
+        condition,
+        then,
+        other,
+    } = select;
+    Select {
+        condition: operand_now(condition),
+        left: operand_now(then),
+        right: operand_now(other),
+    }
 }
 
-/// The expression over registers as they are now.
-fn now_expression(alloc: Global, expression: &Expr<Name>) -> Result<Expr0, AllocError>
-    ensures { IfOk result (λ now. now ≡ map_expr Now expression.now) }
+fn operation_now(operation: OperationText) -> Expr0
+    ensures { result ≡ map_expr Now (meaning.expression_of operation) }
 {
-    match expression {
-        Expr::Plain(operand) => Ok(Expr::Plain(now_operand(alloc, operand)?)),
-        Expr::Binary(binary) => Ok(Expr::Binary(now_binary(alloc, binary)?)),
-        Expr::Icmp(compare) => Ok(Expr::Icmp(now_compare(alloc, compare)?)),
-        Expr::Cast(cast) => Ok(Expr::Cast(now_cast(alloc, cast)?)),
-        Expr::Select(select) => Ok(Expr::Select(now_select(alloc, select)?)),
+    match operation {
+        OperationText::Binary(binary) => Expr::Binary(binary_now(binary)),
+        OperationText::Compare(compare) => Expr::Icmp(compare_now(compare)),
+        OperationText::Cast(cast) => Expr::Cast(cast_now(cast)),
+        OperationText::Select(select) => Expr::Select(select_now(select)),
     }
 }
 
 /// The expression that is built of the text.
-fn expression_from(alloc: Global, text: ExprText) -> Result<Expr0, AllocError>
-    ensures { IfOk result (λ e. e ≡ expression_now text) }
+fn expression_now(text: ExprText) -> Expr0
+    ensures { result ≡ expression_now text }
 {
     match text {
-        ExprText::Plain(operand) => now_expression(alloc, &Expr::Plain(operand_of(operand))),
-        ExprText::Operation(operation) => now_expression(alloc, &expression_of(operation)),
+        ExprText::Plain(operand) => Expr::Plain(operand_now(operand)),
+        ExprText::Operation(operation) => operation_now(operation),
     }
 }
 
@@ -174,6 +192,15 @@ fn items_of(alloc: Global, claims: Seq<Claim>) -> Result<Vec<Item>, AllocError>
     Ok(items)
 }
 
+/// What the text claims of its numbers.
+fn items_from(alloc: Global, text: &ExprText) -> Result<Vec<Item>, AllocError>
+    ensures { IfOk result (λ items. items.items ≡ expression_claims text.now) }
+{
+    let mut claims = Seq::new(alloc);
+    claim_ranges(text, &mut claims)?;
+    items_of(alloc, claims)
+}
+
 /// The expression of the logic that is built of the text, and what the text claims of its numbers.
 ///
 /// # Errors
@@ -183,9 +210,6 @@ pub fn name_expression(alloc: Global, text: ExprText) -> Result<(Expr0, Vec<Item
     ensures expression { IfOk result (λ named. named.0 ≡ expression_now text) }
     ensures claims { IfOk result (λ named. named.1.items ≡ expression_claims text) }
 {
-    let mut claims = Seq::new(alloc);
-    claim_ranges(&text, &mut claims)?;
-    let items = items_of(alloc, claims)?;
-    let expression = expression_from(alloc, text)?;
-    Ok((expression, items))
+    let items = items_from(alloc, &text)?;
+    Ok((expression_now(text), items))
 }

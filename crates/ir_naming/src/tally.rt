@@ -1,12 +1,20 @@
-ghost use Rattle.std.specs.Prelude.{◌∷◌, if◌then◌else◌, nat_lt, ◌≡◌, ◌+◌, ◌<◌, ◌^◌, ◌++◌, [], IfOk, OnOk};
-ghost use Rattle.ir_naming.specs.Naming.{at, name_due, due_after, due_behind, number_claims, name_claims};
-ghost use Rattle.ir_naming.specs.Walk.{HasRoom, with_thing};
+ghost use Rattle.std.specs.Prelude.{◌∷◌, if◌then◌else◌, nat_lt, ◌≡◌, ◌+◌, ◌<◌, ◌^◌, ◌++◌, [], IfOk, OnOk, Some};
+ghost use Rattle.ir_naming.specs.Naming.{at, name_due, due_after, number_claims, name_claims};
+ghost use Rattle.ir_naming.specs.Walk.{HasRoom, with_name, with_thing};
 
+use crate::values::name_of;
 use contents::{Exact, Seq};
 use ir_core::Name;
 use ir_grammar::Placed;
 use name_claims::{Claim, Count, Definition, Meaning, Says};
 use std::alloc::{AllocError, Global};
+
+/// No items, with room for so many.
+pub fn with_room<T>(alloc: Global, items: usize) -> Result<Seq<T>, AllocError>
+    ensures { IfOk result (λ made. made ≡ []) }
+{
+    Ok(Seq::from_vec(Vec::with_capacity(alloc, items)?))
+}
 
 /// What is defined and claimed so far, and the number that is due.
 pub struct Tally {
@@ -39,24 +47,30 @@ impl Tally {
     }
 }
 
-/// Nothing is defined.
-pub fn new_tally(alloc: Global) -> Tally
-    ensures { result ≡ record { definitions = []; claims = []; next = 0 } }
+/// Nothing is defined, and there is room for so many definitions and claims.
+pub fn new_tally(alloc: Global, definitions: usize, claims: usize) -> Result<Tally, AllocError>
+    ensures { IfOk result (λ tally. tally ≡ record { definitions = []; claims = []; next = 0 }) }
 {
-    Tally {
-        definitions: Seq::new(alloc),
-        claims: Seq::new(alloc),
+    Ok(Tally {
+        definitions: with_room(alloc, definitions)?,
+        claims: with_room(alloc, claims)?,
         next: 0,
-    }
+    })
+}
+
+fn is_counted(due: u64) -> bool
+    ensures { result ≡ nat_lt due (2 ^ 32) }
+{
+    due < 4_294_967_296
 }
 
 /// The name that is written, or the number that is due.
-fn name_due(alloc: Global, due: u64, written: &Option<Placed<Name>>) -> Result<Name, AllocError>
-    ensures { IfOk result (λ name. name ≡ name_due due written.now) }
+fn name_due(due: u64, written: Option<Placed<Name>>) -> Name
+    ensures { result ≡ name_due due written }
 {
     match written {
-        None => Ok(Name::Number(if due < 4_294_967_296 { due as u32 } else { 0 })),
-        Some(placed) => placed.what.copy(alloc),
+        None => Name::Number(if is_counted(due) { due as u32 } else { 0 }),
+        Some(placed) => name_of(placed),
     }
 }
 
@@ -67,17 +81,6 @@ fn due_after(due: u64, name: &Name) -> u64
     match name {
         Name::Text(_) => due,
         Name::Number(_) => due + 1,
-    }
-}
-
-/// The number that is due behind what is written so.
-fn due_behind(due: u64, written: &Option<Placed<Name>>) -> u64
-    requires { due + 1 < 2 ^ 64 }
-    ensures { result ≡ due_behind due written.now }
-{
-    match written {
-        None => due + 1,
-        Some(placed) => due_after(due, &placed.what),
     }
 }
 
@@ -106,7 +109,7 @@ fn claim_unnamed(
 ) -> Result<(), AllocError>
     ensures { OnOk result (claims.new ≡ claims.old ++ (if nat_lt due (2 ^ 32) then [] else at function.now Says.Wrong ∷ [])) }
 {
-    if due < 4_294_967_296 {
+    if is_counted(due) {
         Ok(())
     } else {
         claims.push(Claim {
@@ -150,27 +153,55 @@ fn claim_name(
     }
 }
 
-/// Defines a thing in the function, or the function itself, and answers its name.
-pub fn define(
+/// Defines the name, and counts on behind it.
+pub fn define_name(
     alloc: Global,
     tally: &mut Tally,
-    function: &Placed<Name>,
-    written: &Option<Placed<Name>>,
+    name: &Name,
     meaning: Meaning,
-) -> Result<Name, AllocError>
+) -> Result<(), AllocError>
     requires { HasRoom tally.old }
-    ensures name { IfOk result (λ name. name ≡ name_due tally.old.next written.now) }
-    ensures defined { OnOk result (tally.new ≡ with_thing (record { function = function.now; written = written.now; meaning = meaning }) tally.old) }
+    ensures { OnOk result (tally.new ≡ with_name name.now meaning tally.old) }
 {
-    let index = tally.definitions.len();
-    let due = tally.next;
-    claim_name(function, index, due, written, &mut tally.claims)?;
-    let name = name_due(alloc, due, written)?;
     tally.definitions.push(Definition {
         name: name.copy(alloc)?,
         meaning,
     })?;
     let _count = tally.definitions.len();
-    tally.next = due_behind(due, written);
+    tally.next = due_after(tally.next, name);
+    Ok(())
+}
+
+/// Defines a thing in the function, and answers its name.
+#[tactic(auto, using(crate::proofs::Tallies::due_after_name))]
+pub fn define(
+    alloc: Global,
+    tally: &mut Tally,
+    function: &Placed<Name>,
+    written: Option<Placed<Name>>,
+    meaning: Meaning,
+) -> Result<Name, AllocError>
+    requires { HasRoom tally.old }
+    ensures name { IfOk result (λ name. name ≡ name_due tally.old.next written) }
+    ensures defined { OnOk result (tally.new ≡ with_thing (record { function = function.now; written = written; meaning = meaning }) tally.old) }
+{
+    let index = tally.definitions.len();
+    claim_name(function, index, tally.next, &written, &mut tally.claims)?;
+    let name = name_due(tally.next, written);
+    define_name(alloc, tally, &name, meaning)?;
     Ok(name)
+}
+
+/// Defines a function, whose name is written.
+pub fn define_function(
+    alloc: Global,
+    tally: &mut Tally,
+    name: &Placed<Name>,
+) -> Result<(), AllocError>
+    requires { HasRoom tally.old }
+    ensures { OnOk result (tally.new ≡ with_thing (record { function = name.now; written = Some name.now; meaning = Meaning.Function }) tally.old) }
+{
+    let index = tally.definitions.len();
+    claim_written(index, tally.next, name, &mut tally.claims)?;
+    define_name(alloc, tally, &name.what, Meaning::Function)
 }

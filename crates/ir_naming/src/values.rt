@@ -47,7 +47,7 @@ fn overflow_flags(words: &mut Stack<FlagWord>) -> Flags
 }
 
 /// The flags of the operator.
-fn flags_of(operator: OperatorText) -> Flags
+pub fn flags_of(operator: OperatorText) -> Flags
     ensures { result ≡ meaning.flags_of operator }
 {
     match operator {
@@ -69,7 +69,7 @@ fn flags_of(operator: OperatorText) -> Flags
 }
 
 /// The name without its place.
-fn name_of(placed: Placed<Name>) -> Name
+pub fn name_of(placed: Placed<Name>) -> Name
     ensures { result ≡ placed.what }
 {
     let Placed {

@@ -12,7 +12,7 @@ use Rattle.ir_core.specs.declared.functions.Instr.TheVariants as instr
 use Rattle.ir_core.specs.declared.functions.Param.{Param}
 use Rattle.ir_core.specs.declared.functions.Phi.{Phi}
 use Rattle.ir_core.specs.declared.functions.Term.{Term}
-use Rattle.ir_core.specs.declared.functions.Term.TheVariants.{Ret, RetVoid}
+use Rattle.ir_core.specs.declared.functions.Term.TheVariants.{Ret, RetVoid, Br, CondBr, Switch, Unreachable}
 use Rattle.ir_core.specs.declared.names.Name.{Name}
 use Rattle.ir_core.specs.declared.names.Name.TheVariants.{Text, Number}
 use Rattle.ir_core.specs.declared.operands.Atom.{Atom}
@@ -78,7 +78,15 @@ operation_is registers =
 return_is : (registers : List (Name × Ty)) (w : Option OperandText) (t : Term) → IsReturn registers w t → t ≡ return_of w
 return_is registers (Some w) (Ret operand) is = ap Ret (operand_is (IsValue registers) atom_of (value_is registers) w operand is)
 return_is registers (Some w) RetVoid is = absurd is
+return_is registers (Some w) (Br label) is = absurd is
+return_is registers (Some w) (CondBr c) is = absurd is
+return_is registers (Some w) (Switch s) is = absurd is
+return_is registers (Some w) Unreachable is = absurd is
 return_is registers None (Ret operand) is = absurd is
+return_is registers None (Br label) is = absurd is
+return_is registers None (CondBr c) is = absurd is
+return_is registers None (Switch s) is = absurd is
+return_is registers None Unreachable is = absurd is
 return_is registers None RetVoid is = refl
 
 result_is : (w : Option (Placed ℕ)) (ty : Ty) → IsResult w ty → ty ≡ result_of w

@@ -10,7 +10,7 @@ use Rattle.ir_core.specs.declared.functions.Block.{Block}
 use Rattle.ir_core.specs.declared.functions.Instr.{Instr}
 use Rattle.ir_core.specs.declared.functions.Instr.TheVariants as instr
 use Rattle.ir_core.specs.declared.functions.Term.{Term}
-use Rattle.ir_core.specs.declared.functions.Term.TheVariants.{Ret, RetVoid}
+use Rattle.ir_core.specs.declared.functions.Term.TheVariants.{Ret, RetVoid, Br, CondBr, Switch, Unreachable}
 use Rattle.ir_core.specs.declared.names.Name.{Name}
 use Rattle.ir_core.specs.declared.names.Name.TheVariants.{Text, Number}
 use Rattle.ir_core.specs.declared.operands.Atom.{Atom}
@@ -159,6 +159,10 @@ return_right : (ds : List Definition) (w : Option OperandText) (t : Term) → Ar
 return_right ds None t new is = tt
 return_right ds (Some w) (Ret operand) new is = operand_right ds value_claims (IsValue (registers_in ds)) (value_right ds new) w operand is
 return_right ds (Some w) RetVoid new is = absurd is
+return_right ds (Some w) (Br label) new is = absurd is
+return_right ds (Some w) (CondBr c) new is = absurd is
+return_right ds (Some w) (Switch s) new is = absurd is
+return_right ds (Some w) Unreachable new is = absurd is
 
 pub block_right : (ds : List Definition) (w : BlockText) (b : Block) → AreNew [] (defined_names ds) → NamesBlock (registers_in ds) w b → AreRight ds (block_claims w)
 block_right ds w b new named =

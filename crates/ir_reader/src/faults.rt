@@ -1,5 +1,5 @@
 //! The fault of one step, as the fault of a text.
-ghost use Rattle.std.specs.Prelude.{◌≡◌, ◌-◌, length, map};
+ghost use Rattle.std.specs.Prelude.{◌≡◌, length, map};
 ghost use Rattle.ir_grammar.specs.Symbols.{placed_in};
 ghost use Rattle.spelling_laws.specs.Told as told;
 
@@ -21,19 +21,12 @@ pub fn of_lexer(fault: LexFault) -> TextFault
     }
 }
 
-/// How many bytes a token has.
-fn length_of(token: &Token) -> usize
-    ensures { result ≡ token.now.end - token.now.start }
-{
-    (token.end as usize).saturating_sub(token.start as usize)
-}
-
 /// A token of the text that is not expected.
 fn of_token(text: &[u8], token: &Token) -> TextFault
     ensures { result ≡ told.of_token (placed_in text.now token.now) }
 {
     let place = token.start as usize;
-    let length = length_of(token);
+    let length = (token.end as usize).saturating_sub(place);
     if is_left_out(text, token) {
         TextFault::LeftOut { place, length }
     } else {
@@ -71,15 +64,9 @@ pub fn of_stuck(text: &[u8], tokens: &[Token], past: Option<usize>, place: usize
 pub fn of_names(fault: Fault) -> TextFault
     ensures { result ≡ told.of_names fault }
 {
-    let length = fault.end.saturating_sub(fault.start);
-    of_reason(fault.start, length, fault.reason)
-}
-
-/// What is wrong from this place on, over that many bytes.
-fn of_reason(place: usize, length: usize, reason: Reason) -> TextFault
-    ensures { result ≡ told.of_sized place length reason }
-{
-    match reason {
+    let place = fault.start;
+    let length = fault.end.saturating_sub(place);
+    match fault.reason {
         Reason::Twice => TextFault::Twice { place, length },
         Reason::WrongNumber(expected) => TextFault::WrongNumber { place, expected },
         Reason::Unknown => TextFault::Unknown { place, length },

@@ -22,7 +22,7 @@ use ir_spelling::TextFault;
 use name_claims::first_fault;
 use spelling_laws::texts_spell_one;
 use std::alloc::Global;
-use tree_reader::{line_past_limit, read_definitions};
+use tree_reader::{kinds_of, line_past_limit, read_definitions_of};
 
 /// The tree of the tokens of a text, or their first fault.
 fn read_tree(alloc: Global, text: &[u8], tokens: &[Token]) -> Result<ModuleText, TextFault>
@@ -30,8 +30,10 @@ fn read_tree(alloc: Global, text: &[u8], tokens: &[Token]) -> Result<ModuleText,
     ensures lines { IfOk result (λ tree. (k : ℕ) → IsPastLimit (map (kind_in text.now) tokens.now) k → ⊥) }
     ensures fault { IfErr result (λ fault. IsTreeFault module_form (map (placed_in text.now) tokens.now) (length text.now) fault) }
 {
-    let past = line_past_limit(text, tokens);
-    match read_definitions(alloc, text, tokens)? {
+    let told = kinds_of(alloc, text, tokens)?;
+    let kinds = told.as_slice();
+    let past = line_past_limit(kinds);
+    match read_definitions_of(alloc, text, tokens, kinds)? {
         Ok(tree) => match past {
             None => Ok(tree),
             Some(_) => Err(TextFault::Limit(Limit::Lines)),

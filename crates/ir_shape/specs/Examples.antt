@@ -1,20 +1,23 @@
--- Modules in which something is amiss, and a block of two phis.
+-- Modules in which something is amiss.
 use Rattle.std.specs.Prelude.{ℕ, false, List, [], ◌∷◌, codes, None, Some}
 use Rattle.ir_core.specs.declared.expressions.Expr.{Expr}
 use Rattle.ir_core.specs.declared.expressions.Expr.TheVariants as expr
 use Rattle.ir_core.specs.declared.functions.Block.{Block}
+use Rattle.ir_core.specs.declared.functions.Case.{Case}
+use Rattle.ir_core.specs.declared.functions.Entry.{Entry}
 use Rattle.ir_core.specs.declared.functions.Function.{Function}
 use Rattle.ir_core.specs.declared.functions.Instr.{Instr}
 use Rattle.ir_core.specs.declared.functions.Instr.TheVariants as line
 use Rattle.ir_core.specs.declared.functions.Module.{Module}
 use Rattle.ir_core.specs.declared.functions.Phi.{Phi}
 use Rattle.ir_core.specs.declared.functions.Term.{Term}
-use Rattle.ir_core.specs.declared.functions.Term.TheVariants.{Ret}
+use Rattle.ir_core.specs.declared.functions.Term.TheVariants.{Br, CondBr, Ret, Switch}
 use Rattle.ir_core.specs.declared.names.Name.{Name}
 use Rattle.ir_core.specs.declared.names.Name.TheVariants.{Text, Number}
-use Rattle.ir_core.specs.declared.operands.Atom.TheVariants.{Register}
+use Rattle.ir_core.specs.declared.operands.Atom.TheVariants.{Constant, Register}
 use Rattle.ir_core.specs.declared.operands.BinOp.TheVariants.{Add}
 use Rattle.ir_core.specs.declared.operands.CastOp.{CastOp}
+use Rattle.ir_core.specs.declared.operands.Const.TheVariants as constant
 use Rattle.ir_core.specs.declared.operands.Operand.{Operand}
 use Rattle.ir_core.specs.declared.operands.Pred.TheVariants.{Eq}
 use Rattle.ir_core.specs.declared.operands.Ty.{Ty}
@@ -69,9 +72,33 @@ select condition left right = setting (expr.Select (record { condition = x_of co
 abbrev pub returning : Term
 returning = Ret (x_of (Int 32))
 
--- %x = phi i32
-abbrev pub phi : Phi
-phi = record { name = x; ty = Int 32; entries = [] }
+-- br label %to
+abbrev pub jumping : Name → Term
+jumping to = Br to
+
+-- br ty %x, label %left, label %right
+abbrev pub branching : Ty → Name → Name → Term
+branching ty left right = CondBr (record { condition = x_of ty; on_true = left; on_false = right })
+
+-- ty number, label %y
+abbrev pub case : Ty → ℕ → Case
+case ty number = record { ty = ty; number = number; label = y }
+
+-- switch over %x, label %y [of first, label %y of second, label %y]
+abbrev pub switching : Ty → Ty → ℕ → ℕ → Term
+switching over of first second = Switch (record { value = x_of over; default = y; cases = case of first ∷ case of second ∷ [] })
+
+-- [number, %from]
+abbrev pub entry : ℕ → Name → Entry
+entry number from = record { value = Constant (constant.Number number); from = from }
+
+-- %x = phi i32 entries
+abbrev pub phi : List Entry → Phi
+phi entries = record { name = x; ty = Int 32; entries = entries }
+
+-- %x = phi i32 [1, %x], [1, %x]
+abbrev pub fitting : Phi
+fitting = phi (entry 1 x ∷ entry 1 x ∷ [])
 
 -- 0: phis lines end
 abbrev pub block : List Phi → List Instr → Term → Block
@@ -93,3 +120,18 @@ in_f line kind = record { function = f; place = Some (record { block = Number 0;
 -- that fault in the function's own name
 abbrev pub in_name : Name → ShapeFault
 in_name name = record { function = name; place = None; kind = kind.Name }
+
+-- define i32 @f(i32 %x) { x: br i1 %x, label %y, label %y y: phis ret i32 %x }
+abbrev pub entering : List Phi → Module
+entering phis = record {
+  functions = record {
+    name = f;
+    result = Int 32;
+    params = record { name = x; ty = Int 32 } ∷ [];
+    blocks = record { name = x; phis = []; body = []; term = branching (Int 1) y y } ∷ record { name = y; phis = phis; body = []; term = returning } ∷ [];
+  } ∷ [];
+}
+
+-- that fault in that line of the block %y of @f
+abbrev pub in_y : ℕ → ShapeKind → ShapeFault
+in_y line kind = record { function = f; place = Some (record { block = y; line = line }); kind = kind }

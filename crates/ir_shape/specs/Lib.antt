@@ -1,3 +1,4 @@
 pub mod Shape
+pub mod Edges
 pub mod Laws
 pub mod Examples

@@ -9,10 +9,16 @@ use std::alloc::AllocError;
 pub enum ShapeKind {
     /// A function has a name that begins with `llvm.dbg.`.
     Name,
-    /// An operator stands over operands of types that it doesn't take.
+    /// An edge leads to the function's first block.
+    EntryEntered,
+    /// A phi has no entry, or not one for each edge into its block, or two of one block that differ.
+    PhiEntries,
+    /// An operator or a branch stands over operands of types that it doesn't take.
     OperandType,
     /// A terminator returns what isn't of the function's result type.
     ReturnType,
+    /// A switch has a case of another type, or two cases of one number.
+    CaseTwice,
     /// A conversion doesn't lead from its operand's type to the one behind `to`.
     CastWidth,
 }
@@ -24,8 +30,11 @@ impl ShapeKind {
     {
         match self {
             ShapeKind::Name => "name",
+            ShapeKind::EntryEntered => "entry entered",
+            ShapeKind::PhiEntries => "phi entries",
             ShapeKind::OperandType => "operand type",
             ShapeKind::ReturnType => "return type",
+            ShapeKind::CaseTwice => "case twice",
             ShapeKind::CastWidth => "cast width",
         }
     }

@@ -1,9 +1,13 @@
 ghost use Rattle.std.specs.Prelude.{◌≡◌, ◌+◌, [], length, None, Some, IfOk, IfErr};
 ghost use Rattle.std.specs.List.{flat_map};
+ghost use Rattle.ir_core.specs.Functions as functions;
+ghost use Rattle.ir_shape.specs.Edges.{named};
 ghost use Rattle.ir_shape.specs.Shape as meaning;
 ghost use Rattle.ir_shape.specs.Shape.{IsFirstOf};
 
-use crate::kinds::{end_kind, line_kind, name_kind};
+use crate::ends::end_kind;
+use crate::kinds::{line_kind, name_kind};
+use crate::phis::{edges_into, phi_kind};
 use crate::{LinePlace, ShapeEnd, ShapeFault, ShapeKind};
 use contents::Exact;
 use ir_core::{Block, Function, Module, Name};
@@ -61,6 +65,38 @@ fn name_fits(alloc: Global, function: &Name) -> Result<(), ShapeEnd>
     }
 }
 
+/// Whether no phi of a block has a fault, where these edges enter it.
+fn phis_fit_edges(
+    alloc: Global,
+    function: &Name,
+    block: &Block,
+    edges: &[&Name],
+) -> Result<(), ShapeEnd>
+    ensures fits { IfOk result (λ _. meaning.in_phis function.now block.now.name (named edges.now) 0 block.now.phis ≡ []) }
+    ensures fault { IfErr result (IsFirstOf (meaning.in_phis function.now block.now.name (named edges.now) 0 block.now.phis)) }
+{
+    let mut line = 0;
+    for phi in block.phis.as_slice() {
+        line_fits(alloc, function, &block.name, line, phi_kind(edges, phi))?;
+        // A block of so many phis stands in no memory.
+        line = line.checked_add(1).ok_or(AllocError)?;
+    }
+    Ok(())
+}
+
+fn phis_fit(alloc: Global, function: &Function, block: &Block) -> Result<(), ShapeEnd>
+    ensures fits { IfOk result
+        (λ _. meaning.in_phis «function».now.name block.now.name (functions.edges_into «function».now block.now.name) 0 block.now.phis ≡ []) }
+    ensures fault { IfErr result
+        (IsFirstOf (meaning.in_phis «function».now.name block.now.name (functions.edges_into «function».now block.now.name) 0 block.now.phis)) }
+{
+    if block.phis.is_empty() {
+        return Ok(());
+    }
+    let edges = edges_into(alloc, function.blocks.as_slice(), &block.name)?;
+    phis_fit_edges(alloc, &function.name, block, &edges)
+}
+
 /// Whether no line of a block's body has a fault; gives the number of the line behind them, its terminator.
 fn body_fits(alloc: Global, function: &Name, block: &Block) -> Result<usize, ShapeEnd>
     ensures fits { IfOk result
@@ -78,23 +114,44 @@ fn body_fits(alloc: Global, function: &Name, block: &Block) -> Result<usize, Sha
     Ok(line)
 }
 
-fn block_fits(alloc: Global, function: &Function, block: &Block) -> Result<(), ShapeEnd>
-    ensures fits { IfOk result (λ _. meaning.in_block «function».now block.now ≡ []) }
-    ensures fault { IfErr result (IsFirstOf (meaning.in_block «function».now block.now)) }
+fn block_fits(
+    alloc: Global,
+    function: &Function,
+    entry: &Name,
+    block: &Block,
+) -> Result<(), ShapeEnd>
+    ensures fits { IfOk result (λ _. meaning.in_block «function».now entry.now block.now ≡ []) }
+    ensures fault { IfErr result (IsFirstOf (meaning.in_block «function».now entry.now block.now)) }
 {
+    phis_fit(alloc, function, block)?;
     let line = body_fits(alloc, &function.name, block)?;
-    let found = end_kind(&function.result, &block.term);
+    let found = end_kind(alloc, entry, &function.result, &block.term)?;
     line_fits(alloc, &function.name, &block.name, line, found)
 }
 
-fn blocks_fit(alloc: Global, function: &Function) -> Result<(), ShapeEnd>
-    ensures fits { IfOk result (λ _. flat_map (meaning.in_block «function».now) «function».now.blocks ≡ []) }
-    ensures fault { IfErr result (IsFirstOf (flat_map (meaning.in_block «function».now) «function».now.blocks)) }
+fn blocks_fit(
+    alloc: Global,
+    function: &Function,
+    entry: &Name,
+    blocks: &[Block],
+) -> Result<(), ShapeEnd>
+    ensures fits { IfOk result (λ _. flat_map (meaning.in_block «function».now entry.now) blocks.now ≡ []) }
+    ensures fault { IfErr result (IsFirstOf (flat_map (meaning.in_block «function».now entry.now) blocks.now)) }
 {
-    for block in function.blocks.as_slice() {
-        block_fits(alloc, function, block)?;
+    for block in blocks {
+        block_fits(alloc, function, entry, block)?;
     }
     Ok(())
+}
+
+fn all_blocks_fit(alloc: Global, function: &Function, blocks: &[Block]) -> Result<(), ShapeEnd>
+    ensures fits { IfOk result (λ _. meaning.in_blocks «function».now blocks.now ≡ []) }
+    ensures fault { IfErr result (IsFirstOf (meaning.in_blocks «function».now blocks.now)) }
+{
+    match blocks {
+        [] => Ok(()),
+        [first, ..] => blocks_fit(alloc, function, &first.name, blocks),
+    }
 }
 
 fn function_fits(alloc: Global, function: &Function) -> Result<(), ShapeEnd>
@@ -102,7 +159,7 @@ fn function_fits(alloc: Global, function: &Function) -> Result<(), ShapeEnd>
     ensures fault { IfErr result (IsFirstOf (meaning.in_function «function».now)) }
 {
     name_fits(alloc, &function.name)?;
-    blocks_fit(alloc, function)
+    all_blocks_fit(alloc, function, function.blocks.as_slice())
 }
 
 fn functions_fit(alloc: Global, functions: &[Function]) -> Result<(), ShapeEnd>
@@ -116,10 +173,19 @@ fn functions_fit(alloc: Global, functions: &[Function]) -> Result<(), ShapeEnd>
 }
 
 /// Whether no function of the module has a fault of shape; if one has, the first of them in the order of the file. Takes memory only
-/// for the names in a fault.
+/// for the names in a fault, and for the numbers of a switch.
 pub fn shape(alloc: Global, module: &Module) -> Result<(), ShapeEnd>
     ensures fits { IfOk result (λ _. meaning.first_fault «module».now ≡ None) }
     ensures fault { IfErr result (IsFirstOf (meaning.faults_of «module».now)) }
 {
     functions_fit(alloc, module.functions.as_slice())
+}
+
+/// Whether a function beside a module has no fault of shape; if it has, the first. Takes memory only for the names in a fault, and
+/// for the numbers of a switch.
+pub fn shape_function(alloc: Global, _module: &Module, function: &Function) -> Result<(), ShapeEnd>
+    ensures fits { IfOk result (λ _. meaning.in_function «function».now ≡ []) }
+    ensures fault { IfErr result (IsFirstOf (meaning.in_function «function».now)) }
+{
+    function_fits(alloc, function)
 }

@@ -5,12 +5,12 @@ ghost use Rattle.ir_core.specs.Functions.{is_debug};
 ghost use Rattle.ir_shape.specs.Shape as meaning;
 
 use crate::ShapeKind;
-use ir_core::{Cast, Expr, Instr, Name, Select, Term, Ty, converts, same_ty};
+use ir_core::{Cast, Expr, Instr, Name, Select, Ty, converts, same_ty};
 
 /// `i1`, the type of conditions.
-const BIT: &'static Ty = &Ty::Int(1);
+pub(crate) const BIT: &'static Ty = &Ty::Int(1);
 
-fn is_integer(ty: &Ty) -> bool
+pub(crate) fn is_integer(ty: &Ty) -> bool
     ensures { result ≡ meaning.is_integer ty.now }
 {
     match ty {
@@ -19,7 +19,7 @@ fn is_integer(ty: &Ty) -> bool
     }
 }
 
-fn fault_unless(fits: bool, kind: ShapeKind) -> Option<ShapeKind>
+pub(crate) fn fault_unless(fits: bool, kind: ShapeKind) -> Option<ShapeKind>
     ensures { result ≡ meaning.fault_unless fits kind }
 {
     if fits { None } else { Some(kind) }
@@ -55,16 +55,6 @@ pub(crate) fn line_kind(line: &Instr) -> Option<ShapeKind>
 {
     match line {
         Instr::Calm(calm) => right_kind(&calm.right),
-    }
-}
-
-/// What is wrong with a terminator of a function with that result, if anything is.
-pub(crate) fn end_kind(due: &Ty, end: &Term) -> Option<ShapeKind>
-    ensures { result ≡ meaning.end_kind due.now end.now }
-{
-    match end {
-        Term::Ret(operand) => fault_unless(same_ty(&operand.ty, due), ShapeKind::ReturnType),
-        Term::RetVoid => fault_unless(same_ty(due, &Ty::Void), ShapeKind::ReturnType),
     }
 }
 

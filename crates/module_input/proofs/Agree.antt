@@ -14,13 +14,12 @@ use Rattle.ir_naming.specs.Spells.{NamesModule}
 use Rattle.ir_spelling.specs.Faults.{IsTextFault}
 use Rattle.ir_spelling.specs.Forms.{module_form}
 use Rattle.ir_spelling.specs.Spells.{SpellsWellFormed}
-use Rattle.spelling_laws.specs.Laws.{FaultsExclude, ModulesAreOne}
+use Rattle.spelling_laws.specs.Laws.{FaultsAreOne, FaultsExclude, IsAlike, ModulesAreOne}
 use Rattle.module_input.specs.declared.fault.ModuleFault.{ModuleFault}
 use Rattle.module_input.specs.declared.fault.ModuleFault.TheVariants as fault
 use Rattle.module_input.specs.Faults.{FirstWithout, IsModuleFault}
 use Rattle.module_input.specs.Laws.{PastLimit, Misspelled, text_kind, fault_kind}
-use Rattle.module_input.proofs.Limits.{limit_alone}
-use Rattle.module_input.proofs.NotDefined.{of_all}
+use Rattle.module_input.proofs.First.{of_all}
 
 -- a fault of a text that isn't want of memory passes a limit or is misspelled
 by_kind : (P : TextFault → Type 0) → ((l : Limit) → P (text.Limit l)) → ((f : TextFault) → text_kind f ≡ Misspelled → P f) → (f : TextFault) → f ≢ text.Memory → P f
@@ -36,22 +35,40 @@ by_kind P limits others (text.WrongNumber place expected) said = others (text.Wr
 by_kind P limits others (text.WrongType place) said = others (text.WrongType place) refl
 by_kind P limits others text.Memory said = absurd (said refl)
 
-text_kinds : (bytes : List ℕ) → length bytes ≤ text_limit → (f : TextFault) → f ≢ text.Memory → (g : TextFault) → g ≢ text.Memory
+-- a limit that is passed is like no fault that is misspelled
+limit_alike : (l : Limit) (g : TextFault) → text_kind g ≡ Misspelled → IsAlike (text.Limit l) g → ⊥
+limit_alike l (text.Limit m) kind alike = absurd (cc)
+limit_alike l (text.BadByte place) kind alike = alike
+limit_alike l (text.BadString place) kind alike = alike
+limit_alike l (text.BadNumber place) kind alike = alike
+limit_alike l (text.Expected place) kind alike = alike
+limit_alike l (text.LeftOut place size) kind alike = alike
+limit_alike l (text.Unknown place size) kind alike = alike
+limit_alike l (text.Twice place size) kind alike = alike
+limit_alike l (text.WrongNumber place expected) kind alike = alike
+limit_alike l (text.WrongType place) kind alike = alike
+limit_alike l text.Memory kind alike = alike
+
+-- what is misspelled isn't want of memory
+told_as_misspelled : (f : TextFault) → text_kind f ≡ Misspelled → f ≡ text.Memory → ⊥
+told_as_misspelled f kind memory = let e = sym (ap text_kind memory) ∙ kind in cc
+
+text_kinds : (bytes : List ℕ) → FaultsAreOne module_form → (f : TextFault) → f ≢ text.Memory → (g : TextFault) → g ≢ text.Memory
     → IsTextFault module_form bytes f → IsTextFault module_form bytes g → text_kind f ≡ text_kind g
-text_kinds bytes short =
+text_kinds bytes one =
     by_kind (λ f. (g : TextFault) → g ≢ text.Memory → IsTextFault module_form bytes f → IsTextFault module_form bytes g → text_kind f ≡ text_kind g)
     (λ l. by_kind (λ g. IsTextFault module_form bytes (text.Limit l) → IsTextFault module_form bytes g → PastLimit ≡ text_kind g)
     (λ m p q. refl)
-    (λ g kind p q. absurd (limit_alone bytes l g short p kind q)))
+    (λ g kind p q. absurd (limit_alike l g kind (one bytes (text.Limit l) g (p, λ e. cc) (q, told_as_misspelled g kind)))))
     (λ f kind. by_kind (λ g. IsTextFault module_form bytes f → IsTextFault module_form bytes g → text_kind f ≡ text_kind g)
-    (λ l p q. absurd (limit_alone bytes l f short q kind p))
+    (λ l p q. absurd (limit_alike l f kind (one bytes (text.Limit l) f (q, λ e. cc) (p, told_as_misspelled f kind))))
     (λ g also p q. kind ∙ sym also))
 
-module _ (excludes : FaultsExclude module_form NamesModule) (one : ModulesAreOne) (faultless : ShapelyModulesAreFaultless) (bytes : List ℕ) (short : length bytes ≤ text_limit) where
+module _ (excludes : FaultsExclude module_form NamesModule) (faults_one : FaultsAreOne module_form) (one : ModulesAreOne) (faultless : ShapelyModulesAreFaultless) (bytes : List ℕ) (short : length bytes ≤ text_limit) where
   pub kinds : (f g : ModuleFault) → IsModuleFault bytes f → f ≢ fault.Memory → IsModuleFault bytes g → g ≢ fault.Memory → fault_kind f ≡ fault_kind g
   kinds fault.Memory g p said q also = absurd (said refl)
   kinds (fault.Text f) fault.Memory p said q also = absurd (also refl)
-  kinds (fault.Text f) (fault.Text g) p said q also = text_kinds bytes short f p.1 g q.1 p.0 q.0
+  kinds (fault.Text f) (fault.Text g) p said q also = text_kinds bytes faults_one f p.1 g q.1 p.0 q.0
   kinds (fault.Text f) (fault.Shape g) p said q also = absurd (excludes bytes f q.0 short p q.1)
   kinds (fault.Text f) (fault.Undefined function u) p said q also = absurd (excludes bytes f q.0 short p q.1)
   kinds (fault.Shape f) fault.Memory p said q also = absurd (also refl)

@@ -1,16 +1,20 @@
 -- What is said of a module that is spelled is said of the text.
-use Rattle.std.proofs.Common.{◌≡◌, ◌<◌, ◌^◌, ℕ, suc, List, [], ◌∷◌, get_or, Fits, w8, Result, None, Some, Ok, Err, IfOk, IfErr, arith}
+use Rattle.std.proofs.Common.{◌≡◌, ◌<◌, ◌^◌, ℕ, suc, List, [], ◌∷◌, get_or, Fits, w8, Result, None, Ok, Err, IfOk, IfErr, subst, sym, arith}
 use Rattle.std.specs.List.{AllByRecursion}
 use Rattle.ir_core.specs.declared.functions.Module.{Module}
 use Rattle.ir_core.specs.Ranges.{AreBytes}
 use Rattle.ir_core.specs.WellFormed.{IsFunctionDefined, IsWellFormed}
 use Rattle.ir_shape.specs.Shape.{first_fault}
+use Rattle.ir_spelling.specs.declared.fault.TextFault.{TextFault}
+use Rattle.ir_spelling.specs.declared.fault.TextFault.TheVariants as text
+use Rattle.ir_spelling.specs.Faults.{IsTextFault}
+use Rattle.ir_spelling.specs.Forms.{module_form}
 use Rattle.ir_spelling.specs.Spells.{Spells}
 use Rattle.spelling_laws.specs.Laws.{ModulesHaveShape, ModulesAreInRange}
 use Rattle.module_input.specs.declared.fault.ModuleFault.{ModuleFault}
 use Rattle.module_input.specs.declared.fault.ModuleFault.TheVariants as fault
 use Rattle.module_input.specs.Faults.{IsModuleFault}
-use Rattle.module_input.specs.Private.{HasFault, ShapeAmong, UndefinedAmong}
+use Rattle.module_input.specs.Private.{HasFault, ShapeAmong, UndefinedAmong, of_text}
 
 below_byte : (b : ℕ) → Fits w8 b → b < 2 ^ 8
 below_byte b fit = omega (arith, fit)
@@ -59,3 +63,20 @@ undefined_is_first m faultless (Err e) among = of_uses m faultless e among
 pub always_ok : {A E : Type 0} (r : Result A E) (P : Type 0) → P → IfOk r (λ _. P)
 always_ok (Ok a) P p = p
 always_ok (Err e) P p = tt
+
+-- a text's fault is a module's
+told_by_text : (bytes : List ℕ) (f : TextFault) → IsTextFault module_form bytes f → IsModuleFault bytes (of_text f)
+told_by_text bytes (text.BadByte place) is = (is, λ e. cc)
+told_by_text bytes (text.BadString place) is = (is, λ e. cc)
+told_by_text bytes (text.BadNumber place) is = (is, λ e. cc)
+told_by_text bytes (text.Expected place) is = (is, λ e. cc)
+told_by_text bytes (text.LeftOut place size) is = (is, λ e. cc)
+told_by_text bytes (text.Unknown place size) is = (is, λ e. cc)
+told_by_text bytes (text.Twice place size) is = (is, λ e. cc)
+told_by_text bytes (text.WrongNumber place expected) is = (is, λ e. cc)
+told_by_text bytes (text.WrongType place) is = (is, λ e. cc)
+told_by_text bytes (text.Limit l) is = (is, λ e. cc)
+told_by_text bytes text.Memory is = tt
+
+pub told_as_text : (bytes : List ℕ) (f : TextFault) (e : ModuleFault) → e ≡ of_text f → IsTextFault module_form bytes f → IsModuleFault bytes e
+told_as_text bytes f e same is = subst (IsModuleFault bytes) (sym same) (told_by_text bytes f is)

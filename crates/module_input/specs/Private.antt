@@ -5,9 +5,16 @@ use Rattle.ir_core.specs.declared.functions.Module.{Module}
 use Rattle.ir_core.specs.WellFormed.{IsFunctionDefined}
 use Rattle.ir_shape.specs.Shape.{first_fault}
 use Rattle.definedness.specs.Undefined.{IsFirstUndefined}
+use Rattle.ir_spelling.specs.declared.fault.TextFault.{TextFault}
+use Rattle.ir_spelling.specs.declared.fault.TextFault.TheVariants as text
 use Rattle.module_input.specs.declared.fault.ModuleFault.{ModuleFault}
 use Rattle.module_input.specs.declared.fault.ModuleFault.TheVariants as fault
 use Rattle.module_input.specs.Faults.{FirstWithout}
+
+-- a text's fault, as a module's
+abbrev pub of_text : TextFault → ModuleFault
+of_text text.Memory = fault.Memory
+of_text f = fault.Text f
 
 -- a use that isn't defined in the first of the functions that has one; want of memory says nothing
 abbrev pub UndefinedAmong : List Function → ModuleFault → Type 0

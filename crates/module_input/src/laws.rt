@@ -1,7 +1,7 @@
 ghost use Rattle.module_input.specs.Laws.{FaultsAreOfOneKind, FaultsExcludeModules};
 
 use ir_shape::modules_with_shape_are_faultless;
-use spelling_laws::{faults_and_spelling_exclude, texts_spell_one};
+use spelling_laws::{faults_and_spelling_exclude, faults_are_one, texts_spell_one};
 
 /// The body calls laws alone, since the clauses are laws.
 ///
@@ -12,5 +12,6 @@ pub fn first_faults_agree()
 {
     texts_spell_one();
     faults_and_spelling_exclude();
+    faults_are_one();
     modules_with_shape_are_faultless();
 }

@@ -1,15 +1,15 @@
 ghost use Rattle.std.specs.Prelude.{◌≡◌, None, IfOk, IfErr};
 ghost use Rattle.std.specs.List.{AllByRecursion};
 ghost use Rattle.ir_core.specs.declared.functions.Module.{Module};
-ghost use Rattle.ir_core.specs.WellFormed.{IsFunctionDefined, IsWellFormed};
+ghost use Rattle.ir_core.specs.WellFormed.{HasFunctionShape, HasShape, IsFunctionDefined, IsWellFormed};
 ghost use Rattle.ir_shape.specs.Shape.{first_fault};
 ghost use Rattle.ir_spelling.specs.Spells.{Spells, SpellsWellFormed};
 ghost use Rattle.module_input.specs.Faults.{IsModuleFault};
-ghost use Rattle.module_input.specs.Private.{HasFault, ShapeAmong, UndefinedAmong};
+ghost use Rattle.module_input.specs.Private.{HasFault, ShapeAmong, UndefinedAmong, of_text};
 
 use crate::ModuleFault;
 use contents::Exact;
-use definedness::{DefEnd, defined};
+use definedness::{DefEnd, defined, shape_knows_labels, undefined_uses_are_faults};
 use ir_core::{Function, Module};
 use ir_reader::{TextFault, read_module};
 use ir_shape::{ShapeEnd, shape};
@@ -18,9 +18,12 @@ use std::alloc::Global;
 
 /// Whether each of the functions is defined; if not, the first use that isn't, in the first that isn't.
 fn all_defined(alloc: Global, functions: &[Function]) -> Result<(), ModuleFault>
+    requires { AllByRecursion HasFunctionShape functions.now }
     ensures defined { IfOk result (λ _. AllByRecursion IsFunctionDefined functions.now) }
     ensures undefined { IfErr result (UndefinedAmong functions.now) }
 {
+    shape_knows_labels();
+    undefined_uses_are_faults();
     for function in functions {
         match defined(alloc, function) {
             Ok(()) => {}
@@ -50,6 +53,7 @@ fn shaped(alloc: Global, module: &Module) -> Result<(), ModuleFault>
 
 /// Whether a module that is spelled is well-formed; if not, its first fault.
 fn fits(alloc: Global, module: &Module) -> Result<(), ModuleFault>
+    requires { first_fault «module».now ≡ None → HasShape «module».now }
     ensures faultless { IfOk result (λ _. first_fault «module».now ≡ None) }
     ensures defined { IfOk result (λ _. AllByRecursion IsFunctionDefined «module».now.functions) }
     ensures fault { IfErr result (HasFault «module».now) }
@@ -68,6 +72,16 @@ fn well_formed(alloc: Global, text: &[u8], module: &Module) -> Result<(), Module
     fits(alloc, module)
 }
 
+/// A text's fault, as a module's.
+fn of_text(fault: TextFault) -> ModuleFault
+    ensures { result ≡ of_text fault }
+{
+    match fault {
+        TextFault::Memory => ModuleFault::Memory,
+        _ => ModuleFault::Text(fault),
+    }
+}
+
 /// The module that the text spells.
 fn spelled(alloc: Global, text: &[u8]) -> Result<Module, ModuleFault>
     ensures spelled { IfOk result (Spells text.now) }
@@ -76,8 +90,7 @@ fn spelled(alloc: Global, text: &[u8]) -> Result<Module, ModuleFault>
 {
     match read_module(alloc, text) {
         Ok(module) => Ok(module),
-        Err(TextFault::Memory) => Err(ModuleFault::Memory),
-        Err(fault) => Err(ModuleFault::Text(fault)),
+        Err(fault) => Err(of_text(fault)),
     }
 }
 

@@ -1,6 +1,6 @@
 -- Words of private functions: an index of the first definition of each name, and the first fault as it is found from the left.
-use Rattle.std.specs.Prelude.{◌≡◌, ℕ, suc, Bool, false, List, [], ◌∷◌, Option, Some, None, if◌then◌else◌, option_map, nat_lt}
-use Rattle.indexmap.specs.IndexMap.{get}
+use Rattle.std.specs.Prelude.{◌≡◌, ℕ, suc, Bool, true, false, List, [], ◌∷◌, Option, Some, None, if◌then◌else◌, option_map, nat_lt}
+use Rattle.indexmap.specs.IndexMap.{get_by}
 use Rattle.ir_core.specs.declared.names.Name.{Name}
 use Rattle.ir_core.specs.Same.{same_name}
 use Rattle.name_claims.specs.declared.claims.Claim.{Claim}
@@ -14,7 +14,7 @@ use Rattle.name_claims.specs.Faults.{before, fault_at}
 -- ---- the index
 
 abbrev pub position : Index → Name → Option ℕ
-position index name = get same_name index.first name
+position index name = get_by (λ key. same_name name key.now) index.first
 
 abbrev pub or_else : Option ℕ → Option ℕ → Option ℕ
 or_else None other = other
@@ -28,8 +28,14 @@ abbrev pub first_at : Name → List Definition → Option ℕ
 first_at name [] = None
 first_at name (d ∷ ds) = if same_name name d.name then Some 0 else option_map (λ k. suc k) (first_at name ds)
 
-abbrev pub Indexes : Index → List Definition → Type 0
-Indexes index ds = (name : Name) → position index name ≡ first_at name ds
+-- no name is defined again
+abbrev pub AreAllNew : List Definition → Type 0
+AreAllNew [] = Unit {0}
+AreAllNew (d ∷ ds) = (first_at d.name ds ≡ None) × AreAllNew ds
+
+pub record Indexes (index : Index) (ds : List Definition) : Type 0 where
+  pub first : (name : Name) → position index name ≡ first_at name ds
+  pub new : index.all_new ≡ true → AreAllNew ds
 
 abbrev pub is_below : Option ℕ → ℕ → Bool
 is_below None k = false

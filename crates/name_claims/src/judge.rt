@@ -23,7 +23,7 @@ fn find<'a>(definitions: &'a Seq<Definition>, index: &Index, name: &Name) -> Opt
 }
 
 #[tactic(auto, using(crate::proofs::Found::repeated_none, crate::proofs::Found::repeated_some))]
-fn is_repeated(definitions: &Seq<Definition>, index: &Index, at: usize) -> bool
+fn is_behind(definitions: &Seq<Definition>, index: &Index, at: usize) -> bool
     requires { Indexes index.now definitions.now }
     ensures { result ≡ repeats (slice_get definitions.now at) (take at definitions.now) }
 {
@@ -36,7 +36,16 @@ fn is_repeated(definitions: &Seq<Definition>, index: &Index, at: usize) -> bool
     }
 }
 
-/// Whether a definition before it has the name of the definition of this index.
+/// Whether a definition before it has the name of the definition of this index. Most often no name is defined again.
+#[tactic(auto, using(crate::proofs::Found::new_repeats_none))]
+fn is_repeated(definitions: &Seq<Definition>, index: &Index, at: usize) -> bool
+    requires { Indexes index.now definitions.now }
+    ensures { result ≡ repeats (slice_get definitions.now at) (take at definitions.now) }
+{
+    !index.is_all_new() && is_behind(definitions, index, at)
+}
+
+/// Why the definition of this index is at fault, if it is.
 fn twice(definitions: &Seq<Definition>, index: &Index, at: usize) -> Option<Reason>
     requires { Indexes index.now definitions.now }
     ensures { result ≡ twice definitions.now at }

@@ -28,7 +28,7 @@ impl Model for NameIndex {
 
 impl NameIndex {
     ghost use Rattle.std.specs.Prelude.{[], ◌∷◌, ◌++◌, IfOk, not, true, false};
-    ghost use Rattle.name_index.specs.Among.{is_among};
+    ghost use Rattle.name_index.specs.Among.{is_among, place_among};
 
     /// No name is defined.
     pub fn new(alloc: Global) -> NameIndex
@@ -52,6 +52,13 @@ impl NameIndex {
         ensures { result ≡ is_among name.now self.now }
     {
         self.names.contains(name)
+    }
+
+    /// The place of the name among them, if it is one.
+    pub fn position(&self, name: &Name) -> Option<usize>
+        ensures { result ≡ place_among name.now self.now }
+    {
+        self.names.get_index_of(name)
     }
 
     /// Puts the name at the end if it is new, and says whether it is.

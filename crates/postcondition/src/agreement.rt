@@ -131,7 +131,7 @@ fn rights_agree<S: FactSet>(known: &Sides<S>, s: &Expr<Name>, t: &Expr<Name>) ->
 }
 
 /// Whether the lines define one register, and agree.
-pub(crate) fn lines_agree<S: FactSet>(known: &Sides<S>, s: &Calm, t: &Calm) -> bool
+pub fn lines_agree<S: FactSet>(known: &Sides<S>, s: &Calm, t: &Calm) -> bool
     ensures { result ≡ lines_agree known.now s.now t.now }
 {
     same_name(&s.name, &t.name) && rights_agree(known, &s.right, &t.right)

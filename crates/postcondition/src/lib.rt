@@ -7,5 +7,6 @@ mod ends;
 mod lines;
 mod naming;
 
+pub use agreement::lines_agree;
 pub use ends::LineEnd;
 pub use lines::{Line, after_line};

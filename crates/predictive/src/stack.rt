@@ -41,7 +41,10 @@ impl<T: Drop> Stack<T> {
         ensures ok { OnOk result (self.new ≡ item ∷ self.old) }
         ensures err { OnErr result (self.new ≡ self.old) }
     {
-        self.items.push(item)?;
+        if self.items.len() == self.items.capacity() {
+            self.items.reserve(1)?;
+        }
+        self.items.push_reserved(item);
         Ok(())
     }
 }

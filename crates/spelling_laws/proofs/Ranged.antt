@@ -1,5 +1,5 @@
 -- A function that a definition names is in range where the written names and types are.
-use Rattle.std.proofs.Common.{◌≡◌, ℕ, ◌-◌, ◌%◌, ◌^◌, ◌<◌, Bool, true, false, cond, List, [], ◌∷◌, Option, Some, None, ⊎_elim, refl, ap, sym, ◌∙◌, subst, ltb-true, lt-ltb}
+use Rattle.std.proofs.Common.{◌≡◌, ℕ, ◌-◌, ◌%◌, ◌^◌, ◌<◌, Bool, true, false, cond, List, [], ◌∷◌, ◌++◌, Option, Some, None, ⊎_elim, refl, ap, sym, ◌∙◌, subst, ltb-true, lt-ltb}
 use Rattle.std.specs.Prelude.{◌==◌, ◌&&◌, ◌||◌, not, nat_le, nat_lt, option_map}
 use Rattle.std.specs.List.{AllByRecursion, AllZip, flat_map}
 use Rattle.std.proofs.lemmas.Bool.{cond_both, eqb-true}
@@ -7,6 +7,7 @@ use Rattle.std.proofs.lemmas.List.{append-nil}
 use Rattle.std.proofs.lemmas.Nat.{mod_below, pow_pos}
 use Rattle.ir_core.specs.declared.expressions.Expr.{Expr}
 use Rattle.ir_core.specs.declared.functions.Block.{Block}
+use Rattle.ir_core.specs.declared.functions.Case.{Case}
 use Rattle.ir_core.specs.declared.functions.Function.{Function}
 use Rattle.ir_core.specs.declared.functions.Instr.{Instr}
 use Rattle.ir_core.specs.declared.functions.Instr.TheVariants as instr
@@ -18,8 +19,8 @@ use Rattle.ir_core.specs.declared.operands.Const.{Const}
 use Rattle.ir_core.specs.declared.operands.Const.TheVariants as const
 use Rattle.ir_core.specs.declared.operands.Ty.{Ty}
 use Rattle.ir_core.specs.declared.operands.Ty.TheVariants.{Int}
-use Rattle.ir_core.specs.Functions.{typed_of}
-use Rattle.ir_core.specs.Ranges.{AreFlagsInRange, IsAtomInRange, IsFunctionInRange, IsLineInRange, IsNameInRange, IsOperandInRange, IsTypeInRange, may_have, may_leave, may_wrap}
+use Rattle.ir_core.specs.Functions.{cases_of, typed_of}
+use Rattle.ir_core.specs.Ranges.{AreFlagsInRange, IsAtomInRange, IsCaseInRange, IsFunctionInRange, IsLineInRange, IsNameInRange, IsOperandInRange, IsTypeInRange, may_have, may_leave, may_wrap}
 use Rattle.ir_core.specs.Types.{constant_fits, is_width}
 use Rattle.ir_lexer.specs.declared.token.Number as lexed
 use Rattle.ir_grammar.specs.declared.operators.ExactOp.{ExactOp}
@@ -46,7 +47,7 @@ use Rattle.ir_naming_laws.proofs.Operations.{operation_cases}
 use Rattle.spelling_laws.proofs.Flat.{line_names, names_flat, param_names}
 use Rattle.spelling_laws.proofs.Tools.{chosen, guard_ok}
 use Rattle.spelling_laws.proofs.Trees.{LineHas, ParamHas}
-use Rattle.spelling_laws.proofs.Walked.{operands_walked, registers_typed}
+use Rattle.spelling_laws.proofs.Walked.{operands_walked, registers_typed, returns_only}
 use Rattle.spelling_laws.proofs.WrittenRanges.{AreWrittenInRange, IsSymbolInRange}
 
 -- ---- names
@@ -188,6 +189,12 @@ in_blocks blocks b one_block all =
     subst (λ blocks. AllByRecursion IsLineInRange (flat_map (λ (b : Block). b.body) blocks)) (sym one_block)
     (subst (AllByRecursion IsLineInRange) (sym (append-nil b.body)) all)
 
+-- a return has no cases
+no_cases_in : (blocks : List Block) (b : Block) → blocks ≡ b ∷ [] → cases_of b.term ≡ [] → AllByRecursion IsCaseInRange (flat_map (λ (b : Block). cases_of b.term) blocks)
+no_cases_in blocks b one_block none =
+    subst (λ blocks. AllByRecursion IsCaseInRange (flat_map (λ (b : Block). cases_of b.term) blocks)) (sym one_block)
+    (subst (λ (cs : List Case). AllByRecursion IsCaseInRange (cs ++ [])) (sym none) tt)
+
 -- ---- functions
 
 result_in_range : (w : Option (Placed ℕ)) (ty : Ty) → AllByRecursion IsSymbolInRange (write.result w) → IsResult w ty → IsTypeInRange ty
@@ -204,5 +211,6 @@ ranged d f range n =
       registers = registers_typed IsSymbolInRange IsTypeInRange (λ w range. range) refl d f range n;
       operands = operands_walked IsSymbolInRange IsOperandInRange d f (λ w v atom range is. (range, value_in_range (typed_of f) w.what v atom is)) range n;
       flags = in_blocks f.blocks b n.one_block (lines_flagged (typed_of f) d.block.lines b.body n.body.lines);
+      cases = no_cases_in f.blocks b n.one_block (returns_only _ _ b.term n.body.returns).no_cases;
       lines = n.few;
     }

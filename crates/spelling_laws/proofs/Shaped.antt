@@ -1,10 +1,8 @@
 -- A function that a definition names has shape where its lines, its terminators and its name fit.
-use Rattle.std.proofs.Common.{◌≡◌, ℕ, List, [], ◌∷◌, ◌++◌, map, Option, Some, None, refl, ap, sym, ◌∙◌, subst}
+use Rattle.std.proofs.Common.{◌≡◌, ℕ, List, [], ◌∷◌, ◌++◌, map, Option, Some, None, ap, sym, ◌∙◌, subst}
 use Rattle.std.specs.List.{AllByRecursion, Contains, filter, flat_map}
 use Rattle.ir_core.specs.declared.functions.Block.{Block}
 use Rattle.ir_core.specs.declared.functions.Function.{Function}
-use Rattle.ir_core.specs.declared.functions.Term.{Term}
-use Rattle.ir_core.specs.declared.functions.Term.TheVariants.{Ret, RetVoid}
 use Rattle.ir_core.specs.declared.names.Name.{Name}
 use Rattle.ir_core.specs.declared.operands.Atom.{Atom}
 use Rattle.ir_core.specs.declared.operands.Const.{Const}
@@ -23,7 +21,7 @@ use Rattle.ir_naming.specs.Spells.{IsValue, NamesFunction}
 use Rattle.ir_naming.specs.Values.{IsConstant, number_of, word_of}
 use Rattle.ir_shape.specs.Laws.{FitsTypes}
 use Rattle.spelling_laws.proofs.Trees.{DefinitionHas, definition_has}
-use Rattle.spelling_laws.proofs.Walked.{operands_walked, registers_typed}
+use Rattle.spelling_laws.proofs.Walked.{operands_walked, registers_typed, returns_only}
 
 -- ---- values
 
@@ -52,28 +50,25 @@ any_definition d = definition_has IsAny d (any_symbols (write.definition d))
 
 -- ---- edges
 
-no_successors : (t : Term) → successors_of t ≡ []
-no_successors (Ret operand) = refl
-no_successors RetVoid = refl
-
-no_edges : (f : Function) (b : Block) (name : Name) → f.blocks ≡ b ∷ [] → edges_into f name ≡ []
-no_edges f b name one_block =
+no_edges : (f : Function) (b : Block) (name : Name) → f.blocks ≡ b ∷ [] → successors_of b.term ≡ [] → edges_into f name ≡ []
+no_edges f b name one_block none =
     let from : Block → List Name = λ c. map (λ _. c.name) (filter (same_name name) (successors_of c.term)) in
     ap (flat_map from) one_block
-    ∙ ap (λ names. map (λ _. b.name) (filter (same_name name) names) ++ []) (no_successors b.term)
+    ∙ ap (λ names. map (λ _. b.name) (filter (same_name name) names) ++ []) none
 
 -- ---- functions
 
 pub shaped : (d : DefinitionText) (f : Function) → NamesFunction d f → FitsTypes f → HasFunctionShape f
 shaped d f n fits =
     let b = n.block in
+    let nowhere = returns_only _ _ b.term n.body.returns in
     let operators : AllByRecursion (λ (b : Block). AllByRecursion SetsByOperator b.body) (b ∷ []) = subst (AllByRecursion (λ (b : Block). AllByRecursion SetsByOperator b.body)) n.one_block fits.operators in
     let returns : AllByRecursion (λ (b : Block). Returns f.result b.term) (b ∷ []) = subst (AllByRecursion (λ (b : Block). Returns f.result b.term)) n.one_block fits.returns in
     record {
       first = b;
       further = [];
       blocks = n.one_block;
-      not_entered = no_edges f b b.name n.one_block;
+      not_entered = no_edges f b b.name n.one_block nowhere.successors;
       name = fits.name;
       names = n.order.0;
       registers = registers_typed IsAny IsFirstClass (λ w any. tt) tt d f (any_definition d) n;
@@ -82,8 +77,10 @@ shaped d f n fits =
         record {
           phis = subst (AllByRecursion _) (sym n.body.no_phis) tt;
           operators = operators.0;
-          labels = subst (AllByRecursion _) (sym (no_successors b.term)) tt;
+          labels = subst (AllByRecursion _) (sym nowhere.successors) tt;
+          branches = nowhere.branches;
           returns = returns.0;
+          cases = nowhere.cases;
         },
         tt,
       );

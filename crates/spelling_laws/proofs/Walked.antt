@@ -1,6 +1,6 @@
 -- What holds of each written type holds of the types of a function that a definition names, and what holds of each written value holds
 -- of its operands.
-use Rattle.std.proofs.Common.{◌≡◌, ℕ, List, [], ◌∷◌, ◌++◌, Option, Some, None, sym, subst}
+use Rattle.std.proofs.Common.{◌≡◌, refl, ℕ, List, [], ◌∷◌, ◌++◌, Option, Some, None, sym, subst}
 use Rattle.std.specs.List.{AllByRecursion, AllZip, flat_map}
 use Rattle.std.proofs.lemmas.List.{append-nil}
 use Rattle.ir_core.specs.declared.expressions.Expr.{Expr}
@@ -11,14 +11,15 @@ use Rattle.ir_core.specs.declared.functions.Instr.TheVariants as instr
 use Rattle.ir_core.specs.declared.functions.Param.{Param}
 use Rattle.ir_core.specs.declared.functions.Phi.{Phi}
 use Rattle.ir_core.specs.declared.functions.Term.{Term}
-use Rattle.ir_core.specs.declared.functions.Term.TheVariants.{Ret, RetVoid}
+use Rattle.ir_core.specs.declared.functions.Term.TheVariants.{Ret, RetVoid, Br, CondBr, Switch, Unreachable}
 use Rattle.ir_core.specs.declared.names.Name.{Name}
 use Rattle.ir_core.specs.declared.operands.Atom.{Atom}
 use Rattle.ir_core.specs.declared.operands.Operand.{Operand}
 use Rattle.ir_core.specs.declared.operands.Ty.{Ty}
 use Rattle.ir_core.specs.declared.operands.Ty.TheVariants.{Int}
 use Rattle.ir_core.specs.Expressions.{operands_in, type_of}
-use Rattle.ir_core.specs.Functions.{operands_at_end, operands_in_block, operands_of, operands_of_phi, set_by, typed_of}
+use Rattle.ir_core.specs.Functions.{cases_of, operands_at_end, operands_in_block, operands_of, operands_of_phi, set_by, successors_of, typed_of}
+use Rattle.ir_core.specs.WellFormed.{BranchesOn, HasCases}
 use Rattle.ir_grammar.specs.declared.trees.DefinitionText.{DefinitionText}
 use Rattle.ir_grammar.specs.declared.trees.LineText.{LineText}
 use Rattle.ir_grammar.specs.declared.trees.OperandText.{OperandText}
@@ -100,7 +101,15 @@ module _ (P : Symbol → Type 0) (registers : List (Name × Ty)) (O : Operand Na
   of_end : (w : Option OperandText) (t : Term) → AllByRecursion P (write.returned w) → IsReturn registers w t → AllByRecursion O (operands_at_end t)
   of_end (Some w) (Ret operand) has is = (of_operand w operand has is, tt)
   of_end (Some w) RetVoid has is = absurd is
+  of_end (Some w) (Br label) has is = absurd is
+  of_end (Some w) (CondBr c) has is = absurd is
+  of_end (Some w) (Switch s) has is = absurd is
+  of_end (Some w) Unreachable has is = absurd is
   of_end None (Ret operand) has is = absurd is
+  of_end None (Br label) has is = absurd is
+  of_end None (CondBr c) has is = absurd is
+  of_end None (Switch s) has is = absurd is
+  of_end None Unreachable has is = absurd is
   of_end None RetVoid has is = tt
 
   of_block : (b : Block) (ws : List LineText) (w : Option OperandText) → b.phis ≡ [] → AllByRecursion (LineHas P) ws → AllByRecursion P (write.returned w) → AllZip (IsLine registers) ws b.body → IsReturn registers w b.term → AllByRecursion O (operands_in_block b)
@@ -122,3 +131,26 @@ operands_walked P O d f of_value has n =
     let b = n.block in
     of_blocks P (typed_of f) O of_value f.blocks b n.one_block
     (of_block P (typed_of f) O of_value b d.block.lines d.block.result n.body.no_phis has.lines has.returned n.body.lines n.body.returns)
+
+-- ---- terminators
+
+-- what is written returns: it leads to no block, and has no cases
+pub record LeadsNowhere (t : Term) : Type 0 where
+  pub successors : successors_of t ≡ []
+  pub branches : BranchesOn t
+  pub cases : HasCases t
+  pub no_cases : cases_of t ≡ []
+
+pub returns_only : (registers : List (Name × Ty)) (w : Option OperandText) (t : Term) → IsReturn registers w t → LeadsNowhere t
+returns_only registers (Some w) (Ret operand) is = record { successors = refl; branches = tt; cases = tt; no_cases = refl }
+returns_only registers (Some w) RetVoid is = absurd is
+returns_only registers (Some w) (Br label) is = absurd is
+returns_only registers (Some w) (CondBr c) is = absurd is
+returns_only registers (Some w) (Switch s) is = absurd is
+returns_only registers (Some w) Unreachable is = absurd is
+returns_only registers None RetVoid is = record { successors = refl; branches = tt; cases = tt; no_cases = refl }
+returns_only registers None (Ret operand) is = absurd is
+returns_only registers None (Br label) is = absurd is
+returns_only registers None (CondBr c) is = absurd is
+returns_only registers None (Switch s) is = absurd is
+returns_only registers None Unreachable is = absurd is

@@ -1,5 +1,5 @@
 -- Lines are counted token by token.
-use Rattle.std.proofs.Common.{◌≡◌, ◌<◌, ◌≤◌, ℕ, zero, suc, Bool, true, false, cond, List, [], ◌∷◌, ◌++◌, length, take, get_or, map, reverse, nat_eq, ◌&&◌, ◌+◌, refl, ap, sym, ◌∙◌, subst, arith}
+use Rattle.std.proofs.Common.{◌≡◌, ◌<◌, ◌≤◌, ℕ, suc, Bool, true, false, cond, List, [], ◌∷◌, ◌++◌, length, take, get_or, reverse, nat_eq, ◌&&◌, ◌+◌, refl, ap, sym, ◌∙◌, subst, arith}
 use Rattle.std.proofs.lemmas.Bool.{eqb-false, eqb-true}
 use Rattle.std.proofs.lemmas.List.{reverse-append}
 use Rattle.std.proofs.lemmas.List.Sums.{take_while-cons}
@@ -65,14 +65,3 @@ keeps kinds place lines kind more inside is kept within after =
         either : (b : Bool) → nat_eq before place ≡ b → ⊥
         either true e = not_past kinds place lines kept.0 at (subst (λ p. IsPastLimit kinds p) (eqb-true before place e) past)
         either false e = let other = eqb-false before place e in kept.2 before (omega arith) past
-
--- the kind of a token at its place
-pub kind_at : {T : Type 0} (kind_of : T → ℕ) (ts : List T) (place : ℕ) (other : T) → place < length ts → kind_of (get_or ts place other) ≡ get_or (map kind_of ts) place 0
-kind_at kind_of [] place other inside = absurd (omega arith)
-kind_at kind_of (x ∷ xs) zero other inside = refl
-kind_at kind_of (x ∷ xs) (suc place) other inside = kind_at kind_of xs place other (omega arith)
-
-pub inside_kinds : {T : Type 0} (kind_of : T → ℕ) (ts : List T) (place : ℕ) → place < length ts → place < length (map kind_of ts)
-inside_kinds kind_of [] place inside = absurd (omega arith)
-inside_kinds kind_of (x ∷ xs) zero inside = omega arith
-inside_kinds kind_of (x ∷ xs) (suc place) inside = let more = inside_kinds kind_of xs place (omega arith) in omega arith

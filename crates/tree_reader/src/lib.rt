@@ -14,4 +14,5 @@ mod words;
 pub use laws::{examples, one_answer, written_once};
 pub use left_out::is_left_out;
 pub use lines::line_past_limit;
-pub use reader::{read_definitions, read_expression, read_name};
+pub use reader::{read_definitions_of, read_expression, read_name};
+pub use tokens::kinds_of;

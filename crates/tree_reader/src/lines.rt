@@ -1,11 +1,8 @@
-ghost use Rattle.std.specs.Prelude.{◌≡◌, ◌≤◌, ◌&&◌, MatchOption, map, nat_eq};
+ghost use Rattle.std.specs.Prelude.{◌≡◌, ◌≤◌, ◌&&◌, MatchOption, nat_eq};
 ghost use Rattle.ir_core.specs.Limits.{line_limit};
-ghost use Rattle.ir_grammar.specs.Symbols.{kind_in};
 ghost use Rattle.tree_reader.specs.Lines.{IsFirstPast, IsPastLimit, heads_line, is_operator, lines_after};
 
-use crate::tokens::kind_of;
 use ir_core::Limit;
-use ir_lexer::Token;
 
 /// Whether a token of this kind is a binary operator or a conversion.
 fn is_operator(kind: u8) -> bool
@@ -42,19 +39,18 @@ fn lines_after(kind: u8, lines: u64) -> u64
     }
 }
 
-/// The place of the first token of the text that begins a line above the limit of its function's lines, counted from 0.
-pub fn line_past_limit(text: &[u8], tokens: &[Token]) -> Option<usize>
+/// The place of the first of these kinds of tokens that begins a line above the limit of its function's lines, counted from 0.
+pub fn line_past_limit(kinds: &[u8]) -> Option<usize>
     ensures { MatchOption result
-        ((place : _) → IsPastLimit (map (kind_in text.now) tokens.now) place → ⊥)
-        (λ place. IsFirstPast (map (kind_in text.now) tokens.now) place) }
+        ((place : _) → IsPastLimit kinds.now place → ⊥)
+        (λ place. IsFirstPast kinds.now place) }
 {
     let mut lines: u64 = 0;
-    for (place, token) in tokens.iter().enumerate() {
-        let kind = kind_of(text, token);
-        if is_past_limit(kind, lines) {
+    for (place, kind) in kinds.iter().enumerate() {
+        if is_past_limit(*kind, lines) {
             return Some(place);
         }
-        lines = lines_after(kind, lines);
+        lines = lines_after(*kind, lines);
     }
     None
 }

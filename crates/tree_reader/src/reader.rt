@@ -1,6 +1,6 @@
 ghost use Rattle.std.specs.Prelude.{◌≡◌, [], ◌∷◌, IfOk, map};
 ghost use Rattle.ir_core.specs.declared.names.Sigil.TheVariants.{Local, Global as GlobalSigil};
-ghost use Rattle.ir_grammar.specs.Symbols.{symbol_in};
+ghost use Rattle.ir_grammar.specs.Symbols.{kind_in, symbol_in};
 ghost use Rattle.ir_grammar.specs.Written as write;
 ghost use Rattle.predictive.specs.Predictive.{MayEnd};
 ghost use Rattle.tree_reader.specs.Reading.{IsReading, IsRun};
@@ -87,6 +87,28 @@ impl<'a> Action for Reading<'a> {
     }
 }
 
+/// What is on the stack after the tokens, of these kinds, are read as a nonterminal, or the place of the first unexpected token.
+fn run_of(
+    alloc: Global,
+    text: &[u8],
+    tokens: &[Token],
+    kinds: &[u8],
+    start: u8,
+) -> Result<Result<Stack<Part>, usize>, AllocError>
+    requires ends { MayEnd sets start }
+    requires kinds { kinds.now ≡ map (kind_in text.now) tokens.now }
+    ensures { IfOk result (λ run. IsRun start (map (symbol_in text.now) tokens.now) run) }
+{
+    let mut reading = Reading::new(alloc, text, tokens);
+    match parse(alloc, &Grammar, &mut reading, start, kinds)? {
+        Some(place) => Ok(Err(place)),
+        None => {
+            is_unambiguous();
+            Ok(Ok(reading.into_parts()))
+        }
+    }
+}
+
 /// What is on the stack after the tokens are read as a nonterminal, or the place of the first unexpected token.
 fn run(
     alloc: Global,
@@ -98,26 +120,21 @@ fn run(
     ensures { IfOk result (λ run. IsRun start (map (symbol_in text.now) tokens.now) run) }
 {
     let kinds = kinds_of(alloc, text, tokens)?;
-    let mut reading = Reading::new(alloc, text, tokens);
-    match parse(alloc, &Grammar, &mut reading, start, kinds.as_slice())? {
-        Some(place) => Ok(Err(place)),
-        None => {
-            is_unambiguous();
-            Ok(Ok(reading.into_parts()))
-        }
-    }
+    run_of(alloc, text, tokens, kinds.as_slice(), start)
 }
 
-/// The definitions of a module, from the tokens of the text, or the place of the first unexpected token: counted from 0, and the number of tokens at the end. Fails
-/// where memory does.
-pub fn read_definitions(
+/// The definitions of a module, from the tokens of the text and what `kinds_of` tells of them, or the place of the first unexpected
+/// token: counted from 0, and the number of tokens at the end. Fails where memory does.
+pub fn read_definitions_of(
     alloc: Global,
     text: &[u8],
     tokens: &[Token],
+    kinds: &[u8],
 ) -> Result<Result<ModuleText, usize>, AllocError>
+    requires { kinds.now ≡ map (kind_in text.now) tokens.now }
     ensures { IfOk result (λ read. IsReading write.written (map (symbol_in text.now) tokens.now) read) }
 {
-    match run(alloc, text, tokens, 0)? {
+    match run_of(alloc, text, tokens, kinds, 0)? {
         Err(place) => Ok(Err(place)),
         Ok(mut parts) => match take_module(&mut parts) {
             Some(module) => Ok(Ok(module)),

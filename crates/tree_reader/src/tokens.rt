@@ -57,7 +57,7 @@ fn kind_of_mark(mark: u8) -> u8
 }
 
 /// What a parser sees of a token of the text.
-pub fn kind_of(text: &[u8], token: &Token) -> u8
+fn kind_of(text: &[u8], token: &Token) -> u8
     ensures { result ≡ kind_in text.now token.now }
 {
     match token.kind {

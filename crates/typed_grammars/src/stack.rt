@@ -3,6 +3,9 @@ ghost use Rattle.std.specs.Prelude.{◌≡◌, [], ◌∷◌, length, MatchOptio
 use std::alloc::{AllocError, Global};
 use std::marker::Model;
 
+/// A stack with room for more items is large.
+const LARGE: usize = 1024;
+
 /// A stack that contracts see as a list, top first.
 pub struct Stack<T> {
     items: Vec<T>,
@@ -45,6 +48,16 @@ impl<T> Stack<T> {
     {
         self.items.pop()
     }
+
+    /// Gives back the room of items that are popped, once it is a quarter of a large stack's.
+    pub fn shrink(&mut self)
+        ensures { self.new ≡ self.old }
+    {
+        let room = self.items.capacity();
+        if room > LARGE && self.items.len() < room / 4 * 3 {
+            self.items.shrink_to_fit();
+        }
+    }
 }
 
 impl<T: Drop> Stack<T> {
@@ -52,7 +65,10 @@ impl<T: Drop> Stack<T> {
         ensures ok { OnOk result (self.new ≡ item ∷ self.old) }
         ensures err { OnErr result (self.new ≡ self.old) }
     {
-        self.items.push(item)?;
+        if self.items.len() == self.items.capacity() {
+            self.items.reserve(1)?;
+        }
+        self.items.push_reserved(item);
         Ok(())
     }
 }

@@ -1,4 +1,3 @@
-use Rattle.std.specs.Prelude.{Result, Ok, Err, IfOk}
 use Rattle.erhl_checker.proofs.Differing.{accepted_ended, differs_ended, refines_ended}
 use Rattle.erhl_checker.proofs.modules.check_module_under.Goals as goal
 

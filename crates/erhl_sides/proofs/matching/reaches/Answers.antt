@@ -9,4 +9,4 @@ pub returns : goal.returns
 returns g c =
     let among = λ (diff : List Reg) (facts : List Fact). some_into (λ d. meet diff c.args.kind (record { ty = c.args.s.now; atom = map_atom g.R.InLogic.in_logic c.args.c.now }) d)
     (now_operand (record { ty = c.args.t.now; atom = c.args.b.now })) facts in
-    c.reaches_among.ensures ∙ ap₂ among c.diff.ensures c.facts.ensures
+    c.reaches_among.ensures ∙ ap₂ among c.diff.ensures c.joined.ensures

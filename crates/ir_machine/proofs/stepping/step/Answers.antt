@@ -1,10 +1,7 @@
-use Rattle.std.proofs.Common.{◌≡◌, sym, refl, subst}
-use Rattle.ir_machine.specs.State.{Over}
-use Rattle.ir_machine.specs.Machine.{Asks, asks}
-use Rattle.ir_machine.specs.Choices.{Did, answer, TakesAsked}
+use Rattle.std.proofs.Common.{sym}
+use Rattle.ir_machine.specs.Machine.{asks}
 use Rattle.ir_machine.specs.Places.{registers_in, state_of}
-use Rattle.ir_machine.proofs.Steps.{line_done, line_tells, end_asked, if_ok_first, if_ok_second, goes_on_from, lacks_fails, memory_only, as_it_was, over_never_goes}
-use Rattle.ir_machine.proofs.Standing.{at_end}
+use Rattle.ir_machine.proofs.Steps.{line_done, line_tells, if_ok_first, if_ok_second, goes_on_from, lacks_fails, memory_only, as_it_was}
 use Rattle.ir_machine.proofs.stepping.step.Goals as goal
 
 pub returns-then-place-lines-clause-made : goal.returns-then-place-lines-clause-made
@@ -45,33 +42,3 @@ pub returns-then-place-lines-clause-as_before : goal.returns-then-place-lines-cl
 returns-then-place-lines-clause-as_before g c =
     as_it_was c.do_line.result c.args.«module».now c.do_line.new.state.place c.args.state.now.place
     (registers_in c.do_line.new.state.registers) (registers_in c.args.state.now.registers) c.do_line.ensures.same_place c.do_line.ensures.same_registers
-
-pub returns-clause-made : goal.returns-clause-made
-returns-clause-made g c =
-    let registers = registers_in c.args.state.now.registers in
-    let asked = end_asked c.args.«module».now c.args.state.now.place c.in-Some.place registers
-    c.in-Some-get.function.now c.in-Some-get-2.block.now c.in-Some.is (sym c.in-Some-get.ensures) (sym c.in-Some-get-2.ensures)
-    (rw c.as_slice-lines.ensures at c.if-place-lines.false) in
-    subst (λ (tree : Asks). answer tree (g.C.Chooser.script c.args.chooser.now) ≡ Did c.in_ok-stepped.stepped.items Over (g.C.Chooser.script c.do_terminator.new.chooser)) asked
-    (c.in_ok-stepped.ensures.made (at_end c.in-Some-get.function.now c.in-Some-get-2.block.now registers) refl)
-
-pub returns-clause-goes_on : goal.returns-clause-goes_on
-returns-clause-goes_on g c = λ goes over. over_never_goes c.in_ok-stepped.stepped.items c.in_ok-stepped.stepped.progress c.in_ok-stepped.ensures.progress goes
-
-pub returns-clause-told : goal.returns-clause-told
-returns-clause-told g c =
-    let registers = registers_in c.args.state.now.registers in
-    let asked = end_asked c.args.«module».now c.args.state.now.place c.in-Some.place registers
-    c.in-Some-get.function.now c.in-Some-get-2.block.now c.in-Some.is (sym c.in-Some-get.ensures) (sym c.in-Some-get-2.ensures)
-    (rw c.as_slice-lines.ensures at c.if-place-lines.false) in
-    subst (λ (tree : Asks). TakesAsked tree (g.C.Chooser.script c.args.chooser.now) (g.C.Chooser.script c.do_terminator.new.chooser)) asked
-    (c.do_terminator.ensures.told (at_end c.in-Some-get.function.now c.in-Some-get-2.block.now registers) refl)
-
-pub returns-in_err-stepped-clause-told : goal.returns-in_err-stepped-clause-told
-returns-in_err-stepped-clause-told g c =
-    let registers = registers_in c.args.state.now.registers in
-    let asked = end_asked c.args.«module».now c.args.state.now.place c.in-Some.place registers
-    c.in-Some-get.function.now c.in-Some-get-2.block.now c.in-Some.is (sym c.in-Some-get.ensures) (sym c.in-Some-get-2.ensures)
-    (rw c.as_slice-lines.ensures at c.if-place-lines.false) in
-    subst (λ (tree : Asks). TakesAsked tree (g.C.Chooser.script c.args.chooser.now) (g.C.Chooser.script c.do_terminator.new.chooser)) asked
-    (c.do_terminator.ensures.told (at_end c.in-Some-get.function.now c.in-Some-get-2.block.now registers) refl)

@@ -8,7 +8,7 @@ use Rattle.ir_naming.proofs.modules.name_lines.Given as goal
 abbrev pub invariant-loop-line : goal.invariant-loop-line
 invariant-loop-line l = record {
   room : HasRoom l.tally;
-  made : l.made ++ lines_from l.tally.next l.lines ≡ lines_from l.fn.tally.next l.fn.lines;
+  made : l.made ++ lines_from l.tally.next l.lines ≡ l.fn.made ++ lines_from l.fn.tally.next l.fn.lines;
   defined : with_things (map (line_thing l.function) l.lines) l.tally ≡ with_things (map (line_thing l.function) l.fn.lines) l.fn.tally;
   claimed : l.claims ++ flat_map line_claims l.lines ≡ l.fn.claims ++ flat_map line_claims l.fn.lines;
 }

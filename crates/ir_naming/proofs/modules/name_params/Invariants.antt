@@ -7,7 +7,7 @@ use Rattle.ir_naming.proofs.modules.name_params.Given as goal
 abbrev pub invariant-loop-param : goal.invariant-loop-param
 invariant-loop-param l = record {
   room : HasRoom l.tally;
-  made : l.made ++ params_from l.tally.next l.params ≡ params_from l.fn.tally.next l.fn.params;
+  made : l.made ++ params_from l.tally.next l.params ≡ l.fn.made ++ params_from l.fn.tally.next l.fn.params;
   defined : with_things (map (param_thing l.function) l.params) l.tally ≡ with_things (map (param_thing l.function) l.fn.params) l.fn.tally;
 }
 

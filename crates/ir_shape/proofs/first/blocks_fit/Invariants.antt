@@ -5,4 +5,4 @@ use Rattle.ir_shape.proofs.first.blocks_fit.Given as goal
 
 -- the blocks that are left decide
 abbrev pub invariant-loop-block : goal.invariant-loop-block
-invariant-loop-block l = flat_map (in_block l.function) (drop l.block-index l.function.blocks) ≡ flat_map (in_block l.function) l.function.blocks
+invariant-loop-block l = flat_map (in_block l.function l.entry) (drop l.block-index l.blocks) ≡ flat_map (in_block l.function l.entry) l.blocks

@@ -1,8 +1,7 @@
 use Rattle.std.proofs.Common.{rules, ◌≡◌, ◌+◌, suc, subst, take, arith}
 use Rattle.std.specs.List.{AllByRecursion}
-use Rattle.ir_core.specs.WellFormed.{IsFunctionDefined}
-use Rattle.module_input.proofs.First.{first_at, one_more_such}
-use Rattle.module_input.proofs.NotDefined.{not_defined}
+use Rattle.ir_core.specs.WellFormed.{HasFunctionShape, IsFunctionDefined}
+use Rattle.module_input.proofs.First.{all_at, first_at, one_more_such}
 use Rattle.module_input.proofs.read.all_defined.Goals as goal
 
 pub returns-in-Err-Undefined-clause-undefined : goal.returns-in-Err-Undefined-clause-undefined
@@ -10,7 +9,7 @@ returns-in-Err-Undefined-clause-undefined c =
     let f = c.function-item.result in
     let found = c.in-Err-Undefined.ensures.undefined c.in-Err-Undefined.undefined c.in-Err-Undefined.field-0-is in (
       f,
-      first_at IsFunctionDefined c.args.functions.now c.loop-function.function-index f c.loop-function-test.true c.function-item.is c.loop-function.invariant (not_defined f _ found),
+      first_at IsFunctionDefined c.args.functions.now c.loop-function.function-index f c.loop-function-test.true c.function-item.is c.loop-function.invariant (c.undefined_uses_are_faults.ensures f _ (all_at HasFunctionShape c.args.functions.now c.loop-function.function-index f c.loop-function-test.true c.function-item.is c.requires) found),
       c.in-Err-Undefined.ensures.undefined _ (search rules),
       c.in_ok-copy-in-Err-Undefined.ensures,
     )

@@ -1,8 +1,6 @@
 -- the lines so far are counted, and none of them is above the limit
-use Rattle.std.proofs.Common.{map}
-use Rattle.ir_grammar.specs.Symbols.{kind_in}
 use Rattle.tree_reader.proofs.Counting.{Counted}
 use Rattle.tree_reader.proofs.lines.line_past_limit.Given as goal
 
 abbrev pub invariant-loop-place : goal.invariant-loop-place
-invariant-loop-place l = Counted (map (kind_in l.text) l.tokens) l.place l.lines
+invariant-loop-place l = Counted l.kinds l.place l.lines

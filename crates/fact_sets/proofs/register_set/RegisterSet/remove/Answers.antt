@@ -13,12 +13,12 @@ invariant_of-self c =
     let kept = filter_same _ test _ (λ x b f k. search rules) _ _ c.retain.ensures.filtered in
     subst (λ facts. IsIndexed same_reg c.self.inside.names.keys facts) (sym kept) (left_indexed same_reg _ test _ c.self.invariant)
 
-pub returns-then-contains : goal.returns-then-contains
-returns-then-contains c =
+pub returns-then-is_among : goal.returns-then-is_among
+returns-then-is_among c =
     let test = λ (r : Reg). not (same_reg c.args.register.now r) in
     filter_same _ test _ (λ x b f k. search rules) _ _ c.retain.ensures.filtered ∙ ap (filter test) c.self.view_is
 
-pub returns-else-contains : goal.returns-else-contains
-returns-else-contains c =
+pub returns-else-is_among : goal.returns-else-is_among
+returns-else-is_among c =
     let facts = c.self.view_is in
     sym (sym (ap (without_reg c.args.register.now) facts) ∙ (none_left_out same_reg _ _ c.args.register.now c.self.invariant (search rules) ∙ facts))

@@ -1,0 +1,5 @@
+use Rattle.definedness.proofs.NotDefined.{undefined_uses_are_faults}
+use Rattle.definedness.proofs.laws.undefined_uses_are_faults.Goals as goal
+
+pub returns : goal.returns
+returns c f u shape is defined = undefined_uses_are_faults f u shape is defined

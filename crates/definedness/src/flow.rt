@@ -1,0 +1,125 @@
+//! The graph of a function's blocks.
+ghost use Rattle.std.specs.Prelude.{◌≡◌, ◌++◌, [], ◌∷◌, map, IfOk, OnOk};
+ghost use Rattle.ir_core.specs.declared.functions.Block.{Block};
+ghost use Rattle.ir_core.specs.declared.functions.Case.{Case};
+ghost use Rattle.ir_core.specs.Functions.{names_in, phi_registers, set_by, successors_of};
+ghost use Rattle.name_index.specs.Among.{is_among, place_among};
+ghost use Rattle.definedness.specs.Along.{with_names};
+ghost use Rattle.definedness.specs.Flow.{closed_for, defines, graph_in, labels_in, places_in};
+
+use crate::uses::add;
+use flow_solver::Graph;
+use ir_core::{Block, Case, Instr, Name, Phi, Term, same_name};
+use name_index::NameIndex;
+use std::alloc::{AllocError, Global};
+
+/// The names of blocks.
+pub(crate) fn labels_of(alloc: Global, blocks: &[Block]) -> Result<NameIndex, AllocError>
+    ensures { IfOk result (λ labels. labels ≡ with_names [] (labels_in blocks.now)) }
+{
+    let mut labels = NameIndex::with_room(alloc, blocks.len())?;
+    for block in blocks {
+        add(alloc, &mut labels, &block.name)?;
+    }
+    Ok(labels)
+}
+
+/// Puts the place of a block behind the others.
+fn add_place(labels: &NameIndex, label: &Name, places: &mut Vec<usize>) -> Result<(), AllocError>
+    ensures { OnOk result (places.new.items ≡ places.old.items ++ places_in labels.now (label.now ∷ [])) }
+{
+    if let Some(place) = labels.position(label) {
+        places.push(place)?;
+    }
+    Ok(())
+}
+
+fn add_cases(labels: &NameIndex, cases: &[Case], places: &mut Vec<usize>) -> Result<(), AllocError>
+    ensures { OnOk result
+        (places.new.items ≡ places.old.items ++ places_in labels.now (map (λ (c : Case). c.label) cases.now)) }
+{
+    for case in cases {
+        add_place(labels, &case.label, places)?;
+    }
+    Ok(())
+}
+
+/// The places of the blocks to which a terminator leads.
+fn places_of(alloc: Global, labels: &NameIndex, term: &Term) -> Result<Vec<usize>, AllocError>
+    ensures { IfOk result (λ places. places.items ≡ places_in labels.now (successors_of term.now)) }
+{
+    let mut places = Vec::new(alloc);
+    match term {
+        Term::Br(label) => add_place(labels, label, &mut places)?,
+        Term::CondBr(branch) => {
+            add_place(labels, &branch.on_true, &mut places)?;
+            add_place(labels, &branch.on_false, &mut places)?;
+        }
+        Term::Switch(switch) => {
+            add_place(labels, &switch.default, &mut places)?;
+            add_cases(labels, switch.cases.as_slice(), &mut places)?;
+        }
+        Term::Ret(_) | Term::RetVoid | Term::Unreachable => {}
+    }
+    Ok(places)
+}
+
+/// The graph of blocks of these names.
+pub(crate) fn graph_of(
+    alloc: Global,
+    blocks: &[Block],
+    labels: &NameIndex,
+) -> Result<Graph, AllocError>
+    requires { labels.now ≡ labels_in blocks.now }
+    ensures { IfOk result (λ graph. graph ≡ graph_in labels.now blocks.now) }
+{
+    let mut successors = Vec::new(alloc);
+    for block in blocks {
+        successors.push(places_of(alloc, labels, &block.term)?)?;
+    }
+    Ok(Graph::new(successors))
+}
+
+fn phis_define(phis: &[Phi], name: &Name) -> bool
+    ensures { result ≡ is_among name.now (names_in (phi_registers phis.now)) }
+{
+    for phi in phis {
+        if same_name(name, &phi.name) {
+            return true;
+        }
+    }
+    false
+}
+
+fn lines_define(lines: &[Instr], name: &Name) -> bool
+    ensures { result ≡ is_among name.now (names_in (set_by lines.now)) }
+{
+    for line in lines {
+        let Instr::Calm(calm) = line;
+        if same_name(name, &calm.name) {
+            return true;
+        }
+    }
+    false
+}
+
+fn defines(block: &Block, name: &Name) -> bool
+    ensures { result ≡ defines name.now block.now }
+{
+    phis_define(block.phis.as_slice(), name) || lines_define(block.body.as_slice(), name)
+}
+
+/// Which blocks define a register.
+pub(crate) fn closed_for(
+    alloc: Global,
+    blocks: &[Block],
+    name: &Name,
+) -> Result<Vec<bool>, AllocError>
+    ensures { IfOk result (λ marks. marks.items ≡ closed_for name.now blocks.now) }
+{
+    let mut marks = Vec::new(alloc);
+    for block in blocks {
+        marks.push(defines(block, name))?;
+    }
+    Ok(marks)
+}

@@ -1,0 +1,103 @@
+-- Facts that are between no two operands lead from none to another.
+use Rattle.std.proofs.Common.{◌≡◌, ◌∙◌, Bool, true, false, ◌&&◌, ◌||◌, cond, not, filter, List, [], ◌∷◌, ◌++◌, refl, sym, ap}
+use Rattle.std.proofs.lemmas.Bool.{false≢true}
+use Rattle.std.proofs.lemmas.List.Folds.{list_any-append}
+use Rattle.std.specs.List.{list_any}
+use Rattle.ir_core.specs.declared.operands.Operand.{Operand}
+use Rattle.ir_core.specs.declared.expressions.Reg.{Reg}
+use Rattle.ir_core.specs.declared.expressions.Expr.TheVariants.{Plain, Binary, Icmp, Cast, Select}
+use Rattle.ir_core.specs.Same.{same_expr, same_reg}
+use Rattle.erhl_assert.specs.declared.facts.Fact.{Fact}
+use Rattle.erhl_assert.specs.declared.facts.Fact.TheVariants.{LessDef}
+use Rattle.erhl_assert.specs.declared.fact_set.Kill.{Kill}
+use Rattle.erhl_assert.specs.declared.fact_set.Kill.TheVariants.{Naming}
+use Rattle.erhl_assert.specs.Facts.{fact_names, has_fact, with_fact, killed}
+use Rattle.erhl_assert.specs.Matched.{from_fact, into_fact}
+use Rattle.erhl_sides.specs.Joining.{joins, IsTold}
+
+and_false : (b : Bool) → (b && false) ≡ false
+and_false true = refl
+and_false false = refl
+
+neither : (a b : Bool) → (a || b) ≡ false → (a ≡ false) × (b ≡ false)
+neither true b h = absurd (false≢true (sym h))
+neither false b h = (refl, h)
+
+both_false : (a b : Bool) → a ≡ false → b ≡ false → (a || b) ≡ false
+both_false true b h k = absurd (false≢true (sym h))
+both_false false b h k = k
+
+into_none : (p : Operand Reg → Bool) (b : Operand Reg) (f : Fact) → joins f ≡ false → into_fact p b f ≡ false
+into_none p b (LessDef (Plain o) (Plain q)) h = absurd (false≢true (sym h))
+into_none p b (LessDef (Binary e) (Plain q)) h = and_false (same_expr same_reg (Plain q) (Plain b))
+into_none p b (LessDef (Icmp e) (Plain q)) h = and_false (same_expr same_reg (Plain q) (Plain b))
+into_none p b (LessDef (Cast e) (Plain q)) h = and_false (same_expr same_reg (Plain q) (Plain b))
+into_none p b (LessDef (Select e) (Plain q)) h = and_false (same_expr same_reg (Plain q) (Plain b))
+into_none p b (LessDef x (Binary e)) h = refl
+into_none p b (LessDef x (Icmp e)) h = refl
+into_none p b (LessDef x (Cast e)) h = refl
+into_none p b (LessDef x (Select e)) h = refl
+
+from_none : (p : Operand Reg → Bool) (a : Operand Reg) (f : Fact) → joins f ≡ false → from_fact p a f ≡ false
+from_none p a (LessDef (Plain o) (Plain q)) h = absurd (false≢true (sym h))
+from_none p a (LessDef (Plain o) (Binary e)) h = and_false (same_expr same_reg (Plain o) (Plain a))
+from_none p a (LessDef (Plain o) (Icmp e)) h = and_false (same_expr same_reg (Plain o) (Plain a))
+from_none p a (LessDef (Plain o) (Cast e)) h = and_false (same_expr same_reg (Plain o) (Plain a))
+from_none p a (LessDef (Plain o) (Select e)) h = and_false (same_expr same_reg (Plain o) (Plain a))
+from_none p a (LessDef (Binary e) y) h = refl
+from_none p a (LessDef (Icmp e) y) h = refl
+from_none p a (LessDef (Cast e) y) h = refl
+from_none p a (LessDef (Select e) y) h = refl
+
+any_none : (p : Fact → Bool) → ((f : Fact) → joins f ≡ false → p f ≡ false) → (fs : List Fact) → list_any joins fs ≡ false → list_any p fs ≡ false
+any_none p none [] h = refl
+any_none p none (f ∷ fs) h =
+    let two = neither (joins f) (list_any joins fs) h in
+    both_false (p f) (list_any p fs) (none f two.0) (any_none p none fs two.1)
+
+pub none_leads_into : (p : Operand Reg → Bool) (b : Operand Reg) (fs : List Fact) → list_any joins fs ≡ false → list_any (into_fact p b) fs ≡ false
+none_leads_into p b fs h = any_none (into_fact p b) (into_none p b) fs h
+
+pub none_leads_from : (p : Operand Reg → Bool) (a : Operand Reg) (fs : List Fact) → list_any joins fs ≡ false → list_any (from_fact p a) fs ≡ false
+none_leads_from p a fs h = any_none (from_fact p a) (from_none p a) fs h
+
+-- ---- what is told of a set
+pub none_told : (may : Bool) (fs : List Fact) → fs ≡ [] → IsTold may fs
+unfolding IsTold
+none_told may fs none h = ap (list_any joins) none
+
+pub told : (may : Bool) (fs : List Fact) → IsTold may fs → may ≡ false → list_any joins fs ≡ false
+unfolding IsTold
+told may fs is h = is h
+
+pub all_told : (may : Bool) (fs : List Fact) → may ≡ true → IsTold may fs
+unfolding IsTold
+all_told may fs all h = absurd (false≢true (sym h ∙ all))
+
+added : (f : Fact) (fs : List Fact) → list_any joins fs ≡ false → joins f ≡ false → list_any joins (with_fact f fs) ≡ false
+added f fs h k = elim (has_fact f fs) as (λ b. list_any joins (cond b fs (fs ++ f ∷ [])) ≡ false) [
+  | true ↦ h
+  | false ↦ list_any-append joins fs (f ∷ []) ∙ both_false (list_any joins fs) (joins f || false) h (both_false (joins f) false k refl)
+]
+
+pub one_told : (may before : Bool) (f : Fact) (fs gs : List Fact) → IsTold before fs → may ≡ (before || joins f) → gs ≡ with_fact f fs → IsTold may gs
+unfolding IsTold
+one_told may before f fs gs is e e' h =
+    let two = neither before (joins f) (sym e ∙ h) in
+    ap (list_any joins) e' ∙ added f fs (is two.0) two.1
+
+filtered : (q : Fact → Bool) (fs : List Fact) → list_any joins fs ≡ false → list_any joins (filter q fs) ≡ false
+filtered q [] h = refl
+filtered q (f ∷ fs) h =
+    let two = neither (joins f) (list_any joins fs) h in
+    elim (q f) as (λ b. list_any joins (cond b (f ∷ filter q fs) (filter q fs)) ≡ false) [
+      | true ↦ both_false (joins f) (list_any joins (filter q fs)) two.0 (filtered q fs two.1)
+      | false ↦ filtered q fs two.1
+    ]
+
+killed_none : (k : Kill) (fs : List Fact) → list_any joins fs ≡ false → list_any joins (killed k fs) ≡ false
+killed_none (Naming r) fs h = filtered (λ f. not (fact_names r f)) fs h
+
+pub left_told : (may : Bool) (k : Kill) (fs gs : List Fact) → IsTold may fs → gs ≡ killed k fs → IsTold may gs
+unfolding IsTold
+left_told may k fs gs is e h = ap (list_any joins) e ∙ killed_none k fs (is h)

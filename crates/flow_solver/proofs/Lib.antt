@@ -1,0 +1,4 @@
+pub mod Order
+pub mod Searching
+pub mod Found
+pub mod Examples

@@ -1,0 +1,8 @@
+use Rattle.flow_solver.proofs.Examples.{nodes_of_loops, ways_part}
+use Rattle.flow_solver.proofs.laws.examples_of_ways.Goals as goal
+
+pub returns-clause-reached : goal.returns-clause-reached
+returns-clause-reached c = nodes_of_loops
+
+pub returns-clause-first : goal.returns-clause-first
+returns-clause-first c = ways_part

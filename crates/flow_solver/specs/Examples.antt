@@ -1,0 +1,21 @@
+-- Two graphs: one with a loop at a node, two nodes that enter each other, and a node that nothing enters; and one with two ways to a node.
+use Rattle.std.specs.Prelude.{ℕ, true, false, List, [], ◌∷◌}
+use Rattle.flow_solver.specs.Ways.{IsFirstWay, IsReached, Leads}
+
+-- 0 to 1 and 2, 1 to 2, 2 to 1 and 2, 3 to 0
+abbrev pub looping : List (List ℕ)
+looping = (1 ∷ 2 ∷ []) ∷ (2 ∷ []) ∷ (1 ∷ 2 ∷ []) ∷ (0 ∷ []) ∷ []
+
+-- 0 to 1 and 2, both to 3
+abbrev pub parting : List (List ℕ)
+parting = (1 ∷ 2 ∷ []) ∷ (3 ∷ []) ∷ (3 ∷ []) ∷ [] ∷ []
+
+-- what leads to a reached node isn't reached by that
+abbrev pub NodesOfLoops : Type 0
+NodesOfLoops = IsReached looping 0 × IsReached looping 1 × IsReached looping 2 × (IsReached looping 3 → ⊥)
+
+-- It is by 1, and where that is closed by 2. A node that is closed is come to, and one behind closed nodes isn't.
+abbrev pub WaysPart : Type 0
+WaysPart =
+    IsFirstWay parting [] 3 (0 ∷ 0 ∷ []) × IsFirstWay parting (false ∷ true ∷ []) 3 (1 ∷ 0 ∷ []) × IsFirstWay parting (false ∷ true ∷ []) 1 (0 ∷ [])
+    × ((turns : List ℕ) → Leads parting (true ∷ []) 0 turns 3 → ⊥)

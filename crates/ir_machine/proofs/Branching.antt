@@ -1,0 +1,104 @@
+-- What the code does of a branch is what its tree answers.
+use Rattle.std.proofs.Common.{◌≡◌, ℕ, List, [], ◌∷◌, Option, None, Some, Result, Ok, Err, refl, sym, ap, ◌∙◌, subst}
+use Rattle.std.specs.Prelude.{IsErr, IsErrAnd}
+use Rattle.ir_core.specs.declared.functions.Block.{Block}
+use Rattle.ir_core.specs.declared.functions.CondBr.{CondBr as CondBrLine}
+use Rattle.ir_core.specs.declared.functions.Function.{Function}
+use Rattle.ir_core.specs.declared.functions.Switch.{Switch as SwitchLine}
+use Rattle.ir_core.specs.declared.functions.Term.{Term}
+use Rattle.ir_core.specs.declared.functions.Term.TheVariants.{CondBr, Switch}
+use Rattle.ir_core.specs.declared.names.Name.{Name}
+use Rattle.ir_core.specs.declared.values.Value.{Value}
+use Rattle.ir_core.specs.declared.values.Value.TheVariants as value
+use Rattle.ir_core.specs.Functions.{successors_of}
+use Rattle.ir_machine.specs.declared.items.Choice.{Choice}
+use Rattle.ir_machine.specs.declared.items.Item.{Item}
+use Rattle.ir_machine.specs.declared.items.Item.TheVariants.{Turn, Wrong}
+use Rattle.ir_machine.specs.declared.machine.StepEnd.{StepEnd}
+use Rattle.ir_machine.specs.declared.machine.StepEnd.TheVariants as end
+use Rattle.ir_machine.specs.declared.machine.Stepped.{Stepped}
+use Rattle.ir_machine.specs.Choices.{Did, Lacks, answer, TakesAsked}
+use Rattle.ir_machine.specs.Machine.{Asks, Does, Ask, at_block, block_named, branch, case_of, entering, gone, is_label, jump, landed, side_of, term_step, with_phis}
+use Rattle.ir_machine.specs.Places.{progress_of}
+use Rattle.ir_machine.specs.Registers.{Registers, operand_value, read}
+use Rattle.ir_machine.specs.State.{Frame, no_world, State, Running, Over}
+use Rattle.ir_machine.specs.Stepping.{Answers}
+use Rattle.ir_machine.proofs.Telling.{did_takes_asked, lacks_takes_asked}
+
+-- ---- a jump asks for nothing
+
+abbrev pub JustDoes : Asks → Type 0
+JustDoes tree = (items : List Item) × (after : State) × (tree ≡ Does items after)
+
+landed_does : (f : Function) (b : Block) (entered : Option Registers) → JustDoes (landed f b [] no_world entered)
+landed_does f b (Some registers) = (Turn ∷ [], Running (at_block f b registers) [] no_world, refl)
+landed_does f b None = (Wrong ∷ [], Over, refl)
+
+entering_does : (frame : Frame) (o : Option Block) → JustDoes (entering frame [] no_world o)
+entering_does frame (Some b) = landed_does frame.function b (with_phis frame.registers frame.block b.phis frame.registers)
+entering_does frame None = (Wrong ∷ [], Over, refl)
+
+jump_does : (frame : Frame) (to : Name) → JustDoes (jump frame [] no_world to)
+jump_does frame to = entering_does frame (block_named to frame.function.blocks)
+
+-- ---- a label is told, or none
+
+module _ (frame : Frame) (v : Value) (label : ℕ → Name) (labels : List Name) (before after : List Choice) (undef : v ≡ value.Undef) where
+  abbrev branching : Asks
+  branching = branch v label labels (jump frame [] no_world)
+
+  abbrev asking : Asks
+  asking = Ask (is_label labels) (λ c. gone c (jump frame [] no_world))
+
+  asks_so : branching ≡ asking
+  asks_so = rw undef refl
+
+  told_takes : (x : Name) → answer asking before ≡ answer (jump frame [] no_world x) after → TakesAsked branching before after
+  told_takes x told =
+      let does : JustDoes (jump frame [] no_world x) = jump_does frame x in
+      let did : answer branching before ≡ Did does.0 does.1 after = ap (λ (tree : Asks). answer tree before) asks_so ∙ told ∙ ap (λ (tree : Asks). answer tree after) does.2 in
+      did_takes_asked branching before after does.0 does.1 did
+
+  pub told_made : (x : Name) (stepped : Stepped) (state : State) → answer asking before ≡ answer (jump frame [] no_world x) after
+      → jump frame [] no_world x ≡ Does stepped.items state → stepped.progress ≡ progress_of stepped.items state → Answers branching before after state (Ok stepped)
+  told_made x stepped state told made progress = record {
+    made = ap (λ (tree : Asks). answer tree before) asks_so ∙ told ∙ ap (λ (tree : Asks). answer tree after) made;
+    progress = progress;
+    no_choice = λ e. cc;
+    told = told_takes x told;
+  }
+
+  pub told_fails : (x : Name) (r : Result Stepped StepEnd) (state : State) → answer asking before ≡ answer (jump frame [] no_world x) after → r ≡ Err end.Memory → Answers branching before after state r
+  told_fails x r state told fails = subst (λ (r : Result Stepped StepEnd). Answers branching before after state r) (sym fails) (record {
+    made = tt;
+    progress = tt;
+    no_choice = λ e. absurd (cc);
+    told = told_takes x told;
+  })
+
+  pub untold_fails : (state : State) → answer asking before ≡ Lacks after → Answers branching before after state (Err end.NoChoice)
+  untold_fails state lacks =
+      let all : answer branching before ≡ Lacks after = ap (λ (tree : Asks). answer tree before) asks_so ∙ lacks in
+      record { made = tt; progress = tt; no_choice = λ e. all; told = lacks_takes_asked branching before after all }
+
+-- ---- the terminators
+
+pub condition_answers : (t : Term) (c : CondBrLine) (frame : Frame) (v : Value) (before after : List Choice) (state : State) (r : Result Stepped StepEnd)
+    → t ≡ CondBr c → v ≡ operand_value (read frame.registers) c.condition
+    → Answers (branch v (side_of c.on_true c.on_false) (successors_of t) (jump frame [] no_world)) before after state r → Answers (term_step t frame [] no_world) before after state r
+condition_answers t c frame v before after state r is worth h =
+    subst (λ (t : Term). Answers (term_step t frame [] no_world) before after state r) (sym is)
+    (subst (λ (v : Value). Answers (branch v (side_of c.on_true c.on_false) (successors_of (CondBr c)) (jump frame [] no_world)) before after state r) worth
+    (subst (λ (t : Term). Answers (branch v (side_of c.on_true c.on_false) (successors_of t) (jump frame [] no_world)) before after state r) is h))
+
+pub switch_answers : (t : Term) (s : SwitchLine) (frame : Frame) (v : Value) (before after : List Choice) (state : State) (r : Result Stepped StepEnd)
+    → t ≡ Switch s → v ≡ operand_value (read frame.registers) s.value
+    → Answers (branch v (case_of s.value.ty s.default s.cases) (successors_of t) (jump frame [] no_world)) before after state r → Answers (term_step t frame [] no_world) before after state r
+switch_answers t s frame v before after state r is worth h =
+    subst (λ (t : Term). Answers (term_step t frame [] no_world) before after state r) (sym is)
+    (subst (λ (v : Value). Answers (branch v (case_of s.value.ty s.default s.cases) (successors_of (Switch s)) (jump frame [] no_world)) before after state r) worth
+    (subst (λ (t : Term). Answers (branch v (case_of s.value.ty s.default s.cases) (successors_of t) (jump frame [] no_world)) before after state r) is h))
+
+pub no_memory : (r : Result Stepped StepEnd) → IsErr r → IsErrAnd r (λ e. e ≡ end.Memory) → r ≡ Err end.Memory
+no_memory (Ok x) h is = absurd (cc)
+no_memory (Err e) h is = ap Err is

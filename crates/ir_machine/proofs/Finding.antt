@@ -1,0 +1,244 @@
+-- In a module with shape labels and the entries of phis are found, in each state that a run comes to.
+use Rattle.std.proofs.Common.{◌≡◌, ℕ, zero, suc, Bool, true, false, List, [], ◌∷◌, map, Option, None, Some, refl, sym, ap, ◌∙◌, subst, arith}
+use Rattle.std.specs.Prelude.{find, option_and_then, option_map}
+use Rattle.std.specs.List.{AllByRecursion, Contains, filter, flat_map}
+use Rattle.std.proofs.lemmas.List.Elements.{Contains-append_left, Contains-append_right}
+use Rattle.std.proofs.lemmas.List.Sorted.{Contains-permutation}
+use Rattle.ir_core.specs.declared.functions.Block.{Block}
+use Rattle.ir_core.specs.declared.functions.Entry.{Entry}
+use Rattle.ir_core.specs.declared.functions.Function.{Function}
+use Rattle.ir_core.specs.declared.functions.Instr.{Instr}
+use Rattle.ir_core.specs.declared.functions.Instr.TheVariants as line
+use Rattle.ir_core.specs.declared.functions.Module.{Module}
+use Rattle.ir_core.specs.declared.functions.Phi.{Phi}
+use Rattle.ir_core.specs.declared.functions.Term.{Term}
+use Rattle.ir_core.specs.declared.functions.Term.TheVariants.{Ret, RetVoid, Br, CondBr, Switch, Unreachable}
+use Rattle.ir_core.specs.declared.names.Name.{Name}
+use Rattle.ir_core.specs.declared.values.Kind.{Kind}
+use Rattle.ir_core.specs.declared.values.Value.{Value}
+use Rattle.ir_core.specs.Expressions.{type_of}
+use Rattle.ir_core.specs.Functions.{edges_into, successors_of}
+use Rattle.ir_core.specs.Same.{same_name}
+use Rattle.ir_core.specs.Types.{kind_of}
+use Rattle.ir_core.specs.WellFormed.{FitsEdges, HasBlockShape, HasFunctionShape, HasShape}
+use Rattle.ir_core.proofs.SameLaws.{same_name_refl, same_name_true}
+use Rattle.ir_machine.specs.declared.items.Input.{Input}
+use Rattle.ir_machine.specs.declared.items.Item.{Item}
+use Rattle.ir_machine.specs.Laws.{Leads}
+use Rattle.ir_machine.specs.Machine.{asks, at_block, at_entry, entered, entry_from, frame_step, function_named, jump, phi_value, return_step, return_void, started, term_step, with_phis}
+use Rattle.ir_machine.specs.Reached.{FindsItsLabels, IsFound, NothingIsLost}
+use Rattle.ir_machine.specs.Registers.{Registers, atom_value, no_registers, operand_value, outcome, read, set}
+use Rattle.ir_machine.specs.State.{Frame, Pending, World, State, Running, Over}
+use Rattle.ir_machine.proofs.Trees.{AllDo, all_do_branch, all_do_jump, all_do_made, all_do_set_to, all_do_show}
+
+-- ---- lists
+
+pub all_at : {A : Type 0} (P : A → Type 0) (xs : List A) (x : A) → AllByRecursion P xs → Contains xs x → P x
+all_at P [] x all there = absurd (omega (arith, there.1))
+all_at P (y ∷ ys) x all (zero, inside, is) = subst P is all.0
+all_at P (y ∷ ys) x all (suc k, inside, is) = all_at P ys x all.1 (k, omega (arith, inside), is)
+
+is_in_map : {A B : Type 0} (f : A → B) (xs : List A) (x : A) → Contains xs x → Contains (map f xs) (f x)
+is_in_map f [] x there = absurd (omega (arith, there.1))
+is_in_map f (y ∷ ys) x (zero, inside, is) = (zero, omega arith, ap f is)
+is_in_map f (y ∷ ys) x (suc k, inside, is) =
+    let more = is_in_map f ys x (k, omega (arith, inside), is) in
+    (suc more.0, omega (arith, more.1), more.2)
+
+passes_filter : {A : Type 0} (test : A → Bool) (y : A) (ys : List A) (x : A) (b : Bool) → test y ≡ b → (b ≡ true → Contains (y ∷ filter test ys) x) → (b ≡ false → Contains (filter test ys) x) → Contains (filter test (y ∷ ys)) x
+passes_filter test y ys x true is first rest = rw is (first refl)
+passes_filter test y ys x false is first rest = rw is (rest refl)
+
+is_in_filter : {A : Type 0} (test : A → Bool) (xs : List A) (x : A) → test x ≡ true → Contains xs x → Contains (filter test xs) x
+is_in_filter test [] x passes there = absurd (omega (arith, there.1))
+is_in_filter test (y ∷ ys) x passes (zero, inside, is) =
+    let same : test y ≡ true = ap test is ∙ passes in
+    passes_filter test y ys x (test y) refl (λ _. (zero, omega arith, is)) (λ fails. let both : true ≡ false = sym same ∙ fails in absurd (cc))
+is_in_filter test (y ∷ ys) x passes (suc k, inside, is) =
+    let more = is_in_filter test ys x passes (k, omega (arith, inside), is) in
+    passes_filter test y ys x (test y) refl (λ _. (suc more.0, omega (arith, more.1), more.2)) (λ _. more)
+
+is_in_flat_map : {A B : Type 0} (f : A → List B) (xs : List A) (x : A) (b : B) → Contains xs x → Contains (f x) b → Contains (flat_map f xs) b
+is_in_flat_map f [] x b there is = absurd (omega (arith, there.1))
+is_in_flat_map f (y ∷ ys) x b (zero, inside, same) is = Contains-append_left (f y) (flat_map f ys) b (subst (λ z. Contains (f z) b) (sym same) is)
+is_in_flat_map f (y ∷ ys) x b (suc k, inside, same) is = Contains-append_right (f y) (flat_map f ys) b (is_in_flat_map f ys x b (k, omega (arith, inside), same) is)
+
+-- what is found by a name
+pub record IsFirst {A : Type 0} (f : A → Name) (xs : List A) (n : Name) : Type 0 where
+  pub first : A
+  pub found : find (λ x. same_name (f x) n) xs ≡ Some first
+  pub named : f first ≡ n
+  pub inside : Contains xs first
+
+finds : {A : Type 0} (f : A → Name) (y : A) (ys : List A) (n : Name) (b : Bool) → same_name (f y) n ≡ b → (b ≡ false → IsFirst f ys n) → IsFirst f (y ∷ ys) n
+finds f y ys n true is rest = record { first = y; found = rw is refl; named = same_name_true (f y) n is; inside = (zero, omega arith, refl) }
+finds f y ys n false is rest =
+    let more = rest refl in
+    record { first = more.first; found = rw is more.found; named = more.named; inside = (suc more.inside.0, omega (arith, more.inside.1), more.inside.2) }
+
+is_found : {A : Type 0} (f : A → Name) (xs : List A) (n : Name) → Contains (map f xs) n → IsFirst f xs n
+is_found f [] n there = absurd (omega (arith, there.1))
+is_found f (y ∷ ys) n (zero, inside, is) =
+    let same : same_name (f y) n ≡ true = subst (λ (m : Name). same_name (f y) m ≡ true) is (same_name_refl (f y)) in
+    finds f y ys n (same_name (f y) n) refl (λ fails. let both : true ≡ false = sym same ∙ fails in absurd (cc))
+is_found f (y ∷ ys) n (suc k, inside, is) = finds f y ys n (same_name (f y) n) refl (λ fails. is_found f ys n (k, omega (arith, inside), is))
+
+-- what is found is there
+finds_inside : {A : Type 0} (test : A → Bool) (y : A) (ys : List A) (x : A) (b : Bool) → test y ≡ b → find test (y ∷ ys) ≡ Some x → (find test ys ≡ Some x → Contains ys x) → Contains (y ∷ ys) x
+finds_inside test y ys x true is found more =
+    let here : Some y ≡ Some x = sym (rw is refl) ∙ found in
+    let same : y ≡ x = cc in
+    (zero, omega arith, same)
+finds_inside test y ys x false is found more =
+    let later : find test ys ≡ Some x = rw is at found in
+    let rest = more later in
+    (suc rest.0, omega (arith, rest.1), rest.2)
+
+pub found_inside : {A : Type 0} (test : A → Bool) (xs : List A) (x : A) → find test xs ≡ Some x → Contains xs x
+found_inside test [] x found = absurd (cc)
+found_inside test (y ∷ ys) x found = finds_inside test y ys x (test y) refl found (found_inside test ys x)
+
+-- ---- phis
+
+of_entry : (old : Registers) (p : Phi) (o : Option Entry) (e : Entry) → o ≡ Some e
+    → (v : Value) × (option_map (λ (e : Entry). atom_value (read old) (kind_of p.ty) e.value) o ≡ Some v)
+of_entry old p o e is = (atom_value (read old) (kind_of p.ty) e.value, rw is refl)
+
+abbrev SetsAll : Registers → Name → List Phi → Type 0
+SetsAll old from ps = (registers : Registers) → (after : Registers) × (with_phis old from ps registers ≡ Some after)
+
+set_first : (old : Registers) (from : Name) (p : Phi) (ps : List Phi) (v : Value) → phi_value old from p ≡ Some v → SetsAll old from ps → SetsAll old from (p ∷ ps)
+set_first old from p ps v is rest registers =
+    let more = rest (set registers p.name (kind_of p.ty) v) in
+    (more.0, ap (λ (o : Option Value). option_and_then (λ v. with_phis old from ps (set registers p.name (kind_of p.ty) v)) o) is ∙ more.1)
+
+set_all : (old : Registers) (f : Function) (b : Block) (from : Name) (ps : List Phi) → Contains (edges_into f b.name) from → AllByRecursion (FitsEdges f b) ps → SetsAll old from ps
+set_all old f b from [] enters fit = λ registers. (registers, refl)
+set_all old f b from (p ∷ ps) enters fit =
+    let there = Contains-permutation (edges_into f b.name) (map (λ (e : Entry). e.from) p.entries) from fit.0.edges enters in
+    let entry = is_found (λ (e : Entry). e.from) p.entries from there in
+    let value = of_entry old p (entry_from from p.entries) entry.first entry.found in
+    set_first old from p ps value.0 value.1 (set_all old f b from ps enters fit.1)
+
+-- ---- where frames stand
+
+-- at a place of a block of a function of the module
+pub record StandsIn (m : Module) (f : Function) (name : Name) (t : Term) : Type 0 where
+  pub function : Contains m.functions f
+  pub block : Block
+  pub inside : Contains f.blocks block
+  pub name_is : name ≡ block.name
+  pub term_is : t ≡ block.term
+
+abbrev FrameStands : Module → Frame → Type 0
+FrameStands m frame = StandsIn m frame.function frame.block frame.term
+
+abbrev AllStand : Module → List Pending → Type 0
+AllStand m [] = Unit {0}
+AllStand m (p ∷ ps) = FrameStands m p.frame × AllStand m ps
+
+abbrev Stands : Module → State → Type 0
+Stands m (Running frame rest world) = FrameStands m frame × AllStand m rest
+Stands m Over = Unit {0}
+
+abbrev LeadsThere : Module → List Item → State → Type 0
+LeadsThere m items after = Stands m after
+
+return_stands : (m : Module) (k : Option Kind) (v : Value) (rest : List Pending) (world : World) → AllStand m rest → AllDo (LeadsThere m) (return_step k v rest world)
+return_stands m k v [] world h = all_do_show (LeadsThere m) k v world _ _ tt (λ s after. tt)
+return_stands m k v (p ∷ ps) world h = h
+
+void_stands : (m : Module) (rest : List Pending) (world : World) → AllStand m rest → AllDo (LeadsThere m) (return_void rest world)
+void_stands m [] world h = tt
+void_stands m (p ∷ ps) world h = h
+
+jump_stands : (m : Module) (frame : Frame) (rest : List Pending) (world : World) → FrameStands m frame → AllStand m rest → (to : Name) → AllDo (LeadsThere m) (jump frame rest world to)
+jump_stands m frame rest world h w to = all_do_jump (LeadsThere m) frame rest world to tt
+    (λ b registers named is. (
+      record { function = h.function; block = b; inside = found_inside (λ (b : Block). same_name b.name to) frame.function.blocks b named; name_is = refl; term_is = refl },
+      w,
+    ))
+
+term_stands : (m : Module) (t : Term) (frame : Frame) (rest : List Pending) (world : World) → FrameStands m frame → AllStand m rest → AllDo (LeadsThere m) (term_step t frame rest world)
+term_stands m (Ret o) frame rest world h w = return_stands m (kind_of o.ty) (operand_value (read frame.registers) o) rest world w
+term_stands m RetVoid frame rest world h w = void_stands m rest world w
+term_stands m (Br label) frame rest world h w = jump_stands m frame rest world h w label
+term_stands m (CondBr c) frame rest world h w = all_do_branch (LeadsThere m) (operand_value (read frame.registers) c.condition) _ _ (jump frame rest world) tt (jump_stands m frame rest world h w)
+term_stands m (Switch s) frame rest world h w = all_do_branch (LeadsThere m) (operand_value (read frame.registers) s.value) _ _ (jump frame rest world) tt (jump_stands m frame rest world h w)
+term_stands m Unreachable frame rest world h w = tt
+
+frame_stands : (m : Module) (lines : List Instr) (frame : Frame) (rest : List Pending) (world : World) → FrameStands m frame → AllStand m rest → AllDo (LeadsThere m) (frame_step lines frame rest world)
+frame_stands m (line.Calm l ∷ left) frame rest world h w =
+    all_do_set_to (LeadsThere m) (kind_of (type_of l.right)) l.name (outcome (read frame.registers) l.right) (record frame { lines = left }) rest world (λ v e. (h, w)) tt
+frame_stands m [] frame rest world h w = term_stands m frame.term frame rest world h w
+
+step_stands : (m : Module) (s : State) → Stands m s → AllDo (LeadsThere m) (asks m s)
+step_stands m (Running frame rest world) h = frame_stands m frame.lines frame rest world h.0 h.1
+step_stands m Over h = tt
+
+run_stands : (m : Module) (n : ℕ) (s : State) (items : List Item) (t : State) → Stands m s → Leads m n s items t → Stands m t
+run_stands m zero s items t h leads = subst (Stands m) (sym leads.1) h
+run_stands m (suc n) s items t h leads =
+    run_stands m n leads.0.after leads.1 t (all_do_made (LeadsThere m) (asks m s) leads.0 (step_stands m s h) leads.2) leads.4
+
+-- ---- the start
+
+entry_stands : (m : Module) (f : Function) (blocks : List Block) (entering : Option Registers) (s : State) → Contains m.functions f → f.blocks ≡ blocks → at_entry f blocks entering ≡ Some s → Stands m s
+entry_stands m f [] entering s inside are is = absurd (cc)
+entry_stands m f (b ∷ bs) None s inside are is = absurd (cc)
+entry_stands m f (b ∷ bs) (Some registers) s inside are is = stands_so (Running (at_block f b registers) [] _) s (cc) (
+  record { function = inside; block = b; inside = subst (λ (l : List Block). Contains l b) (sym are) (zero, omega arith, refl); name_is = refl; term_is = refl },
+  tt,
+)
+  where
+    stands_so : (r s : State) → r ≡ s → Stands m r → Stands m s
+    stands_so r s e h = subst (Stands m) e h
+
+start_stands : (m : Module) (x : Name) (input : Input) (s : State) (o : Option Function) → function_named x m.functions ≡ o → option_and_then (λ f. started f input) o ≡ Some s → Stands m s
+start_stands m x input s None named is = absurd (cc)
+start_stands m x input s (Some f) named is =
+    entry_stands m f f.blocks (entered f.params input.args no_registers) s (found_inside (λ (f : Function). same_name f.name x) m.functions f named) refl is
+
+-- ---- what is found there
+
+abbrev FoundFrom : Frame → Type 0
+FoundFrom frame = AllByRecursion (IsFound frame) (successors_of frame.term)
+
+finds_label : (frame : Frame) (b : Block) → HasFunctionShape frame.function → Contains frame.function.blocks b → frame.block ≡ b.name → (x : Name) → Contains (successors_of b.term) x
+    → Contains (map (λ (c : Block). c.name) frame.function.blocks) x → IsFound frame x
+finds_label frame b shape inside at x leads known =
+    let found = is_found (λ (c : Block). c.name) frame.function.blocks x known in
+    let c = found.first in
+    let fits : HasBlockShape frame.function c = all_at (HasBlockShape frame.function) frame.function.blocks c shape.each found.inside in
+    let edge : Contains (filter (same_name c.name) (successors_of b.term)) x =
+    is_in_filter (same_name c.name) (successors_of b.term) x (subst (λ (n : Name). same_name n x ≡ true) (sym found.named) (same_name_refl x)) leads in
+    let enters : Contains (edges_into frame.function c.name) b.name =
+    is_in_flat_map (λ (b : Block). map (λ _. b.name) (filter (same_name c.name) (successors_of b.term))) frame.function.blocks b b.name inside
+    (is_in_map (λ (_ : Name). b.name) (filter (same_name c.name) (successors_of b.term)) x edge) in
+    let set = set_all frame.registers frame.function c frame.block c.phis (subst (Contains (edges_into frame.function c.name)) (sym at) enters) fits.phis frame.registers in
+    record { block = c; named = found.found; registers = set.0; phis = set.1 }
+
+finds_each : (frame : Frame) (b : Block) → HasFunctionShape frame.function → Contains frame.function.blocks b → frame.block ≡ b.name → (xs : List Name)
+    → ((x : Name) → Contains xs x → Contains (successors_of b.term) x) → AllByRecursion (Contains (map (λ (c : Block). c.name) frame.function.blocks)) xs → AllByRecursion (IsFound frame) xs
+finds_each frame b shape inside at [] among known = tt
+finds_each frame b shape inside at (x ∷ xs) among known = (
+  finds_label frame b shape inside at x (among x (zero, omega arith, refl)) known.0,
+  finds_each frame b shape inside at xs (λ y there. among y (suc there.0, omega (arith, there.1), there.2)) known.1,
+)
+
+frame_finds : (m : Module) (frame : Frame) → HasShape m → FrameStands m frame → FoundFrom frame
+frame_finds m frame shape stands =
+    let fits : HasFunctionShape frame.function = all_at HasFunctionShape m.functions frame.function shape.functions stands.function in
+    let block : HasBlockShape frame.function stands.block = all_at (HasBlockShape frame.function) frame.function.blocks stands.block fits.each stands.inside in
+    subst (λ (t : Term). AllByRecursion (IsFound frame) (successors_of t)) (sym stands.term_is)
+    (finds_each frame stands.block fits stands.inside stands.name_is (successors_of stands.block.term) (λ x there. there) block.labels)
+
+state_finds : (m : Module) (s : State) → HasShape m → Stands m s → FindsItsLabels s
+state_finds m (Running frame rest world) shape stands = frame_finds m frame shape stands.0
+state_finds m Over shape stands = tt
+
+pub nothing_is_lost : NothingIsLost
+nothing_is_lost m s shape reached =
+    state_finds m s shape
+    (run_stands m reached.steps reached.first reached.items s
+    (start_stands m reached.entry reached.input reached.first (function_named reached.entry m.functions) refl reached.starts) reached.leads)

@@ -1,0 +1,111 @@
+-- Where a jump lands, and which phis are set on the way.
+use Rattle.std.proofs.Common.{◌≡◌, ℕ, ◌<◌, ◌≤◌, ◌+◌, ◌*◌, ◌%◌, ◌^◌, arith, lit<, Bool, true, false, nat_eq, List, ◌∷◌, length, get_or, drop, map, Option, None, Some, refl, sym, ap, ◌∙◌}
+use Rattle.std.specs.Prelude.{find, slice_get, option_and_then}
+use Rattle.std.specs.List.{list_any}
+use Rattle.std.proofs.lemmas.Option.{slice_get-get_or}
+use Rattle.std.proofs.lemmas.Nat.{one_shl}
+use Rattle.std.proofs.Math.Nat.{mod-eq_of_lt, pow-le-pow_right}
+use Rattle.ir_core.specs.declared.functions.Block.{Block}
+use Rattle.ir_core.specs.declared.functions.Case.{Case}
+use Rattle.ir_core.specs.declared.functions.Entry.{Entry}
+use Rattle.ir_core.specs.declared.functions.Phi.{Phi}
+use Rattle.ir_core.specs.declared.names.Name.{Name}
+use Rattle.ir_core.specs.declared.operands.Ty.{Ty}
+use Rattle.ir_core.specs.declared.values.Value.{Value}
+use Rattle.ir_core.specs.Same.{same_name}
+use Rattle.ir_core.specs.Types.{kind_of, number_at}
+use Rattle.ir_machine.specs.Machine.{block_named, case_of, entry_from, phi_value, with_phis}
+use Rattle.ir_machine.specs.Registers.{Registers, atom_value, read, set}
+use Rattle.ir_machine.proofs.Standing.{drop_at}
+
+-- ---- the first that passes a test
+
+find_first : {A : Type 0} (test : A → Bool) (x : A) (xs : List A) → test x ≡ true → find test (x ∷ xs) ≡ Some x
+find_first test x xs is = rw is refl
+
+find_other : {A : Type 0} (test : A → Bool) (x : A) (xs : List A) → test x ≡ false → find test (x ∷ xs) ≡ find test xs
+find_other test x xs is = rw is refl
+
+found_here : {A : Type 0} (test : A → Bool) (xs : List A) (i : ℕ) (x : A) → i < length xs → x ≡ get_or xs i x → test x ≡ true → find test (drop i xs) ≡ Some x
+found_here test xs i x within is passes = ap (find test) (drop_at xs i x within is) ∙ find_first test x (drop (i + 1) xs) passes
+
+found_later : {A : Type 0} (test : A → Bool) (xs : List A) (i : ℕ) (x : A) → i < length xs → x ≡ get_or xs i x → test x ≡ false → find test (drop i xs) ≡ find test (drop (i + 1) xs)
+found_later test xs i x within is fails = ap (find test) (drop_at xs i x within is) ∙ find_other test x (drop (i + 1) xs) fails
+
+pub block_here : (x : Name) (bs : List Block) (i : ℕ) (b : Block) → i < length bs → b ≡ get_or bs i b → same_name b.name x ≡ true → block_named x (drop i bs) ≡ slice_get bs i
+block_here x bs i b within is same = found_here (λ (b : Block). same_name b.name x) bs i b within is same ∙ sym (slice_get-get_or bs i b within ∙ ap Some (sym is))
+
+pub block_later : (x : Name) (bs : List Block) (i : ℕ) (b : Block) → i < length bs → b ≡ get_or bs i b → same_name b.name x ≡ false → block_named x (drop i bs) ≡ block_named x (drop (i + 1) bs)
+block_later x bs i b within is other = found_later (λ (b : Block). same_name b.name x) bs i b within is other
+
+pub entry_here : (x : Name) (es : List Entry) (i : ℕ) (e : Entry) → i < length es → e ≡ get_or es i e → same_name e.from x ≡ true → entry_from x (drop i es) ≡ Some e
+entry_here x es i e within is same = found_here (λ (e : Entry). same_name e.from x) es i e within is same
+
+pub entry_later : (x : Name) (es : List Entry) (i : ℕ) (e : Entry) → i < length es → e ≡ get_or es i e → same_name e.from x ≡ false → entry_from x (drop i es) ≡ entry_from x (drop (i + 1) es)
+entry_later x es i e within is other = found_later (λ (e : Entry). same_name e.from x) es i e within is other
+
+-- ---- phis
+
+pub phi_here : (old : Registers) (from : Name) (p : Phi) (e : Entry) → entry_from from p.entries ≡ Some e → phi_value old from p ≡ Some (atom_value (read old) (kind_of p.ty) e.value)
+phi_here old from p e is = rw is refl
+
+pub phi_nowhere : (old : Registers) (from : Name) (p : Phi) → entry_from from p.entries ≡ None → phi_value old from p ≡ None
+phi_nowhere old from p is = rw is refl
+
+first_phi : (old : Registers) (from : Name) (p : Phi) (ps : List Phi) (registers : Registers) (v : Value) → phi_value old from p ≡ Some v
+    → with_phis old from (p ∷ ps) registers ≡ with_phis old from ps (set registers p.name (kind_of p.ty) v)
+first_phi old from p ps registers v is = ap (λ (o : Option Value). option_and_then (λ v. with_phis old from ps (set registers p.name (kind_of p.ty) v)) o) is
+
+lost_phi : (old : Registers) (from : Name) (p : Phi) (ps : List Phi) (registers : Registers) → phi_value old from p ≡ None → with_phis old from (p ∷ ps) registers ≡ None
+lost_phi old from p ps registers is = ap (λ (o : Option Value). option_and_then (λ v. with_phis old from ps (set registers p.name (kind_of p.ty) v)) o) is
+
+pub next_phi : (old : Registers) (from : Name) (ps : List Phi) (i : ℕ) (p : Phi) (registers : Registers) (v : Value) → i < length ps → p ≡ get_or ps i p → phi_value old from p ≡ Some v
+    → with_phis old from (drop i ps) registers ≡ with_phis old from (drop (i + 1) ps) (set registers p.name (kind_of p.ty) v)
+next_phi old from ps i p registers v within is gives = ap (λ (l : List Phi). with_phis old from l registers) (drop_at ps i p within is) ∙ first_phi old from p (drop (i + 1) ps) registers v gives
+
+pub no_phi : (old : Registers) (from : Name) (ps : List Phi) (i : ℕ) (p : Phi) (registers : Registers) → i < length ps → p ≡ get_or ps i p → phi_value old from p ≡ None
+    → with_phis old from (drop i ps) registers ≡ None
+no_phi old from ps i p registers within is none = ap (λ (l : List Phi). with_phis old from l registers) (drop_at ps i p within is) ∙ lost_phi old from p (drop (i + 1) ps) registers none
+
+-- ---- cases
+
+first_case : (t : Ty) (default : Name) (c : Case) (cs : List Case) (n : ℕ) → nat_eq (number_at t c.number) n ≡ true → case_of t default (c ∷ cs) n ≡ c.label
+first_case t default c cs n is = rw is refl
+
+other_case : (t : Ty) (default : Name) (c : Case) (cs : List Case) (n : ℕ) → nat_eq (number_at t c.number) n ≡ false → case_of t default (c ∷ cs) n ≡ case_of t default cs n
+other_case t default c cs n is = rw is refl
+
+pub case_here : (t : Ty) (default : Name) (cs : List Case) (i : ℕ) (c : Case) (n : ℕ) → i < length cs → c ≡ get_or cs i c → nat_eq (number_at t c.number) n ≡ true
+    → case_of t default (drop i cs) n ≡ c.label
+case_here t default cs i c n within is same = ap (λ (l : List Case). case_of t default l n) (drop_at cs i c within is) ∙ first_case t default c (drop (i + 1) cs) n same
+
+pub case_later : (t : Ty) (default : Name) (cs : List Case) (i : ℕ) (c : Case) (n : ℕ) → i < length cs → c ≡ get_or cs i c → nat_eq (number_at t c.number) n ≡ false
+    → case_of t default (drop i cs) n ≡ case_of t default (drop (i + 1) cs) n
+case_later t default cs i c n within is other = ap (λ (l : List Case). case_of t default l n) (drop_at cs i c within is) ∙ other_case t default c (drop (i + 1) cs) n other
+
+abbrev pub labels_in : List Case → List Name
+labels_in cs = map (λ (c : Case). c.label) cs
+
+first_label : (x : Name) (c : Case) (cs : List Case) → same_name x c.label ≡ true → list_any (same_name x) (labels_in (c ∷ cs)) ≡ true
+first_label x c cs is = rw is refl
+
+other_label : (x : Name) (c : Case) (cs : List Case) → same_name x c.label ≡ false → list_any (same_name x) (labels_in (c ∷ cs)) ≡ list_any (same_name x) (labels_in cs)
+other_label x c cs is = rw is refl
+
+pub label_here : (x : Name) (cs : List Case) (i : ℕ) (c : Case) → i < length cs → c ≡ get_or cs i c → same_name x c.label ≡ true → list_any (same_name x) (labels_in (drop i cs)) ≡ true
+label_here x cs i c within is same = ap (λ (l : List Case). list_any (same_name x) (labels_in l)) (drop_at cs i c within is) ∙ first_label x c (drop (i + 1) cs) same
+
+pub label_later : (x : Name) (cs : List Case) (i : ℕ) (c : Case) → i < length cs → c ≡ get_or cs i c → same_name x c.label ≡ false
+    → list_any (same_name x) (labels_in (drop i cs)) ≡ list_any (same_name x) (labels_in (drop (i + 1) cs))
+label_later x cs i c within is other = ap (λ (l : List Case). list_any (same_name x) (labels_in l)) (drop_at cs i c within is) ∙ other_label x c (drop (i + 1) cs) other
+
+-- ---- numbers at a width
+
+pub one_shifted : (width : ℕ) → width < 64 → (1 * 2 ^ width) % 2 ^ 64 ≡ 2 ^ width
+one_shifted width h = one_shl width 64 h
+
+pub stays : (n width : ℕ) → n < 2 ^ 64 → 64 ≤ width → n % 2 ^ width ≡ n
+stays n width h wide =
+    let more : 2 ^ 64 ≤ 2 ^ width = pow-le-pow_right (lit< tt) wide in
+    let less : n < 2 ^ width = omega arith in
+    mod-eq_of_lt less

@@ -1,0 +1,40 @@
+-- What shape is worth to the runs of a module: no jump is lost.
+use Rattle.std.specs.Prelude.{◌≡◌, ℕ, List, Some}
+use Rattle.std.specs.List.{AllByRecursion}
+use Rattle.ir_core.specs.declared.functions.Block.{Block}
+use Rattle.ir_core.specs.declared.functions.Module.{Module}
+use Rattle.ir_core.specs.declared.names.Name.{Name}
+use Rattle.ir_core.specs.Functions.{successors_of}
+use Rattle.ir_core.specs.WellFormed.{HasShape}
+use Rattle.ir_machine.specs.declared.items.Input.{Input}
+use Rattle.ir_machine.specs.declared.items.Item.{Item}
+use Rattle.ir_machine.specs.Laws.{Leads}
+use Rattle.ir_machine.specs.Machine.{block_named, start, with_phis}
+use Rattle.ir_machine.specs.Registers.{Registers}
+use Rattle.ir_machine.specs.State.{Frame, State, Running, Over}
+
+-- some run of the module comes to the state
+pub record IsReached (m : Module) (s : State) : Type 0 where
+  pub entry : Name
+  pub input : Input
+  pub first : State
+  pub starts : start m entry input ≡ Some first
+  pub steps : ℕ
+  pub items : List Item
+  pub leads : Leads m steps first items s
+
+-- a jump to that label finds its block, and each phi of that block an entry for the one that is left
+pub record IsFound (frame : Frame) (to : Name) : Type 0 where
+  pub block : Block
+  pub named : block_named to frame.function.blocks ≡ Some block
+  pub registers : Registers
+  pub phis : with_phis frame.registers frame.block block.phis frame.registers ≡ Some registers
+
+-- wherever the terminator leads
+abbrev pub FindsItsLabels : State → Type 0
+FindsItsLabels (Running frame rest world) = AllByRecursion (IsFound frame) (successors_of frame.term)
+FindsItsLabels Over = Unit {0}
+
+-- In each state that a run of a module with shape comes to, labels and the entries of phis are found.
+abbrev pub NothingIsLost : Type 0
+NothingIsLost = (m : Module) (s : State) → HasShape m → IsReached m s → FindsItsLabels s
