@@ -3,6 +3,7 @@ pub mod Graphs
 pub mod Ways
 pub mod Thinned
 pub mod Answered
+pub mod Defining
 pub mod Everywhere
 pub mod Judged
 pub mod Reached

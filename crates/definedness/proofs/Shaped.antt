@@ -1,12 +1,12 @@
 -- A function with shape has blocks of different names, and labels that are known.
-use Rattle.std.proofs.Common.{◌≡◌, ◌∙◌, ⊎_elim, List, [], ◌∷◌, ◌++◌, map, refl, sym, subst, append_assoc}
+use Rattle.std.proofs.Common.{⊎_elim, List, [], ◌∷◌, ◌++◌, map, sym, subst, append_assoc}
 use Rattle.std.proofs.lemmas.List.{append-nil}
 use Rattle.std.proofs.lemmas.List.Elements.{Contains-append_left, Contains-push, Contains-push_cases}
 use Rattle.std.specs.List.{AllByRecursion, Contains, flat_map}
 use Rattle.ir_core.specs.declared.functions.Block.{Block}
 use Rattle.ir_core.specs.declared.functions.Function.{Function}
 use Rattle.ir_core.specs.declared.names.Name.{Name}
-use Rattle.ir_core.specs.Functions.{block_names, names_in, names_of, params_of, registers_of, successors_of}
+use Rattle.ir_core.specs.Functions.{block_names, names_in, params_of, registers_of, successors_of}
 use Rattle.ir_core.specs.Order.{AreNew}
 use Rattle.ir_core.specs.WellFormed.{HasBlockShape, HasFunctionShape}
 use Rattle.definedness.specs.Undefined.{AreLabelsKnown}

@@ -2,6 +2,7 @@
 #![tactic(auto)]
 
 mod flow;
+mod homes;
 mod laws;
 mod paths;
 mod uses;

@@ -1,8 +1,8 @@
 -- Paths and ways through two graphs.
-use Rattle.std.proofs.Common.{◌≡◌, ◌⊎◌, inl, inr, ℕ, suc, zero, ◌<◌, true, false, List, [], ◌∷◌, length, get_or, refl, subst, arith}
+use Rattle.std.proofs.Common.{◌≡◌, ◌⊎◌, inl, inr, ℕ, suc, zero, ◌<◌, Bool, true, false, List, [], ◌∷◌, length, get_or, refl, subst, arith}
 use Rattle.std.specs.List.{AllByRecursion, Contains}
-use Rattle.flow_solver.specs.Examples.{NodesOfLoops, WaysPart, looping, parting}
-use Rattle.flow_solver.specs.Ways.{IsBefore, IsPath, IsReached, Leads, last_of, led_to}
+use Rattle.flow_solver.specs.Examples.{NodesOfLoops, NodesPassed, WaysPart, circling, looping, parting}
+use Rattle.flow_solver.specs.Ways.{IsBefore, IsPassed, IsPath, Leads, last_of, led_to}
 
 of_all : (xs : List ℕ) (m k : ℕ) → k < length xs → get_or xs k m ≡ m → AllByRecursion (λ n. n < 3) xs → m < 3
 of_all [] m k within is all = absurd (omega arith)
@@ -67,4 +67,28 @@ ways_part = (
   record { leads = (refl, omega arith, (refl, omega arith, refl)); first = by_right },
   record { leads = (refl, omega arith, refl); first = to_closed },
   from_closed,
+)
+
+first_passed : (g : List (List ℕ)) (n : ℕ) → IsPassed g 0 (suc n)
+first_passed g n closed [] leads = absurd (cc)
+first_passed g n closed (t ∷ turns) leads = leads.0
+
+circle_passed : IsPassed circling 1 2
+circle_passed closed [] leads = absurd (cc)
+circle_passed closed (zero ∷ []) leads = absurd (omega (arith, leads.2))
+circle_passed closed (zero ∷ u ∷ turns) leads = leads.2.0
+circle_passed closed (suc t ∷ turns) leads = absurd (omega (arith, leads.1))
+
+-- where a way leads round it, a node isn't passed
+not_by : (g : List (List ℕ)) (closed : List Bool) (through to : ℕ) (turns : List ℕ) → get_or closed through false ≡ true → Leads g closed 0 turns to → IsPassed g through to → ⊥
+not_by g closed through to turns shut leads passed = let opened : get_or closed through false ≡ false = passed closed turns leads in absurd (cc)
+
+pub nodes_passed : NodesPassed
+nodes_passed = (
+  first_passed parting 2,
+  not_by parting (false ∷ true ∷ []) 1 3 (1 ∷ 0 ∷ []) refl (refl, omega arith, (refl, omega arith, refl)),
+  first_passed looping 1,
+  not_by looping (false ∷ true ∷ []) 1 2 (1 ∷ []) refl (refl, omega arith, refl),
+  not_by looping (false ∷ false ∷ true ∷ []) 2 1 (0 ∷ []) refl (refl, omega arith, refl),
+  circle_passed,
 )

@@ -1,4 +1,5 @@
 pub mod Order
 pub mod Searching
 pub mod Found
+pub mod Above
 pub mod Examples

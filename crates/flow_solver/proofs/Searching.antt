@@ -18,7 +18,7 @@ leads_on g closed n m [] t same passes within =
     (subst (IsOpen closed) (sym same) passes, subst (λ x. t < length (led_to g x)) (sym same) within, ap (λ x. slice_index (led_to g x) t) same)
 leads_on g closed n m (k ∷ ts) t leads passes within = (leads.0, leads.1, leads_on g closed _ m ts t leads.2 passes within)
 
-same_or : (m n : ℕ) → (m ≡ n) ⊎ (m ≡ n → ⊥)
+pub same_or : (m n : ℕ) → (m ≡ n) ⊎ (m ≡ n → ⊥)
 same_or m n = ⊎_elim (λ less. inr (λ e. absurd (omega arith))) (λ ge. ⊎_elim (λ less. inr (λ e. absurd (omega arith))) (λ le. inl (omega arith)) (cases_lt n m)) (cases_lt m n)
 
 sooner_more : (j t at turn : ℕ) → IsSooner j t at turn → IsSooner j t at (turn + 1)

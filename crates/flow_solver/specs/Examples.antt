@@ -1,6 +1,7 @@
--- Two graphs: one with a loop at a node, two nodes that enter each other, and a node that nothing enters; and one with two ways to a node.
+-- Three graphs: one with a loop at a node, two nodes that enter each other, and a node that nothing enters; one with two ways to a node; and
+-- one with a loop on the only way.
 use Rattle.std.specs.Prelude.{ℕ, true, false, List, [], ◌∷◌}
-use Rattle.flow_solver.specs.Ways.{IsFirstWay, IsReached, Leads}
+use Rattle.flow_solver.specs.Ways.{IsFirstWay, IsPassed, IsReached, Leads}
 
 -- 0 to 1 and 2, 1 to 2, 2 to 1 and 2, 3 to 0
 abbrev pub looping : List (List ℕ)
@@ -9,6 +10,10 @@ looping = (1 ∷ 2 ∷ []) ∷ (2 ∷ []) ∷ (1 ∷ 2 ∷ []) ∷ (0 ∷ []) �
 -- 0 to 1 and 2, both to 3
 abbrev pub parting : List (List ℕ)
 parting = (1 ∷ 2 ∷ []) ∷ (3 ∷ []) ∷ (3 ∷ []) ∷ [] ∷ []
+
+-- 0 to 1, 1 to 1 and 2
+abbrev pub circling : List (List ℕ)
+circling = (1 ∷ []) ∷ (1 ∷ 2 ∷ []) ∷ [] ∷ []
 
 -- what leads to a reached node isn't reached by that
 abbrev pub NodesOfLoops : Type 0
@@ -19,3 +24,8 @@ abbrev pub WaysPart : Type 0
 WaysPart =
     IsFirstWay parting [] 3 (0 ∷ 0 ∷ []) × IsFirstWay parting (false ∷ true ∷ []) 3 (1 ∷ 0 ∷ []) × IsFirstWay parting (false ∷ true ∷ []) 1 (0 ∷ [])
     × ((turns : List ℕ) → Leads parting (true ∷ []) 0 turns 3 → ⊥)
+
+-- Where ways part and meet, and where a loop is entered at two nodes, none of these is passed by each; the first node is, and that of a loop.
+abbrev pub NodesPassed : Type 0
+NodesPassed =
+    IsPassed parting 0 3 × (IsPassed parting 1 3 → ⊥) × IsPassed looping 0 2 × (IsPassed looping 1 2 → ⊥) × (IsPassed looping 2 1 → ⊥) × IsPassed circling 1 2

@@ -1,3 +1,4 @@
 pub mod Ways
 pub mod Searched
+pub mod Dominated
 pub mod Examples

@@ -1,11 +1,15 @@
-//! Graphs of flow: which nodes a path reaches from the first one, and the first way to a node.
+//! Graphs of flow: which nodes a path reaches from the first one, the first way to a node, and the nodes that each way to it passes.
 #![tactic(auto)]
 
+mod dominance;
 mod graph;
 mod laws;
 mod reached;
 mod search;
+mod tree;
+mod walk;
 
+pub use dominance::{Dominators, dominators_of};
 pub use graph::Graph;
 pub use laws::examples_of_ways;
 pub use reached::{first_way, reachable};

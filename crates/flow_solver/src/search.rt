@@ -20,7 +20,7 @@ pub(crate) struct Search {
     pub(crate) places: Vec<Option<usize>>,
 }
 
-fn is_open(closed: &[bool], node: usize) -> bool
+pub(crate) fn is_open(closed: &[bool], node: usize) -> bool
     ensures { IsTrue result ↔ IsOpen closed.now node }
 {
     match closed.get(node) {

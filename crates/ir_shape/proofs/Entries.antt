@@ -1,9 +1,9 @@
 -- A phi fits the edges into its block exactly where the test says so.
-use Rattle.std.proofs.Common.{◌≡◌, ◌∙◌, ◌&&◌, ◌||◌, ⊎_elim, ℕ, suc, zero, ◌+◌, ◌<◌, Bool, true, false, cond, not, nat_eq, nat_lt, List, [], ◌∷◌, ◌++◌, length, map, get_or, refl, sym, ap, subst, arith}
-use Rattle.std.proofs.lemmas.Bool.{lt-ltb, ltb-true, or_cases, or_left, or_right}
+use Rattle.std.proofs.Common.{◌≡◌, ◌∙◌, ◌&&◌, ◌||◌, ⊎_elim, ℕ, suc, zero, ◌+◌, ◌<◌, Bool, true, false, cond, not, nat_eq, nat_lt, List, [], ◌∷◌, ◌++◌, length, get_or, refl, sym, ap, subst, arith}
+use Rattle.std.proofs.lemmas.Bool.{lt-ltb, ltb-true, or_cases, or_right}
 use Rattle.std.proofs.lemmas.List.Sorted.{IsPermutation-cons, IsPermutation-refl, IsPermutation-remove, IsPermutation-sym, IsPermutation-trans, sum_by-IsPermutation}
 use Rattle.std.proofs.lemmas.List.Sums.{sum_by-cons}
-use Rattle.std.specs.List.{Contains, count_by, list_all, list_any, remove}
+use Rattle.std.specs.List.{Contains, list_all, list_any, remove}
 use Rattle.std.specs.Prelude.{IsPermutation}
 use Rattle.ir_core.specs.declared.functions.Block.{Block}
 use Rattle.ir_core.specs.declared.functions.Entry.{Entry}
@@ -56,7 +56,7 @@ one_there n (x ∷ xs) e =
 abbrev one_if : Name → Name → ℕ
 one_if n x = cond (same_name n x) 1 0
 
-count_cons : (n x : Name) (xs : List Name) → count_of n (x ∷ xs) ≡ one_if n x + count_of n xs
+pub count_cons : (n x : Name) (xs : List Name) → count_of n (x ∷ xs) ≡ one_if n x + count_of n xs
 count_cons n x xs = sum_by-cons (one_if n) x xs
 
 count_self : (x : Name) (xs : List Name) → count_of x (x ∷ xs) ≡ 1 + count_of x xs
@@ -144,10 +144,10 @@ alike_is d e is = go (same_name d.from e.from) refl
         or_right (not (same_name d.from e.from)) (same_atom same_name d.value e.value)
         (subst (λ (x : Entry). same_atom same_name d.value x.value ≡ true) equal (same_name_atom_refl d.value))
 
-alike_by : (es : List Entry) → are_alike es ≡ true → (d e : Entry) → Contains es d → Contains es e → d.from ≡ e.from → d ≡ e
+pub alike_by : (es : List Entry) → are_alike es ≡ true → (d e : Entry) → Contains es d → Contains es e → d.from ≡ e.from → d ≡ e
 alike_by es all d e there also same = alike_true d e same (each_of (alike_with d) es (each_of (λ (x : Entry). list_all (alike_with x) es) es all d there) e also)
 
-are_alike_is : (es : List Entry) → ((d e : Entry) → Contains es d → Contains es e → d.from ≡ e.from → d ≡ e) → are_alike es ≡ true
+pub are_alike_is : (es : List Entry) → ((d e : Entry) → Contains es d → Contains es e → d.from ≡ e.from → d ≡ e) → are_alike es ≡ true
 are_alike_is es is =
     of_each (λ (d : Entry). list_all (alike_with d) es) es (λ d there. of_each (alike_with d) es (λ e also. alike_is d e (is d e there also)))
 

@@ -1,26 +1,50 @@
 -- The first fault of a list of parts stands in the first part that has one.
-use Rattle.std.proofs.Common.{◌≡◌, ℕ, ◌<◌, suc, zero, List, [], ◌∷◌, ◌++◌, length, drop, get_or, Some, subst, arith}
-use Rattle.std.specs.List.{flat_map}
+use Rattle.std.proofs.Common.{◌≡◌, ◌∙◌, ℕ, ◌+◌, ◌<◌, List, [], ◌∷◌, ◌++◌, length, drop, get_or, Result, Ok, Err, IfOk, IfErr, Some, ap, sym, subst}
+use Rattle.std.proofs.lemmas.List.{drop_more}
+use Rattle.std.specs.List.{AllByRecursion}
+use Rattle.ir_core.specs.declared.functions.Block.{Block}
+use Rattle.ir_core.specs.declared.functions.Function.{Function}
+use Rattle.ir_core.specs.declared.names.Name.{Name}
+use Rattle.name_index.specs.Among.{is_among}
 use Rattle.ir_shape.specs.declared.fault.ShapeEnd.{ShapeEnd}
 use Rattle.ir_shape.specs.declared.fault.ShapeEnd.TheVariants as end
 use Rattle.ir_shape.specs.declared.fault.ShapeFault.{ShapeFault}
-use Rattle.ir_shape.specs.Shape.{IsFirstOf, first_of}
+use Rattle.ir_shape.specs.Shape.{IsEndOf, IsFirstOf, IsShort, Types, first_of, in_block, in_blocks, in_function, in_functions, with_block, with_name}
 
 first_joined : (xs ys : List ShapeFault) (f : ShapeFault) → first_of xs ≡ Some f → first_of (xs ++ ys) ≡ Some f
 first_joined [] ys f e = cc
 first_joined (x ∷ xs) ys f e = e
 
-further : (xs ys : List ShapeFault) (e : ShapeEnd) → IsFirstOf xs e → IsFirstOf (xs ++ ys) e
+pub further : (xs ys : List ShapeFault) (e : ShapeEnd) → IsFirstOf xs e → IsFirstOf (xs ++ ys) e
 further xs ys (end.Fault f) is = first_joined xs ys f is
+further xs ys (end.Limit l) is = absurd is
 further xs ys end.Memory is = tt
 
-from_there : {A : Type 0} (g : A → List ShapeFault) (xs : List A) (k : ℕ) (x : A) → k < length xs → x ≡ get_or xs k x → (e : ShapeEnd) → IsFirstOf (g x) e
-    → IsFirstOf (flat_map g (drop k xs)) e
-from_there g [] k x within at e is = absurd (omega arith)
-from_there g (y ∷ xs) zero x within at e is = further (g y) (flat_map g xs) e (subst (λ z. IsFirstOf (g z) e) at is)
-from_there g (y ∷ xs) (suc k) x within at e is = from_there g xs k x (omega arith) at e is
+-- where the functions before one have none
+pub in_that_function : (names : List Name) (fs : List Function) (k : ℕ) (f : Function) → k < length fs → f ≡ get_or fs k f → in_functions names (drop k fs) ≡ in_functions [] fs
+    → (e : ShapeEnd) → IsFirstOf (in_function (is_among f.name names) f) e → IsFirstOf (in_functions [] fs) e
+in_that_function names fs k f within at same e is =
+    subst (λ faults. IsFirstOf faults e) (sym (ap (in_functions names) (drop_more fs k f within) ∙ ap (λ (g : Function). in_functions names (g ∷ drop (k + 1) fs)) (sym at)) ∙ same)
+    (further (in_function (is_among f.name names) f) (in_functions (with_name names f.name) (drop (k + 1) fs)) e is)
 
--- where those before a part have none
-pub found_there : {A : Type 0} (g : A → List ShapeFault) (xs : List A) (k : ℕ) (x : A) → k < length xs → x ≡ get_or xs k x
-    → flat_map g (drop k xs) ≡ flat_map g xs → (e : ShapeEnd) → IsFirstOf (g x) e → IsFirstOf (flat_map g xs) e
-found_there g xs k x within at same e is = subst (λ faults. IsFirstOf faults e) same (from_there g xs k x within at e is)
+-- where the blocks before one have none
+pub in_that_block : (f : Function) (labels : List Name) (types : Types) (entry : Name) (earlier taken : List Name) (bs : List Block) (k : ℕ) (b : Block) (faults : List ShapeFault) → k < length bs
+    → b ≡ get_or bs k b → in_blocks f labels types entry earlier taken (drop k bs) ≡ faults → (e : ShapeEnd) → IsFirstOf (in_block f labels types entry earlier taken b) e → IsFirstOf faults e
+in_that_block f labels types entry earlier taken bs k b faults within at same e is =
+    let in_these : List Block → List ShapeFault = in_blocks f labels types entry earlier taken in
+    subst (λ faults. IsFirstOf faults e) (sym (ap in_these (drop_more bs k b within) ∙ ap (λ (c : Block). in_these (c ∷ drop (k + 1) bs)) (sym at)) ∙ same)
+    (further (in_block f labels types entry earlier taken b) (in_blocks f labels types entry (with_name earlier b.name) (with_block taken b) (drop (k + 1) bs)) e is)
+
+-- within the limit on lines, the first fault is why
+end_by : (fs : List Function) (faults : List ShapeFault) → AllByRecursion IsShort fs → (e : ShapeEnd) → IsFirstOf faults e → IsEndOf fs faults e
+end_by fs faults short (end.Fault f) is = (short, is)
+end_by fs faults short (end.Limit l) is = absurd is
+end_by fs faults short end.Memory is = tt
+
+pub end_of : {A : Type 0} (fs : List Function) (faults : List ShapeFault) → AllByRecursion IsShort fs → (r : Result A ShapeEnd) → IfErr r (IsFirstOf faults) → IfErr r (IsEndOf fs faults)
+end_of fs faults short (Ok a) is = tt
+end_of fs faults short (Err e) is = end_by fs faults short e is
+
+pub always_ok : {A E : Type 0} (r : Result A E) (P : Type 0) → P → IfOk r (λ _. P)
+always_ok (Ok a) P p = p
+always_ok (Err e) P p = tt

@@ -1,5 +1,11 @@
+pub mod Tests
+pub mod Taken
+pub mod Typed
 pub mod Fits
+pub mod Shapely
 pub mod Found
+pub mod Short
 pub mod Numbers
 pub mod Edges
 pub mod Entries
+pub mod Counted

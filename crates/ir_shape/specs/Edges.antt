@@ -1,5 +1,5 @@
 -- Words of private functions: edges as they are collected, and what is compared of entries.
-use Rattle.std.specs.Prelude.{ℕ, ◌||◌, Bool, not, List, map, nat_eq}
+use Rattle.std.specs.Prelude.{◌||◌, Bool, not, List, map, nat_eq}
 use Rattle.std.specs.Borrow.{Bor}
 use Rattle.std.specs.List.{filter, flat_map}
 use Rattle.ir_core.specs.declared.functions.Block.{Block}

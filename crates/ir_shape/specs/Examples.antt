@@ -9,6 +9,7 @@ use Rattle.ir_core.specs.declared.functions.Function.{Function}
 use Rattle.ir_core.specs.declared.functions.Instr.{Instr}
 use Rattle.ir_core.specs.declared.functions.Instr.TheVariants as line
 use Rattle.ir_core.specs.declared.functions.Module.{Module}
+use Rattle.ir_core.specs.declared.functions.Param.{Param}
 use Rattle.ir_core.specs.declared.functions.Phi.{Phi}
 use Rattle.ir_core.specs.declared.functions.Term.{Term}
 use Rattle.ir_core.specs.declared.functions.Term.TheVariants.{Br, CondBr, Ret, Switch}
@@ -21,10 +22,9 @@ use Rattle.ir_core.specs.declared.operands.Const.TheVariants as constant
 use Rattle.ir_core.specs.declared.operands.Operand.{Operand}
 use Rattle.ir_core.specs.declared.operands.Pred.TheVariants.{Eq}
 use Rattle.ir_core.specs.declared.operands.Ty.{Ty}
-use Rattle.ir_core.specs.declared.operands.Ty.TheVariants.{Int}
+use Rattle.ir_core.specs.declared.operands.Ty.TheVariants.{Int, Void}
 use Rattle.ir_shape.specs.declared.fault.ShapeFault.{ShapeFault}
 use Rattle.ir_shape.specs.declared.fault.ShapeKind.{ShapeKind}
-use Rattle.ir_shape.specs.declared.fault.ShapeKind.TheVariants as kind
 
 abbrev pub f : Name
 f = Text (codes "f")
@@ -38,99 +38,111 @@ y = Text (codes "y")
 abbrev pub debug : Name
 debug = Text (codes "llvm.dbg.x")
 
--- ty %x
-abbrev pub x_of : Ty → Operand Name
-x_of ty = record { ty = ty; atom = Register x }
+-- i1 %1, i8 %8, i32 %32: a parameter of each of these widths, with that name
+abbrev pub params : List Param
+params = record { name = Number 1; ty = Int 1 } ∷ record { name = Number 8; ty = Int 8 } ∷ record { name = Number 32; ty = Int 32 } ∷ []
 
--- %y = right
-abbrev pub setting : Expr Name → Instr
-setting right = line.Calm (record { name = y; right = right })
+-- the parameter of that type; `void %32`
+abbrev pub given : Ty → Operand Name
+given (Int width) = record { ty = Int width; atom = Register (Number width) }
+given Void = record { ty = Void; atom = Register (Number 32) }
 
--- %y = add ty %x, %x
-abbrev pub add : Ty → Instr
-add ty = setting (expr.Binary (record {
+-- %name = right
+abbrev pub setting : ℕ → Expr Name → Instr
+setting name right = line.Calm (record { name = Number name; right = right })
+
+-- %name = add ty, of the parameter of that type and itself
+abbrev pub add : ℕ → Ty → Instr
+add name ty = setting name (expr.Binary (record {
   op = Add;
   flags = record { nuw = false; nsw = false; exact = false };
   ty = ty;
-  left = Register x;
-  right = Register x;
+  left = (given ty).atom;
+  right = (given ty).atom;
 }))
 
--- %y = icmp eq ty %x, %x
-abbrev pub icmp : Ty → Instr
-icmp ty = setting (expr.Icmp (record { pred = Eq; ty = ty; left = Register x; right = Register x }))
+-- %name = icmp eq ty
+abbrev pub icmp : ℕ → Ty → Instr
+icmp name ty = setting name (expr.Icmp (record { pred = Eq; ty = ty; left = (given ty).atom; right = (given ty).atom }))
 
--- %y = op from %x to to
-abbrev pub cast : CastOp → Ty → Ty → Instr
-cast op from to = setting (expr.Cast (record { op = op; operand = x_of from; to = to }))
+-- %name = op operand to to
+abbrev pub cast_of : ℕ → CastOp → Operand Name → Ty → Instr
+cast_of name op operand to = setting name (expr.Cast (record { op = op; operand = operand; to = to }))
 
--- %y = select condition %x, left %x, right %x
-abbrev pub select : Ty → Ty → Ty → Instr
-select condition left right = setting (expr.Select (record { condition = x_of condition; left = x_of left; right = x_of right }))
+abbrev pub cast : ℕ → CastOp → Ty → Ty → Instr
+cast name op from to = cast_of name op (given from) to
 
--- ret i32 %x
+-- %name = select of parameters of these types
+abbrev pub select : ℕ → Ty → Ty → Ty → Instr
+select name condition left right = setting name (expr.Select (record { condition = given condition; left = given left; right = given right }))
+
+-- ret i32 %32
 abbrev pub returning : Term
-returning = Ret (x_of (Int 32))
+returning = Ret (given (Int 32))
 
 -- br label %to
 abbrev pub jumping : Name → Term
 jumping to = Br to
 
--- br ty %x, label %left, label %right
+-- br of the parameter of that type, label %left, label %right
 abbrev pub branching : Ty → Name → Name → Term
-branching ty left right = CondBr (record { condition = x_of ty; on_true = left; on_false = right })
+branching ty left right = CondBr (record { condition = given ty; on_true = left; on_false = right })
 
 -- ty number, label %y
 abbrev pub case : Ty → ℕ → Case
 case ty number = record { ty = ty; number = number; label = y }
 
--- switch over %x, label %y [of first, label %y of second, label %y]
+-- switch over the parameter of that type, label %y [of first, label %y of second, label %y]
 abbrev pub switching : Ty → Ty → ℕ → ℕ → Term
-switching over of first second = Switch (record { value = x_of over; default = y; cases = case of first ∷ case of second ∷ [] })
+switching over of first second = Switch (record { value = given over; default = y; cases = case of first ∷ case of second ∷ [] })
 
 -- [number, %from]
 abbrev pub entry : ℕ → Name → Entry
 entry number from = record { value = Constant (constant.Number number); from = from }
 
--- %x = phi i32 entries
-abbrev pub phi : List Entry → Phi
-phi entries = record { name = x; ty = Int 32; entries = entries }
+-- %name = phi i32 entries
+abbrev pub phi : ℕ → List Entry → Phi
+phi name entries = record { name = Number name; ty = Int 32; entries = entries }
 
--- %x = phi i32 [1, %x], [1, %x]
+-- %101 = phi i32 [1, %x], [1, %x]
 abbrev pub fitting : Phi
-fitting = phi (entry 1 x ∷ entry 1 x ∷ [])
+fitting = phi 101 (entry 1 x ∷ entry 1 x ∷ [])
 
--- 0: phis lines end
-abbrev pub block : List Phi → List Instr → Term → Block
-block phis lines end = record { name = Number 0; phis = phis; body = lines; term = end }
+-- name: phis lines end
+abbrev pub block : Name → List Phi → List Instr → Term → Block
+block name phis lines end = record { name = name; phis = phis; body = lines; term = end }
 
--- define i32 @name(i32 %x) { phis lines end }
+-- y: ret i32 %32
+abbrev pub last : Block
+last = block y [] [] returning
+
+-- define i32 @name(i1 %1, i8 %8, i32 %32) { blocks }
+abbrev pub of_blocks : Name → List Block → Function
+of_blocks name blocks = record { name = name; result = Int 32; params = params; blocks = blocks }
+
+-- the function of that name, of a block %0: phis lines end and the last one
 abbrev pub function : Name → List Phi → List Instr → Term → Function
-function name phis lines end =
-    record { name = name; result = Int 32; params = record { name = x; ty = Int 32 } ∷ []; blocks = block phis lines end ∷ [] }
+function name phis lines end = of_blocks name (block (Number 0) phis lines end ∷ last ∷ [])
 
--- that function of these lines alone, returning %x
+-- the module of that function alone
+abbrev pub alone : Function → Module
+alone of = record { functions = of ∷ [] }
+
+-- the function @f of these lines alone, returning %32
 abbrev pub of_lines : List Instr → Module
-of_lines lines = record { functions = function f [] lines returning ∷ [] }
+of_lines lines = alone (function f [] lines returning)
 
 -- that fault in that line of the block %0 of @f
 abbrev pub in_f : ℕ → ShapeKind → ShapeFault
 in_f line kind = record { function = f; place = Some (record { block = Number 0; line = line }); kind = kind }
 
--- that fault in the function's own name
-abbrev pub in_name : Name → ShapeFault
-in_name name = record { function = name; place = None; kind = kind.Name }
+-- that fault in a function's own name or its parameters
+abbrev pub in_header : Name → ShapeKind → ShapeFault
+in_header name kind = record { function = name; place = None; kind = kind }
 
--- define i32 @f(i32 %x) { x: br i1 %x, label %y, label %y y: phis ret i32 %x }
+-- the function @f of a block x: br i1 %1, label %y, label %y and a block y: phis ret i32 %32
 abbrev pub entering : List Phi → Module
-entering phis = record {
-  functions = record {
-    name = f;
-    result = Int 32;
-    params = record { name = x; ty = Int 32 } ∷ [];
-    blocks = record { name = x; phis = []; body = []; term = branching (Int 1) y y } ∷ record { name = y; phis = phis; body = []; term = returning } ∷ [];
-  } ∷ [];
-}
+entering phis = alone (of_blocks f (block x [] [] (branching (Int 1) y y) ∷ block y phis [] returning ∷ []))
 
 -- that fault in that line of the block %y of @f
 abbrev pub in_y : ℕ → ShapeKind → ShapeFault

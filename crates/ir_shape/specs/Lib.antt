@@ -1,4 +1,7 @@
 pub mod Shape
 pub mod Edges
+pub mod Typed
+pub mod Counted
+pub mod Lines
 pub mod Laws
 pub mod Examples

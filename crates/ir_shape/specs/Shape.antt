@@ -1,7 +1,7 @@
--- What is wrong with the lines, the terminators and the names of a module's functions (LangRef 3.7, Well-Formedness, Instruction
--- Reference), and what is first.
-use Rattle.std.specs.Prelude.{◌≡◌, ◌+◌, ℕ, ◌&&◌, ◌||◌, Bool, false, true, cond, not, List, [], ◌∷◌, ◌++◌, length, codes, map, nat_eq, nat_lt, Option, None, Some}
-use Rattle.std.specs.List.{count_by, flat_map, list_all, list_any}
+-- What is wrong with the names, the labels, the lines and the terminators of a module's functions (LangRef 3.7, Well-Formedness,
+-- Instruction Reference), and what is first.
+use Rattle.std.specs.Prelude.{◌≡◌, ◌≤◌, ◌+◌, ℕ, ◌&&◌, ◌||◌, Bool, false, true, cond, not, List, [], ◌∷◌, ◌++◌, length, codes, map, nat_eq, nat_lt, Option, None, Some, is_some, if◌then◌else◌}
+use Rattle.std.specs.List.{AllByRecursion, count_by, list_all, list_any}
 use Rattle.ir_core.specs.declared.expressions.Cast.{Cast}
 use Rattle.ir_core.specs.declared.expressions.Expr.{Expr}
 use Rattle.ir_core.specs.declared.expressions.Expr.TheVariants as expr
@@ -13,15 +13,23 @@ use Rattle.ir_core.specs.declared.functions.Function.{Function}
 use Rattle.ir_core.specs.declared.functions.Instr.{Instr}
 use Rattle.ir_core.specs.declared.functions.Instr.TheVariants as instr
 use Rattle.ir_core.specs.declared.functions.Module.{Module}
+use Rattle.ir_core.specs.declared.functions.Param.{Param}
 use Rattle.ir_core.specs.declared.functions.Phi.{Phi}
 use Rattle.ir_core.specs.declared.functions.Term.{Term}
 use Rattle.ir_core.specs.declared.functions.Term.TheVariants as term
+use Rattle.ir_core.specs.declared.limits.Limit.TheVariants.{Lines}
 use Rattle.ir_core.specs.declared.names.Name.{Name}
+use Rattle.ir_core.specs.declared.operands.Atom.{Atom}
+use Rattle.ir_core.specs.declared.operands.Atom.TheVariants.{Constant, Register}
+use Rattle.ir_core.specs.declared.operands.Operand.{Operand}
 use Rattle.ir_core.specs.declared.operands.Ty.{Ty}
 use Rattle.ir_core.specs.declared.operands.Ty.TheVariants as ty
-use Rattle.ir_core.specs.Functions.{edges_into, is_debug, successors_of}
+use Rattle.ir_core.specs.Expressions.{operands_in, type_of}
+use Rattle.ir_core.specs.Functions.{edges_into, is_debug, line_count, names_in, operands_at_end, operands_of_phi, params_of, phi_registers, set_by, successors_of, typed_of}
+use Rattle.ir_core.specs.Limits.{line_limit}
 use Rattle.ir_core.specs.Same.{same_atom, same_name, same_ty}
 use Rattle.ir_core.specs.Types.{converts, number_at}
+use Rattle.name_index.specs.Among.{is_among}
 use Rattle.ir_shape.specs.declared.fault.LinePlace.{LinePlace}
 use Rattle.ir_shape.specs.declared.fault.ShapeEnd.{ShapeEnd}
 use Rattle.ir_shape.specs.declared.fault.ShapeEnd.TheVariants as end
@@ -32,12 +40,72 @@ use Rattle.ir_shape.specs.declared.fault.ShapeKind.TheVariants as kind
 -- the words in which a kind is told
 abbrev pub kind_text : ShapeKind → List ℕ
 kind_text kind.Name = codes "name"
+kind_text kind.Label = codes "label"
 kind_text kind.EntryEntered = codes "entry entered"
 kind_text kind.PhiEntries = codes "phi entries"
 kind_text kind.OperandType = codes "operand type"
 kind_text kind.ReturnType = codes "return type"
 kind_text kind.CaseTwice = codes "case twice"
 kind_text kind.CastWidth = codes "cast width"
+
+-- the place of a kind in that list, which decides between two at one place of a module
+abbrev pub order_of : ShapeKind → ℕ
+order_of kind.Name = 0
+order_of kind.Label = 1
+order_of kind.EntryEntered = 2
+order_of kind.PhiEntries = 3
+order_of kind.OperandType = 4
+order_of kind.ReturnType = 5
+order_of kind.CaseTwice = 6
+order_of kind.CastWidth = 7
+
+-- ---- names, labels and types of a function
+
+-- a name more, if it is new
+abbrev pub with_name : List Name → Name → List Name
+with_name taken name = if is_among name taken then taken else (taken ++ name ∷ [])
+
+abbrev pub with_names : List Name → List Name → List Name
+with_names taken [] = taken
+with_names taken (name ∷ names) = with_names (with_name taken name) names
+
+-- no name stands twice, and none is one of those that are taken
+abbrev pub are_new : List Name → List Name → Bool
+are_new taken [] = true
+are_new taken (name ∷ names) = not (is_among name taken) && are_new (with_name taken name) names
+
+-- the names of a function's blocks, each once
+abbrev pub labels_of : Function → List Name
+labels_of f = with_names [] (map (λ (b : Block). b.name) f.blocks)
+
+abbrev pub are_labels : List Name → List Name → Bool
+are_labels labels = list_all (λ name. is_among name labels)
+
+-- the types of registers, by their names
+abbrev pub Types : Type 0
+Types = Name → Option Ty
+
+abbrev pub none_typed : Types
+none_typed name = None
+
+abbrev pub or_else : Option Ty → Option Ty → Option Ty
+or_else None other = other
+or_else (Some t) other = Some t
+
+abbrev pub type_at : Name → Ty → Types
+type_at name t other = if same_name other name then Some t else None
+
+-- a register more: where one of that name is there, that one's type stays
+unfoldable pub with_type : Types → Name → Ty → Types
+with_type types name t other = or_else (types other) (type_at name t other)
+
+abbrev pub with_types : Types → List (Name × Ty) → Types
+with_types types [] = types
+with_types types (r ∷ rs) = with_types (with_type types r.0 r.1) rs
+
+-- the types of a function's registers, each as it is first defined
+abbrev pub types_of : Function → Types
+types_of f = with_types none_typed (typed_of f)
 
 -- ---- what is wrong with one line, one terminator or one name
 
@@ -64,13 +132,46 @@ right_kind (expr.Icmp c) = fault_unless (is_integer c.ty) kind.OperandType
 right_kind (expr.Cast c) = fault_unless (cast_fits c) kind.CastWidth
 right_kind (expr.Select s) = fault_unless (select_fits s) kind.OperandType
 
-abbrev pub line_kind : Instr → Option ShapeKind
-line_kind (instr.Calm c) = right_kind c.right
-
 -- the first that is wrong of two
 abbrev pub first_kind : Option ShapeKind → Option ShapeKind → Option ShapeKind
 first_kind None other = other
 first_kind (Some kind) other = Some kind
+
+-- the one that comes first in the list of kinds
+abbrev pub least : Option ShapeKind → Option ShapeKind → Option ShapeKind
+least None other = other
+least (Some kind) None = Some kind
+least (Some kind) (Some other) = Some (cond (nat_lt (order_of other) (order_of kind)) other kind)
+
+-- a register that is named is one of the function's
+abbrev pub is_known : Types → Atom Name → Bool
+is_known types (Constant c) = true
+is_known types (Register name) = is_some (types name)
+
+abbrev pub is_type : Option Ty → Ty → Bool
+is_type None t = false
+is_type (Some own) t = same_ty own t
+
+-- the stated type is the register's own; a constant's is one of values
+abbrev pub has_type : Types → Ty → Atom Name → Bool
+has_type types t (Constant c) = is_integer t
+has_type types t (Register name) = is_type (types name) t
+
+abbrev pub are_known : Types → List (Operand Name) → Bool
+are_known types = list_all (λ (o : Operand Name). is_known types o.atom)
+
+abbrev pub are_typed : Types → List (Operand Name) → Bool
+are_typed types = list_all (λ (o : Operand Name). has_type types o.ty o.atom)
+
+-- Of a line whose register's name is taken or not: the name is new, what it uses are registers of the stated types, it gives a value,
+-- and its operator fits.
+abbrev pub set_kind : Types → Bool → Expr Name → Option ShapeKind
+set_kind types taken right =
+    first_kind (fault_unless (not taken && are_known types (operands_in right)) kind.Name)
+    (first_kind (fault_unless (is_integer (type_of right) && are_typed types (operands_in right)) kind.OperandType) (right_kind right))
+
+abbrev pub line_kind : Types → Bool → Instr → Option ShapeKind
+line_kind types taken (instr.Calm c) = set_kind types taken c.right
 
 -- it leads to the block of that name
 abbrev pub leads_to : Name → Term → Bool
@@ -111,13 +212,16 @@ cases_fit (term.CondBr c) = true
 cases_fit (term.Switch s) = list_all (λ (c : Case). same_ty c.ty s.value.ty) s.cases && are_apart [] (numbers_of s.value.ty s.cases)
 cases_fit term.Unreachable = true
 
--- Of a terminator in a function of that entry and that result: nothing leads to the entry, and a branch, what is returned and the
--- cases of a switch fit. `switch i8 %x, label %y [i8 255, label %y i8 -1, label %y]` has a `case twice`.
-abbrev pub end_kind : Name → Ty → Term → Option ShapeKind
-end_kind entry result end =
-    first_kind (fault_unless (not (leads_to entry end)) kind.EntryEntered)
-    (first_kind (fault_unless (branch_fits end) kind.OperandType)
-    (first_kind (fault_unless (return_fits result end) kind.ReturnType) (fault_unless (cases_fit end) kind.CaseTwice)))
+-- Of a terminator in a function of those labels and registers, of that entry and that result: the registers and labels that it names
+-- are such, nothing leads to the entry, and operands, a branch, what is returned and the cases of a switch fit.
+-- `switch i8 %x, label %y [i8 255, label %y i8 -1, label %y]` has a `case twice`.
+abbrev pub end_kind : List Name → Types → Name → Ty → Term → Option ShapeKind
+end_kind labels types entry result end =
+    first_kind (fault_unless (are_known types (operands_at_end end)) kind.Name)
+    (first_kind (fault_unless (are_labels labels (successors_of end)) kind.Label)
+    (first_kind (fault_unless (not (leads_to entry end)) kind.EntryEntered)
+    (first_kind (fault_unless (are_typed types (operands_at_end end) && branch_fits end) kind.OperandType)
+    (first_kind (fault_unless (return_fits result end) kind.ReturnType) (fault_unless (cases_fit end) kind.CaseTwice)))))
 
 -- how many of the names are this one
 abbrev pub count_of : Name → List Name → ℕ
@@ -139,11 +243,27 @@ are_alike entries =
 abbrev pub phi_fits : List Name → List Entry → Bool
 phi_fits edges entries = nat_lt 0 (length entries) && same_counts edges (froms_of entries) && are_alike entries
 
-abbrev pub phi_kind : List Name → Phi → Option ShapeKind
-phi_kind edges p = fault_unless (phi_fits edges p.entries) kind.PhiEntries
+-- a phi whose register's name is taken or not, in a block that these edges enter
+abbrev pub phi_kind : List Name → Types → List Name → Bool → Phi → Option ShapeKind
+phi_kind labels types edges taken p =
+    first_kind (fault_unless (not taken && are_known types (operands_of_phi p)) kind.Name)
+    (first_kind (fault_unless (are_labels labels (froms_of p.entries)) kind.Label)
+    (first_kind (fault_unless (phi_fits edges p.entries) kind.PhiEntries)
+    (fault_unless (is_integer p.ty && are_typed types (operands_of_phi p)) kind.OperandType)))
 
-abbrev pub name_kind : Name → Option ShapeKind
-name_kind name = fault_unless (not (is_debug name)) kind.Name
+-- a block's name: an earlier block may have it, or else a parameter or a register
+abbrev pub block_kind : Bool → Bool → Option ShapeKind
+block_kind doubled taken = cond doubled (Some kind.Label) (fault_unless (not taken) kind.Name)
+
+-- a function's name, which may be taken
+abbrev pub name_kind : Bool → Name → Option ShapeKind
+name_kind taken name = fault_unless (not taken && not (is_debug name)) kind.Name
+
+-- a function's parameters, whose names are new or not, and its having blocks
+abbrev pub header_kind : Bool → Function → Option ShapeKind
+header_kind new f =
+    first_kind (fault_unless new kind.Name)
+    (first_kind (fault_unless (nat_lt 0 (length f.blocks)) kind.Label) (fault_unless (list_all (λ (p : Param). is_integer p.ty) f.params) kind.OperandType))
 
 -- ---- the faults of a module, in the order of their places
 
@@ -156,34 +276,65 @@ fault_at function place (Some kind) = record { function = function; place = plac
 abbrev pub in_line : Name → Name → ℕ → Option ShapeKind → List ShapeFault
 in_line function block line kind = fault_at function (Some (record { block = block; line = line })) kind
 
--- in lines that stand one behind another, the first of that number
-abbrev pub in_lines : Name → Name → ℕ → List Instr → List ShapeFault
-in_lines function block line [] = []
-in_lines function block line (instr ∷ further) = in_line function block line (line_kind instr) ++ in_lines function block (line + 1) further
+-- In the phis and lines of a block from the one of that number on, and then in its terminator; what is wrong with the block's own name
+-- stands in the first of them.
+abbrev pub in_kinds : Name → Name → ℕ → Option ShapeKind → List (Option ShapeKind) → Option ShapeKind → List ShapeFault
+in_kinds function block line own [] end = in_line function block line (least own end)
+in_kinds function block line own (kind ∷ kinds) end =
+    in_line function block line (least own kind) ++ in_kinds function block (line + 1) None kinds end
 
--- in phis that stand one behind another, the first of that number
-abbrev pub in_phis : Name → Name → List Name → ℕ → List Phi → List ShapeFault
-in_phis function block edges line [] = []
-in_phis function block edges line (phi ∷ further) = in_line function block line (phi_kind edges phi) ++ in_phis function block edges (line + 1) further
+-- the kinds of phis, where those names are taken before them
+abbrev pub phi_kinds : List Name → Types → List Name → List Name → List Phi → List (Option ShapeKind)
+phi_kinds labels types edges taken [] = []
+phi_kinds labels types edges taken (p ∷ ps) =
+    phi_kind labels types edges (is_among p.name taken) p ∷ phi_kinds labels types edges (with_name taken p.name) ps
 
--- Lines are counted from a block's first phi on, so its body begins behind its phis, and its terminator stands behind its body.
-abbrev pub in_block : Function → Name → Block → List ShapeFault
-in_block f entry b =
-    in_phis f.name b.name (edges_into f b.name) 0 b.phis
-    ++ (in_lines f.name b.name (length b.phis) b.body ++ in_line f.name b.name (length b.phis + length b.body) (end_kind entry f.result b.term))
+abbrev pub with_phis : List Name → List Phi → List Name
+with_phis taken ps = with_names taken (names_in (phi_registers ps))
+
+abbrev pub is_taken : List Name → Instr → Bool
+is_taken taken (instr.Calm c) = is_among c.name taken
+
+abbrev pub with_lines : List Name → List Instr → List Name
+with_lines taken ls = with_names taken (names_in (set_by ls))
+
+abbrev pub line_kinds : Types → List Name → List Instr → List (Option ShapeKind)
+line_kinds types taken [] = []
+line_kinds types taken (l ∷ ls) = line_kind types (is_taken taken l) l ∷ line_kinds types (with_lines taken (l ∷ [])) ls
+
+-- What is wrong in a block of a function of those labels and registers: lines are counted from its first phi on, so its body begins
+-- behind its phis, and its terminator stands behind its body. Names of earlier blocks are given, and those that are taken.
+abbrev pub in_block : Function → List Name → Types → Name → List Name → List Name → Block → List ShapeFault
+in_block f labels types entry earlier taken b =
+    in_kinds f.name b.name 0 (block_kind (is_among b.name earlier) (is_among b.name taken))
+    (phi_kinds labels types (edges_into f b.name) (with_name taken b.name) b.phis ++ line_kinds types (with_phis (with_name taken b.name) b.phis) b.body)
+    (end_kind labels types entry f.result b.term)
+
+abbrev pub with_block : List Name → Block → List Name
+with_block taken b = with_lines (with_phis (with_name taken b.name) b.phis) b.body
+
+abbrev pub in_blocks : Function → List Name → Types → Name → List Name → List Name → List Block → List ShapeFault
+in_blocks f labels types entry earlier taken [] = []
+in_blocks f labels types entry earlier taken (b ∷ bs) =
+    in_block f labels types entry earlier taken b ++ in_blocks f labels types entry (with_name earlier b.name) (with_block taken b) bs
 
 -- the first block is the entry
-abbrev pub in_blocks : Function → List Block → List ShapeFault
-in_blocks f [] = []
-in_blocks f (first ∷ further) = flat_map (in_block f first.name) (first ∷ further)
+abbrev pub in_body : Function → List Name → Types → List Name → List Block → List ShapeFault
+in_body f labels types params [] = []
+in_body f labels types params (first ∷ further) = in_blocks f labels types first.name [] params (first ∷ further)
 
--- a function's name comes before its blocks
-abbrev pub in_function : Function → List ShapeFault
-in_function f = fault_at f.name None (name_kind f.name) ++ in_blocks f f.blocks
+-- a function's name, which may be taken, comes before its parameters, and these before its blocks
+abbrev pub in_function : Bool → Function → List ShapeFault
+in_function taken f =
+    fault_at f.name None (name_kind taken f.name) ++ (fault_at f.name None (header_kind (are_new [] (names_in (params_of f))) f) ++ in_body f (labels_of f) (types_of f) (with_names [] (names_in (params_of f))) f.blocks)
 
--- function by function
+-- function by function, behind those of the names that are taken
+abbrev pub in_functions : List Name → List Function → List ShapeFault
+in_functions taken [] = []
+in_functions taken (f ∷ fs) = in_function (is_among f.name taken) f ++ in_functions (with_name taken f.name) fs
+
 abbrev pub faults_of : Module → List ShapeFault
-faults_of m = flat_map in_function m.functions
+faults_of m = in_functions [] m.functions
 
 abbrev pub first_of : List ShapeFault → Option ShapeFault
 first_of [] = None
@@ -197,4 +348,16 @@ first_fault m = first_of (faults_of m)
 -- it is told that this one is the first; want of memory says nothing
 abbrev pub IsFirstOf : List ShapeFault → ShapeEnd → Type 0
 IsFirstOf faults (end.Fault f) = first_of faults ≡ Some f
+IsFirstOf faults (end.Limit l) = ⊥
 IsFirstOf faults end.Memory = Unit {0}
+
+-- ---- the limit on lines, which counts before all faults
+
+abbrev pub IsShort : Function → Type 0
+IsShort f = line_count f ≤ line_limit
+
+-- why functions with these faults don't have shape within the limit
+abbrev pub IsEndOf : List Function → List ShapeFault → ShapeEnd → Type 0
+IsEndOf fs faults (end.Fault f) = AllByRecursion IsShort fs × (first_of faults ≡ Some f)
+IsEndOf fs faults (end.Limit l) = (l ≡ Lines) × (AllByRecursion IsShort fs → ⊥)
+IsEndOf fs faults end.Memory = Unit {0}

@@ -5,11 +5,15 @@ ghost use Rattle.ir_core.specs.declared.functions.Case.{Case};
 ghost use Rattle.ir_core.specs.Same as same;
 ghost use Rattle.ir_core.specs.Types as types;
 ghost use Rattle.ir_shape.specs.Shape as meaning;
+ghost use Rattle.ir_shape.specs.Typed.{type_in};
 
 use crate::ShapeKind;
 use crate::kinds::{BIT, fault_unless, is_integer};
+use crate::names::leads_to_labels;
+use crate::types::{Types, end_is_known, end_is_typed};
 use indexmap::IndexSet;
 use ir_core::{Case, Name, Switch, Term, Ty, same_name, same_ty};
+use name_index::NameIndex;
 use std::alloc::{AllocError, Global};
 
 fn is_case_label(cases: &[Case], name: &Name) -> bool
@@ -118,19 +122,27 @@ fn cases_fit(alloc: Global, end: &Term) -> Result<bool, AllocError>
     }
 }
 
-/// What is wrong with a terminator of a function with that entry and that result, if anything is.
+/// What is wrong with a terminator of a function with those labels and registers, that entry and that result, if anything is.
 pub(crate) fn end_kind(
     alloc: Global,
+    labels: &NameIndex,
+    types: &Types,
     entry: &Name,
     due: &Ty,
     end: &Term,
 ) -> Result<Option<ShapeKind>, AllocError>
-    ensures { IfOk result (λ kind. kind ≡ meaning.end_kind entry.now due.now end.now) }
+    ensures { IfOk result (λ kind. kind ≡ meaning.end_kind labels.now (type_in types.now) entry.now due.now end.now) }
 {
+    if !end_is_known(types, end) {
+        return Ok(Some(ShapeKind::Name));
+    }
+    if !leads_to_labels(labels, end) {
+        return Ok(Some(ShapeKind::Label));
+    }
     if leads_to(entry, end) {
         return Ok(Some(ShapeKind::EntryEntered));
     }
-    if !branch_fits(end) {
+    if !end_is_typed(types, end) || !branch_fits(end) {
         return Ok(Some(ShapeKind::OperandType));
     }
     if !return_fits(due, end) {

@@ -1,19 +1,21 @@
 ghost use Rattle.std.specs.Prelude.{◌≡◌};
-ghost use Rattle.ir_shape.specs.Shape.{kind_text};
+ghost use Rattle.ir_shape.specs.Shape.{kind_text, order_of};
 
-use ir_core::Name;
+use ir_core::{Limit, Name};
 use std::alloc::AllocError;
 
 /// What is wrong at a place of a module.
 #[derive(Drop, Clone, Copy)]
 pub enum ShapeKind {
-    /// A function has a name that begins with `llvm.dbg.`.
+    /// A name stands twice where it is no block's, or names no register; or a function's begins with `llvm.dbg.`.
     Name,
+    /// A block has an earlier one's name, a label names no block, or a function has no block.
+    Label,
     /// An edge leads to the function's first block.
     EntryEntered,
     /// A phi has no entry, or not one for each edge into its block, or two of one block that differ.
     PhiEntries,
-    /// An operator or a branch stands over operands of types that it doesn't take.
+    /// An operand isn't of the type that is stated for it, an operator or a branch doesn't take it, or a register is of type `void`.
     OperandType,
     /// A terminator returns what isn't of the function's result type.
     ReturnType,
@@ -30,12 +32,29 @@ impl ShapeKind {
     {
         match self {
             ShapeKind::Name => "name",
+            ShapeKind::Label => "label",
             ShapeKind::EntryEntered => "entry entered",
             ShapeKind::PhiEntries => "phi entries",
             ShapeKind::OperandType => "operand type",
             ShapeKind::ReturnType => "return type",
             ShapeKind::CaseTwice => "case twice",
             ShapeKind::CastWidth => "cast width",
+        }
+    }
+
+    /// Its place among the kinds: of several at one place of a module the first is told.
+    pub(crate) fn order(self) -> u8
+        ensures { result ≡ order_of self }
+    {
+        match self {
+            ShapeKind::Name => 0,
+            ShapeKind::Label => 1,
+            ShapeKind::EntryEntered => 2,
+            ShapeKind::PhiEntries => 3,
+            ShapeKind::OperandType => 4,
+            ShapeKind::ReturnType => 5,
+            ShapeKind::CaseTwice => 6,
+            ShapeKind::CastWidth => 7,
         }
     }
 }
@@ -48,7 +67,7 @@ pub struct LinePlace {
 }
 
 /// What is wrong with a module, and where: in a line of the function of that name, or, where there is no line, in the
-/// function's own name.
+/// function's own name or its parameters.
 #[derive(Drop)]
 pub struct ShapeFault {
     pub function: Name,
@@ -56,10 +75,11 @@ pub struct ShapeFault {
     pub kind: ShapeKind,
 }
 
-/// Why a module is not said to be without fault.
+/// Why a module is not said to have shape. A limit comes before all faults.
 #[derive(Drop)]
 pub enum ShapeEnd {
     Fault(ShapeFault),
+    Limit(Limit),
     Memory,
 }
 

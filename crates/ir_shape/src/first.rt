@@ -1,17 +1,38 @@
-ghost use Rattle.std.specs.Prelude.{◌≡◌, ◌+◌, [], length, None, Some, IfOk, IfErr};
-ghost use Rattle.std.specs.List.{flat_map};
+ghost use Rattle.std.specs.Prelude.{◌≡◌, ◌++◌, [], ◌∷◌, false, None, Some, IfOk, IfErr, OnOk};
+ghost use Rattle.std.specs.List.{AllByRecursion};
 ghost use Rattle.ir_core.specs.Functions as functions;
 ghost use Rattle.ir_shape.specs.Edges.{named};
 ghost use Rattle.ir_shape.specs.Shape as meaning;
-ghost use Rattle.ir_shape.specs.Shape.{IsFirstOf};
+ghost use Rattle.ir_shape.specs.Shape.{IsEndOf, IsFirstOf};
+ghost use Rattle.ir_shape.specs.Typed.{type_in};
 
+use crate::counts::count_edges;
 use crate::ends::end_kind;
-use crate::kinds::{line_kind, name_kind};
+use crate::kinds::{block_kind, header_kind, least, line_kind, name_kind};
+use crate::lines::{are_short, is_short};
+use crate::names::{labels_of, take, take_params};
 use crate::phis::{edges_into, phi_kind};
+use crate::types::{Types, types_of};
 use crate::{LinePlace, ShapeEnd, ShapeFault, ShapeKind};
 use contents::Exact;
-use ir_core::{Block, Function, Module, Name};
+use ir_core::{Block, Function, Instr, Limit, Module, Name, Phi};
+use name_index::NameIndex;
 use std::alloc::{AllocError, Global};
+
+/// What is known of a function before its blocks are read: their names, and the types of its registers.
+pub(crate) struct Scope<'a> {
+    pub(crate) labels: NameIndex,
+    pub(crate) types: Types<'a>,
+}
+
+impl<'a> Drop for Scope<'a> {
+    fn drop(self) {
+        let Scope {
+            labels: _,
+            types: _,
+        } = self;
+    }
+}
 
 fn fault_in_line(
     alloc: Global,
@@ -50,12 +71,12 @@ fn line_fits(
     }
 }
 
-/// Whether a function's name has no fault.
-fn name_fits(alloc: Global, function: &Name) -> Result<(), ShapeEnd>
-    ensures fits { IfOk result (λ _. meaning.fault_at function.now None (meaning.name_kind function.now) ≡ []) }
-    ensures fault { IfErr result (IsFirstOf (meaning.fault_at function.now None (meaning.name_kind function.now))) }
+/// Whether a function's name and parameters have no fault.
+fn header_fits(alloc: Global, function: &Name, found: Option<ShapeKind>) -> Result<(), ShapeEnd>
+    ensures fits { IfOk result (λ _. meaning.fault_at function.now None found ≡ []) }
+    ensures fault { IfErr result (IsFirstOf (meaning.fault_at function.now None found)) }
 {
-    match name_kind(function) {
+    match found {
         None => Ok(()),
         Some(kind) => Err(ShapeEnd::Fault(ShapeFault {
             function: function.copy(alloc)?,
@@ -65,127 +86,260 @@ fn name_fits(alloc: Global, function: &Name) -> Result<(), ShapeEnd>
     }
 }
 
-/// Whether no phi of a block has a fault, where these edges enter it.
-fn phis_fit_edges(
+/// Whether no line of a block has a fault, where these are the kinds of its phis and lines, of its terminator and of its own name.
+fn kinds_fit(
     alloc: Global,
     function: &Name,
-    block: &Block,
-    edges: &[&Name],
+    block: &Name,
+    own: Option<ShapeKind>,
+    kinds: &[Option<ShapeKind>],
+    end: Option<ShapeKind>,
 ) -> Result<(), ShapeEnd>
-    ensures fits { IfOk result (λ _. meaning.in_phis function.now block.now.name (named edges.now) 0 block.now.phis ≡ []) }
-    ensures fault { IfErr result (IsFirstOf (meaning.in_phis function.now block.now.name (named edges.now) 0 block.now.phis)) }
+    ensures fits { IfOk result (λ _. meaning.in_kinds function.now block.now 0 own kinds.now end ≡ []) }
+    ensures fault { IfErr result (IsFirstOf (meaning.in_kinds function.now block.now 0 own kinds.now end)) }
 {
+    // The block's name stands in its first line.
+    let mut pending = own;
     let mut line = 0;
-    for phi in block.phis.as_slice() {
-        line_fits(alloc, function, &block.name, line, phi_kind(edges, phi))?;
-        // A block of so many phis stands in no memory.
+    for kind in kinds {
+        line_fits(alloc, function, block, line, least(pending, *kind))?;
+        pending = None;
+        // A block of so many lines stands in no memory.
         line = line.checked_add(1).ok_or(AllocError)?;
+    }
+    line_fits(alloc, function, block, line, least(pending, end))
+}
+
+fn push_phis(
+    alloc: Global,
+    scope: &Scope,
+    edges: &[&Name],
+    names: &mut NameIndex,
+    phis: &[Phi],
+    kinds: &mut Vec<Option<ShapeKind>>,
+) -> Result<(), AllocError>
+    ensures kinds { OnOk result
+        (kinds.new.items
+        ≡ kinds.old.items ++ meaning.phi_kinds scope.now.labels (type_in scope.now.types) (named edges.now) names.old phis.now) }
+    ensures names { OnOk result (names.new ≡ meaning.with_phis names.old phis.now) }
+{
+    let counts = count_edges(alloc, edges)?;
+    for phi in phis {
+        let taken = take(alloc, names, &phi.name)?;
+        kinds.push(phi_kind(alloc, scope, edges, &counts, taken, phi)?)?;
     }
     Ok(())
 }
 
-fn phis_fit(alloc: Global, function: &Function, block: &Block) -> Result<(), ShapeEnd>
-    ensures fits { IfOk result
-        (λ _. meaning.in_phis «function».now.name block.now.name (functions.edges_into «function».now block.now.name) 0 block.now.phis ≡ []) }
-    ensures fault { IfErr result
-        (IsFirstOf (meaning.in_phis «function».now.name block.now.name (functions.edges_into «function».now block.now.name) 0 block.now.phis)) }
+/// Puts the kinds of a block's phis behind the others, and takes their names.
+fn push_block_phis(
+    alloc: Global,
+    function: &Function,
+    scope: &Scope,
+    names: &mut NameIndex,
+    block: &Block,
+    kinds: &mut Vec<Option<ShapeKind>>,
+) -> Result<(), AllocError>
+    ensures kinds { OnOk result
+        (kinds.new.items
+        ≡ kinds.old.items
+        ++ meaning.phi_kinds scope.now.labels (type_in scope.now.types) (functions.edges_into «function».now block.now.name) names.old block.now.phis) }
+    ensures names { OnOk result (names.new ≡ meaning.with_phis names.old block.now.phis) }
 {
     if block.phis.is_empty() {
         return Ok(());
     }
     let edges = edges_into(alloc, function.blocks.as_slice(), &block.name)?;
-    phis_fit_edges(alloc, &function.name, block, &edges)
+    push_phis(alloc, scope, &edges, names, block.phis.as_slice(), kinds)
 }
 
-/// Whether no line of a block's body has a fault; gives the number of the line behind them, its terminator.
-fn body_fits(alloc: Global, function: &Name, block: &Block) -> Result<usize, ShapeEnd>
-    ensures fits { IfOk result
-        (λ _. meaning.in_lines function.now block.now.name (length block.now.phis) block.now.body ≡ []) }
-    ensures behind { IfOk result (λ line. line ≡ length block.now.phis + length block.now.body) }
-    ensures fault { IfErr result
-        (IsFirstOf (meaning.in_lines function.now block.now.name (length block.now.phis) block.now.body)) }
+/// Puts the kinds of lines behind the others, and takes their names.
+fn push_lines(
+    alloc: Global,
+    scope: &Scope,
+    names: &mut NameIndex,
+    lines: &[Instr],
+    kinds: &mut Vec<Option<ShapeKind>>,
+) -> Result<(), AllocError>
+    ensures kinds { OnOk result
+        (kinds.new.items ≡ kinds.old.items ++ meaning.line_kinds (type_in scope.now.types) names.old lines.now) }
+    ensures names { OnOk result (names.new ≡ meaning.with_lines names.old lines.now) }
 {
-    let mut line = block.phis.len();
-    for instr in block.body.as_slice() {
-        line_fits(alloc, function, &block.name, line, line_kind(instr))?;
-        // A block of so many lines stands in no memory.
-        line = line.checked_add(1).ok_or(AllocError)?;
+    for line in lines {
+        let Instr::Calm(calm) = line;
+        let taken = take(alloc, names, &calm.name)?;
+        kinds.push(line_kind(&scope.types, taken, line))?;
     }
-    Ok(line)
+    Ok(())
 }
 
+/// Whether a block has no fault, behind blocks whose names are given.
 fn block_fits(
     alloc: Global,
     function: &Function,
     entry: &Name,
+    scope: &Scope,
+    earlier: &mut NameIndex,
+    names: &mut NameIndex,
     block: &Block,
 ) -> Result<(), ShapeEnd>
-    ensures fits { IfOk result (λ _. meaning.in_block «function».now entry.now block.now ≡ []) }
-    ensures fault { IfErr result (IsFirstOf (meaning.in_block «function».now entry.now block.now)) }
+    ensures fits { IfOk result
+        (λ _. meaning.in_block «function».now scope.now.labels (type_in scope.now.types) entry.now earlier.old names.old block.now ≡ []) }
+    ensures earlier { IfOk result (λ _. earlier.new ≡ meaning.with_name earlier.old block.now.name) }
+    ensures names { IfOk result (λ _. names.new ≡ meaning.with_block names.old block.now) }
+    ensures fault { IfErr result
+        (IsFirstOf (meaning.in_block «function».now scope.now.labels (type_in scope.now.types) entry.now earlier.old names.old block.now)) }
 {
-    phis_fit(alloc, function, block)?;
-    let line = body_fits(alloc, &function.name, block)?;
-    let found = end_kind(alloc, entry, &function.result, &block.term)?;
-    line_fits(alloc, &function.name, &block.name, line, found)
+    let doubled = take(alloc, earlier, &block.name)?;
+    let own = block_kind(doubled, take(alloc, names, &block.name)?);
+    let mut kinds = Vec::new(alloc);
+    push_block_phis(alloc, function, scope, names, block, &mut kinds)?;
+    push_lines(alloc, scope, names, block.body.as_slice(), &mut kinds)?;
+    let end = end_kind(
+        alloc,
+        &scope.labels,
+        &scope.types,
+        entry,
+        &function.result,
+        &block.term,
+    )?;
+    kinds_fit(alloc, &function.name, &block.name, own, &kinds, end)
 }
 
 fn blocks_fit(
     alloc: Global,
     function: &Function,
     entry: &Name,
+    scope: &Scope,
+    params: NameIndex,
     blocks: &[Block],
 ) -> Result<(), ShapeEnd>
-    ensures fits { IfOk result (λ _. flat_map (meaning.in_block «function».now entry.now) blocks.now ≡ []) }
-    ensures fault { IfErr result (IsFirstOf (flat_map (meaning.in_block «function».now entry.now) blocks.now)) }
+    ensures fits { IfOk result
+        (λ _. meaning.in_blocks «function».now scope.now.labels (type_in scope.now.types) entry.now [] params blocks.now ≡ []) }
+    ensures fault { IfErr result
+        (IsFirstOf (meaning.in_blocks «function».now scope.now.labels (type_in scope.now.types) entry.now [] params blocks.now)) }
 {
+    let mut names = params;
+    let mut earlier = NameIndex::new(alloc);
     for block in blocks {
-        block_fits(alloc, function, entry, block)?;
+        block_fits(
+            alloc,
+            function,
+            entry,
+            scope,
+            &mut earlier,
+            &mut names,
+            block,
+        )?;
     }
     Ok(())
 }
 
-fn all_blocks_fit(alloc: Global, function: &Function, blocks: &[Block]) -> Result<(), ShapeEnd>
-    ensures fits { IfOk result (λ _. meaning.in_blocks «function».now blocks.now ≡ []) }
-    ensures fault { IfErr result (IsFirstOf (meaning.in_blocks «function».now blocks.now)) }
+fn body_fits(
+    alloc: Global,
+    function: &Function,
+    scope: &Scope,
+    params: NameIndex,
+    blocks: &[Block],
+) -> Result<(), ShapeEnd>
+    ensures fits { IfOk result
+        (λ _. meaning.in_body «function».now scope.now.labels (type_in scope.now.types) params blocks.now ≡ []) }
+    ensures fault { IfErr result
+        (IsFirstOf (meaning.in_body «function».now scope.now.labels (type_in scope.now.types) params blocks.now)) }
 {
     match blocks {
         [] => Ok(()),
-        [first, ..] => blocks_fit(alloc, function, &first.name, blocks),
+        [first, ..] => blocks_fit(alloc, function, &first.name, scope, params, blocks),
     }
 }
 
-fn function_fits(alloc: Global, function: &Function) -> Result<(), ShapeEnd>
-    ensures fits { IfOk result (λ _. meaning.in_function «function».now ≡ []) }
-    ensures fault { IfErr result (IsFirstOf (meaning.in_function «function».now)) }
+/// Whether a function's parameters have no fault, and it has a block; gives the parameters' names.
+#[tactic(auto, using(crate::proofs::Tests::new_where_fits))]
+fn params_fit(alloc: Global, function: &Function) -> Result<NameIndex, ShapeEnd>
+    ensures names { IfOk result
+        (λ names. names ≡ meaning.with_names [] (functions.names_in (functions.params_of «function».now))) }
+    ensures fits { IfOk result
+        (λ _. meaning.fault_at «function».now.name None
+        (meaning.header_kind (meaning.are_new [] (functions.names_in (functions.params_of «function».now))) «function».now)
+        ≡ []) }
+    ensures fault { IfErr result
+        (IsFirstOf
+        (meaning.fault_at «function».now.name None
+        (meaning.header_kind (meaning.are_new [] (functions.names_in (functions.params_of «function».now))) «function».now))) }
 {
-    name_fits(alloc, &function.name)?;
-    all_blocks_fit(alloc, function, function.blocks.as_slice())
+    let mut names = NameIndex::new(alloc);
+    let new = take_params(alloc, &mut names, function.params.as_slice())?;
+    header_fits(alloc, &function.name, header_kind(new, function))?;
+    Ok(names)
+}
+
+fn scope_of<'a>(alloc: Global, function: &'a Function) -> Result<Scope<'a>, AllocError>
+    ensures labels { IfOk result (λ scope. scope.labels ≡ meaning.labels_of «function».now) }
+    ensures types { IfOk result (λ scope. type_in scope.types ≡ meaning.types_of «function».now) }
+{
+    Ok(Scope {
+        labels: labels_of(alloc, function.blocks.as_slice())?,
+        types: types_of(alloc, function)?,
+    })
+}
+
+/// Whether the blocks of a function have no fault, behind its parameters of these names.
+fn all_blocks_fit(alloc: Global, function: &Function, params: NameIndex) -> Result<(), ShapeEnd>
+    ensures fits { IfOk result
+        (λ _. meaning.in_body «function».now (meaning.labels_of «function».now) (meaning.types_of «function».now) params «function».now.blocks ≡ []) }
+    ensures fault { IfErr result
+        (IsFirstOf
+        (meaning.in_body «function».now (meaning.labels_of «function».now) (meaning.types_of «function».now) params «function».now.blocks)) }
+{
+    let scope = scope_of(alloc, function)?;
+    body_fits(alloc, function, &scope, params, function.blocks.as_slice())
+}
+
+/// Whether a function has no fault, whose name may be taken.
+fn function_fits(alloc: Global, taken: bool, function: &Function) -> Result<(), ShapeEnd>
+    ensures fits { IfOk result (λ _. meaning.in_function taken «function».now ≡ []) }
+    ensures fault { IfErr result (IsFirstOf (meaning.in_function taken «function».now)) }
+{
+    header_fits(alloc, &function.name, name_kind(taken, &function.name))?;
+    let params = params_fit(alloc, function)?;
+    all_blocks_fit(alloc, function, params)
 }
 
 fn functions_fit(alloc: Global, functions: &[Function]) -> Result<(), ShapeEnd>
-    ensures fits { IfOk result (λ _. flat_map meaning.in_function functions.now ≡ []) }
-    ensures fault { IfErr result (IsFirstOf (flat_map meaning.in_function functions.now)) }
+    ensures fits { IfOk result (λ _. meaning.in_functions [] functions.now ≡ []) }
+    ensures fault { IfErr result (IsFirstOf (meaning.in_functions [] functions.now)) }
 {
+    let mut names = NameIndex::new(alloc);
     for function in functions {
-        function_fits(alloc, function)?;
+        let taken = take(alloc, &mut names, &function.name)?;
+        function_fits(alloc, taken, function)?;
     }
     Ok(())
 }
 
-/// Whether no function of the module has a fault of shape; if one has, the first of them in the order of the file. Takes memory only
-/// for the names in a fault, and for the numbers of a switch.
+/// Whether a module has shape and is within the limit on lines; if not, that it isn't, or the first of its faults in the order of the
+/// file, and at one place the one of the first kind. Takes memory for the names of the module and for the lines of a block.
 pub fn shape(alloc: Global, module: &Module) -> Result<(), ShapeEnd>
     ensures fits { IfOk result (λ _. meaning.first_fault «module».now ≡ None) }
-    ensures fault { IfErr result (IsFirstOf (meaning.faults_of «module».now)) }
+    ensures short { IfOk result (λ _. AllByRecursion meaning.IsShort «module».now.functions) }
+    ensures fault { IfErr result (IsEndOf «module».now.functions (meaning.faults_of «module».now)) }
 {
-    functions_fit(alloc, module.functions.as_slice())
+    let functions = module.functions.as_slice();
+    if !are_short(functions) {
+        return Err(ShapeEnd::Limit(Limit::Lines));
+    }
+    functions_fit(alloc, functions)
 }
 
-/// Whether a function beside a module has no fault of shape; if it has, the first. Takes memory only for the names in a fault, and
-/// for the numbers of a switch.
+/// Whether a function beside a module has shape and is within the limit; if not, the same. Of its own name it is asked alone that it
+/// isn't one of debugging, since the module may have a function of that name.
 pub fn shape_function(alloc: Global, _module: &Module, function: &Function) -> Result<(), ShapeEnd>
-    ensures fits { IfOk result (λ _. meaning.in_function «function».now ≡ []) }
-    ensures fault { IfErr result (IsFirstOf (meaning.in_function «function».now)) }
+    ensures fits { IfOk result (λ _. meaning.in_function false «function».now ≡ []) }
+    ensures short { IfOk result (λ _. meaning.IsShort «function».now) }
+    ensures fault { IfErr result (IsEndOf («function».now ∷ []) (meaning.in_function false «function».now)) }
 {
-    function_fits(alloc, function)
+    if !is_short(function) {
+        return Err(ShapeEnd::Limit(Limit::Lines));
+    }
+    function_fits(alloc, false, function)
 }

@@ -1,11 +1,14 @@
 //! What is wrong with one line, one terminator or one name.
 ghost use Rattle.std.specs.Prelude.{◌≡◌, codes, nat_eq};
-ghost use Rattle.std.specs.List.{starts_with};
+ghost use Rattle.std.specs.List.{list_all, starts_with};
+ghost use Rattle.ir_core.specs.declared.functions.Param.{Param};
 ghost use Rattle.ir_core.specs.Functions.{is_debug};
 ghost use Rattle.ir_shape.specs.Shape as meaning;
+ghost use Rattle.ir_shape.specs.Typed.{type_in};
 
 use crate::ShapeKind;
-use ir_core::{Cast, Expr, Instr, Name, Select, Ty, converts, same_ty};
+use crate::types::{Types, operands_are_known, operands_are_typed};
+use ir_core::{Cast, Expr, Function, Instr, Name, Param, Select, Ty, converts, same_ty};
 
 /// `i1`, the type of conditions.
 pub(crate) const BIT: &'static Ty = &Ty::Int(1);
@@ -23,6 +26,23 @@ pub(crate) fn fault_unless(fits: bool, kind: ShapeKind) -> Option<ShapeKind>
     ensures { result ≡ meaning.fault_unless fits kind }
 {
     if fits { None } else { Some(kind) }
+}
+
+/// Of two kinds at one place the one that is told.
+pub(crate) fn least(one: Option<ShapeKind>, other: Option<ShapeKind>) -> Option<ShapeKind>
+    ensures { result ≡ meaning.least one other }
+{
+    match (one, other) {
+        (None, _) => other,
+        (Some(_), None) => one,
+        (Some(kind), Some(further)) => {
+            if further.order() < kind.order() {
+                other
+            } else {
+                one
+            }
+        }
+    }
 }
 
 fn cast_fits(cast: &Cast<Name>) -> bool
@@ -49,13 +69,35 @@ fn right_kind(right: &Expr<Name>) -> Option<ShapeKind>
     }
 }
 
-/// What is wrong with a line, if anything is.
-pub(crate) fn line_kind(line: &Instr) -> Option<ShapeKind>
-    ensures { result ≡ meaning.line_kind line.now }
+fn set_kind(types: &Types, taken: bool, right: &Expr<Name>) -> Option<ShapeKind>
+    ensures { result ≡ meaning.set_kind (type_in types.now) taken right.now }
+{
+    if taken || !operands_are_known(types, right) {
+        return Some(ShapeKind::Name);
+    }
+    if !is_integer(right.ty()) || !operands_are_typed(types, right) {
+        return Some(ShapeKind::OperandType);
+    }
+    right_kind(right)
+}
+
+/// What is wrong with a line whose register's name is taken or not, if anything is.
+pub(crate) fn line_kind(types: &Types, taken: bool, line: &Instr) -> Option<ShapeKind>
+    ensures { result ≡ meaning.line_kind (type_in types.now) taken line.now }
 {
     match line {
-        Instr::Calm(calm) => right_kind(&calm.right),
+        Instr::Calm(calm) => set_kind(types, taken, &calm.right),
     }
+}
+
+/// What is wrong with a block's name, where an earlier block may have it, and it may be taken.
+pub(crate) fn block_kind(doubled: bool, taken: bool) -> Option<ShapeKind>
+    ensures { result ≡ meaning.block_kind doubled taken }
+{
+    if doubled {
+        return Some(ShapeKind::Label);
+    }
+    fault_unless(!taken, ShapeKind::Name)
 }
 
 fn begins_debug(bytes: &[u8]) -> bool
@@ -73,9 +115,37 @@ fn is_debug(name: &Name) -> bool
     }
 }
 
-/// What is wrong with a function's name, if anything is.
-pub(crate) fn name_kind(name: &Name) -> Option<ShapeKind>
-    ensures { result ≡ meaning.name_kind name.now }
+/// What is wrong with a function's name, which may be taken.
+pub(crate) fn name_kind(taken: bool, name: &Name) -> Option<ShapeKind>
+    ensures { result ≡ meaning.name_kind taken name.now }
 {
-    fault_unless(!is_debug(name), ShapeKind::Name)
+    let fits = !taken && !is_debug(name);
+    fault_unless(fits, ShapeKind::Name)
+}
+
+fn are_values(params: &[Param]) -> bool
+    ensures { result ≡ list_all (λ (p : Param). meaning.is_integer p.ty) params.now }
+{
+    for param in params {
+        if !is_integer(&param.ty) {
+            return false;
+        }
+    }
+    true
+}
+
+/// What is wrong with a function's parameters, whose names are new or not, and with there being no block.
+pub(crate) fn header_kind(new: bool, function: &Function) -> Option<ShapeKind>
+    ensures { result ≡ meaning.header_kind new «function».now }
+{
+    if !new {
+        return Some(ShapeKind::Name);
+    }
+    if function.blocks.is_empty() {
+        return Some(ShapeKind::Label);
+    }
+    fault_unless(
+        are_values(function.params.as_slice()),
+        ShapeKind::OperandType,
+    )
 }

@@ -1,29 +1,34 @@
-ghost use Rattle.ir_shape.specs.Laws.{FaultlessModulesFit, FittingModulesAreFaultless, ShapelyModulesAreFaultless};
-ghost use Rattle.ir_shape.specs.Laws.{FittingLinesHaveNone, OperandsOfNoInteger, ConditionsAndArms, Conversions, Results, Phis, EnteredEntries, Branches, Cases, DebugNames};
-ghost use Rattle.ir_shape.specs.Laws.{LinesComeBeforeEnds, NamesComeBeforeLines, FunctionsComeInOrder};
+ghost use Rattle.ir_shape.specs.Laws.{FaultlessModulesHaveShape, ShapelyModulesAreFaultless, FaultlessFunctionsHaveShape, ShapelyFunctionsAreFaultless};
+ghost use Rattle.ir_shape.specs.Laws.{FittingLinesHaveNone, OperandsOfNoInteger, ConditionsAndArms, Conversions, Results, Phis, EnteredEntries, Branches, Cases, Names, Labels, Operands, Registers};
+ghost use Rattle.ir_shape.specs.Laws.{LinesComeBeforeEnds, NamesComeBeforeLines, FunctionsComeInOrder, KindsComeInOrder};
 
 /// Empty on purpose: its contract is the law.
 ///
-/// A module has no fault exactly where no function has a name of debugging, nothing enters an entry, each phi fits the edges into
-/// its block, each line sets its register by an operator over operands of types that it takes, and each terminator branches on what it may, returns the function's result and has
-/// cases that are different values.
-#[tactic(auto, using(crate::proofs::Fits::faultless_modules_fit, crate::proofs::Fits::fitting_modules_are_faultless))]
-pub fn no_fault_is_left()
-    ensures fits { FaultlessModulesFit }
-    ensures none { FittingModulesAreFaultless }
+/// A module without fault has shape.
+pub fn faultless_modules_have_shape()
+    ensures { FaultlessModulesHaveShape }
 {}
 
 /// Empty on purpose: its contract is the law.
 ///
 /// A module that has shape has no fault.
-#[tactic(auto, using(crate::proofs::Fits::shapely_modules_are_faultless))]
+#[tactic(auto, using(crate::proofs::Shapely::shapely_modules_are_faultless))]
 pub fn modules_with_shape_are_faultless()
     ensures { ShapelyModulesAreFaultless }
 {}
 
 /// Empty on purpose: its contract is the law.
 ///
-/// What is at fault in a line, a terminator and a name, and that nothing is where all fit.
+/// A function beside a module has no fault exactly where it has shape.
+pub fn functions_have_shape_or_a_fault()
+    ensures faultless { FaultlessFunctionsHaveShape }
+    ensures shapely { ShapelyFunctionsAreFaultless }
+{}
+
+/// Empty on purpose: its contract is the law.
+///
+/// What is at fault in a line, a terminator, a label and a name, and that nothing is where all fit.
+#[tactic(auto, unfolding(crate::specs::Shape::with_type))]
 pub fn examples_of_shape_faults()
     ensures none { FittingLinesHaveNone }
     ensures integers { OperandsOfNoInteger }
@@ -34,14 +39,20 @@ pub fn examples_of_shape_faults()
     ensures entries { EnteredEntries }
     ensures branches { Branches }
     ensures cases { Cases }
-    ensures names { DebugNames }
+    ensures names { Names }
+    ensures labels { Labels }
+    ensures operands { Operands }
+    ensures registers { Registers }
 {}
 
 /// Empty on purpose: its contract is the law.
 ///
-/// The first place decides: a line before a terminator, a name before the lines, a function before the next one's name.
+/// The first place decides: a line before a terminator, a name before the lines, a function before the next one's name. At one place
+/// the first kind does.
+#[tactic(auto, unfolding(crate::specs::Shape::with_type))]
 pub fn examples_of_order()
     ensures ends { LinesComeBeforeEnds }
     ensures names { NamesComeBeforeLines }
     ensures functions { FunctionsComeInOrder }
+    ensures kinds { KindsComeInOrder }
 {}

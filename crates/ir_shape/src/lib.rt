@@ -1,16 +1,21 @@
-//! Whether the lines and terminators of a module fit their types, and its functions' names are none of debugging (LangRef 3.7,
-//! Well-Formedness): what the text of a module doesn't settle by being spelled.
+//! Whether a module has shape (LangRef 3.7, Well-Formedness): whether its names and labels are unique and known, edges and phis agree,
+//! and lines and terminators fit their types.
 #![tactic(auto)]
 
+mod counts;
 mod ends;
 mod fault;
 mod first;
 mod kinds;
 mod laws;
+mod lines;
+mod names;
 mod phis;
+mod types;
 
 pub use fault::{LinePlace, ShapeEnd, ShapeFault, ShapeKind};
 pub use first::{shape, shape_function};
 pub use laws::{
-    examples_of_order, examples_of_shape_faults, modules_with_shape_are_faultless, no_fault_is_left,
+    examples_of_order, examples_of_shape_faults, faultless_modules_have_shape,
+    functions_have_shape_or_a_fault, modules_with_shape_are_faultless,
 };

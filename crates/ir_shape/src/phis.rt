@@ -3,12 +3,17 @@ ghost use Rattle.std.specs.Prelude.{◌≡◌, ◌++◌, [], ◌∷◌, map, IfO
 ghost use Rattle.std.specs.List.{list_all};
 ghost use Rattle.ir_core.specs.declared.functions.Case.{Case};
 ghost use Rattle.ir_core.specs.Functions as functions;
-ghost use Rattle.ir_shape.specs.Edges.{agrees, alike_with, edges_among, edges_from, named};
+ghost use Rattle.ir_shape.specs.Counted.{agree_at, count_in, counts_of};
+ghost use Rattle.ir_shape.specs.Edges.{edges_among, edges_from, named};
 ghost use Rattle.ir_shape.specs.Shape as meaning;
+ghost use Rattle.ir_shape.specs.Typed.{type_in};
 
 use crate::ShapeKind;
-use crate::kinds::fault_unless;
-use contents::Exact;
+use crate::counts::{Counts, are_alike, count_entries};
+use crate::first::Scope;
+use crate::kinds::{fault_unless, is_integer};
+use crate::names::entries_are_labels;
+use crate::types::{entries_are_known, entries_are_typed};
 use ir_core::{Block, Case, Entry, Name, Phi, Term, same_name};
 use std::alloc::{AllocError, Global};
 
@@ -77,98 +82,84 @@ pub(crate) fn edges_into<'a>(
     Ok(edges)
 }
 
-fn count_edges(edges: &[&Name], name: &Name) -> usize
-    ensures { result ≡ meaning.count_of name.now (named edges.now) }
-{
-    let mut count = 0;
-    for edge in edges {
-        if same_name(name, edge) {
-            count += 1;
-        }
-    }
-    count
-}
-
-fn count_entries(entries: &[Entry], name: &Name) -> usize
-    ensures { result ≡ meaning.count_of name.now (meaning.froms_of entries.now) }
-{
-    let mut count = 0;
-    for entry in entries {
-        if same_name(name, &entry.from) {
-            count += 1;
-        }
-    }
-    count
-}
-
-fn agrees(edges: &[&Name], entries: &[Entry], name: &Name) -> bool
-    ensures { result ≡ agrees (named edges.now) (meaning.froms_of entries.now) name.now }
-{
-    count_edges(edges, name) == count_entries(entries, name)
-}
-
-fn edges_agree(edges: &[&Name], entries: &[Entry]) -> bool
-    ensures { result ≡ list_all (agrees (named edges.now) (meaning.froms_of entries.now)) (named edges.now) }
+fn edges_agree(counts: &Counts, others: &Counts, edges: &[&Name]) -> bool
+    ensures { result ≡ list_all (agree_at (count_in counts.now) (count_in others.now)) (named edges.now) }
 {
     for edge in edges {
-        if !agrees(edges, entries, edge) {
+        if counts.get(edge) != others.get(edge) {
             return false;
         }
     }
     true
 }
 
-fn entries_agree(edges: &[&Name], entries: &[Entry]) -> bool
-    ensures { result ≡ list_all (agrees (named edges.now) (meaning.froms_of entries.now)) (meaning.froms_of entries.now) }
+fn entries_agree(counts: &Counts, others: &Counts, entries: &[Entry]) -> bool
+    ensures { result ≡ list_all (agree_at (count_in counts.now) (count_in others.now)) (meaning.froms_of entries.now) }
 {
     for entry in entries {
-        if !agrees(edges, entries, &entry.from) {
+        if counts.get(&entry.from) != others.get(&entry.from) {
             return false;
         }
     }
     true
 }
 
-fn is_alike(entry: &Entry, other: &Entry) -> bool
-    ensures { result ≡ alike_with entry.now other.now }
+/// Whether each block stands among the entries as often as among the edges.
+fn counts_agree(
+    alloc: Global,
+    edges: &[&Name],
+    counts: &Counts,
+    entries: &[Entry],
+) -> Result<bool, AllocError>
+    requires { count_in counts.now ≡ counts_of (named edges.now) }
+    ensures { IfOk result (λ agree. agree ≡ meaning.same_counts (named edges.now) (meaning.froms_of entries.now)) }
 {
-    !same_name(&entry.from, &other.from) || entry.value.is(&other.value)
+    let others = count_entries(alloc, entries)?;
+    Ok(edges_agree(counts, &others, edges) && entries_agree(counts, &others, entries))
 }
 
-fn are_alike_to(entry: &Entry, entries: &[Entry]) -> bool
-    ensures { result ≡ list_all (alike_with entry.now) entries.now }
+#[tactic(auto, using(crate::proofs::Counted::alike_along_none))]
+fn fits_edges(
+    alloc: Global,
+    edges: &[&Name],
+    counts: &Counts,
+    entries: &[Entry],
+) -> Result<bool, AllocError>
+    requires { count_in counts.now ≡ counts_of (named edges.now) }
+    ensures { IfOk result (λ fit. fit ≡ meaning.phi_fits (named edges.now) entries.now) }
 {
-    for other in entries {
-        if !is_alike(entry, other) {
-            return false;
-        }
+    if entries.is_empty() {
+        return Ok(false);
     }
-    true
-}
-
-fn are_alike(entries: &[Entry]) -> bool
-    ensures { result ≡ meaning.are_alike entries.now }
-{
-    for entry in entries {
-        if !are_alike_to(entry, entries) {
-            return false;
-        }
+    if !counts_agree(alloc, edges, counts, entries)? {
+        return Ok(false);
     }
-    true
+    Ok(are_alike(alloc, entries)?)
 }
 
-#[tactic(auto, using(crate::proofs::Edges::counts_joined))]
-fn counts_agree(edges: &[&Name], entries: &[Entry]) -> bool
-    ensures { result ≡ meaning.same_counts (named edges.now) (meaning.froms_of entries.now) }
-{
-    edges_agree(edges, entries) && entries_agree(edges, entries)
-}
-
-/// What is wrong with a phi of a block that these edges enter, if anything is.
-pub(crate) fn phi_kind(edges: &[&Name], phi: &Phi) -> Option<ShapeKind>
-    ensures { result ≡ meaning.phi_kind (named edges.now) phi.now }
+/// What is wrong with a phi of a block that these edges, so many of each block, enter, if anything is. Its register's name is taken or
+/// not.
+pub(crate) fn phi_kind(
+    alloc: Global,
+    scope: &Scope,
+    edges: &[&Name],
+    counts: &Counts,
+    taken: bool,
+    phi: &Phi,
+) -> Result<Option<ShapeKind>, AllocError>
+    requires { count_in counts.now ≡ counts_of (named edges.now) }
+    ensures { IfOk result (λ kind. kind ≡ meaning.phi_kind scope.now.labels (type_in scope.now.types) (named edges.now) taken phi.now) }
 {
     let entries = phi.entries.as_slice();
-    let fits = 0 < entries.len() && counts_agree(edges, entries) && are_alike(entries);
-    fault_unless(fits, ShapeKind::PhiEntries)
+    if taken || !entries_are_known(&scope.types, &phi.ty, entries) {
+        return Ok(Some(ShapeKind::Name));
+    }
+    if !entries_are_labels(&scope.labels, entries) {
+        return Ok(Some(ShapeKind::Label));
+    }
+    if !fits_edges(alloc, edges, counts, entries)? {
+        return Ok(Some(ShapeKind::PhiEntries));
+    }
+    let fits = is_integer(&phi.ty) && entries_are_typed(&scope.types, &phi.ty, entries);
+    Ok(fault_unless(fits, ShapeKind::OperandType))
 }

@@ -1,6 +1,8 @@
-//! Tests of values and of the machine, for what no contract and no row shows. Nothing else stands here.
+//! Tests of values, of the machine and of graphs, for what no contract and no row shows. Nothing else stands here.
 #![tactic(auto)]
 
+#[cfg(test)]
+mod flow;
 #[cfg(test)]
 mod running;
 #[cfg(test)]

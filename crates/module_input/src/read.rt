@@ -2,7 +2,7 @@ ghost use Rattle.std.specs.Prelude.{◌≡◌, None, IfOk, IfErr};
 ghost use Rattle.std.specs.List.{AllByRecursion};
 ghost use Rattle.ir_core.specs.declared.functions.Module.{Module};
 ghost use Rattle.ir_core.specs.WellFormed.{HasFunctionShape, HasShape, IsFunctionDefined, IsWellFormed};
-ghost use Rattle.ir_shape.specs.Shape.{first_fault};
+ghost use Rattle.ir_shape.specs.Shape.{IsShort, first_fault};
 ghost use Rattle.ir_spelling.specs.Spells.{Spells, SpellsWellFormed};
 ghost use Rattle.module_input.specs.Faults.{IsModuleFault};
 ghost use Rattle.module_input.specs.Private.{HasFault, ShapeAmong, UndefinedAmong, of_text};
@@ -41,19 +41,23 @@ fn all_defined(alloc: Global, functions: &[Function]) -> Result<(), ModuleFault>
 
 /// Whether a module is without fault of shape; if not, the first.
 fn shaped(alloc: Global, module: &Module) -> Result<(), ModuleFault>
+    requires { AllByRecursion IsShort «module».now.functions }
     ensures faultless { IfOk result (λ _. first_fault «module».now ≡ None) }
     ensures fault { IfErr result (ShapeAmong «module».now) }
 {
     match shape(alloc, module) {
         Ok(()) => Ok(()),
         Err(ShapeEnd::Fault(fault)) => Err(ModuleFault::Shape(fault)),
+        // A module that a text spells is within it.
+        Err(ShapeEnd::Limit(limit)) => Err(ModuleFault::Text(TextFault::Limit(limit))),
         Err(ShapeEnd::Memory) => Err(ModuleFault::Memory),
     }
 }
 
 /// Whether a module that is spelled is well-formed; if not, its first fault.
 fn fits(alloc: Global, module: &Module) -> Result<(), ModuleFault>
-    requires { first_fault «module».now ≡ None → HasShape «module».now }
+    requires shape { first_fault «module».now ≡ None → HasShape «module».now }
+    requires short { AllByRecursion IsShort «module».now.functions }
     ensures faultless { IfOk result (λ _. first_fault «module».now ≡ None) }
     ensures defined { IfOk result (λ _. AllByRecursion IsFunctionDefined «module».now.functions) }
     ensures fault { IfErr result (HasFault «module».now) }

@@ -1,4 +1,4 @@
--- A module that a text spells has its names in order, is in range, and has shape where its lines, terminators and names fit.
+-- A module that a text spells has its names in order, is in range, and has shape where it has no fault.
 use Rattle.std.proofs.Common.{ℕ, List, [], ◌∷◌}
 use Rattle.std.specs.List.{AllByRecursion, AllZip}
 use Rattle.ir_core.specs.declared.functions.Function.{Function}
@@ -6,14 +6,13 @@ use Rattle.ir_core.specs.declared.functions.Module.{Module}
 use Rattle.ir_core.specs.Functions.{names_of}
 use Rattle.ir_core.specs.Order.{AreInOrder, IsInOrder}
 use Rattle.ir_core.specs.Ranges.{AreBytes, IsFunctionInRange, IsInRange}
-use Rattle.ir_core.specs.WellFormed.{HasFunctionShape}
 use Rattle.ir_grammar.specs.declared.trees.DefinitionText.{DefinitionText}
 use Rattle.ir_naming.specs.Spells.{NamesFunction}
-use Rattle.ir_shape.specs.Laws.{FaultlessModulesFit, FitsTypes}
+use Rattle.ir_shape.specs.Laws.{FaultlessModulesHaveShape}
+use Rattle.ir_shape.specs.Shape.{IsShort}
 use Rattle.ir_spelling.specs.Spells.{Spells}
 use Rattle.spelling_laws.specs.Laws.{ModulesHaveShape}
 use Rattle.spelling_laws.proofs.Ranged.{ranged}
-use Rattle.spelling_laws.proofs.Shaped.{shaped}
 use Rattle.spelling_laws.proofs.WrittenRanges.{AreWrittenInRange, spelled_range}
 
 functions_in_order : (ds : List DefinitionText) (fs : List Function) → AllZip NamesFunction ds fs → AllByRecursion (λ (f : Function). AreInOrder (names_of f)) fs
@@ -22,11 +21,11 @@ functions_in_order [] (f ∷ fs) zip = absurd zip
 functions_in_order (d ∷ ds) [] zip = absurd zip
 functions_in_order (d ∷ ds) (f ∷ fs) zip = (zip.0.order, functions_in_order ds fs zip.1)
 
-functions_shaped : (ds : List DefinitionText) (fs : List Function) → AllZip NamesFunction ds fs → AllByRecursion FitsTypes fs → AllByRecursion HasFunctionShape fs
-functions_shaped [] [] zip fits = tt
-functions_shaped [] (f ∷ fs) zip fits = absurd zip
-functions_shaped (d ∷ ds) [] zip fits = absurd zip
-functions_shaped (d ∷ ds) (f ∷ fs) zip fits = (shaped d f zip.0 fits.0, functions_shaped ds fs zip.1 fits.1)
+functions_short : (ds : List DefinitionText) (fs : List Function) → AllZip NamesFunction ds fs → AllByRecursion IsShort fs
+functions_short [] [] zip = tt
+functions_short [] (f ∷ fs) zip = absurd zip
+functions_short (d ∷ ds) [] zip = absurd zip
+functions_short (d ∷ ds) (f ∷ fs) zip = (zip.0.few, functions_short ds fs zip.1)
 
 functions_ranged : (ds : List DefinitionText) (fs : List Function) → AllByRecursion AreWrittenInRange ds → AllZip NamesFunction ds fs → AllByRecursion IsFunctionInRange fs
 functions_ranged [] [] range zip = tt
@@ -37,11 +36,11 @@ functions_ranged (d ∷ ds) (f ∷ fs) range zip = (ranged d f range.0 zip.0, fu
 pub in_order : (bytes : List ℕ) (m : Module) → Spells bytes m → IsInOrder m
 in_order bytes m s = record { functions = functions_in_order s.tree.definitions m.functions s.names.functions; names = s.names.order }
 
-pub has_shape : FaultlessModulesFit → ModulesHaveShape
-has_shape fits bytes m s none = record {
-  functions = functions_shaped s.tree.definitions m.functions s.names.functions (fits m none);
-  names = s.names.order.0;
-}
+pub has_shape : FaultlessModulesHaveShape → ModulesHaveShape
+has_shape law bytes m s none = law m none
+
+pub short : (bytes : List ℕ) (m : Module) → Spells bytes m → AllByRecursion IsShort m.functions
+short bytes m s = functions_short s.tree.definitions m.functions s.names.functions
 
 pub in_range : (bytes : List ℕ) (m : Module) → AreBytes bytes → Spells bytes m → IsInRange m
 in_range bytes m small s = functions_ranged s.tree.definitions m.functions (spelled_range bytes s.tree small s.symbols) s.names.functions

@@ -14,7 +14,6 @@ pub mod Named
 pub mod Past
 pub mod Ranged
 pub mod Ranges
-pub mod Shaped
 pub mod Spans
 pub mod Tools
 pub mod Trees

@@ -211,6 +211,6 @@ ranged d f range n =
       registers = registers_typed IsSymbolInRange IsTypeInRange (λ w range. range) refl d f range n;
       operands = operands_walked IsSymbolInRange IsOperandInRange d f (λ w v atom range is. (range, value_in_range (typed_of f) w.what v atom is)) range n;
       flags = in_blocks f.blocks b n.one_block (lines_flagged (typed_of f) d.block.lines b.body n.body.lines);
-      cases = no_cases_in f.blocks b n.one_block (returns_only _ _ b.term n.body.returns).no_cases;
+      cases = no_cases_in f.blocks b n.one_block (returns_only _ _ b.term n.body.returns);
       lines = n.few;
     }

@@ -18,8 +18,7 @@ use Rattle.ir_core.specs.declared.operands.Operand.{Operand}
 use Rattle.ir_core.specs.declared.operands.Ty.{Ty}
 use Rattle.ir_core.specs.declared.operands.Ty.TheVariants.{Int}
 use Rattle.ir_core.specs.Expressions.{operands_in, type_of}
-use Rattle.ir_core.specs.Functions.{cases_of, operands_at_end, operands_in_block, operands_of, operands_of_phi, set_by, successors_of, typed_of}
-use Rattle.ir_core.specs.WellFormed.{BranchesOn, HasCases}
+use Rattle.ir_core.specs.Functions.{cases_of, operands_at_end, operands_in_block, operands_of, operands_of_phi, set_by, typed_of}
 use Rattle.ir_grammar.specs.declared.trees.DefinitionText.{DefinitionText}
 use Rattle.ir_grammar.specs.declared.trees.LineText.{LineText}
 use Rattle.ir_grammar.specs.declared.trees.OperandText.{OperandText}
@@ -134,21 +133,15 @@ operands_walked P O d f of_value has n =
 
 -- ---- terminators
 
--- what is written returns: it leads to no block, and has no cases
-pub record LeadsNowhere (t : Term) : Type 0 where
-  pub successors : successors_of t ≡ []
-  pub branches : BranchesOn t
-  pub cases : HasCases t
-  pub no_cases : cases_of t ≡ []
-
-pub returns_only : (registers : List (Name × Ty)) (w : Option OperandText) (t : Term) → IsReturn registers w t → LeadsNowhere t
-returns_only registers (Some w) (Ret operand) is = record { successors = refl; branches = tt; cases = tt; no_cases = refl }
+-- what is written returns, and has no cases
+pub returns_only : (registers : List (Name × Ty)) (w : Option OperandText) (t : Term) → IsReturn registers w t → cases_of t ≡ []
+returns_only registers (Some w) (Ret operand) is = refl
 returns_only registers (Some w) RetVoid is = absurd is
 returns_only registers (Some w) (Br label) is = absurd is
 returns_only registers (Some w) (CondBr c) is = absurd is
 returns_only registers (Some w) (Switch s) is = absurd is
 returns_only registers (Some w) Unreachable is = absurd is
-returns_only registers None RetVoid is = record { successors = refl; branches = tt; cases = tt; no_cases = refl }
+returns_only registers None RetVoid is = refl
 returns_only registers None (Ret operand) is = absurd is
 returns_only registers None (Br label) is = absurd is
 returns_only registers None (CondBr c) is = absurd is

@@ -1,12 +1,13 @@
 -- What a text spells is one thing, in order, of shape and in range; and each text either spells something or has a first fault.
 use Rattle.std.specs.Prelude.{◌≡◌, ◌⊎◌, ◌≤◌, ℕ, List, length, None}
+use Rattle.std.specs.List.{AllByRecursion}
 use Rattle.ir_core.specs.declared.functions.Module.{Module}
 use Rattle.ir_core.specs.declared.names.Sigil.{Sigil}
 use Rattle.ir_core.specs.Limits.{text_limit}
 use Rattle.ir_core.specs.Order.{IsInOrder}
 use Rattle.ir_core.specs.Ranges.{AreBytes, IsInRange}
 use Rattle.ir_core.specs.WellFormed.{HasShape}
-use Rattle.ir_shape.specs.Shape.{first_fault}
+use Rattle.ir_shape.specs.Shape.{IsShort, first_fault}
 use Rattle.ir_spelling.specs.declared.fault.TextFault.{TextFault}
 use Rattle.ir_spelling.specs.declared.fault.TextFault.TheVariants as fault
 use Rattle.ir_spelling.specs.Faults.{IsTextFault}
@@ -34,10 +35,14 @@ NamesAreOne = (sigil : Sigil) → SpellsNoTwo (SpellsName sigil)
 abbrev pub ModulesAreInOrder : Type 0
 ModulesAreInOrder = (bytes : List ℕ) (m : Module) → Spells bytes m → IsInOrder m
 
--- It has shape where its lines and terminators fit their types, and no function has a name of debugging. The text
+-- It has shape where it has no fault of shape. The text
 -- `define i8 @f() { ret i32 1 }` spells a module that has none: its `return type` is at fault.
 abbrev pub ModulesHaveShape : Type 0
 ModulesHaveShape = (bytes : List ℕ) (m : Module) → Spells bytes m → first_fault m ≡ None → HasShape m
+
+-- its functions are within the limit on lines
+abbrev pub ModulesAreShort : Type 0
+ModulesAreShort = (bytes : List ℕ) (m : Module) → Spells bytes m → AllByRecursion IsShort m.functions
 
 -- its names, types and constants are in range, since the text is made of bytes
 abbrev pub ModulesAreInRange : Type 0

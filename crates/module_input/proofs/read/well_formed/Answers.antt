@@ -9,5 +9,8 @@ returns-clause-well_formed c =
 pub returns-clause-fault : goal.returns-clause-fault
 returns-clause-fault c = told_of_text c.args.text.now c.args.module.now c.requires c.fits.result c.fits.ensures.fault
 
-pub fits-requires : goal.fits-requires
-fits-requires c faultless = c.spelled_modules_fit.ensures.shape c.args.text.now c.args.module.now c.requires faultless
+pub fits-requires-clause-shape : goal.fits-requires-clause-shape
+fits-requires-clause-shape c faultless = c.spelled_modules_fit.ensures.shape c.args.text.now c.args.module.now c.requires faultless
+
+pub fits-requires-clause-short : goal.fits-requires-clause-short
+fits-requires-clause-short c = c.spelled_modules_fit.ensures.short c.args.text.now c.args.module.now c.requires

@@ -1,0 +1,8 @@
+use Rattle.std.proofs.Common.{◌≡◌, drop}
+use Rattle.ir_shape.specs.Shape.{are_typed}
+use Rattle.ir_shape.specs.Typed.{operands_at, type_in}
+use Rattle.ir_shape.proofs.types.entries_are_typed.Given as goal
+
+abbrev pub invariant-loop-entry : goal.invariant-loop-entry
+invariant-loop-entry l =
+    are_typed (type_in l.types) (operands_at l.ty (drop l.entry-index l.entries)) ≡ are_typed (type_in l.types) (operands_at l.ty l.entries)

@@ -1,0 +1,233 @@
+//! The types of a function's registers.
+ghost use Rattle.std.specs.Prelude.{◌≡◌, map, IfOk, OnOk};
+ghost use Rattle.std.specs.List.{flat_map};
+ghost use Rattle.ir_core.specs.declared.functions.Param.{Param};
+ghost use Rattle.ir_core.specs.Functions as functions;
+ghost use Rattle.ir_core.specs.Expressions as expressions;
+ghost use Rattle.ir_shape.specs.Shape as meaning;
+ghost use Rattle.ir_shape.specs.Typed.{operands_at, type_in};
+
+use crate::kinds::is_integer;
+use indexmap::IndexMap;
+use ir_core::{Atom, Block, Entry, Expr, Function, Instr, Name, Param, Phi, Term, Ty, same_ty};
+use std::alloc::{AllocError, Global};
+
+/// The type of each register, as it is first defined, found by its name without a walk through the others.
+pub(crate) struct Types<'a> {
+    first: IndexMap<&'a Name, &'a Ty>,
+}
+
+impl<'a> Drop for Types<'a> {
+    fn drop(self) {
+        let Types { first: _ } = self;
+    }
+}
+
+impl<'a> Types<'a> {
+    ghost use Rattle.std.specs.Option.{option_copied};
+    ghost use Rattle.ir_shape.specs.Shape.{none_typed, with_type, with_types};
+    ghost use Rattle.ir_shape.specs.Typed.{found_in};
+
+    fn new(alloc: Global) -> Types<'a>
+        ensures { type_in result ≡ none_typed }
+    {
+        Types {
+            first: IndexMap::new(alloc),
+        }
+    }
+
+    fn get(&self, name: &Name) -> Option<&'a Ty>
+        ensures { result ≡ found_in self.now name.now }
+    {
+        self.first.get(&name).copied()
+    }
+
+    fn put(&mut self, name: &'a Name, ty: &'a Ty) -> Result<(), AllocError>
+        ensures { OnOk result (type_in self.new ≡ with_type (type_in self.old) name.now ty.now) }
+    {
+        match self.get(name) {
+            Some(_) => Ok(()),
+            None => {
+                self.first.insert(name, ty)?;
+                Ok(())
+            }
+        }
+    }
+
+    fn put_params(&mut self, params: &'a [Param]) -> Result<(), AllocError>
+        ensures { OnOk result
+            (type_in self.new ≡ with_types (type_in self.old) (map (λ (p : Param). (p.name, p.ty)) params.now)) }
+    {
+        for param in params {
+            self.put(&param.name, &param.ty)?;
+        }
+        Ok(())
+    }
+
+    fn put_phis(&mut self, phis: &'a [Phi]) -> Result<(), AllocError>
+        ensures { OnOk result (type_in self.new ≡ with_types (type_in self.old) (functions.phi_registers phis.now)) }
+    {
+        for phi in phis {
+            self.put(&phi.name, &phi.ty)?;
+        }
+        Ok(())
+    }
+
+    fn put_lines(&mut self, lines: &'a [Instr]) -> Result<(), AllocError>
+        ensures { OnOk result (type_in self.new ≡ with_types (type_in self.old) (functions.set_by lines.now)) }
+    {
+        for line in lines {
+            let Instr::Calm(calm) = line;
+            self.put(&calm.name, calm.right.ty())?;
+        }
+        Ok(())
+    }
+
+    #[tactic(auto, using(crate::proofs::Typed::types_joined))]
+    fn put_block(&mut self, block: &'a Block) -> Result<(), AllocError>
+        ensures { OnOk result (type_in self.new ≡ with_types (type_in self.old) (functions.registers_of block.now)) }
+    {
+        self.put_phis(block.phis.as_slice())?;
+        self.put_lines(block.body.as_slice())
+    }
+
+    #[tactic(auto, using(crate::proofs::Typed::types_joined))]
+    fn put_blocks(&mut self, blocks: &'a [Block]) -> Result<(), AllocError>
+        ensures { OnOk result (type_in self.new ≡ with_types (type_in self.old) (flat_map functions.registers_of blocks.now)) }
+    {
+        for block in blocks {
+            self.put_block(block)?;
+        }
+        Ok(())
+    }
+
+    /// Whether a register that is named is one of them.
+    #[tactic(auto, unfolding(crate::specs::Typed::type_in))]
+    fn is_known(&self, atom: &Atom<Name>) -> bool
+        ensures { result ≡ meaning.is_known (type_in self.now) atom.now }
+    {
+        match atom {
+            Atom::Constant(_) => true,
+            Atom::Register(name) => self.get(name).is_some(),
+        }
+    }
+
+    /// Whether the type is that of the register.
+    #[tactic(auto, unfolding(crate::specs::Typed::type_in))]
+    fn is_of(&self, name: &Name, ty: &Ty) -> bool
+        ensures { result ≡ meaning.is_type (type_in self.now name.now) ty.now }
+    {
+        match self.get(name) {
+            None => false,
+            Some(own) => same_ty(own, ty),
+        }
+    }
+
+    fn has_type(&self, ty: &Ty, atom: &Atom<Name>) -> bool
+        ensures { result ≡ meaning.has_type (type_in self.now) ty.now atom.now }
+    {
+        match atom {
+            Atom::Constant(_) => is_integer(ty),
+            Atom::Register(name) => self.is_of(name, ty),
+        }
+    }
+}
+
+/// The types of the function's registers.
+#[tactic(auto, using(crate::proofs::Typed::types_joined))]
+pub(crate) fn types_of<'a>(alloc: Global, function: &'a Function) -> Result<Types<'a>, AllocError>
+    ensures { IfOk result (λ types. type_in types ≡ meaning.types_of «function».now) }
+{
+    let mut types = Types::new(alloc);
+    types.put_params(function.params.as_slice())?;
+    types.put_blocks(function.blocks.as_slice())?;
+    Ok(types)
+}
+
+/// Whether the registers that a line's right side names are such.
+#[tactic(auto, using(crate::proofs::Tests::with_true))]
+pub(crate) fn operands_are_known(types: &Types, right: &Expr<Name>) -> bool
+    ensures { result ≡ meaning.are_known (type_in types.now) (expressions.operands_in right.now) }
+{
+    match right {
+        Expr::Plain(operand) => types.is_known(&operand.atom),
+        Expr::Binary(binary) => types.is_known(&binary.left) && types.is_known(&binary.right),
+        Expr::Icmp(icmp) => types.is_known(&icmp.left) && types.is_known(&icmp.right),
+        Expr::Cast(cast) => types.is_known(&cast.operand.atom),
+        Expr::Select(select) => {
+            types.is_known(&select.condition.atom)
+                && types.is_known(&select.left.atom)
+                && types.is_known(&select.right.atom)
+        }
+    }
+}
+
+/// Whether they are of the types that are stated for them.
+#[tactic(auto, using(crate::proofs::Tests::with_true))]
+pub(crate) fn operands_are_typed(types: &Types, right: &Expr<Name>) -> bool
+    ensures { result ≡ meaning.are_typed (type_in types.now) (expressions.operands_in right.now) }
+{
+    match right {
+        Expr::Plain(operand) => types.has_type(&operand.ty, &operand.atom),
+        Expr::Binary(binary) => {
+            types.has_type(&binary.ty, &binary.left) && types.has_type(&binary.ty, &binary.right)
+        }
+        Expr::Icmp(icmp) => {
+            types.has_type(&icmp.ty, &icmp.left) && types.has_type(&icmp.ty, &icmp.right)
+        }
+        Expr::Cast(cast) => types.has_type(&cast.operand.ty, &cast.operand.atom),
+        Expr::Select(select) => {
+            types.has_type(&select.condition.ty, &select.condition.atom)
+                && types.has_type(&select.left.ty, &select.left.atom)
+                && types.has_type(&select.right.ty, &select.right.atom)
+        }
+    }
+}
+
+/// The same of a terminator.
+#[tactic(auto, using(crate::proofs::Tests::with_true))]
+pub(crate) fn end_is_known(types: &Types, end: &Term) -> bool
+    ensures { result ≡ meaning.are_known (type_in types.now) (functions.operands_at_end end.now) }
+{
+    match end {
+        Term::Ret(operand) => types.is_known(&operand.atom),
+        Term::CondBr(branch) => types.is_known(&branch.condition.atom),
+        Term::Switch(switch) => types.is_known(&switch.value.atom),
+        Term::RetVoid | Term::Br(_) | Term::Unreachable => true,
+    }
+}
+
+#[tactic(auto, using(crate::proofs::Tests::with_true))]
+pub(crate) fn end_is_typed(types: &Types, end: &Term) -> bool
+    ensures { result ≡ meaning.are_typed (type_in types.now) (functions.operands_at_end end.now) }
+{
+    match end {
+        Term::Ret(operand) => types.has_type(&operand.ty, &operand.atom),
+        Term::CondBr(branch) => types.has_type(&branch.condition.ty, &branch.condition.atom),
+        Term::Switch(switch) => types.has_type(&switch.value.ty, &switch.value.atom),
+        Term::RetVoid | Term::Br(_) | Term::Unreachable => true,
+    }
+}
+
+/// The same of the entries of a phi.
+pub(crate) fn entries_are_known(types: &Types, ty: &Ty, entries: &[Entry]) -> bool
+    ensures { result ≡ meaning.are_known (type_in types.now) (operands_at ty.now entries.now) }
+{
+    for entry in entries {
+        if !types.is_known(&entry.value) {
+            return false;
+        }
+    }
+    true
+}
+
+pub(crate) fn entries_are_typed(types: &Types, ty: &Ty, entries: &[Entry]) -> bool
+    ensures { result ≡ meaning.are_typed (type_in types.now) (operands_at ty.now entries.now) }
+{
+    for entry in entries {
+        if !types.has_type(ty, &entry.value) {
+            return false;
+        }
+    }
+    true
+}
