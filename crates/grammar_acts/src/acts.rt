@@ -5,11 +5,12 @@ ghost use Rattle.ir_grammar.specs.Rules as rule;
 ghost use Rattle.ir_grammar.specs.Sorts.{vocabulary};
 ghost use Rattle.typed_grammars.specs.Typed.{action};
 
+use crate::flow;
 use crate::forms::{
-    BlockPart, CastPart, ConstantPart, DefinitionPart, ExactPart, ExactnessPart, FlagPart,
-    FlagsPart, GlobalPart, LabelPart, LinePart, LinesPart, LocalPart, ModulePart, NamePart,
-    NumberPart, OperandPart, OperationPart, OperatorPart, OverflowPart, ParamPart, ParamsPart,
-    PlainPart, PredPart, ResultPart, ReturnedPart, ValuePart, WidthPart, take,
+    BlockPart, BlocksPart, BodyPart, CastPart, DefinitionPart, ExactPart, ExactnessPart, FlagPart,
+    FlagsPart, GlobalPart, IntPart, LabelPart, LinePart, LinesPart, LocalPart, ModulePart,
+    NamePart, OperandPart, OperationPart, OperatorPart, OverflowPart, ParamPart, ParamsPart,
+    PlainPart, PredPart, ResultPart, ReturnedPart, TermPart, ValuePart, WidthPart, take,
 };
 use contents::Boxed;
 use ir_grammar::{
@@ -61,11 +62,14 @@ fn definitions(parts: &mut Stack<Part>) -> Result<(), AllocError>
     parts.push(Part::Tree(Tree::Module(rest)))
 }
 
-/// `define result GLOBAL ( params ) { block }`
+/// `define result GLOBAL ( params ) { block blocks }`
 fn definition(parts: &mut Stack<Part>, alloc: Global) -> Result<(), AllocError>
     ensures { OnOk result (parts.new ≡ action vocabulary rule.definition parts.old) }
 {
-    let Some(block) = take::<BlockPart>(parts) else {
+    let Some(others) = take::<BlocksPart>(parts) else {
+        return Ok(());
+    };
+    let Some(entry) = take::<BlockPart>(parts) else {
         return Ok(());
     };
     let Some(params) = take::<ParamsPart>(parts) else {
@@ -81,7 +85,8 @@ fn definition(parts: &mut Stack<Part>, alloc: Global) -> Result<(), AllocError>
         result,
         name,
         params,
-        block,
+        entry,
+        others,
     };
     parts.push(Part::Tree(Tree::Definition(Boxed::new(alloc, definition)?)))
 }
@@ -154,24 +159,20 @@ fn named(parts: &mut Stack<Part>) -> Result<(), AllocError>
     parts.push(Part::Atom(Atom::Name(Some(name))))
 }
 
-/// `[LABEL] lines ret (void | TYPE value)`
+/// `[LABEL] body term`
 fn block(parts: &mut Stack<Part>, alloc: Global) -> Result<(), AllocError>
     ensures { OnOk result (parts.new ≡ action vocabulary rule.block parts.old) }
 {
-    let Some(result) = take::<ReturnedPart>(parts) else {
+    let Some(term) = take::<TermPart>(parts) else {
         return Ok(());
     };
-    let Some(lines) = take::<LinesPart>(parts) else {
+    let Some(body) = take::<BodyPart>(parts) else {
         return Ok(());
     };
     let Some(label) = take::<NamePart>(parts) else {
         return Ok(());
     };
-    let block = BlockText {
-        label,
-        lines,
-        result,
-    };
+    let block = BlockText { label, body, term };
     parts.push(Part::Tree(Tree::Block(Boxed::new(alloc, block)?)))
 }
 
@@ -400,24 +401,21 @@ fn operand(parts: &mut Stack<Part>) -> Result<(), AllocError>
     parts.push(Part::Tree(Tree::Operand(OperandText { ty, value })))
 }
 
-/// NUMBER
-fn number(parts: &mut Stack<Part>) -> Result<(), AllocError>
-    ensures { OnOk result (parts.new ≡ action vocabulary rule.number parts.old) }
+/// An integer as a value.
+fn int(parts: &mut Stack<Part>) -> Result<(), AllocError>
+    ensures { OnOk result (parts.new ≡ action vocabulary rule.int parts.old) }
 {
-    let Some(number) = take::<NumberPart>(parts) else {
+    let Some(int) = take::<IntPart>(parts) else {
         return Ok(());
     };
-    parts.push(Part::Atom(Atom::Value(ValueText::Number(number))))
+    parts.push(Part::Atom(Atom::Value(ValueText::Int(int))))
 }
 
-/// CONSTANT
-fn constant(parts: &mut Stack<Part>) -> Result<(), AllocError>
-    ensures { OnOk result (parts.new ≡ action vocabulary rule.constant parts.old) }
+/// `undef`
+fn undef(parts: &mut Stack<Part>) -> Result<(), AllocError>
+    ensures { OnOk result (parts.new ≡ action vocabulary rule.undef parts.old) }
 {
-    let Some(constant) = take::<ConstantPart>(parts) else {
-        return Ok(());
-    };
-    parts.push(Part::Atom(Atom::Value(ValueText::Constant(constant))))
+    parts.push(Part::Atom(Atom::Value(ValueText::Undef)))
 }
 
 /// LOCAL as a value
@@ -509,13 +507,34 @@ pub fn reduce(parts: &mut Stack<Part>, alloc: Global, p: u16) -> Result<(), Allo
         31 => inexact(parts),
         32 => exactly(parts),
         33 => operand(parts),
-        34 => number(parts),
-        35 => constant(parts),
+        34 => int(parts),
+        35 => undef(parts),
         36 => local(parts),
         37 => expression_operand(parts, alloc),
         38 => expression_operation(parts, alloc),
         39 => local_name(parts),
         40 => global_name(parts),
+        41 => flow::blocks_end(parts, alloc),
+        42 => flow::blocks(parts),
+        43 => flow::body_end(parts, alloc),
+        44 => flow::body(parts, alloc),
+        45 => flow::behind_phi(parts, alloc),
+        46 => flow::behind_line(parts, alloc),
+        47 => flow::node(parts, alloc),
+        48 => flow::entries_end(parts, alloc),
+        49 => flow::entries(parts),
+        50 => flow::entry(parts, alloc),
+        51 => flow::ret(parts, alloc),
+        52 => flow::br(parts, alloc),
+        53 => flow::switch(parts, alloc),
+        54 => flow::unreachable(parts, alloc),
+        55 => flow::always(parts, alloc),
+        56 => flow::condition(parts, alloc),
+        57 => flow::cases_end(parts, alloc),
+        58 => flow::cases(parts),
+        59 => flow::case(parts, alloc),
+        60 => flow::number(parts),
+        61 => flow::truth(parts),
         _ => Ok(()),
     }
 }

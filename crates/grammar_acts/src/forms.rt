@@ -5,9 +5,10 @@ ghost use Rattle.typed_grammars.specs.Typed as stack;
 
 use ir_core::{CastOp, Name, Pred};
 use ir_grammar::{
-    Atom, BlockText, ConstantWord, DefinitionText, ExactOp, ExprText, FlagWord, Leaf, LineText,
-    List, ModuleText, OperandText, OperationText, OperatorText, OverflowOp, ParamText, Part,
-    Placed, PlainOp, Tree, ValueText,
+    Atom, BehindText, BlockText, BodyText, BranchText, CaseText, DefinitionText, EntryText,
+    ExactOp, ExprText, FlagWord, IntText, Leaf, LineText, List, ModuleText, NodeText, OperandText,
+    OperationText, OperatorText, OverflowOp, ParamText, Part, Placed, PlainOp, TermText, Tree,
+    ValueText,
 };
 use ir_lexer::Number;
 use typed_grammars::Stack;
@@ -176,6 +177,206 @@ impl Form for BlockPart {
     }
 }
 
+pub struct BlocksPart;
+
+impl Form for BlocksPart {
+    ghost use Rattle.ir_grammar.specs.Parts.{a_blocks};
+
+    type Value = Stack<BlockText>;
+
+    ghost held_by = { a_blocks };
+
+    fn of(part: Part) -> Option<Stack<BlockText>> {
+        match part {
+            Part::List(List::Blocks(x)) => Some(x),
+            other => {
+                drop(other);
+                None
+            }
+        }
+    }
+}
+
+pub struct BodyPart;
+
+impl Form for BodyPart {
+    ghost use Rattle.ir_grammar.specs.Parts.{a_body};
+
+    type Value = BodyText;
+
+    ghost held_by = { a_body };
+
+    fn of(part: Part) -> Option<BodyText> {
+        match part {
+            Part::Tree(Tree::Body(x)) => Some(x),
+            other => {
+                drop(other);
+                None
+            }
+        }
+    }
+}
+
+pub struct BehindPart;
+
+impl Form for BehindPart {
+    ghost use Rattle.ir_grammar.specs.Parts.{a_behind};
+
+    type Value = BehindText;
+
+    ghost held_by = { a_behind };
+
+    fn of(part: Part) -> Option<BehindText> {
+        match part {
+            Part::Tree(Tree::Behind(x)) => Some(x.into_inner()),
+            other => {
+                drop(other);
+                None
+            }
+        }
+    }
+}
+
+pub struct NodePart;
+
+impl Form for NodePart {
+    ghost use Rattle.ir_grammar.specs.Parts.{a_node};
+
+    type Value = NodeText;
+
+    ghost held_by = { a_node };
+
+    fn of(part: Part) -> Option<NodeText> {
+        match part {
+            Part::Tree(Tree::Node(x)) => Some(x.into_inner()),
+            other => {
+                drop(other);
+                None
+            }
+        }
+    }
+}
+
+pub struct EntriesPart;
+
+impl Form for EntriesPart {
+    ghost use Rattle.ir_grammar.specs.Parts.{a_entries};
+
+    type Value = Stack<EntryText>;
+
+    ghost held_by = { a_entries };
+
+    fn of(part: Part) -> Option<Stack<EntryText>> {
+        match part {
+            Part::List(List::Entries(x)) => Some(x),
+            other => {
+                drop(other);
+                None
+            }
+        }
+    }
+}
+
+pub struct EntryPart;
+
+impl Form for EntryPart {
+    ghost use Rattle.ir_grammar.specs.Parts.{a_entry};
+
+    type Value = EntryText;
+
+    ghost held_by = { a_entry };
+
+    fn of(part: Part) -> Option<EntryText> {
+        match part {
+            Part::Tree(Tree::Entry(x)) => Some(x.into_inner()),
+            other => {
+                drop(other);
+                None
+            }
+        }
+    }
+}
+
+pub struct TermPart;
+
+impl Form for TermPart {
+    ghost use Rattle.ir_grammar.specs.Parts.{a_term};
+
+    type Value = TermText;
+
+    ghost held_by = { a_term };
+
+    fn of(part: Part) -> Option<TermText> {
+        match part {
+            Part::Tree(Tree::Term(x)) => Some(x.into_inner()),
+            other => {
+                drop(other);
+                None
+            }
+        }
+    }
+}
+
+pub struct BranchPart;
+
+impl Form for BranchPart {
+    ghost use Rattle.ir_grammar.specs.Parts.{a_branch};
+
+    type Value = BranchText;
+
+    ghost held_by = { a_branch };
+
+    fn of(part: Part) -> Option<BranchText> {
+        match part {
+            Part::Tree(Tree::Branch(x)) => Some(x.into_inner()),
+            other => {
+                drop(other);
+                None
+            }
+        }
+    }
+}
+
+pub struct CasesPart;
+
+impl Form for CasesPart {
+    ghost use Rattle.ir_grammar.specs.Parts.{a_cases};
+
+    type Value = Stack<CaseText>;
+
+    ghost held_by = { a_cases };
+
+    fn of(part: Part) -> Option<Stack<CaseText>> {
+        match part {
+            Part::List(List::Cases(x)) => Some(x),
+            other => {
+                drop(other);
+                None
+            }
+        }
+    }
+}
+
+pub struct CasePart;
+
+impl Form for CasePart {
+    ghost use Rattle.ir_grammar.specs.Parts.{a_case};
+
+    type Value = CaseText;
+
+    ghost held_by = { a_case };
+
+    fn of(part: Part) -> Option<CaseText> {
+        match part {
+            Part::Tree(Tree::Case(x)) => Some(x.into_inner()),
+            other => {
+                drop(other);
+                None
+            }
+        }
+    }
+}
+
 pub struct ReturnedPart;
 
 impl Form for ReturnedPart {
@@ -336,6 +537,26 @@ impl Form for OperandPart {
     }
 }
 
+pub struct IntPart;
+
+impl Form for IntPart {
+    ghost use Rattle.ir_grammar.specs.Parts.{a_int};
+
+    type Value = IntText;
+
+    ghost held_by = { a_int };
+
+    fn of(part: Part) -> Option<IntText> {
+        match part {
+            Part::Atom(Atom::Int(x)) => Some(x),
+            other => {
+                drop(other);
+                None
+            }
+        }
+    }
+}
+
 pub struct ValuePart;
 
 impl Form for ValuePart {
@@ -476,18 +697,18 @@ impl Form for WidthPart {
     }
 }
 
-pub struct ConstantPart;
+pub struct TruthPart;
 
-impl Form for ConstantPart {
-    ghost use Rattle.ir_grammar.specs.Parts.{a_constant};
+impl Form for TruthPart {
+    ghost use Rattle.ir_grammar.specs.Parts.{a_truth};
 
-    type Value = Placed<ConstantWord>;
+    type Value = Placed<bool>;
 
-    ghost held_by = { a_constant };
+    ghost held_by = { a_truth };
 
-    fn of(part: Part) -> Option<Placed<ConstantWord>> {
+    fn of(part: Part) -> Option<Placed<bool>> {
         match part {
-            Part::Leaf(Leaf::Constant(x)) => Some(x),
+            Part::Leaf(Leaf::Truth(x)) => Some(x),
             other => {
                 drop(other);
                 None

@@ -2,6 +2,7 @@
 #![tactic(auto)]
 
 mod acts;
+mod flow;
 mod forms;
 mod taking;
 

@@ -1,6 +1,6 @@
 -- A printed atom is one token, which is a value that names the atom.
-use Rattle.std.proofs.Common.{◌≡◌, ℕ, ◌-◌, ◌%◌, ◌^◌, ◌<◌, ◌≤◌, true, false, List, [], ◌∷◌, Option, Some, arith, refl, ap, sym, ◌∙◌, subst}
-use Rattle.std.specs.Prelude.{◌==◌, nat_le, nat_lt, option_map, if◌then◌else◌}
+use Rattle.std.proofs.Common.{◌≡◌, ℕ, ◌-◌, ◌%◌, ◌^◌, ◌<◌, ◌≤◌, Bool, true, false, List, [], ◌∷◌, Option, Some, arith, refl, ap, sym, ◌∙◌, subst}
+use Rattle.std.specs.Prelude.{◌==◌, nat_le, nat_lt, if◌then◌else◌}
 use Rattle.std.specs.Fmt.{decimal}
 use Rattle.std.proofs.Math.Nat.{mod-eq_of_lt}
 use Rattle.std.proofs.Math.Pow.{pow_mono}
@@ -11,7 +11,6 @@ use Rattle.ir_core.specs.declared.expressions.Reg.TheVariants.{Now, Old, Ghost}
 use Rattle.ir_core.specs.declared.names.Sigil.TheVariants.{Local}
 use Rattle.ir_core.specs.declared.operands.Atom.{Atom}
 use Rattle.ir_core.specs.declared.operands.Atom.TheVariants.{Constant, Register}
-use Rattle.ir_core.specs.declared.operands.Const.{Const}
 use Rattle.ir_core.specs.declared.operands.Const.TheVariants as const
 use Rattle.ir_core.specs.declared.operands.Ty.{Ty}
 use Rattle.ir_core.specs.declared.operands.Ty.TheVariants.{Int, Void}
@@ -20,15 +19,15 @@ use Rattle.ir_core.specs.Words as words
 use Rattle.ir_lexer.specs.declared.token.Number.{Number}
 use Rattle.ir_lexer.specs.declared.token.TokenKind.{TokenKind}
 use Rattle.ir_lexer.specs.declared.token.TokenKind.TheVariants as kind
-use Rattle.ir_grammar.specs.declared.trees.ConstantWord.{ConstantWord}
-use Rattle.ir_grammar.specs.declared.trees.ConstantWord.TheVariants as constant
+use Rattle.ir_grammar.specs.declared.trees.IntText.TheVariants as integer
 use Rattle.ir_grammar.specs.declared.trees.ValueText.{ValueText}
 use Rattle.ir_grammar.specs.declared.trees.ValueText.TheVariants as text
 use Rattle.ir_grammar.specs.Symbols.{symbol_at, word_symbol}
-use Rattle.ir_grammar.specs.Words.{constant_text}
+use Rattle.ir_grammar.specs.declared.words.KeyWord.TheVariants as key
+use Rattle.ir_grammar.specs.Words.{truth_text}
 use Rattle.ir_grammar.specs.Written as write
 use Rattle.ir_naming.specs.Expressions.{IsNow}
-use Rattle.ir_naming.specs.Values.{IsConstant, kept, number_of, word_of}
+use Rattle.ir_naming.specs.Values.{IsNumber, kept, truth}
 use Rattle.ir_printer.specs.Printed.{is_negative, name_text, printed_atom, printed_register, signed_text}
 use Rattle.ir_printer.proofs.Powers.{power_is_two_halves}
 use Rattle.hint_laws.specs.Laws.{IsWritableAtom, IsWritableType}
@@ -40,7 +39,7 @@ use Rattle.hint_laws.proofs.ReadTexts as reads
 use Rattle.hint_laws.proofs.Runs.{run_stops, positive, negative}
 use Rattle.hint_laws.proofs.TokenWords as kinds
 use Rattle.hint_laws.proofs.Types.{at_least_one, at_most_64, width}
-use Rattle.hint_laws.proofs.WordSymbols.{constant_is, constant_said}
+use Rattle.hint_laws.proofs.WordSymbols.{key_said, truth_is, truth_said, undef_is}
 
 -- the token is, wherever it stands, a value that is this atom of so many bits
 pub record IsValue (w : ℕ) (atom : Atom Reg) (token : TokenKind) : Type 0 where
@@ -56,19 +55,30 @@ pub record ReadsValue (w : ℕ) (atom : Atom Reg) (bytes : List ℕ) : Type 0 wh
 
 -- ---- constants
 
-is_constant : (found : Option Const) (c : Const) → found ≡ Some c → IsConstant {R = Reg} found (Constant c)
-is_constant found c e = subst (λ o. IsConstant {R = Reg} o (Constant c)) (sym e) refl
+is_number : (found : Option ℕ) (n : ℕ) → found ≡ Some n → IsNumber {R = Reg} found (Constant (const.Number n))
+is_number found n e = subst (λ o. IsNumber {R = Reg} o (Constant (const.Number n))) (sym e) refl
 
--- a word that is this constant
-word_read : (w : ℕ) (c : ConstantWord) (is : Const) → word_of w c ≡ Some is → ReadsValue w (Constant is) (constant_text c)
-word_read w c is found = record {
-  token = kinds.word (constant_text c);
+-- `true` or `false`, which is this number
+truth_read : (w n : ℕ) (b : Bool) → truth w b ≡ Some n → ReadsValue w (Constant (const.Number n)) (truth_text b)
+truth_read w n b found = record {
+  token = kinds.word (truth_text b);
   is = record {
-    value = λ start end. text.Constant (record { what = c; start = start; end = end });
-    stands = λ start end. ap (λ said. word_symbol said start end) (constant_said c);
-    now = λ start end. is_constant (word_of w c) is found;
+    value = λ start end. text.Int (integer.Truth (record { what = b; start = start; end = end }));
+    stands = λ start end. ap (λ said. word_symbol said start end) (truth_said b);
+    now = λ start end. is_number (truth w b) n found;
   };
-  reads = reads.word (constant_text c) (constant_is c);
+  reads = reads.word (truth_text b) (truth_is b);
+}
+
+undef_read : (w : ℕ) → ReadsValue w (Constant const.Undef) words.undef_word
+undef_read w = record {
+  token = kinds.word words.undef_word;
+  is = record {
+    value = λ start end. text.Undef;
+    stands = λ start end. ap (λ said. word_symbol said start end) (key_said key.Undef);
+    now = λ start end. refl;
+  };
+  reads = reads.word words.undef_word undef_is;
 }
 
 -- a number that is kept as this one
@@ -76,9 +86,9 @@ number_read : (w n : ℕ) (token : Number) (bytes : List ℕ) → kept w token �
 number_read w n token bytes is lexes = record {
   token = kind.Number token;
   is = record {
-    value = λ start end. text.Number (record { what = token; start = start; end = end });
+    value = λ start end. text.Int (integer.Number (record { what = token; start = start; end = end }));
     stands = λ start end. refl;
-    now = λ start end. is_constant (number_of w token) (const.Number n) (ap (λ o. option_map (λ v. const.Number v) o) is);
+    now = λ start end. is_number (kept w token) n is;
   };
   reads = lexes;
 }
@@ -133,10 +143,10 @@ bit_read : (w n : ℕ) → (w == 1) ≡ true → n < 2 ^ w
     → ReadsValue w (Constant (const.Number n)) (if n == 0 then words.false_word else words.true_word)
 bit_read w n one small =
     cond_both (n == 0) words.false_word words.true_word (ReadsValue w (Constant (const.Number n)))
-    (λ zero. word_read w constant.False (const.Number n)
-    (cond-true (w == 1) _ _ one ∙ ap (λ m. Some (const.Number m)) (sym (eqb-true n 0 zero))))
-    (λ other. word_read w constant.True (const.Number n)
-    (cond-true (w == 1) _ _ one ∙ ap (λ m. Some (const.Number m)) (one_of_bit n (subst (λ v. n < 2 ^ v) (eqb-true w 1 one) small) other)))
+    (λ zero. truth_read w n false
+    (cond-true (w == 1) _ _ one ∙ ap Some (sym (eqb-true n 0 zero))))
+    (λ other. truth_read w n true
+    (cond-true (w == 1) _ _ one ∙ ap Some (one_of_bit n (subst (λ v. n < 2 ^ v) (eqb-true w 1 one) small) other)))
 
 -- ---- atoms
 
@@ -149,7 +159,7 @@ constant_number w n is small =
 
 atom_read : (w : ℕ) (atom : Atom Reg) → is_width w ≡ true → IsWritableAtom (Int w) atom → ReadsValue w atom (printed_atom printed_register (Int w) atom)
 atom_read w (Constant (const.Number n)) is small = constant_number w n is (ltb-true n (2 ^ w) small)
-atom_read w (Constant const.Undef) is fits = word_read w constant.Undef const.Undef refl
+atom_read w (Constant const.Undef) is fits = undef_read w
 atom_read w (Register (Now name)) is writable =
     record {
       token = kind.Local name;

@@ -1,5 +1,5 @@
 -- Each word of an expression is a word of a text, and the symbol that the grammar has for it.
-use Rattle.std.proofs.Common.{◌≡◌, refl}
+use Rattle.std.proofs.Common.{◌≡◌, Bool, true, false, refl}
 use Rattle.ir_core.specs.declared.operands.BinOp.{BinOp}
 use Rattle.ir_core.specs.declared.operands.BinOp.TheVariants.{Add, Sub, Mul, Shl, UDiv, SDiv, LShr, AShr, URem, SRem, And, Or, Xor}
 use Rattle.ir_core.specs.declared.operands.CastOp.{CastOp}
@@ -16,13 +16,11 @@ use Rattle.ir_grammar.specs.declared.operators.OverflowOp.{OverflowOp}
 use Rattle.ir_grammar.specs.declared.operators.OverflowOp.TheVariants as overflow
 use Rattle.ir_grammar.specs.declared.operators.PlainOp.{PlainOp}
 use Rattle.ir_grammar.specs.declared.operators.PlainOp.TheVariants as flagless
-use Rattle.ir_grammar.specs.declared.trees.ConstantWord.{ConstantWord}
-use Rattle.ir_grammar.specs.declared.trees.ConstantWord.TheVariants as constant
 use Rattle.ir_grammar.specs.declared.words.KeyWord.{KeyWord}
 use Rattle.ir_grammar.specs.declared.words.KeyWord.TheVariants as key
 use Rattle.ir_grammar.specs.declared.words.Word.TheVariants as word
 use Rattle.ir_grammar.specs.Operators.{exact_op, overflow_op, plain_op}
-use Rattle.ir_grammar.specs.Words.{constant_text, flag_text, key_text, word_said}
+use Rattle.ir_grammar.specs.Words.{flag_text, key_text, truth_text, word_said}
 use Rattle.hint_laws.proofs.ReadTexts.{IsWord}
 
 -- ---- words of a text
@@ -63,11 +61,14 @@ cast_is SExt = record { all = refl; is = refl }
 cast_is Trunc = record { all = refl; is = refl }
 cast_is BitCast = record { all = refl; is = refl }
 
-pub constant_is : (c : ConstantWord) → IsWord (constant_text c)
+pub truth_is : (b : Bool) → IsWord (truth_text b)
 unfolding plain
-constant_is constant.True = record { all = refl; is = refl }
-constant_is constant.False = record { all = refl; is = refl }
-constant_is constant.Undef = record { all = refl; is = refl }
+truth_is true = record { all = refl; is = refl }
+truth_is false = record { all = refl; is = refl }
+
+pub undef_is : IsWord words.undef_word
+unfolding plain
+undef_is = record { all = refl; is = refl }
 
 pub icmp_is : IsWord words.icmp_word
 unfolding plain
@@ -130,11 +131,10 @@ unfolding word_said
 flag_said Nuw = refl
 flag_said Nsw = refl
 
-pub constant_said : (c : ConstantWord) → word_said (constant_text c) ≡ word.Constant c
+pub truth_said : (b : Bool) → word_said (truth_text b) ≡ word.Truth b
 unfolding word_said
-constant_said constant.True = refl
-constant_said constant.False = refl
-constant_said constant.Undef = refl
+truth_said true = refl
+truth_said false = refl
 
 pub key_said : (k : KeyWord) → word_said (key_text k) ≡ word.Key k
 unfolding word_said
@@ -145,3 +145,9 @@ key_said key.Exact = refl
 key_said key.Icmp = refl
 key_said key.Select = refl
 key_said key.To = refl
+key_said key.Undef = refl
+key_said key.Phi = refl
+key_said key.Br = refl
+key_said key.Label = refl
+key_said key.Switch = refl
+key_said key.Unreachable = refl

@@ -1,5 +1,5 @@
 -- The kinds of symbols: what a symbol of a kind says beside its kind, and how that stands on the stack.
-use Rattle.std.specs.Prelude.{ℕ, zero, suc, List, [], ◌∷◌, Option, Some, None}
+use Rattle.std.specs.Prelude.{ℕ, zero, suc, Bool, List, [], ◌∷◌, Option, Some, None}
 use Rattle.ir_core.specs.declared.names.Name.{Name}
 use Rattle.ir_core.specs.declared.operands.CastOp.{CastOp}
 use Rattle.ir_core.specs.declared.operands.Pred.{Pred as Predicate}
@@ -12,9 +12,8 @@ use Rattle.ir_grammar.specs.declared.parts.Leaf.{Leaf}
 use Rattle.ir_grammar.specs.declared.parts.Leaf.TheVariants as leaf
 use Rattle.ir_grammar.specs.declared.parts.Part.{Part}
 use Rattle.ir_grammar.specs.declared.parts.Part.TheVariants as part
-use Rattle.ir_grammar.specs.declared.trees.ConstantWord.{ConstantWord}
 use Rattle.ir_grammar.specs.declared.trees.Placed.{Placed}
-use Rattle.ir_grammar.specs.Parts.{a_local, a_global, a_label, a_number, a_width, a_constant, a_overflow, a_exact, a_plain, a_cast, a_pred, a_flag}
+use Rattle.ir_grammar.specs.Parts.{a_local, a_global, a_label, a_number, a_width, a_truth, a_overflow, a_exact, a_plain, a_cast, a_pred, a_flag}
 use Rattle.ir_grammar.specs.Symbols.{Symbol}
 use Rattle.ir_grammar.specs.Symbols as symbol
 use Rattle.typed_grammars.specs.Typed.{take}
@@ -26,7 +25,7 @@ pub data Kind : Type 0 where
   Label : Kind
   Number : Kind
   Width : Kind
-  Constant : Kind
+  Truth : Kind
   Overflow : Kind
   Exact : Kind
   Plain : Kind
@@ -42,7 +41,7 @@ kind_at (x ∷ xs) (suc k) = kind_at xs k
 
 -- kinds by number, from 0, as `kind_of` numbers them
 abbrev pub kind : ℕ → Kind
-kind k = kind_at (Local ∷ Global ∷ Label ∷ Number ∷ Width ∷ Constant ∷ Overflow ∷ Exact ∷ Plain ∷ Cast ∷ Pred ∷ Flag ∷ []) k
+kind k = kind_at (Local ∷ Global ∷ Label ∷ Number ∷ Width ∷ Truth ∷ Overflow ∷ Exact ∷ Plain ∷ Cast ∷ Pred ∷ Flag ∷ []) k
 
 -- a kind's number as the number of a word or mark
 abbrev pub alone_number : ℕ → ℕ
@@ -56,7 +55,7 @@ Says Global = Placed Name
 Says Label = Placed Name
 Says Number = Placed Numeral
 Says Width = Placed ℕ
-Says Constant = Placed ConstantWord
+Says Truth = Placed Bool
 Says Overflow = OverflowOp
 Says Exact = ExactOp
 Says Plain = PlainOp
@@ -72,7 +71,7 @@ symbol_by Global k c = symbol.Global c
 symbol_by Label k c = symbol.Label c
 symbol_by Number k c = symbol.Numeral c
 symbol_by Width k c = symbol.Width c
-symbol_by Constant k c = symbol.Constant c
+symbol_by Truth k c = symbol.Truth c
 symbol_by Overflow k c = symbol.Overflow c
 symbol_by Exact k c = symbol.Exact c
 symbol_by Plain k c = symbol.Plain c
@@ -88,7 +87,7 @@ leaf_of (symbol.Global x) = Some (leaf.Global x)
 leaf_of (symbol.Label x) = Some (leaf.Label x)
 leaf_of (symbol.Numeral x) = Some (leaf.Number x)
 leaf_of (symbol.Width x) = Some (leaf.Width x)
-leaf_of (symbol.Constant x) = Some (leaf.Constant x)
+leaf_of (symbol.Truth x) = Some (leaf.Truth x)
 leaf_of (symbol.Overflow x) = Some (leaf.Overflow x)
 leaf_of (symbol.Exact x) = Some (leaf.Exact x)
 leaf_of (symbol.Plain x) = Some (leaf.Plain x)
@@ -112,7 +111,7 @@ unkept Global s then = take a_global s then
 unkept Label s then = take a_label s then
 unkept Number s then = take a_number s then
 unkept Width s then = take a_width s then
-unkept Constant s then = take a_constant s then
+unkept Truth s then = take a_truth s then
 unkept Overflow s then = take a_overflow s then
 unkept Exact s then = take a_exact s then
 unkept Plain s then = take a_plain s then
@@ -128,7 +127,7 @@ Given Global R = Placed Name → R
 Given Label R = Placed Name → R
 Given Number R = Placed Numeral → R
 Given Width R = Placed ℕ → R
-Given Constant R = Placed ConstantWord → R
+Given Truth R = Placed Bool → R
 Given Overflow R = OverflowOp → R
 Given Exact R = ExactOp → R
 Given Plain R = PlainOp → R
@@ -143,7 +142,7 @@ give Global R f c = f c
 give Label R f c = f c
 give Number R f c = f c
 give Width R f c = f c
-give Constant R f c = f c
+give Truth R f c = f c
 give Overflow R f c = f c
 give Exact R f c = f c
 give Plain R f c = f c

@@ -14,17 +14,24 @@ use Rattle.ir_grammar.specs.declared.parts.List.TheVariants as list
 use Rattle.ir_grammar.specs.declared.parts.Part.{Part}
 use Rattle.ir_grammar.specs.declared.parts.Part.TheVariants as part
 use Rattle.ir_grammar.specs.declared.parts.Tree.TheVariants as tree
+use Rattle.ir_grammar.specs.declared.trees.BehindText.{BehindText}
 use Rattle.ir_grammar.specs.declared.trees.BlockText.{BlockText}
-use Rattle.ir_grammar.specs.declared.trees.ConstantWord.{ConstantWord}
+use Rattle.ir_grammar.specs.declared.trees.BodyText.{BodyText}
+use Rattle.ir_grammar.specs.declared.trees.BranchText.{BranchText}
+use Rattle.ir_grammar.specs.declared.trees.CaseText.{CaseText}
 use Rattle.ir_grammar.specs.declared.trees.DefinitionText.{DefinitionText}
+use Rattle.ir_grammar.specs.declared.trees.EntryText.{EntryText}
 use Rattle.ir_grammar.specs.declared.trees.ExprText.{ExprText}
+use Rattle.ir_grammar.specs.declared.trees.IntText.{IntText}
 use Rattle.ir_grammar.specs.declared.trees.LineText.{LineText}
 use Rattle.ir_grammar.specs.declared.trees.ModuleText.{ModuleText}
+use Rattle.ir_grammar.specs.declared.trees.NodeText.{NodeText}
 use Rattle.ir_grammar.specs.declared.trees.OperandText.{OperandText}
 use Rattle.ir_grammar.specs.declared.trees.OperationText.{OperationText}
 use Rattle.ir_grammar.specs.declared.trees.OperatorText.{OperatorText}
 use Rattle.ir_grammar.specs.declared.trees.ParamText.{ParamText}
 use Rattle.ir_grammar.specs.declared.trees.Placed.{Placed}
+use Rattle.ir_grammar.specs.declared.trees.TermText.{TermText}
 use Rattle.ir_grammar.specs.declared.trees.ValueText.{ValueText}
 
 abbrev pub a_module : Part → Option ModuleText
@@ -54,6 +61,46 @@ a_name _ = None
 abbrev pub a_block : Part → Option BlockText
 a_block (part.Tree (tree.Block x)) = Some x
 a_block _ = None
+
+abbrev pub a_blocks : Part → Option (List BlockText)
+a_blocks (part.List (list.Blocks x)) = Some x
+a_blocks _ = None
+
+abbrev pub a_body : Part → Option BodyText
+a_body (part.Tree (tree.Body x)) = Some x
+a_body _ = None
+
+abbrev pub a_behind : Part → Option BehindText
+a_behind (part.Tree (tree.Behind x)) = Some x
+a_behind _ = None
+
+abbrev pub a_node : Part → Option NodeText
+a_node (part.Tree (tree.Node x)) = Some x
+a_node _ = None
+
+abbrev pub a_entries : Part → Option (List EntryText)
+a_entries (part.List (list.Entries x)) = Some x
+a_entries _ = None
+
+abbrev pub a_entry : Part → Option EntryText
+a_entry (part.Tree (tree.Entry x)) = Some x
+a_entry _ = None
+
+abbrev pub a_term : Part → Option TermText
+a_term (part.Tree (tree.Term x)) = Some x
+a_term _ = None
+
+abbrev pub a_branch : Part → Option BranchText
+a_branch (part.Tree (tree.Branch x)) = Some x
+a_branch _ = None
+
+abbrev pub a_cases : Part → Option (List CaseText)
+a_cases (part.List (list.Cases x)) = Some x
+a_cases _ = None
+
+abbrev pub a_case : Part → Option CaseText
+a_case (part.Tree (tree.Case x)) = Some x
+a_case _ = None
 
 abbrev pub a_returned : Part → Option (Option OperandText)
 a_returned (part.Tree (tree.Returned x)) = Some x
@@ -87,6 +134,10 @@ abbrev pub a_operand : Part → Option OperandText
 a_operand (part.Tree (tree.Operand x)) = Some x
 a_operand _ = None
 
+abbrev pub a_int : Part → Option IntText
+a_int (part.Atom (atom.Int x)) = Some x
+a_int _ = None
+
 abbrev pub a_value : Part → Option ValueText
 a_value (part.Atom (atom.Value x)) = Some x
 a_value _ = None
@@ -115,9 +166,9 @@ abbrev pub a_width : Part → Option (Placed ℕ)
 a_width (part.Leaf (leaf.Width x)) = Some x
 a_width _ = None
 
-abbrev pub a_constant : Part → Option (Placed ConstantWord)
-a_constant (part.Leaf (leaf.Constant x)) = Some x
-a_constant _ = None
+abbrev pub a_truth : Part → Option (Placed Bool)
+a_truth (part.Leaf (leaf.Truth x)) = Some x
+a_truth _ = None
 
 abbrev pub a_overflow : Part → Option OverflowOp
 a_overflow (part.Leaf (leaf.Overflow x)) = Some x

@@ -1,9 +1,17 @@
 -- The grammar, without shared beginnings, and what each rule makes.
-use Rattle.std.specs.Prelude.{ℕ, true, false, List, [], ◌∷◌, Some, None}
+use Rattle.std.specs.Prelude.{ℕ, true, false, List, [], ◌∷◌, Option, Some, None}
+use Rattle.ir_core.specs.declared.names.Name.{Name}
 use Rattle.ir_grammar.specs.declared.parts.Part.{Part}
+use Rattle.ir_grammar.specs.declared.trees.BehindText.{BehindText}
+use Rattle.ir_grammar.specs.declared.trees.BehindText.TheVariants as behind_text
+use Rattle.ir_grammar.specs.declared.trees.BodyText.{BodyText}
+use Rattle.ir_grammar.specs.declared.trees.BranchText.TheVariants as branch_text
 use Rattle.ir_grammar.specs.declared.trees.ExprText.TheVariants as expression
+use Rattle.ir_grammar.specs.declared.trees.IntText.TheVariants as integer
 use Rattle.ir_grammar.specs.declared.trees.OperationText.TheVariants as form
 use Rattle.ir_grammar.specs.declared.trees.OperatorText.TheVariants as operators
+use Rattle.ir_grammar.specs.declared.trees.Placed.{Placed}
+use Rattle.ir_grammar.specs.declared.trees.TermText.TheVariants as term_text
 use Rattle.ir_grammar.specs.declared.trees.ValueText.TheVariants as value
 use Rattle.ir_grammar.specs.Sorts.{sort, vocabulary, written}
 use Rattle.ir_grammar.specs.Symbols.{kind_of}
@@ -32,9 +40,9 @@ NUMBER = Kind 3
 abbrev pub TYPE : Symbol
 TYPE = Kind 4
 
--- true, false, undef
-abbrev pub CONSTANT : Symbol
-CONSTANT = Kind 5
+-- true, false
+abbrev pub TRUTH : Symbol
+TRUTH = Kind 5
 
 -- add, sub, mul, shl
 abbrev pub OVERFLOW : Symbol
@@ -124,6 +132,39 @@ an_operand = Non 17
 abbrev pub a_value : Symbol
 a_value = Non 18
 
+abbrev pub blocks_rest : Symbol
+blocks_rest = Non 22
+
+abbrev pub a_body : Symbol
+a_body = Non 23
+
+abbrev pub what_follows : Symbol
+what_follows = Non 24
+
+abbrev pub a_node : Symbol
+a_node = Non 25
+
+abbrev pub entries_rest : Symbol
+entries_rest = Non 26
+
+abbrev pub an_entry : Symbol
+an_entry = Non 27
+
+abbrev pub a_term : Symbol
+a_term = Non 28
+
+abbrev pub a_branch : Symbol
+a_branch = Non 29
+
+abbrev pub cases_rest : Symbol
+cases_rest = Non 30
+
+abbrev pub a_case : Symbol
+a_case = Non 31
+
+abbrev pub an_int : Symbol
+an_int = Non 32
+
 -- ---- the rules
 
 -- a rule by its left side, its right side, and what it makes of what stands there
@@ -136,13 +177,13 @@ definitions_end = rule 0 [] (record { definitions = [] })
 abbrev pub definitions : Rule vocabulary
 definitions = rule 0 (a_definition ∷ definitions_rest ∷ []) (λ d rest. record { definitions = d ∷ rest.definitions })
 
--- define result GLOBAL ( params ) { block }
+-- define result GLOBAL ( params ) { block blocks }
 abbrev pub definition : Rule vocabulary
 definition =
     rule
     1
-    (fixed symbol.define ∷ a_result ∷ GLOBAL ∷ fixed symbol.open_paren ∷ all_params ∷ fixed symbol.close_paren ∷ fixed symbol.open_brace ∷ a_block ∷ fixed symbol.close_brace ∷ [])
-    (λ result name params block. record { result = result; name = name; params = params; block = block })
+    (fixed symbol.define ∷ a_result ∷ GLOBAL ∷ fixed symbol.open_paren ∷ all_params ∷ fixed symbol.close_paren ∷ fixed symbol.open_brace ∷ a_block ∷ blocks_rest ∷ fixed symbol.close_brace ∷ [])
+    (λ result name params entry others. record { result = result; name = name; params = params; entry = entry; others = others })
 
 abbrev pub void_result : Rule vocabulary
 void_result = rule 2 (fixed symbol.void ∷ []) None
@@ -173,13 +214,9 @@ unnamed = rule 6 [] None
 abbrev pub named : Rule vocabulary
 named = rule 6 (LOCAL ∷ []) (λ name. Some name)
 
--- [LABEL] lines ret (void | T V)
+-- [LABEL] body term
 abbrev pub block : Rule vocabulary
-block =
-    rule
-    7
-    (block_label ∷ lines_rest ∷ fixed symbol.ret ∷ what_returns ∷ [])
-    (λ label lines result. record { label = label; lines = lines; result = result })
+block = rule 7 (block_label ∷ a_body ∷ a_term ∷ []) (λ label body term. record { label = label; body = body; term = term })
 
 abbrev pub no_label : Rule vocabulary
 no_label = rule 8 [] None
@@ -269,11 +306,11 @@ exactly = rule 16 (fixed symbol.exact ∷ []) true
 abbrev pub operand : Rule vocabulary
 operand = rule 17 (TYPE ∷ a_value ∷ []) (λ ty v. record { ty = ty; value = v })
 
-abbrev pub number : Rule vocabulary
-number = rule 18 (NUMBER ∷ []) (λ n. value.Number n)
+abbrev pub int : Rule vocabulary
+int = rule 18 (an_int ∷ []) (λ i. value.Int i)
 
-abbrev pub constant : Rule vocabulary
-constant = rule 18 (CONSTANT ∷ []) (λ c. value.Constant c)
+abbrev pub undef : Rule vocabulary
+undef = rule 18 (fixed symbol.undef ∷ []) value.Undef
 
 abbrev pub local : Rule vocabulary
 local = rule 18 (LOCAL ∷ []) (λ name. value.Local name)
@@ -291,12 +328,112 @@ local_name = rule 20 (LOCAL ∷ []) (λ name. name)
 abbrev pub global_name : Rule vocabulary
 global_name = rule 21 (GLOBAL ∷ []) (λ name. name)
 
+abbrev pub blocks_end : Rule vocabulary
+blocks_end = rule 22 [] []
+
+abbrev pub blocks : Rule vocabulary
+blocks = rule 22 (a_block ∷ blocks_rest ∷ []) (λ b bs. b ∷ bs)
+
+abbrev pub body_end : Rule vocabulary
+body_end = rule 23 [] (record { phis = []; lines = [] })
+
+-- what stands before a terminator, of which the first register is written apart: phi nodes and lines begin alike
+abbrev pub with_register : Option (Placed Name) → BehindText → BodyText
+with_register register (behind_text.Phi node body) = record { phis = record { register = register; node = node } ∷ body.phis; lines = body.lines }
+with_register register (behind_text.Line operation lines) = record { phis = []; lines = record { register = register; operation = operation } ∷ lines }
+
+-- [LOCAL =] and what follows
+abbrev pub body : Rule vocabulary
+body = rule 23 (a_register ∷ what_follows ∷ []) (λ register behind. with_register register behind)
+
+abbrev pub behind_phi : Rule vocabulary
+behind_phi = rule 24 (a_node ∷ a_body ∷ []) (λ node body. behind_text.Phi node body)
+
+-- no phi node stands behind a line
+abbrev pub behind_line : Rule vocabulary
+behind_line = rule 24 (an_operation ∷ lines_rest ∷ []) (λ operation lines. behind_text.Line operation lines)
+
+-- phi T entry entries
+abbrev pub node : Rule vocabulary
+node =
+    rule
+    25
+    (fixed symbol.phi ∷ TYPE ∷ an_entry ∷ entries_rest ∷ [])
+    (λ ty first others. record { ty = ty; first = first; others = others })
+
+abbrev pub entries_end : Rule vocabulary
+entries_end = rule 26 [] []
+
+-- , entry
+abbrev pub entries : Rule vocabulary
+entries = rule 26 (comma ∷ an_entry ∷ entries_rest ∷ []) (λ e es. e ∷ es)
+
+-- [ V , LOCAL ]
+abbrev pub entry : Rule vocabulary
+entry =
+    rule
+    27
+    (fixed symbol.open_bracket ∷ a_value ∷ comma ∷ LOCAL ∷ fixed symbol.close_bracket ∷ [])
+    (λ v from. record { value = v; from = from })
+
+-- ret (void | T V)
+abbrev pub ret : Rule vocabulary
+ret = rule 28 (fixed symbol.ret ∷ what_returns ∷ []) (λ returned. term_text.Ret returned)
+
+abbrev pub br : Rule vocabulary
+br = rule 28 (fixed symbol.br ∷ a_branch ∷ []) (λ branch. term_text.Br branch)
+
+-- switch T V , label LOCAL [ cases ]
+abbrev pub switch : Rule vocabulary
+switch =
+    rule
+    28
+    (fixed symbol.switch ∷ an_operand ∷ comma ∷ fixed symbol.label ∷ LOCAL ∷ fixed symbol.open_bracket ∷ cases_rest ∷ fixed symbol.close_bracket ∷ [])
+    (λ v default cases. term_text.Switch (record { value = v; default = default; cases = cases }))
+
+abbrev pub unreachable : Rule vocabulary
+unreachable = rule 28 (fixed symbol.unreachable ∷ []) term_text.Unreachable
+
+-- label LOCAL
+abbrev pub always : Rule vocabulary
+always = rule 29 (fixed symbol.label ∷ LOCAL ∷ []) (λ name. branch_text.Always name)
+
+-- T V , label LOCAL , label LOCAL
+abbrev pub condition : Rule vocabulary
+condition =
+    rule
+    29
+    (an_operand ∷ comma ∷ fixed symbol.label ∷ LOCAL ∷ comma ∷ fixed symbol.label ∷ LOCAL ∷ [])
+    (λ o on_true on_false. branch_text.Condition (record { condition = o; on_true = on_true; on_false = on_false }))
+
+abbrev pub cases_end : Rule vocabulary
+cases_end = rule 30 [] []
+
+abbrev pub cases : Rule vocabulary
+cases = rule 30 (a_case ∷ cases_rest ∷ []) (λ c cs. c ∷ cs)
+
+-- T INT , label LOCAL
+abbrev pub case : Rule vocabulary
+case =
+    rule
+    31
+    (TYPE ∷ an_int ∷ comma ∷ fixed symbol.label ∷ LOCAL ∷ [])
+    (λ ty number label. record { ty = ty; number = number; label = label })
+
+abbrev pub number : Rule vocabulary
+number = rule 32 (NUMBER ∷ []) (λ n. integer.Number n)
+
+abbrev pub truth : Rule vocabulary
+truth = rule 32 (TRUTH ∷ []) (λ b. integer.Truth b)
+
 abbrev pub rules : List (Rule vocabulary)
 rules =
     definitions_end ∷ definitions ∷ definition ∷ void_result ∷ typed_result ∷ params_end ∷ params ∷ more_end ∷ more ∷ param ∷ unnamed ∷ named
     ∷ block ∷ no_label ∷ label ∷ lines_end ∷ lines ∷ line ∷ no_register ∷ register ∷ returned_void ∷ returned ∷ binary ∷ compare ∷ cast
-    ∷ select ∷ overflow ∷ exact ∷ plain ∷ flags_end ∷ flags ∷ inexact ∷ exactly ∷ operand ∷ number ∷ constant ∷ local
-    ∷ expression_operand ∷ expression_operation ∷ local_name ∷ global_name ∷ []
+    ∷ select ∷ overflow ∷ exact ∷ plain ∷ flags_end ∷ flags ∷ inexact ∷ exactly ∷ operand ∷ int ∷ undef ∷ local
+    ∷ expression_operand ∷ expression_operation ∷ local_name ∷ global_name ∷ blocks_end ∷ blocks ∷ body_end ∷ body ∷ behind_phi
+    ∷ behind_line ∷ node ∷ entries_end ∷ entries ∷ entry ∷ ret ∷ br ∷ switch ∷ unreachable ∷ always ∷ condition ∷ cases_end ∷ cases ∷ case
+    ∷ number ∷ truth ∷ []
 
 -- how a nonterminal's values are written
 abbrev pub written_at : (n : ℕ) → vocabulary.Value n → List symbol.Symbol

@@ -10,19 +10,27 @@ use Rattle.ir_grammar.specs.declared.parts.List.TheVariants as list
 use Rattle.ir_grammar.specs.declared.parts.Part.{Part}
 use Rattle.ir_grammar.specs.declared.parts.Part.TheVariants as part
 use Rattle.ir_grammar.specs.declared.parts.Tree.TheVariants as tree
+use Rattle.ir_grammar.specs.declared.trees.BehindText.{BehindText}
 use Rattle.ir_grammar.specs.declared.trees.BlockText.{BlockText}
+use Rattle.ir_grammar.specs.declared.trees.BodyText.{BodyText}
+use Rattle.ir_grammar.specs.declared.trees.BranchText.{BranchText}
+use Rattle.ir_grammar.specs.declared.trees.CaseText.{CaseText}
 use Rattle.ir_grammar.specs.declared.trees.DefinitionText.{DefinitionText}
+use Rattle.ir_grammar.specs.declared.trees.EntryText.{EntryText}
 use Rattle.ir_grammar.specs.declared.trees.ExprText.{ExprText}
+use Rattle.ir_grammar.specs.declared.trees.IntText.{IntText}
 use Rattle.ir_grammar.specs.declared.trees.LineText.{LineText}
 use Rattle.ir_grammar.specs.declared.trees.ModuleText.{ModuleText}
+use Rattle.ir_grammar.specs.declared.trees.NodeText.{NodeText}
 use Rattle.ir_grammar.specs.declared.trees.OperandText.{OperandText}
 use Rattle.ir_grammar.specs.declared.trees.OperationText.{OperationText}
 use Rattle.ir_grammar.specs.declared.trees.OperatorText.{OperatorText}
 use Rattle.ir_grammar.specs.declared.trees.ParamText.{ParamText}
 use Rattle.ir_grammar.specs.declared.trees.Placed.{Placed}
+use Rattle.ir_grammar.specs.declared.trees.TermText.{TermText}
 use Rattle.ir_grammar.specs.declared.trees.ValueText.{ValueText}
 use Rattle.ir_grammar.specs.Kinds.{kind, Says, symbol_by, kept, unkept, Given, give}
-use Rattle.ir_grammar.specs.Parts.{a_module, a_definition, a_result, a_params, a_param, a_name, a_block, a_lines, a_line, a_returned, a_operation, a_operator, a_flags, a_exactness, a_operand, a_value, a_expr, a_local, a_global}
+use Rattle.ir_grammar.specs.Parts.{a_module, a_definition, a_result, a_params, a_param, a_name, a_block, a_lines, a_line, a_returned, a_operation, a_operator, a_flags, a_exactness, a_operand, a_value, a_expr, a_local, a_global, a_blocks, a_body, a_behind, a_node, a_entries, a_entry, a_term, a_branch, a_cases, a_case, a_int}
 use Rattle.ir_grammar.specs.Symbols.{Symbol, kind_of}
 use Rattle.ir_grammar.specs.Symbols as symbol
 use Rattle.ir_grammar.specs.Written as write
@@ -52,6 +60,17 @@ pub data Sort : Type 0 where
   Expr : Sort
   LocalName : Sort
   GlobalName : Sort
+  Blocks : Sort
+  Body : Sort
+  Behind : Sort
+  Node : Sort
+  Entries : Sort
+  Entry : Sort
+  Term : Sort
+  Branch : Sort
+  Cases : Sort
+  Case : Sort
+  Int : Sort
 
 abbrev pub sort_at : List Sort → ℕ → Sort
 sort_at [] n = Module
@@ -62,7 +81,7 @@ sort_at (x ∷ xs) (suc n) = sort_at xs n
 abbrev pub sort : ℕ → Sort
 sort n =
     sort_at
-    (Module ∷ Definition ∷ Result ∷ Params ∷ More ∷ Param ∷ ParamName ∷ Block ∷ BlockLabel ∷ Lines ∷ Line ∷ Register ∷ Returned ∷ Operation ∷ Operator ∷ Flags ∷ Exactness ∷ Operand ∷ Value ∷ Expr ∷ LocalName ∷ GlobalName ∷ [])
+    (Module ∷ Definition ∷ Result ∷ Params ∷ More ∷ Param ∷ ParamName ∷ Block ∷ BlockLabel ∷ Lines ∷ Line ∷ Register ∷ Returned ∷ Operation ∷ Operator ∷ Flags ∷ Exactness ∷ Operand ∷ Value ∷ Expr ∷ LocalName ∷ GlobalName ∷ Blocks ∷ Body ∷ Behind ∷ Node ∷ Entries ∷ Entry ∷ Term ∷ Branch ∷ Cases ∷ Case ∷ Int ∷ [])
     n
 
 -- what a nonterminal stands for
@@ -89,6 +108,17 @@ Holds Value = ValueText
 Holds Expr = ExprText
 Holds LocalName = Placed Name
 Holds GlobalName = Placed Name
+Holds Blocks = List BlockText
+Holds Body = BodyText
+Holds Behind = BehindText
+Holds Node = NodeText
+Holds Entries = List EntryText
+Holds Entry = EntryText
+Holds Term = TermText
+Holds Branch = BranchText
+Holds Cases = List CaseText
+Holds Case = CaseText
+Holds Int = IntText
 
 -- how that is written
 abbrev pub written : (s : Sort) → Holds s → List Symbol
@@ -114,6 +144,17 @@ written Value x = write.value x ∷ []
 written Expr x = write.expression x
 written LocalName x = symbol.Local x ∷ []
 written GlobalName x = symbol.Global x ∷ []
+written Blocks x = flat_map write.block x
+written Body x = write.body x
+written Behind x = write.behind x
+written Node x = write.node x
+written Entries x = flat_map write.next_entry x
+written Entry x = write.entry x
+written Term x = write.term x
+written Branch x = write.branch x
+written Cases x = flat_map write.case x
+written Case x = write.case x
+written Int x = write.int x ∷ []
 
 abbrev pub part_of : (s : Sort) → Holds s → Part
 part_of Module x = part.Tree (tree.Module x)
@@ -138,6 +179,17 @@ part_of Value x = part.Atom (atom.Value x)
 part_of Expr x = part.Tree (tree.Expr x)
 part_of LocalName x = part.Leaf (leaf.Local x)
 part_of GlobalName x = part.Leaf (leaf.Global x)
+part_of Blocks x = part.List (list.Blocks x)
+part_of Body x = part.Tree (tree.Body x)
+part_of Behind x = part.Tree (tree.Behind x)
+part_of Node x = part.Tree (tree.Node x)
+part_of Entries x = part.List (list.Entries x)
+part_of Entry x = part.Tree (tree.Entry x)
+part_of Term x = part.Tree (tree.Term x)
+part_of Branch x = part.Tree (tree.Branch x)
+part_of Cases x = part.List (list.Cases x)
+part_of Case x = part.Tree (tree.Case x)
+part_of Int x = part.Atom (atom.Int x)
 
 abbrev pub value_of : (s : Sort) → Part → Option (Holds s)
 value_of Module p = a_module p
@@ -162,6 +214,17 @@ value_of Value p = a_value p
 value_of Expr p = a_expr p
 value_of LocalName p = a_local p
 value_of GlobalName p = a_global p
+value_of Blocks p = a_blocks p
+value_of Body p = a_body p
+value_of Behind p = a_behind p
+value_of Node p = a_node p
+value_of Entries p = a_entries p
+value_of Entry p = a_entry p
+value_of Term p = a_term p
+value_of Branch p = a_branch p
+value_of Cases p = a_cases p
+value_of Case p = a_case p
+value_of Int p = a_int p
 
 abbrev pub vocabulary : Vocabulary
 vocabulary = record {

@@ -1,5 +1,5 @@
 -- Symbols: what a tree is written as, and what symbol a token is.
-use Rattle.std.specs.Prelude.{ℕ, suc, ◌==◌, List, if◌then◌else◌}
+use Rattle.std.specs.Prelude.{ℕ, suc, Bool, ◌==◌, List, if◌then◌else◌}
 use Rattle.ir_core.specs.declared.names.Name.{Name}
 use Rattle.ir_core.specs.declared.operands.CastOp.{CastOp}
 use Rattle.ir_core.specs.declared.operands.Pred.{Pred as Predicate}
@@ -13,7 +13,6 @@ use Rattle.ir_grammar.specs.declared.operators.ExactOp.{ExactOp}
 use Rattle.ir_grammar.specs.declared.operators.FlagWord.{FlagWord}
 use Rattle.ir_grammar.specs.declared.operators.OverflowOp.{OverflowOp}
 use Rattle.ir_grammar.specs.declared.operators.PlainOp.{PlainOp}
-use Rattle.ir_grammar.specs.declared.trees.ConstantWord.{ConstantWord}
 use Rattle.ir_grammar.specs.declared.trees.Placed.{Placed}
 use Rattle.ir_grammar.specs.declared.words.KeyWord.{KeyWord}
 use Rattle.ir_grammar.specs.declared.words.KeyWord.TheVariants as key
@@ -21,7 +20,7 @@ use Rattle.ir_grammar.specs.declared.words.Word.{Word}
 use Rattle.ir_grammar.specs.declared.words.Word.TheVariants as word
 use Rattle.ir_grammar.specs.Words.{word_said}
 
--- A name, a number, a type `iN` by its width or a constant's word, with its place; an operator, a predicate or a flag; or a word or mark
+-- A name, a number, a type `iN` by its width, or `true` or `false`, with its place; an operator, a predicate or a flag; or a word or mark
 -- that says nothing but itself, wherever it stands: of these each has a number of its own.
 --
 -- `ret` is `Fixed 3` at each place, `mul` is `Overflow Mul`, and `%x` that stands from byte 3 up to byte 5 is
@@ -32,7 +31,7 @@ pub data Symbol : Type 0 where
   Label : Placed Name → Symbol
   Numeral : Placed Number → Symbol
   Width : Placed ℕ → Symbol
-  Constant : Placed ConstantWord → Symbol
+  Truth : Placed Bool → Symbol
   Overflow : OverflowOp → Symbol
   Exact : ExactOp → Symbol
   Plain : PlainOp → Symbol
@@ -54,6 +53,12 @@ key_number key.Exact = 4
 key_number key.Icmp = 5
 key_number key.Select = 6
 key_number key.To = 7
+key_number key.Undef = 8
+key_number key.Phi = 9
+key_number key.Br = 10
+key_number key.Label = 11
+key_number key.Switch = 12
+key_number key.Unreachable = 13
 
 abbrev pub define : Symbol
 define = Fixed (key_number key.Define)
@@ -76,28 +81,52 @@ select = Fixed (key_number key.Select)
 abbrev pub to : Symbol
 to = Fixed (key_number key.To)
 
+abbrev pub undef : Symbol
+undef = Fixed (key_number key.Undef)
+
+abbrev pub phi : Symbol
+phi = Fixed (key_number key.Phi)
+
+abbrev pub br : Symbol
+br = Fixed (key_number key.Br)
+
+abbrev pub label : Symbol
+label = Fixed (key_number key.Label)
+
+abbrev pub switch : Symbol
+switch = Fixed (key_number key.Switch)
+
+abbrev pub unreachable : Symbol
+unreachable = Fixed (key_number key.Unreachable)
+
 abbrev pub comma : Symbol
-comma = Fixed 8
+comma = Fixed 14
 
 abbrev pub equals : Symbol
-equals = Fixed 9
+equals = Fixed 15
 
 abbrev pub open_paren : Symbol
-open_paren = Fixed 10
+open_paren = Fixed 16
 
 abbrev pub close_paren : Symbol
-close_paren = Fixed 11
+close_paren = Fixed 17
 
 abbrev pub open_brace : Symbol
-open_brace = Fixed 12
+open_brace = Fixed 18
 
 abbrev pub close_brace : Symbol
-close_brace = Fixed 13
+close_brace = Fixed 19
+
+abbrev pub open_bracket : Symbol
+open_bracket = Fixed 20
+
+abbrev pub close_bracket : Symbol
+close_bracket = Fixed 21
 
 -- the symbol of a word at a place
 abbrev pub word_symbol : Word → ℕ → ℕ → Symbol
 word_symbol (word.Width n) start end = Width (record { what = n; start = start; end = end })
-word_symbol (word.Constant c) start end = Constant (record { what = c; start = start; end = end })
+word_symbol (word.Truth b) start end = Truth (record { what = b; start = start; end = end })
 word_symbol (word.Overflow op) start end = Overflow op
 word_symbol (word.Exact op) start end = Exact op
 word_symbol (word.Plain op) start end = Plain op
@@ -107,7 +136,7 @@ word_symbol (word.Flag flag) start end = Flag flag
 word_symbol (word.Key k) start end = Fixed (key_number k)
 word_symbol word.Foreign start end = foreign
 
--- each mark of the grammar is its own symbol: , = ( ) { }
+-- each mark of the grammar is its own symbol: , = ( ) { } [ ]
 unfoldable pub mark_symbol : ℕ → Symbol
 mark_symbol b =
     if b == 44 then comma
@@ -116,7 +145,9 @@ mark_symbol b =
     else (if b == 41 then close_paren
     else (if b == 123 then open_brace
     else (if b == 125 then close_brace
-    else foreign)))))
+    else (if b == 91 then open_bracket
+    else (if b == 93 then close_bracket
+    else foreign)))))))
 
 abbrev pub symbol_at : TokenKind → ℕ → ℕ → Symbol
 symbol_at (kind.Local name) start end = Local (record { what = name; start = start; end = end })
@@ -145,7 +176,7 @@ symbol_in text t = symbol_at (said_in text t) t.start t.end
 abbrev pub behind_others : ℕ → ℕ
 behind_others k = suc (suc (suc (suc (suc (suc (suc (suc (suc (suc (suc (suc k)))))))))))
 
--- the kinds of symbols, which are what a parser sees of them: LOCAL, GLOBAL, LABEL, NUMBER, a type, a constant's word, the groups of
+-- the kinds of symbols, which are what a parser sees of them: LOCAL, GLOBAL, LABEL, NUMBER, a type, `true` or `false`, the groups of
 -- operators, predicates, flags, then the words and marks
 abbrev pub kind_of : Symbol → ℕ
 kind_of (Local name) = 0
@@ -153,7 +184,7 @@ kind_of (Global name) = 1
 kind_of (Label name) = 2
 kind_of (Numeral number) = 3
 kind_of (Width n) = 4
-kind_of (Constant c) = 5
+kind_of (Truth b) = 5
 kind_of (Overflow op) = 6
 kind_of (Exact op) = 7
 kind_of (Plain op) = 8

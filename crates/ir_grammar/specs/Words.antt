@@ -1,5 +1,5 @@
 -- What a word is in the grammar: a type, a word of a group that stand at the same places, or a word that stands alone.
-use Rattle.std.specs.Prelude.{ℕ, Bool, false, ◌==◌, ◌&&◌, not, List, [], ◌∷◌, Option, Some, None, option_map, unwrap_or, if◌then◌else◌}
+use Rattle.std.specs.Prelude.{ℕ, Bool, true, false, ◌==◌, ◌&&◌, not, List, [], ◌∷◌, codes, Option, Some, None, option_map, unwrap_or, if◌then◌else◌}
 use Rattle.std.specs.Str.{bytes_eq}
 use Rattle.ir_core.specs.declared.operands.CastOp.{CastOp}
 use Rattle.ir_core.specs.declared.operands.CastOp.TheVariants.{ZExt, SExt, Trunc, BitCast}
@@ -17,8 +17,6 @@ use Rattle.ir_grammar.specs.declared.operators.OverflowOp.{OverflowOp}
 use Rattle.ir_grammar.specs.declared.operators.OverflowOp.TheVariants as overflow
 use Rattle.ir_grammar.specs.declared.operators.PlainOp.{PlainOp}
 use Rattle.ir_grammar.specs.declared.operators.PlainOp.TheVariants as plain
-use Rattle.ir_grammar.specs.declared.trees.ConstantWord.{ConstantWord}
-use Rattle.ir_grammar.specs.declared.trees.ConstantWord.TheVariants as constant
 use Rattle.ir_grammar.specs.declared.words.KeyWord.{KeyWord}
 use Rattle.ir_grammar.specs.declared.words.KeyWord.TheVariants as key
 use Rattle.ir_grammar.specs.declared.words.Word.{Word}
@@ -50,13 +48,12 @@ abbrev pub written_so : {X : Type 0} → (X → List ℕ) → List X → List �
 written_so text [] w = None
 written_so text (x ∷ xs) w = if bytes_eq w (text x) then Some x else written_so text xs w
 
-abbrev pub constant_text : ConstantWord → List ℕ
-constant_text constant.True = text.true_word
-constant_text constant.False = text.false_word
-constant_text constant.Undef = text.undef_word
+abbrev pub truth_text : Bool → List ℕ
+truth_text true = text.true_word
+truth_text false = text.false_word
 
-abbrev pub constant_of : List ℕ → Option ConstantWord
-constant_of w = written_so constant_text (constant.True ∷ constant.False ∷ constant.Undef ∷ []) w
+abbrev pub truth_of : List ℕ → Option Bool
+truth_of w = written_so truth_text (true ∷ false ∷ []) w
 
 abbrev pub overflow_of : List ℕ → Option OverflowOp
 overflow_of w = written_so (λ op. text.op_word (overflow_op op)) (overflow.Add ∷ overflow.Sub ∷ overflow.Mul ∷ overflow.Shl ∷ []) w
@@ -92,16 +89,25 @@ key_text key.Exact = text.exact_word
 key_text key.Icmp = text.icmp_word
 key_text key.Select = text.select_word
 key_text key.To = text.to_word
+key_text key.Undef = text.undef_word
+key_text key.Phi = codes "phi"
+key_text key.Br = codes "br"
+key_text key.Label = codes "label"
+key_text key.Switch = codes "switch"
+key_text key.Unreachable = codes "unreachable"
 
 abbrev pub key_of : List ℕ → Option KeyWord
-key_of w = written_so key_text (key.Define ∷ key.Void ∷ key.Ret ∷ key.Exact ∷ key.Icmp ∷ key.Select ∷ key.To ∷ []) w
+key_of w =
+    written_so key_text
+    (key.Define ∷ key.Void ∷ key.Ret ∷ key.Exact ∷ key.Icmp ∷ key.Select ∷ key.To ∷ key.Undef ∷ key.Phi ∷ key.Br ∷ key.Label ∷ key.Switch
+    ∷ key.Unreachable ∷ []) w
 
 -- ---- all words
 
 -- a word that is no type and no operator
 abbrev pub other_word : List ℕ → Word
 other_word w =
-    unwrap_or (option_map word.Constant (constant_of w))
+    unwrap_or (option_map word.Truth (truth_of w))
     (unwrap_or (option_map word.Pred (pred_of w))
     (unwrap_or (option_map word.Flag (flag_of w))
     (unwrap_or (option_map word.Key (key_of w)) word.Foreign)))

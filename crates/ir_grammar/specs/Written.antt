@@ -5,31 +5,51 @@ use Rattle.ir_core.specs.declared.names.Name.{Name}
 use Rattle.ir_core.specs.declared.names.Sigil.{Sigil}
 use Rattle.ir_core.specs.declared.names.Sigil.TheVariants as sigil
 use Rattle.ir_grammar.specs.declared.trees.BinaryText.{BinaryText}
+use Rattle.ir_grammar.specs.declared.trees.BehindText.{BehindText}
+use Rattle.ir_grammar.specs.declared.trees.BehindText.TheVariants as behind_text
 use Rattle.ir_grammar.specs.declared.trees.BlockText.{BlockText}
+use Rattle.ir_grammar.specs.declared.trees.BodyText.{BodyText}
+use Rattle.ir_grammar.specs.declared.trees.BranchText.{BranchText}
+use Rattle.ir_grammar.specs.declared.trees.BranchText.TheVariants as branch_text
+use Rattle.ir_grammar.specs.declared.trees.CaseText.{CaseText}
 use Rattle.ir_grammar.specs.declared.trees.CastText.{CastText}
 use Rattle.ir_grammar.specs.declared.trees.CompareText.{CompareText}
+use Rattle.ir_grammar.specs.declared.trees.ConditionText.{ConditionText}
 use Rattle.ir_grammar.specs.declared.trees.DefinitionText.{DefinitionText}
+use Rattle.ir_grammar.specs.declared.trees.EntryText.{EntryText}
 use Rattle.ir_grammar.specs.declared.trees.ExprText.{ExprText}
 use Rattle.ir_grammar.specs.declared.trees.ExprText.TheVariants as kind
+use Rattle.ir_grammar.specs.declared.trees.IntText.{IntText}
+use Rattle.ir_grammar.specs.declared.trees.IntText.TheVariants as integer
 use Rattle.ir_grammar.specs.declared.trees.LineText.{LineText}
 use Rattle.ir_grammar.specs.declared.trees.ModuleText.{ModuleText}
+use Rattle.ir_grammar.specs.declared.trees.NodeText.{NodeText}
 use Rattle.ir_grammar.specs.declared.trees.OperandText.{OperandText}
 use Rattle.ir_grammar.specs.declared.trees.OperationText.{OperationText}
 use Rattle.ir_grammar.specs.declared.trees.OperationText.TheVariants as form
 use Rattle.ir_grammar.specs.declared.trees.OperatorText.{OperatorText}
 use Rattle.ir_grammar.specs.declared.trees.OperatorText.TheVariants as operators
 use Rattle.ir_grammar.specs.declared.trees.ParamText.{ParamText}
+use Rattle.ir_grammar.specs.declared.trees.PhiText.{PhiText}
 use Rattle.ir_grammar.specs.declared.trees.Placed.{Placed}
 use Rattle.ir_grammar.specs.declared.trees.SelectText.{SelectText}
+use Rattle.ir_grammar.specs.declared.trees.SwitchText.{SwitchText}
+use Rattle.ir_grammar.specs.declared.trees.TermText.{TermText}
+use Rattle.ir_grammar.specs.declared.trees.TermText.TheVariants as term_text
 use Rattle.ir_grammar.specs.declared.trees.ValueText.{ValueText}
 use Rattle.ir_grammar.specs.declared.trees.ValueText.TheVariants as text
-use Rattle.ir_grammar.specs.Symbols.{Symbol, Local, Global, Label, Numeral, Width, Constant, Overflow, Exact, Plain, Cast, Pred, Flag, define, void, ret, exact, icmp, to, comma, equals, open_paren, close_paren, open_brace, close_brace}
+use Rattle.ir_grammar.specs.Symbols.{Symbol, Local, Global, Label, Numeral, Width, Truth, Overflow, Exact, Plain, Cast, Pred, Flag, define, void, ret, exact, icmp, to, undef, phi, br, unreachable, comma, equals, open_paren, close_paren, open_brace, close_brace, open_bracket, close_bracket}
 use Rattle.ir_grammar.specs.Symbols as symbol
 
--- `7`, `true`, `undef` or `%x`
+-- NUMBER, true or false: `7`, `true`
+abbrev pub int : IntText → Symbol
+int (integer.Number number) = Numeral number
+int (integer.Truth b) = Truth b
+
+-- INT, undef or LOCAL: `7`, `undef`, `%x`
 abbrev pub value : ValueText → Symbol
-value (text.Number number) = Numeral number
-value (text.Constant c) = Constant c
+value (text.Int i) = int i
+value text.Undef = undef
 value (text.Local name) = Local name
 
 -- T V: `i8 %x`
@@ -116,21 +136,76 @@ abbrev pub returned : Option OperandText → List Symbol
 returned None = void ∷ []
 returned (Some o) = operand o
 
--- [LABEL] {line} ret (void | T V): `entry: %x = add i32 %y, 7 ret i32 %x`
+-- [ V, LOCAL ]: `[ 7, %entry ]`
+abbrev pub entry : EntryText → List Symbol
+entry e = open_bracket ∷ value e.value ∷ comma ∷ Local e.from ∷ close_bracket ∷ []
+
+-- , [ V, LOCAL ]
+abbrev pub next_entry : EntryText → List Symbol
+next_entry e = comma ∷ entry e
+
+-- phi T [ V, LOCAL ] {, [ V, LOCAL ]}: `phi i32 [ 7, %entry ], [ %x, %loop ]`
+abbrev pub node : NodeText → List Symbol
+node n = phi ∷ Width n.ty ∷ (entry n.first ++ flat_map next_entry n.others)
+
+-- [LOCAL =] phi ..: `%x = phi i32 [ 7, %entry ]`
+abbrev pub phi_node : PhiText → List Symbol
+phi_node p = register p.register ++ node p.node
+
+-- {phi} {line}
+abbrev pub body : BodyText → List Symbol
+body b = flat_map phi_node b.phis ++ flat_map line b.lines
+
+-- the same from behind the first register on
+abbrev pub behind : BehindText → List Symbol
+behind (behind_text.Phi n b) = node n ++ body b
+behind (behind_text.Line o ls) = operation o ++ flat_map line ls
+
+-- label LOCAL: `label %loop`
+abbrev pub target : Placed Name → List Symbol
+target n = symbol.label ∷ Local n ∷ []
+
+-- T V, label LOCAL, label LOCAL: `i1 %c, label %loop, label %end`
+abbrev pub condition : ConditionText → List Symbol
+condition c = operand c.condition ++ (comma ∷ (target c.on_true ++ (comma ∷ target c.on_false)))
+
+-- label LOCAL, or a condition with two labels
+abbrev pub branch : BranchText → List Symbol
+branch (branch_text.Always n) = target n
+branch (branch_text.Condition c) = condition c
+
+-- T INT, label LOCAL: `i32 7, label %end`
+abbrev pub case : CaseText → List Symbol
+case c = Width c.ty ∷ int c.number ∷ comma ∷ target c.label
+
+-- switch T V, label LOCAL [ {T INT, label LOCAL} ]: `switch i32 %x, label %loop [ i32 7, label %end ]`
+abbrev pub switch : SwitchText → List Symbol
+switch s =
+    symbol.switch ∷ (operand s.value ++ (comma ∷ (target s.default ++ (open_bracket ∷ (flat_map case s.cases ++ (close_bracket ∷ []))))))
+
+-- ret (void | T V), br .., switch .. or unreachable: `ret i32 %x`
+abbrev pub term : TermText → List Symbol
+term (term_text.Ret r) = ret ∷ returned r
+term (term_text.Br b) = br ∷ branch b
+term (term_text.Switch s) = switch s
+term term_text.Unreachable = unreachable ∷ []
+
+-- [LABEL] {phi} {line} terminator: `entry: %x = add i32 %y, 7 ret i32 %x`
 abbrev pub block : BlockText → List Symbol
-block b = label b.label ++ (flat_map line b.lines ++ (ret ∷ returned b.result))
+block b = label b.label ++ (body b.body ++ term b.term)
 
 -- void, or T
 abbrev pub result : Option (Placed ℕ) → List Symbol
 result None = void ∷ []
 result (Some ty) = Width ty ∷ []
 
--- define (T | void) GLOBAL ( params ) { block }: `define i32 @f(i32 %y) { ret i32 %y }`
+-- define (T | void) GLOBAL ( params ) { block {block} }: `define i32 @f(i32 %y) { ret i32 %y }`
 abbrev pub definition : DefinitionText → List Symbol
 definition d =
     define
     ∷ (result d.result
-    ++ (Global d.name ∷ open_paren ∷ (params d.params ++ (close_paren ∷ open_brace ∷ (block d.block ++ (close_brace ∷ []))))))
+    ++ (Global d.name ∷ open_paren
+    ∷ (params d.params ++ (close_paren ∷ open_brace ∷ (block d.entry ++ (flat_map block d.others ++ (close_brace ∷ [])))))))
 
 -- {definition}
 abbrev pub written : ModuleText → List Symbol

@@ -12,7 +12,9 @@ pub use laws::{examples_of_words, examples_of_writing};
 pub use operators::{ExactOp, FlagWord, OverflowOp, PlainOp};
 pub use parts::{Atom, Leaf, List, Part, Tree};
 pub use trees::{
-    BinaryText, BlockText, CastText, CompareText, ConstantWord, DefinitionText, ExprText, LineText,
-    ModuleText, OperandText, OperationText, OperatorText, ParamText, Placed, SelectText, ValueText,
+    BehindText, BinaryText, BlockText, BodyText, BranchText, CaseText, CastText, CompareText,
+    ConditionText, DefinitionText, EntryText, ExprText, IntText, LineText, ModuleText, NodeText,
+    OperandText, OperationText, OperatorText, ParamText, PhiText, Placed, SelectText, SwitchText,
+    TermText, ValueText,
 };
 pub use words::{KeyWord, Word};

@@ -1,7 +1,8 @@
 use crate::operators::{ExactOp, FlagWord, OverflowOp, PlainOp};
 use crate::trees::{
-    BlockText, ConstantWord, DefinitionText, ExprText, LineText, ModuleText, OperandText,
-    OperationText, OperatorText, ParamText, Placed, ValueText,
+    BehindText, BlockText, BodyText, BranchText, CaseText, DefinitionText, EntryText, ExprText,
+    IntText, LineText, ModuleText, NodeText, OperandText, OperationText, OperatorText, ParamText,
+    Placed, TermText, ValueText,
 };
 use contents::Boxed;
 use ir_core::{CastOp, Name, Pred};
@@ -16,7 +17,7 @@ pub enum Leaf {
     Label(Placed<Name>),
     Number(Placed<Number>),
     Width(Placed<u32>),
-    Constant(Placed<ConstantWord>),
+    Truth(Placed<bool>),
     Overflow(OverflowOp),
     Exact(ExactOp),
     Plain(PlainOp),
@@ -31,6 +32,7 @@ pub enum Atom {
     Name(Option<Placed<Name>>),
     Result(Option<Placed<u32>>),
     Exactness(bool),
+    Int(IntText),
     Value(ValueText),
 }
 
@@ -38,7 +40,10 @@ pub enum Atom {
 #[derive(Drop)]
 pub enum List {
     Params(Stack<ParamText>),
+    Blocks(Stack<BlockText>),
     Lines(Stack<LineText>),
+    Entries(Stack<EntryText>),
+    Cases(Stack<CaseText>),
     Flags(Stack<FlagWord>),
 }
 
@@ -49,6 +54,13 @@ pub enum Tree {
     Definition(Boxed<DefinitionText>),
     Param(ParamText),
     Block(Boxed<BlockText>),
+    Body(BodyText),
+    Behind(Boxed<BehindText>),
+    Node(Boxed<NodeText>),
+    Entry(Boxed<EntryText>),
+    Term(Boxed<TermText>),
+    Branch(Boxed<BranchText>),
+    Case(Boxed<CaseText>),
     Returned(Option<OperandText>),
     Line(Boxed<LineText>),
     Operation(Boxed<OperationText>),

@@ -11,19 +11,18 @@ pub struct Placed<T> {
     pub end: usize,
 }
 
-/// `true`, `false` or `undef`: a constant that is a word.
-#[derive(Drop, Clone, Copy)]
-pub enum ConstantWord {
-    True,
-    False,
-    Undef,
+/// A number as it is written: by its digits, or as `true` or `false`.
+#[derive(Drop)]
+pub enum IntText {
+    Number(Placed<Number>),
+    Truth(Placed<bool>),
 }
 
 /// A value as it is written.
 #[derive(Drop)]
 pub enum ValueText {
-    Number(Placed<Number>),
-    Constant(Placed<ConstantWord>),
+    Int(IntText),
+    Undef,
     Local(Placed<Name>),
 }
 
@@ -111,21 +110,104 @@ pub struct ParamText {
     pub name: Option<Placed<Name>>,
 }
 
-/// A block as it is written: its label, which may be left out, its lines and what it returns: `ret iN V`, or None for `ret void`.
+/// `[ V, LOCAL ]` as it is written: a value, and the block from which control comes.
+#[derive(Drop)]
+pub struct EntryText {
+    pub value: ValueText,
+    pub from: Placed<Name>,
+}
+
+/// `phi iN [ V, LOCAL ], ..` as it is written. It has one entry at least.
+#[derive(Drop)]
+pub struct NodeText {
+    pub ty: Placed<u32>,
+    pub first: EntryText,
+    pub others: Stack<EntryText>,
+}
+
+/// `register = phi ..` as it is written; the register may be left out.
+#[derive(Drop)]
+pub struct PhiText {
+    pub register: Option<Placed<Name>>,
+    pub node: NodeText,
+}
+
+/// What stands in a block before its terminator, as it is written: its phi nodes, and behind them its lines.
+#[derive(Drop)]
+pub struct BodyText {
+    pub phis: Stack<PhiText>,
+    pub lines: Stack<LineText>,
+}
+
+/// What stands in a block from behind the register of a phi node or a line up to the terminator, the same where no register is written.
+#[derive(Drop)]
+pub enum BehindText {
+    Phi {
+        node: NodeText,
+        body: BodyText,
+    },
+    Line {
+        operation: OperationText,
+        lines: Stack<LineText>,
+    },
+}
+
+/// `iN V, label LOCAL, label LOCAL` behind `br` as it is written.
+#[derive(Drop)]
+pub struct ConditionText {
+    pub condition: OperandText,
+    pub on_true: Placed<Name>,
+    pub on_false: Placed<Name>,
+}
+
+/// What stands behind `br`, as it is written: `label LOCAL`, or a condition and two labels.
+#[derive(Drop)]
+pub enum BranchText {
+    Always(Placed<Name>),
+    Condition(ConditionText),
+}
+
+/// `iN INT, label LOCAL` of a switch as it is written.
+#[derive(Drop)]
+pub struct CaseText {
+    pub ty: Placed<u32>,
+    pub number: IntText,
+    pub label: Placed<Name>,
+}
+
+/// `switch iN V, label LOCAL [ cases ]` as it is written.
+#[derive(Drop)]
+pub struct SwitchText {
+    pub value: OperandText,
+    pub default: Placed<Name>,
+    pub cases: Stack<CaseText>,
+}
+
+/// A terminator as it is written. `ret iN V` returns an operand, `ret void` None.
+#[derive(Drop)]
+pub enum TermText {
+    Ret(Option<OperandText>),
+    Br(BranchText),
+    Switch(SwitchText),
+    Unreachable,
+}
+
+/// A block as it is written: its label, which may be left out, what stands before its terminator, and the terminator.
 #[derive(Drop)]
 pub struct BlockText {
     pub label: Option<Placed<Name>>,
-    pub lines: Stack<LineText>,
-    pub result: Option<OperandText>,
+    pub body: BodyText,
+    pub term: TermText,
 }
 
-/// A definition of one block as it is written. Its result is of type `iN`, or None for `void`.
+/// A definition as it is written: of one block at least. Its result is of type `iN`, or None for `void`.
 #[derive(Drop)]
 pub struct DefinitionText {
     pub result: Option<Placed<u32>>,
     pub name: Placed<Name>,
     pub params: Stack<ParamText>,
-    pub block: BlockText,
+    pub entry: BlockText,
+    pub others: Stack<BlockText>,
 }
 
 /// The definitions of a module as they are written, in their order.

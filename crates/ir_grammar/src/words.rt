@@ -1,5 +1,4 @@
 use crate::operators::{ExactOp, FlagWord, OverflowOp, PlainOp};
-use crate::trees::ConstantWord;
 use ir_core::{CastOp, Pred};
 
 /// A word that says nothing but itself.
@@ -12,13 +11,19 @@ pub enum KeyWord {
     Icmp,
     Select,
     To,
+    Undef,
+    Phi,
+    Br,
+    Label,
+    Switch,
+    Unreachable,
 }
 
 /// What a word is in the grammar: a type `iN` by its width, a word of a group, one that stands alone, or none of the grammar's.
 #[derive(Drop, Clone, Copy)]
 pub enum Word {
     Width(u32),
-    Constant(ConstantWord),
+    Truth(bool),
     Overflow(OverflowOp),
     Exact(ExactOp),
     Plain(PlainOp),

@@ -16,8 +16,8 @@ use Rattle.ir_grammar.specs.declared.trees.ValueText.{ValueText}
 use Rattle.ir_grammar.specs.declared.trees.ValueText.TheVariants as text
 use Rattle.name_claims.specs.declared.claims.Claim.{Claim}
 use Rattle.name_claims.specs.declared.claims.Item.{Item}
-use Rattle.ir_naming.specs.Naming.{constant_claims}
-use Rattle.ir_naming.specs.Values.{IsAtom, IsOperand, IsOperation, Names, expression_of, number_of, operand_of, word_of}
+use Rattle.ir_naming.specs.Naming.{int_claims}
+use Rattle.ir_naming.specs.Values.{IsAtom, IsOperand, IsOperation, Names, expression_of, operand_of}
 
 -- ---- what is named
 
@@ -43,8 +43,8 @@ IsNameOf written name = name ≡ written.what
 
 -- A number is in range, and `true` and `false` stand at i1 alone; a register stands as it is.
 abbrev pub number_range : ℕ → ValueText → List Claim
-number_range width (text.Number n) = constant_claims n (number_of width n.what)
-number_range width (text.Constant c) = constant_claims c (word_of width c.what)
+number_range width (text.Int i) = int_claims width i
+number_range width text.Undef = []
 number_range width (text.Local w) = []
 
 abbrev pub operand_range : OperandText → List Claim

@@ -1,30 +1,56 @@
 -- The module that is built of a text. It is the one that the text names where no claim is at fault.
 use Rattle.std.specs.Prelude.{ℕ, List, [], ◌∷◌, map, Option, Some, None}
 use Rattle.ir_core.specs.declared.functions.Block.{Block}
+use Rattle.ir_core.specs.declared.functions.Case.{Case}
+use Rattle.ir_core.specs.declared.functions.CondBr.{CondBr}
+use Rattle.ir_core.specs.declared.functions.Entry.{Entry}
 use Rattle.ir_core.specs.declared.functions.Function.{Function}
 use Rattle.ir_core.specs.declared.functions.Instr.{Instr}
 use Rattle.ir_core.specs.declared.functions.Instr.TheVariants.{Calm}
 use Rattle.ir_core.specs.declared.functions.Module.{Module}
 use Rattle.ir_core.specs.declared.functions.Param.{Param}
+use Rattle.ir_core.specs.declared.functions.Phi.{Phi}
+use Rattle.ir_core.specs.declared.functions.Switch.{Switch}
 use Rattle.ir_core.specs.declared.functions.Term.{Term}
-use Rattle.ir_core.specs.declared.functions.Term.TheVariants.{Ret, RetVoid}
+use Rattle.ir_core.specs.declared.functions.Term.TheVariants as term
+use Rattle.ir_core.specs.declared.names.Name.{Name}
 use Rattle.ir_core.specs.declared.operands.Ty.{Ty}
 use Rattle.ir_core.specs.declared.operands.Ty.TheVariants.{Void}
 use Rattle.ir_grammar.specs.declared.trees.BlockText.{BlockText}
+use Rattle.ir_grammar.specs.declared.trees.BranchText.{BranchText}
+use Rattle.ir_grammar.specs.declared.trees.BranchText.TheVariants as branch
+use Rattle.ir_grammar.specs.declared.trees.CaseText.{CaseText}
+use Rattle.ir_grammar.specs.declared.trees.ConditionText.{ConditionText}
 use Rattle.ir_grammar.specs.declared.trees.DefinitionText.{DefinitionText}
+use Rattle.ir_grammar.specs.declared.trees.EntryText.{EntryText}
 use Rattle.ir_grammar.specs.declared.trees.LineText.{LineText}
 use Rattle.ir_grammar.specs.declared.trees.ModuleText.{ModuleText}
 use Rattle.ir_grammar.specs.declared.trees.OperandText.{OperandText}
 use Rattle.ir_grammar.specs.declared.trees.ParamText.{ParamText}
+use Rattle.ir_grammar.specs.declared.trees.PhiText.{PhiText}
 use Rattle.ir_grammar.specs.declared.trees.Placed.{Placed}
-use Rattle.ir_naming.specs.Naming.{due_behind, due_from, label_name, name_due, param_thing}
-use Rattle.ir_naming.specs.Values.{expression_of, operand_of, type_at}
+use Rattle.ir_grammar.specs.declared.trees.SwitchText.{SwitchText}
+use Rattle.ir_grammar.specs.declared.trees.TermText.{TermText}
+use Rattle.ir_grammar.specs.declared.trees.TermText.TheVariants as written
+use Rattle.ir_naming.specs.Naming.{block_things, blocks_in, due_behind, due_from, entries_in, label_name, name_due, param_thing, phi_thing}
+use Rattle.ir_naming.specs.Values.{atom_of, built, expression_of, int_of, operand_of, type_at}
 
 -- each with the number that is due at the first
 
 abbrev pub params_from : ℕ → List ParamText → List Param
 params_from due [] = []
 params_from due (p ∷ ps) = record { name = name_due due p.name; ty = type_at p.ty } ∷ params_from (due_behind due p.name) ps
+
+-- `[ 7, %a ]` of a phi of this width
+abbrev pub entry_of : ℕ → EntryText → Entry
+entry_of width e = record { value = atom_of width e.value; from = e.from.what }
+
+abbrev pub phi_named : Name → PhiText → Phi
+phi_named name p = record { name = name; ty = type_at p.node.ty; entries = map (entry_of p.node.ty.what) (entries_in p.node) }
+
+abbrev pub phis_from : ℕ → List PhiText → List Phi
+phis_from due [] = []
+phis_from due (p ∷ ps) = phi_named (name_due due p.register) p ∷ phis_from (due_behind due p.register) ps
 
 abbrev pub lines_from : ℕ → List LineText → List Instr
 lines_from due [] = []
@@ -33,16 +59,41 @@ lines_from due (l ∷ ls) =
 
 -- `ret void` returns nothing
 abbrev pub return_of : Option OperandText → Term
-return_of None = RetVoid
-return_of (Some o) = Ret (operand_of o)
+return_of None = term.RetVoid
+return_of (Some o) = term.Ret (operand_of o)
 
-abbrev pub block_from : ℕ → BlockText → Block
-block_from due b = record {
+abbrev pub condition_of : ConditionText → CondBr
+condition_of c = record { condition = operand_of c.condition; on_true = c.on_true.what; on_false = c.on_false.what }
+
+abbrev pub branch_of : BranchText → Term
+branch_of (branch.Always label) = term.Br label.what
+branch_of (branch.Condition c) = term.CondBr (condition_of c)
+
+-- `i8 -1, label %a` is the number 255 of i8, and the block `a`.
+abbrev pub case_of : CaseText → Case
+case_of c = record { ty = type_at c.ty; number = built (int_of c.ty.what c.number); label = c.label.what }
+
+abbrev pub switch_of : SwitchText → Switch
+switch_of s = record { value = operand_of s.value; default = s.default.what; cases = map case_of s.cases }
+
+abbrev pub term_of : TermText → Term
+term_of (written.Ret returned) = return_of returned
+term_of (written.Br b) = branch_of b
+term_of (written.Switch s) = term.Switch (switch_of s)
+term_of written.Unreachable = term.Unreachable
+
+-- A block of the function of this name. The numbers go on from its label to its phis, and from them to its lines.
+abbrev pub block_from : Placed Name → ℕ → BlockText → Block
+block_from function due b = record {
   name = name_due due (label_name b.label);
-  phis = [];
-  body = lines_from (due_behind due (label_name b.label)) b.lines;
-  term = return_of b.result;
+  phis = phis_from (due_behind due (label_name b.label)) b.body.phis;
+  body = lines_from (due_from (due_behind due (label_name b.label)) (map (phi_thing function) b.body.phis)) b.body.lines;
+  term = term_of b.term;
 }
+
+abbrev pub blocks_from : Placed Name → ℕ → List BlockText → List Block
+blocks_from function due [] = []
+blocks_from function due (b ∷ bs) = block_from function due b ∷ blocks_from function (due_from due (block_things function b)) bs
 
 -- a result of no type is void
 abbrev pub result_of : Option (Placed ℕ) → Ty
@@ -55,7 +106,7 @@ function_of d = record {
   name = d.name.what;
   result = result_of d.result;
   params = params_from 0 d.params;
-  blocks = block_from (due_from 0 (map (param_thing d.name) d.params)) d.block ∷ [];
+  blocks = blocks_from d.name (due_from 0 (map (param_thing d.name) d.params)) (blocks_in d);
 }
 
 abbrev pub module_of : ModuleText → Module

@@ -3,19 +3,30 @@ use Rattle.std.specs.Prelude.{ℕ, ◌+◌, ◌-◌, ◌^◌, List, [], ◌∷�
 use Rattle.std.specs.List.{flat_map}
 use Rattle.ir_core.specs.declared.names.Name.{Name}
 use Rattle.ir_core.specs.declared.names.Name.TheVariants.{Text, Number}
-use Rattle.ir_core.specs.declared.operands.Const.{Const}
 use Rattle.ir_core.specs.declared.operands.Ty.TheVariants.{Int}
 use Rattle.ir_core.specs.Expressions.{type_of}
 use Rattle.ir_grammar.specs.declared.trees.BlockText.{BlockText}
+use Rattle.ir_grammar.specs.declared.trees.BranchText.{BranchText}
+use Rattle.ir_grammar.specs.declared.trees.BranchText.TheVariants as branch
+use Rattle.ir_grammar.specs.declared.trees.CaseText.{CaseText}
+use Rattle.ir_grammar.specs.declared.trees.ConditionText.{ConditionText}
 use Rattle.ir_grammar.specs.declared.trees.DefinitionText.{DefinitionText}
+use Rattle.ir_grammar.specs.declared.trees.EntryText.{EntryText}
+use Rattle.ir_grammar.specs.declared.trees.IntText.{IntText}
+use Rattle.ir_grammar.specs.declared.trees.IntText.TheVariants as int
 use Rattle.ir_grammar.specs.declared.trees.LineText.{LineText}
 use Rattle.ir_grammar.specs.declared.trees.ModuleText.{ModuleText}
+use Rattle.ir_grammar.specs.declared.trees.NodeText.{NodeText}
 use Rattle.ir_grammar.specs.declared.trees.OperandText.{OperandText}
 use Rattle.ir_grammar.specs.declared.trees.OperationText.{OperationText}
 use Rattle.ir_grammar.specs.declared.trees.OperationText.TheVariants as form
 use Rattle.ir_grammar.specs.declared.trees.ParamText.{ParamText}
+use Rattle.ir_grammar.specs.declared.trees.PhiText.{PhiText}
 use Rattle.ir_grammar.specs.declared.trees.Placed.{Placed}
 use Rattle.ir_grammar.specs.declared.trees.SelectText.{SelectText}
+use Rattle.ir_grammar.specs.declared.trees.SwitchText.{SwitchText}
+use Rattle.ir_grammar.specs.declared.trees.TermText.{TermText}
+use Rattle.ir_grammar.specs.declared.trees.TermText.TheVariants as term
 use Rattle.ir_grammar.specs.declared.trees.ValueText.{ValueText}
 use Rattle.ir_grammar.specs.declared.trees.ValueText.TheVariants as text
 use Rattle.name_claims.specs.declared.claims.Claim.{Claim}
@@ -25,7 +36,7 @@ use Rattle.name_claims.specs.declared.claims.Meaning.{Meaning}
 use Rattle.name_claims.specs.declared.claims.Meaning.TheVariants as meaning
 use Rattle.name_claims.specs.declared.claims.Says.{Says}
 use Rattle.name_claims.specs.declared.claims.Says.TheVariants as says
-use Rattle.ir_naming.specs.Values.{expression_of, number_of, type_at, word_of}
+use Rattle.ir_naming.specs.Values.{expression_of, kept, truth, type_at}
 
 -- ---- one thing that is defined
 
@@ -86,15 +97,20 @@ due_from due (t ∷ ts) = due_from (due_behind due t.written) ts
 
 -- ---- values
 
--- what is written is a constant of its type, or is Wrong
-abbrev pub constant_claims : {T : Type 0} → Placed T → Option Const → List Claim
-constant_claims place None = at place says.Wrong ∷ []
-constant_claims place (Some c) = []
+-- what is written is a number of its type, or is Wrong
+abbrev pub kept_claims : {T : Type 0} → Placed T → Option ℕ → List Claim
+kept_claims place None = at place says.Wrong ∷ []
+kept_claims place (Some n) = []
 
--- A value of this width. `%x` is a register of the type; a number is in range; `true` and `false` stand at i1 alone.
+-- A number of this width is in range; `true` and `false` stand at i1 alone.
+abbrev pub int_claims : ℕ → IntText → List Claim
+int_claims width (int.Number n) = kept_claims n (kept width n.what)
+int_claims width (int.Truth b) = kept_claims b (truth width b.what)
+
+-- A value of this width. `%x` is a register of the type; a number is one of the type; `undef` is of any.
 abbrev pub value_claims : ℕ → ValueText → List Claim
-value_claims width (text.Number n) = constant_claims n (number_of width n.what)
-value_claims width (text.Constant c) = constant_claims c (word_of width c.what)
+value_claims width (text.Int i) = int_claims width i
+value_claims width text.Undef = []
 value_claims width (text.Local w) = at w (says.Register (record { name = w.what; ty = Int width })) ∷ []
 
 abbrev pub operand_claims : OperandText → List Claim
@@ -122,8 +138,45 @@ abbrev pub return_claims : Option OperandText → List Claim
 return_claims None = []
 return_claims (Some o) = operand_claims o
 
+-- a label that is used is one of the function's blocks
+abbrev pub label_claims : Placed Name → List Claim
+label_claims w = at w (says.Label w.what) ∷ []
+
+-- `[ 300, %a ]` of a phi of i8 claims what is Wrong at the 300, and that `a` is a block.
+abbrev pub entry_claims : ℕ → EntryText → List Claim
+entry_claims width e = value_claims width e.value ++ label_claims e.from
+
+-- the entries of a phi, of which it has one at least
+abbrev pub entries_in : NodeText → List EntryText
+entries_in n = n.first ∷ n.others
+
+-- each value is of the type that is stated once, for the phi
+abbrev pub phi_claims : PhiText → List Claim
+phi_claims p = flat_map (entry_claims p.node.ty.what) (entries_in p.node)
+
+abbrev pub condition_claims : ConditionText → List Claim
+condition_claims c = operand_claims c.condition ++ label_claims c.on_true ++ label_claims c.on_false
+
+-- `br i1 %c, label %a, label %b` claims that `c` is a register of i1, and that `a` and `b` are blocks.
+abbrev pub branch_claims : BranchText → List Claim
+branch_claims (branch.Always label) = label_claims label
+branch_claims (branch.Condition c) = condition_claims c
+
+-- `i8 300, label %a` claims what is Wrong at the 300, and that `a` is a block.
+abbrev pub case_claims : CaseText → List Claim
+case_claims c = int_claims c.ty.what c.number ++ label_claims c.label
+
+abbrev pub switch_claims : SwitchText → List Claim
+switch_claims s = operand_claims s.value ++ label_claims s.default ++ flat_map case_claims s.cases
+
+abbrev pub term_claims : TermText → List Claim
+term_claims (term.Ret returned) = return_claims returned
+term_claims (term.Br b) = branch_claims b
+term_claims (term.Switch s) = switch_claims s
+term_claims term.Unreachable = []
+
 abbrev pub block_claims : BlockText → List Claim
-block_claims b = flat_map line_claims b.lines ++ return_claims b.result
+block_claims b = flat_map phi_claims b.body.phis ++ flat_map line_claims b.body.lines ++ term_claims b.term
 
 -- ---- a function, and the functions of a module
 
@@ -143,19 +196,29 @@ abbrev pub line_thing : Placed Name → LineText → Thing
 line_thing function l =
     record { function = function; written = l.register; meaning = meaning.Register (type_of (expression_of l.operation)) }
 
-abbrev pub block_things : Placed Name → BlockText → List Thing
-block_things function b = label_thing function b.label ∷ map (line_thing function) b.lines
+-- what a phi sets is a register of its type
+abbrev pub phi_thing : Placed Name → PhiText → Thing
+phi_thing function p = record { function = function; written = p.register; meaning = meaning.Register (type_at p.node.ty) }
 
--- What a function defines: its parameters, its block and its registers, which have one count.
+-- what a block defines: itself, and then what its phis and its lines set
+abbrev pub block_things : Placed Name → BlockText → List Thing
+block_things function b =
+    label_thing function b.label ∷ (map (phi_thing function) b.body.phis ++ map (line_thing function) b.body.lines)
+
+-- the blocks of a function, of which it has one at least
+abbrev pub blocks_in : DefinitionText → List BlockText
+blocks_in d = d.entry ∷ d.others
+
+-- What a function defines: its parameters, its blocks and its registers, which have one count.
 abbrev pub things_of : DefinitionText → List Thing
-things_of d = map (param_thing d.name) d.params ++ block_things d.name d.block
+things_of d = map (param_thing d.name) d.params ++ flat_map (block_things d.name) (blocks_in d)
 
 -- In `define i32 @f(i32) { %x = add i32 %0, 7 ret i32 %x }` the definitions are the register 0, the block 1 and the register `x`. It
 -- is claimed that `x` is new, and that 0 and `x` are registers of i32; the 7 is in range and claims nothing.
 abbrev pub item_of : DefinitionText → Item
 item_of d = record {
   definitions = definitions_from 0 (things_of d);
-  claims = name_claims_from 0 0 (things_of d) ++ block_claims d.block;
+  claims = name_claims_from 0 0 (things_of d) ++ flat_map block_claims (blocks_in d);
 }
 
 abbrev pub function_thing : DefinitionText → Thing

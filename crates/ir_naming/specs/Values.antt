@@ -1,5 +1,5 @@
 -- What a written value of a type iN, an operand with its type and an operation over operands name. A type is its width N.
-use Rattle.std.specs.Prelude.{◌≡◌, ℕ, ◌==◌, ◌-◌, ◌^◌, ◌%◌, Bool, true, false, Option, Some, None, nat_lt, nat_le, if◌then◌else◌, option_map, unwrap_or}
+use Rattle.std.specs.Prelude.{◌≡◌, ℕ, ◌==◌, ◌-◌, ◌^◌, ◌%◌, Bool, true, false, Option, Some, None, nat_lt, nat_le, if◌then◌else◌, unwrap_or}
 use Rattle.std.specs.List.{list_any}
 use Rattle.ir_core.specs.declared.expressions.Binary.{Binary}
 use Rattle.ir_core.specs.declared.expressions.Cast.{Cast}
@@ -10,7 +10,6 @@ use Rattle.ir_core.specs.declared.expressions.Select.{Select}
 use Rattle.ir_core.specs.declared.names.Name.{Name}
 use Rattle.ir_core.specs.declared.operands.Atom.{Atom}
 use Rattle.ir_core.specs.declared.operands.Atom.TheVariants.{Constant, Register}
-use Rattle.ir_core.specs.declared.operands.Const.{Const}
 use Rattle.ir_core.specs.declared.operands.Const.TheVariants as const
 use Rattle.ir_core.specs.declared.operands.Flags.{Flags}
 use Rattle.ir_core.specs.declared.operands.Operand.{Operand}
@@ -23,8 +22,8 @@ use Rattle.ir_grammar.specs.declared.operators.FlagWord.TheVariants.{Nuw, Nsw}
 use Rattle.ir_grammar.specs.declared.trees.BinaryText.{BinaryText}
 use Rattle.ir_grammar.specs.declared.trees.CastText.{CastText}
 use Rattle.ir_grammar.specs.declared.trees.CompareText.{CompareText}
-use Rattle.ir_grammar.specs.declared.trees.ConstantWord.{ConstantWord}
-use Rattle.ir_grammar.specs.declared.trees.ConstantWord.TheVariants as word
+use Rattle.ir_grammar.specs.declared.trees.IntText.{IntText}
+use Rattle.ir_grammar.specs.declared.trees.IntText.TheVariants as int
 use Rattle.ir_grammar.specs.declared.trees.OperandText.{OperandText}
 use Rattle.ir_grammar.specs.declared.trees.OperationText.{OperationText}
 use Rattle.ir_grammar.specs.declared.trees.OperationText.TheVariants as form
@@ -53,19 +52,19 @@ kept_by_sign width n = if n.negative then kept_negative width n.magnitude else k
 abbrev pub kept : ℕ → Number → Option ℕ
 kept width n = if is_width width then kept_by_sign width n else None
 
--- the constant that a number is, if it is one of the type
-abbrev pub number_of : ℕ → Number → Option Const
-number_of width n = option_map (λ v. const.Number v) (kept width n)
-
 -- a number of i1, which no other type has
-abbrev pub bit : ℕ → ℕ → Option Const
-bit width n = if width == 1 then Some (const.Number n) else None
+abbrev pub bit : ℕ → ℕ → Option ℕ
+bit width n = if width == 1 then Some n else None
 
--- `true` and `false` are the 1 and the 0 of i1, and are constants of no other type; `undef` is one of any.
-abbrev pub word_of : ℕ → ConstantWord → Option Const
-word_of width word.True = bit width 1
-word_of width word.False = bit width 0
-word_of width word.Undef = Some const.Undef
+-- `true` and `false` are the 1 and the 0 of i1, and are numbers of no other type.
+abbrev pub truth : ℕ → Bool → Option ℕ
+truth width true = bit width 1
+truth width false = bit width 0
+
+-- The number that is written, if it is one of the type: `true` is 1 of i1 and none of i8, `-1` is 255 of i8.
+abbrev pub int_of : ℕ → IntText → Option ℕ
+int_of width (int.Number n) = kept width n.what
+int_of width (int.Truth b) = truth width b.what
 
 -- ---- flags
 
@@ -85,14 +84,14 @@ flags_of (operators.Plain op) = record { nuw = false; nsw = false; exact = false
 
 -- ---- what is built
 
--- what is no constant of the type is built as 0
-abbrev pub built : Option Const → Const
-built c = unwrap_or c (const.Number 0)
+-- what is no number of the type is built as 0
+abbrev pub built : Option ℕ → ℕ
+built n = unwrap_or n 0
 
 -- What a written value of this width names. `-1` of i8 is the constant 255, `%x` the register `x`.
 abbrev pub atom_of : ℕ → ValueText → Atom Name
-atom_of width (text.Number n) = Constant (built (number_of width n.what))
-atom_of width (text.Constant c) = Constant (built (word_of width c.what))
+atom_of width (text.Int i) = Constant (const.Number (built (int_of width i)))
+atom_of width text.Undef = Constant const.Undef
 atom_of width (text.Local name) = Register name.what
 
 -- the type `iN`, and the operand `iN V`
@@ -136,15 +135,16 @@ expression_of (form.Select s) = expr.Select (select_of s)
 
 -- ---- what is named
 
--- it is the constant, if there is one
-abbrev pub IsConstant : {R : Type 0} → Option Const → Atom R → Type 0
-IsConstant {R} None atom = ⊥
-IsConstant {R} (Some c) atom = atom ≡ Constant c
+-- it is the number, if there is one
+abbrev pub IsNumber : {R : Type 0} → Option ℕ → Atom R → Type 0
+IsNumber {R} None atom = ⊥
+IsNumber {R} (Some n) atom = atom ≡ Constant (const.Number n)
 
--- A written value of this width names a constant of the type, or a register that the written name is said to mean.
+-- A written value of this width names a number of the type, `undef`, which is of any, or a register that the written name is said to
+-- mean.
 abbrev pub IsAtom : {R : Type 0} → ℕ → (Name → R → Type 0) → ValueText → Atom R → Type 0
-IsAtom {R} width means (text.Number n) atom = IsConstant (number_of width n.what) atom
-IsAtom {R} width means (text.Constant c) atom = IsConstant (word_of width c.what) atom
+IsAtom {R} width means (text.Int i) atom = IsNumber (int_of width i) atom
+IsAtom {R} width means text.Undef atom = atom ≡ Constant const.Undef
 IsAtom {R} width means (text.Local name) atom = (r : R) × means name.what r × (atom ≡ Register r)
 
 -- what a written value of a width names

@@ -1,9 +1,9 @@
-//! Constants of the type iN, which is its width N.
+//! Numbers of the type iN, which is its width N.
 ghost use Rattle.std.specs.Prelude.{◌≡◌, ◌≤◌, ◌-◌, ◌%◌, ◌^◌};
 ghost use Rattle.ir_naming.specs.Values as meaning;
 
-use ir_core::{Bits, Const, is_width};
-use ir_grammar::ConstantWord;
+use ir_core::{Bits, is_width};
+use ir_grammar::IntText;
 use ir_lexer::Number;
 
 fn power_of_two(exponent: u32) -> u128
@@ -64,7 +64,7 @@ fn kept_by_sign(width: u32, number: Number) -> Option<u64>
 }
 
 /// The number modulo 2 to the width, if it is one of the type.
-fn kept(width: u32, number: Number) -> Option<u64>
+pub fn kept(width: u32, number: Number) -> Option<u64>
     ensures { result ≡ meaning.kept width number }
 {
     if is_width(width) {
@@ -74,44 +74,36 @@ fn kept(width: u32, number: Number) -> Option<u64>
     }
 }
 
-/// The constant that the number is, if it is one of the type.
-pub fn number_of(width: u32, number: Number) -> Option<Const>
-    ensures { result ≡ meaning.number_of width number }
-{
-    match kept(width, number) {
-        None => None,
-        Some(kept) => Some(Const::Number(Bits::new(kept))),
-    }
-}
-
 /// `true` or `false`, if the type is `i1`.
-fn bit(width: u32, number: u64) -> Option<Const>
+fn bit(width: u32, number: u64) -> Option<u64>
     ensures { result ≡ meaning.bit width number }
 {
-    if width == 1 {
-        Some(Const::Number(Bits::new(number)))
-    } else {
-        None
+    if width == 1 { Some(number) } else { None }
+}
+
+/// The number that the word is, if it is one of the type.
+pub fn truth(width: u32, word: bool) -> Option<u64>
+    ensures { result ≡ meaning.truth width word }
+{
+    if word { bit(width, 1) } else { bit(width, 0) }
+}
+
+/// The number that is written, if it is one of the type.
+pub fn int_of(width: u32, int: &IntText) -> Option<u64>
+    ensures { result ≡ meaning.int_of width int.now }
+{
+    match int {
+        IntText::Number(number) => kept(width, number.what),
+        IntText::Truth(word) => truth(width, word.what),
     }
 }
 
-/// The constant that the word is, if it is one of the type.
-pub fn word_of(width: u32, word: ConstantWord) -> Option<Const>
-    ensures { result ≡ meaning.word_of width word }
+/// The number, or 0 where there is none.
+pub fn built(number: Option<u64>) -> Bits
+    ensures { result ≡ meaning.built number }
 {
-    match word {
-        ConstantWord::True => bit(width, 1),
-        ConstantWord::False => bit(width, 0),
-        ConstantWord::Undef => Some(Const::Undef),
-    }
-}
-
-/// The constant, or 0 where there is none.
-pub fn built(constant: Option<Const>) -> Const
-    ensures { result ≡ meaning.built constant }
-{
-    match constant {
-        None => Const::Number(Bits::new(0)),
-        Some(constant) => constant,
+    match number {
+        None => Bits::new(0),
+        Some(number) => Bits::new(number),
     }
 }

@@ -5,11 +5,11 @@ ghost use Rattle.ir_core.specs.Expressions.{map_atom, map_operand, map_binary, m
 ghost use Rattle.ir_naming.specs.Values as meaning;
 ghost use Rattle.ir_naming.specs.Expressions.{expression_claims, expression_now, number_range, operand_range, operation_ranges, pair_ranges, ranges_of, select_ranges};
 
-use crate::constants::{built, number_of, word_of};
-use crate::operands::claim_constant;
+use crate::constants::{built, int_of};
+use crate::operands::claim_int;
 use crate::values::{flags_of, name_of};
 use contents::Seq;
-use ir_core::{Atom, Binary, Cast, Expr, Expr0, Icmp, Operand, Reg, Select, Ty};
+use ir_core::{Atom, Binary, Cast, Const, Expr, Expr0, Icmp, Operand, Reg, Select, Ty};
 use ir_grammar::{
     BinaryText, CastText, CompareText, ExprText, OperandText, OperationText, SelectText, ValueText,
 };
@@ -21,8 +21,8 @@ fn atom_now(width: u32, value: ValueText) -> Atom<Reg>
     ensures { result ≡ map_atom Now (meaning.atom_of width value) }
 {
     match value {
-        ValueText::Number(number) => Atom::Constant(built(number_of(width, number.what))),
-        ValueText::Constant(word) => Atom::Constant(built(word_of(width, word.what))),
+        ValueText::Int(int) => Atom::Constant(Const::Number(built(int_of(width, &int)))),
+        ValueText::Undef => Atom::Constant(Const::Undef),
         ValueText::Local(name) => Atom::Register(Reg::Now(name_of(name))),
     }
 }
@@ -120,10 +120,8 @@ fn claim_number(width: u32, value: &ValueText, claims: &mut Seq<Claim>) -> Resul
     ensures { OnOk result (claims.new ≡ claims.old ++ number_range width value.now) }
 {
     match value {
-        ValueText::Number(number) => {
-            claim_constant(number, number_of(width, number.what), claims)
-        }
-        ValueText::Constant(word) => claim_constant(word, word_of(width, word.what), claims),
+        ValueText::Int(int) => claim_int(width, int, claims),
+        ValueText::Undef => Ok(()),
         ValueText::Local(_) => Ok(()),
     }
 }

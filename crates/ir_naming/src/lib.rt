@@ -4,6 +4,7 @@
 
 mod constants;
 mod expressions;
+mod flow;
 mod modules;
 mod operands;
 mod tally;

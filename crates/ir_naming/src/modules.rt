@@ -1,16 +1,19 @@
 ghost use Rattle.std.specs.Prelude.{◌≡◌, ◌-◌, ◌++◌, [], ◌∷◌, map, IfOk, OnOk};
 ghost use Rattle.std.specs.List.{flat_map};
-ghost use Rattle.ir_naming.specs.Naming.{name_due, label_name, label_thing, param_thing, line_thing, function_thing, block_things, things_of, due_from, line_claims, return_claims, block_claims, item_of, claims_of};
-ghost use Rattle.ir_naming.specs.Modules.{params_from, lines_from, return_of, block_from, result_of, function_of, module_of};
+ghost use Rattle.ir_naming.specs.Naming.{name_due, label_name, label_thing, param_thing, phi_thing, line_thing, function_thing, block_things, blocks_in, things_of, due_from, phi_claims, line_claims, block_claims, item_of, claims_of};
+ghost use Rattle.ir_naming.specs.Modules.{params_from, phi_named, phis_from, lines_from, block_from, blocks_from, result_of, function_of, module_of};
 ghost use Rattle.ir_naming.specs.Values.{expression_of, type_at};
 ghost use Rattle.ir_naming.specs.Walk.{HasRoom, with_thing, with_things};
 
-use crate::operands::{claim_operation, claim_return};
+use crate::flow::{name_node, name_term};
+use crate::operands::claim_operation;
 use crate::tally::{Tally, define, define_function, new_tally, with_room};
-use crate::values::{expression_of, name_of, operand_of};
+use crate::values::{expression_of, name_of};
 use contents::{Exact, Seq};
-use ir_core::{Block, Calm, Function, Instr, Module, Name, Param, Term, Ty};
-use ir_grammar::{BlockText, DefinitionText, LineText, ModuleText, OperandText, ParamText, Placed};
+use ir_core::{Block, Calm, Function, Instr, Module, Name, Param, Phi, Ty};
+use ir_grammar::{
+    BlockText, BodyText, DefinitionText, LineText, ModuleText, ParamText, PhiText, Placed,
+};
 use name_claims::{Claim, Item, Meaning};
 use std::alloc::{AllocError, Global};
 use typed_grammars::Stack;
@@ -79,6 +82,58 @@ fn name_params(
     Ok(())
 }
 
+/// The phi, which is defined, and what its entries claim.
+fn name_phi(
+    alloc: Global,
+    function: &Placed<Name>,
+    phi: PhiText,
+    tally: &mut Tally,
+    claims: &mut Seq<Claim>,
+) -> Result<Phi, AllocError>
+    requires { HasRoom tally.old }
+    ensures phi { IfOk result (λ made. made ≡ phi_named (name_due tally.old.next phi.register) phi) }
+    ensures defined { OnOk result (tally.new ≡ with_thing (phi_thing function.now phi) tally.old) }
+    ensures claims { OnOk result (claims.new ≡ claims.old ++ phi_claims phi) }
+{
+    let PhiText { register, node } = phi;
+    let width = node.ty.what;
+    let entries = name_node(alloc, node, claims)?;
+    let name = define(
+        alloc,
+        tally,
+        function,
+        register,
+        Meaning::Register(Ty::Int(width)),
+    )?;
+    Ok(Phi {
+        name,
+        ty: Ty::Int(width),
+        entries,
+    })
+}
+
+/// Puts the phis, which are taken, behind those that are made, and what their entries claim.
+fn name_phis(
+    alloc: Global,
+    function: &Placed<Name>,
+    phis: &mut Stack<PhiText>,
+    tally: &mut Tally,
+    claims: &mut Seq<Claim>,
+    made: &mut Seq<Phi>,
+) -> Result<(), AllocError>
+    requires { HasRoom tally.old }
+    ensures phis { OnOk result (made.new ≡ made.old ++ phis_from tally.old.next phis.old) }
+    ensures defined { OnOk result (tally.new ≡ with_things (map (phi_thing function.now) phis.old) tally.old) }
+    ensures claims { OnOk result (claims.new ≡ claims.old ++ flat_map phi_claims phis.old) }
+    ensures room { OnOk result (HasRoom tally.new) }
+{
+    while let Some(phi) = phis.pop() {
+        phis.shrink();
+        made.push(name_phi(alloc, function, phi, tally, claims)?)?;
+    }
+    Ok(())
+}
+
 /// The line, which is defined, and what its values claim.
 fn name_line(
     alloc: Global,
@@ -116,6 +171,7 @@ fn name_lines(
     ensures lines { OnOk result (made.new ≡ made.old ++ lines_from tally.old.next lines.old) }
     ensures defined { OnOk result (tally.new ≡ with_things (map (line_thing function.now) lines.old) tally.old) }
     ensures claims { OnOk result (claims.new ≡ claims.old ++ flat_map line_claims lines.old) }
+    ensures room { OnOk result (HasRoom tally.new) }
 {
     while let Some(line) = lines.pop() {
         lines.shrink();
@@ -124,30 +180,7 @@ fn name_lines(
     Ok(())
 }
 
-/// What the block returns.
-fn return_of(returned: Option<OperandText>) -> Term
-    ensures { result ≡ return_of returned }
-{
-    match returned {
-        None => Term::RetVoid,
-        Some(operand) => Term::Ret(operand_of(operand)),
-    }
-}
-
-/// What the block returns, and what its value claims.
-fn name_return(
-    alloc: Global,
-    returned: Option<OperandText>,
-    claims: &mut Seq<Claim>,
-) -> Result<Term, AllocError>
-    ensures term { IfOk result (λ term. term ≡ return_of returned) }
-    ensures claims { OnOk result (claims.new ≡ claims.old ++ return_claims returned) }
-{
-    claim_return(alloc, &returned, claims)?;
-    Ok(return_of(returned))
-}
-
-/// The block, and what its values claim.
+/// The block, and what its values and labels claim.
 #[tactic(auto, using(crate::proofs::Tallies::room_kept))]
 fn name_block(
     alloc: Global,
@@ -157,26 +190,69 @@ fn name_block(
     claims: &mut Seq<Claim>,
 ) -> Result<Block, AllocError>
     requires { HasRoom tally.old }
-    ensures block { IfOk result (λ made. made ≡ block_from tally.old.next block) }
+    ensures block { IfOk result (λ made. made ≡ block_from function.now tally.old.next block) }
     ensures defined { OnOk result (tally.new ≡ with_things (block_things function.now block) tally.old) }
     ensures claims { OnOk result (claims.new ≡ claims.old ++ block_claims block) }
+    ensures room { OnOk result (HasRoom tally.new) }
 {
-    let BlockText {
-        label,
-        lines,
-        result,
-    } = block;
+    let BlockText { label, body, term } = block;
+    let BodyText { phis, lines } = body;
+    let mut phis = phis;
     let mut lines = lines;
     let name = define(alloc, tally, function, label_name(label), Meaning::Block)?;
+    let mut nodes = with_room(alloc, phis.len())?;
+    name_phis(alloc, function, &mut phis, tally, claims, &mut nodes)?;
     let mut body = with_room(alloc, lines.len())?;
     name_lines(alloc, function, &mut lines, tally, claims, &mut body)?;
-    let term = name_return(alloc, result, claims)?;
+    let term = name_term(alloc, term, claims)?;
     Ok(Block {
         name,
-        phis: Seq::new(alloc),
+        phis: nodes,
         body,
         term,
     })
+}
+
+/// Puts the blocks, which are taken, behind those that are made, and what their values and labels claim.
+fn name_blocks(
+    alloc: Global,
+    function: &Placed<Name>,
+    blocks: &mut Stack<BlockText>,
+    tally: &mut Tally,
+    claims: &mut Seq<Claim>,
+    made: &mut Seq<Block>,
+) -> Result<(), AllocError>
+    requires { HasRoom tally.old }
+    ensures blocks { OnOk result (made.new ≡ made.old ++ blocks_from function.now tally.old.next blocks.old) }
+    ensures defined { OnOk result (tally.new ≡ with_things (flat_map (block_things function.now) blocks.old) tally.old) }
+    ensures claims { OnOk result (claims.new ≡ claims.old ++ flat_map block_claims blocks.old) }
+{
+    while let Some(block) = blocks.pop() {
+        blocks.shrink();
+        made.push(name_block(alloc, function, block, tally, claims)?)?;
+    }
+    Ok(())
+}
+
+/// The first block and the others.
+fn name_all_blocks(
+    alloc: Global,
+    function: &Placed<Name>,
+    entry: BlockText,
+    others: Stack<BlockText>,
+    tally: &mut Tally,
+    claims: &mut Seq<Claim>,
+) -> Result<Seq<Block>, AllocError>
+    requires { HasRoom tally.old }
+    ensures blocks { IfOk result (λ made. made ≡ blocks_from function.now tally.old.next (entry ∷ others)) }
+    ensures defined { OnOk result (tally.new ≡ with_things (flat_map (block_things function.now) (entry ∷ others)) tally.old) }
+    ensures claims { OnOk result (claims.new ≡ claims.old ++ flat_map block_claims (entry ∷ others)) }
+{
+    let mut others = others;
+    let mut made = with_room(alloc, others.len().saturating_add(1))?;
+    made.push(name_block(alloc, function, entry, tally, claims)?)?;
+    name_blocks(alloc, function, &mut others, tally, claims, &mut made)?;
+    Ok(made)
 }
 
 fn joined(first: Seq<Claim>, second: Seq<Claim>) -> Result<Seq<Claim>, AllocError>
@@ -210,38 +286,30 @@ fn result_of(written: Option<Placed<u32>>) -> Ty
     }
 }
 
-/// A list of the one block.
-fn one_block(alloc: Global, block: Block) -> Result<Seq<Block>, AllocError>
-    ensures { IfOk result (λ blocks. blocks ≡ block ∷ []) }
-{
-    let mut blocks = with_room(alloc, 1)?;
-    blocks.push(block)?;
-    Ok(blocks)
-}
-
-/// The parameters, and the one block.
+/// The parameters, and the blocks.
 fn name_parts(
     alloc: Global,
     function: &Placed<Name>,
     params: Stack<ParamText>,
-    block: BlockText,
+    entry: BlockText,
+    others: Stack<BlockText>,
     tally: &mut Tally,
     claims: &mut Seq<Claim>,
 ) -> Result<(Seq<Param>, Seq<Block>), AllocError>
     requires { HasRoom tally.old }
     ensures params { IfOk result (λ made. made.0 ≡ params_from tally.old.next params) }
-    ensures block { IfOk result (λ made. made.1 ≡ block_from (due_from tally.old.next (map (param_thing function.now) params)) block ∷ []) }
-    ensures defined { OnOk result (tally.new ≡ with_things (map (param_thing function.now) params ++ block_things function.now block) tally.old) }
-    ensures claims { OnOk result (claims.new ≡ claims.old ++ block_claims block) }
+    ensures blocks { IfOk result (λ made. made.1 ≡ blocks_from function.now (due_from tally.old.next (map (param_thing function.now) params)) (entry ∷ others)) }
+    ensures defined { OnOk result (tally.new ≡ with_things (map (param_thing function.now) params ++ flat_map (block_things function.now) (entry ∷ others)) tally.old) }
+    ensures claims { OnOk result (claims.new ≡ claims.old ++ flat_map block_claims (entry ∷ others)) }
 {
     let mut params = params;
     let mut made = with_room(alloc, params.len())?;
     name_params(alloc, function, &mut params, tally, &mut made)?;
-    let block = name_block(alloc, function, block, tally, claims)?;
-    Ok((made, one_block(alloc, block)?))
+    let blocks = name_all_blocks(alloc, function, entry, others, tally, claims)?;
+    Ok((made, blocks))
 }
 
-/// The function, and what its values claim.
+/// The function, and what its values and labels claim.
 fn function_in(
     alloc: Global,
     definition: DefinitionText,
@@ -251,15 +319,16 @@ fn function_in(
     requires { tally.old.next ≡ 0 }
     ensures function { IfOk result (λ f. f ≡ function_of definition) }
     ensures defined { OnOk result (tally.new ≡ with_things (things_of definition) tally.old) }
-    ensures claims { OnOk result (claims.new ≡ claims.old ++ block_claims definition.block) }
+    ensures claims { OnOk result (claims.new ≡ claims.old ++ flat_map block_claims (blocks_in definition)) }
 {
     let DefinitionText {
         result,
         name,
         params,
-        block,
+        entry,
+        others,
     } = definition;
-    let (params, blocks) = name_parts(alloc, &name, params, block, tally, claims)?;
+    let (params, blocks) = name_parts(alloc, &name, params, entry, others, tally, claims)?;
     Ok(Function {
         name: name_of(name),
         result: result_of(result),
@@ -268,12 +337,22 @@ fn function_in(
     })
 }
 
-/// The function, and what it defines and claims. There is room for a claim of each name and for two values a line.
+/// How many lines the function has at least: those of its first block, and a terminator of each of the others.
+fn least_lines(definition: &DefinitionText) -> usize {
+    let body = &definition.entry.body;
+    let lines = body.phis.len().saturating_add(body.lines.len());
+    lines
+        .saturating_add(definition.others.len())
+        .saturating_add(1)
+}
+
+/// The function, and what it defines and claims. There is room for a claim of each name and for two values a line, as far as it is
+/// known how many lines there are.
 fn name_function(alloc: Global, definition: DefinitionText) -> Result<(Function, Item), AllocError>
     ensures function { IfOk result (λ made. made.0 ≡ function_of definition) }
     ensures item { IfOk result (λ made. made.1 ≡ item_of definition) }
 {
-    let lines = definition.block.lines.len().saturating_add(1);
+    let lines = least_lines(&definition);
     let names = definition.params.len().saturating_add(lines);
     let values = lines.saturating_mul(2);
     let mut tally = new_tally(alloc, names, names.saturating_add(values))?;

@@ -1,23 +1,23 @@
 //! What values, operands and operations of a function claim.
 ghost use Rattle.std.specs.Prelude.{◌≡◌, ◌++◌, [], ◌∷◌, IfOk, OnOk};
-ghost use Rattle.ir_naming.specs.Naming.{at, constant_claims, value_claims, operand_claims, pair_claims, select_claims, operation_claims, return_claims};
+ghost use Rattle.ir_naming.specs.Naming.{at, kept_claims, int_claims, label_claims, value_claims, operand_claims, pair_claims, select_claims, operation_claims, return_claims};
 
-use crate::constants::{number_of, word_of};
+use crate::constants::{kept, truth};
 use contents::{Exact, Seq};
-use ir_core::{Const, Name, Ty};
-use ir_grammar::{OperandText, OperationText, Placed, SelectText, ValueText};
+use ir_core::{Name, Ty};
+use ir_grammar::{IntText, OperandText, OperationText, Placed, SelectText, ValueText};
 use name_claims::{Claim, Says, Use};
 use std::alloc::{AllocError, Global};
 
-/// Claims that what is written is a constant of its type.
-pub fn claim_constant<T>(
+/// Claims that what is written is a number of its type.
+fn claim_kept<T>(
     written: &Placed<T>,
-    constant: Option<Const>,
+    number: Option<u64>,
     claims: &mut Seq<Claim>,
 ) -> Result<(), AllocError>
-    ensures { OnOk result (claims.new ≡ claims.old ++ constant_claims written.now constant) }
+    ensures { OnOk result (claims.new ≡ claims.old ++ kept_claims written.now number) }
 {
-    match constant {
+    match number {
         None => claims.push(Claim {
             start: written.start,
             end: written.end,
@@ -25,6 +25,32 @@ pub fn claim_constant<T>(
         }),
         Some(_) => Ok(()),
     }
+}
+
+/// Claims that the number is one of the width.
+pub fn claim_int(width: u32, int: &IntText, claims: &mut Seq<Claim>) -> Result<(), AllocError>
+    ensures { OnOk result (claims.new ≡ claims.old ++ int_claims width int.now) }
+{
+    match int {
+        IntText::Number(number) => claim_kept(number, kept(width, number.what), claims),
+        IntText::Truth(word) => claim_kept(word, truth(width, word.what), claims),
+    }
+}
+
+/// Claims that the name is a block.
+pub fn claim_label(
+    alloc: Global,
+    name: &Placed<Name>,
+    claims: &mut Seq<Claim>,
+) -> Result<(), AllocError>
+    ensures { OnOk result (claims.new ≡ claims.old ++ label_claims name.now) }
+{
+    let label = name.what.copy(alloc)?;
+    claims.push(Claim {
+        start: name.start,
+        end: name.end,
+        says: Says::Label(label),
+    })
 }
 
 /// A use of the name as a register of the width.
@@ -61,7 +87,7 @@ fn claim_register(
 }
 
 /// What the value of the width claims.
-fn claim_value(
+pub fn claim_value(
     alloc: Global,
     width: u32,
     value: &ValueText,
@@ -70,15 +96,13 @@ fn claim_value(
     ensures { OnOk result (claims.new ≡ claims.old ++ value_claims width value.now) }
 {
     match value {
-        ValueText::Number(number) => {
-            claim_constant(number, number_of(width, number.what), claims)
-        }
-        ValueText::Constant(word) => claim_constant(word, word_of(width, word.what), claims),
+        ValueText::Int(int) => claim_int(width, int, claims),
+        ValueText::Undef => Ok(()),
         ValueText::Local(name) => claim_register(alloc, width, name, claims),
     }
 }
 
-fn claim_operand(
+pub fn claim_operand(
     alloc: Global,
     operand: &OperandText,
     claims: &mut Seq<Claim>,

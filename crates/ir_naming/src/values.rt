@@ -3,8 +3,8 @@ ghost use Rattle.std.specs.Prelude.{◌≡◌, ◌||◌, false};
 ghost use Rattle.std.specs.List.{list_any};
 ghost use Rattle.ir_naming.specs.Values as meaning;
 
-use crate::constants::{built, number_of, word_of};
-use ir_core::{Atom, Binary, Cast, Expr, Flags, Icmp, Name, Operand, Select, Ty};
+use crate::constants::{built, int_of};
+use ir_core::{Atom, Binary, Cast, Const, Expr, Flags, Icmp, Name, Operand, Select, Ty};
 use ir_grammar::{
     BinaryText, CastText, CompareText, FlagWord, OperandText, OperationText, OperatorText, Placed,
     SelectText, ValueText,
@@ -81,12 +81,12 @@ pub fn name_of(placed: Placed<Name>) -> Name
 }
 
 /// What the value of this width names.
-fn atom_of(width: u32, value: ValueText) -> Atom<Name>
+pub fn atom_of(width: u32, value: ValueText) -> Atom<Name>
     ensures { result ≡ meaning.atom_of width value }
 {
     match value {
-        ValueText::Number(number) => Atom::Constant(built(number_of(width, number.what))),
-        ValueText::Constant(word) => Atom::Constant(built(word_of(width, word.what))),
+        ValueText::Int(int) => Atom::Constant(Const::Number(built(int_of(width, &int)))),
+        ValueText::Undef => Atom::Constant(Const::Undef),
         ValueText::Local(name) => Atom::Register(name_of(name)),
     }
 }

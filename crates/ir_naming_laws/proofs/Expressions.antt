@@ -13,13 +13,13 @@ use Rattle.ir_grammar.specs.declared.trees.ValueText.TheVariants as text
 use Rattle.name_claims.specs.declared.claims.Fault.{Fault}
 use Rattle.name_claims.specs.Faults.{HasFault}
 use Rattle.ir_naming.specs.Expressions.{IsNow, NamesExpression, expression_claims, expression_now, number_range, operation_ranges, ranges_of}
-use Rattle.ir_naming.specs.Values.{IsOperation, atom_of, number_of, word_of}
-use Rattle.ir_naming_laws.proofs.Built.{constant_is}
-use Rattle.ir_naming_laws.proofs.Claimed.{constant_right}
+use Rattle.ir_naming.specs.Values.{IsOperation, atom_of, int_of}
+use Rattle.ir_naming_laws.proofs.Built.{number_is}
+use Rattle.ir_naming_laws.proofs.Claimed.{int_right}
 use Rattle.ir_naming_laws.proofs.Named.{all_right_items, no_fault_of}
 use Rattle.ir_naming_laws.proofs.Operations.{Builds, Determines, IsClaimed, IsNamedSo, binary_is, binary_named, binary_right, cast_is, cast_named, compare_is, compare_named, compare_right, operand_is, operand_named, operand_right, operation_cases, select_is, select_named, select_right}
 use Rattle.ir_naming_laws.proofs.Ordered.{AreRight}
-use Rattle.ir_naming_laws.proofs.Parts.{constant_named}
+use Rattle.ir_naming_laws.proofs.Parts.{int_named}
 
 -- ---- values
 
@@ -28,18 +28,18 @@ abbrev now_of : Builds Reg
 now_of width v = map_atom Now (atom_of width v)
 
 now_is : Determines IsNow now_of
-now_is width (text.Number n) a is = constant_is (number_of width n.what) a is
-now_is width (text.Constant c) a is = constant_is (word_of width c.what) a is
+now_is width (text.Int i) a is = number_is (int_of width i) a is
+now_is width text.Undef a is = is
 now_is width (text.Local w) a is = is.2 ∙ ap Register is.1
 
 number_right : IsClaimed [] number_range IsNow
-number_right width (text.Number n) a is = constant_right [] n (number_of width n.what) a is
-number_right width (text.Constant c) a is = constant_right [] c (word_of width c.what) a is
+number_right width (text.Int i) a is = int_right [] width i a is
+number_right width text.Undef a is = tt
 number_right width (text.Local w) a is = tt
 
 value_now : IsNamedSo [] number_range IsNow now_of
-value_now width (text.Number n) right = constant_named Reg [] n (number_of width n.what) right
-value_now width (text.Constant c) right = constant_named Reg [] c (word_of width c.what) right
+value_now width (text.Int i) right = int_named Reg [] width i right
+value_now width text.Undef right = refl
 value_now width (text.Local w) right = (Now w.what, refl, refl)
 
 -- ---- operations

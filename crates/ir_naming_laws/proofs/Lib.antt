@@ -1,6 +1,7 @@
 pub mod Lists
 pub mod Ordered
 pub mod Operations
+pub mod Terms
 pub mod Known
 pub mod Parts
 pub mod Built

@@ -1,5 +1,5 @@
 -- What holds of the parts of a list holds of the whole, and the other way round.
-use Rattle.std.proofs.Common.{◌≡◌, ℕ, suc, zero, ◌<◌, List, [], ◌∷◌, ◌++◌, length, get_or, map, refl, subst, arith}
+use Rattle.std.proofs.Common.{◌≡◌, ℕ, suc, zero, ◌<◌, List, [], ◌∷◌, ◌++◌, length, get_or, map, refl, ap, ◌∙◌, subst, arith}
 use Rattle.std.specs.List.{AllByRecursion, AllZip, Contains, flat_map}
 use Rattle.std.proofs.Math.Logic.{◌⊎◌, inl, inr, ⊎_elim}
 
@@ -57,3 +57,15 @@ all_to P (y ∷ ys) all x there =
 pub zip_mapped : {A B : Type 0} (R : A → B → Type 0) (f : A → B) (xs : List A) → AllByRecursion (λ x. R x (f x)) xs → AllZip R xs (map f xs)
 zip_mapped R f [] all = tt
 zip_mapped R f (x ∷ xs) all = (all.0, zip_mapped R f xs all.1)
+
+pub zip_is : {A B : Type 0} (R : A → B → Type 0) (f : A → B) → ((x : A) (y : B) → R x y → y ≡ f x) → (xs : List A) (ys : List B) → AllZip R xs ys → ys ≡ map f xs
+zip_is R f is [] [] zip = refl
+zip_is R f is [] (y ∷ ys) zip = absurd zip
+zip_is R f is (x ∷ xs) [] zip = absurd zip
+zip_is R f is (x ∷ xs) (y ∷ ys) zip = ap (λ z. z ∷ ys) (is x y zip.0) ∙ ap (λ zs. f x ∷ zs) (zip_is R f is xs ys zip.1)
+
+-- what is claimed of each is right where each is what it names
+pub zip_lists : {A B C : Type 0} (P : C → Type 0) (R : A → B → Type 0) (w : A → List C) → ((x : A) (y : B) → R x y → AllByRecursion P (w x)) → (xs : List A) (ys : List B) → AllZip R xs ys → AllByRecursion P (flat_map w xs)
+zip_lists P R w each [] ys zip = tt
+zip_lists P R w each (x ∷ xs) [] zip = absurd zip
+zip_lists P R w each (x ∷ xs) (y ∷ ys) zip = all_append P (w x) (flat_map w xs) (each x y zip.0) (zip_lists P R w each xs ys zip.1)

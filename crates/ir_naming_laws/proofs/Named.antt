@@ -1,30 +1,32 @@
 -- A text of which no claim is at fault names the module that is built of it, and a text names no other module.
-use Rattle.std.proofs.Common.{◌≡◌, ℕ, ◌+◌, ◌≤◌, List, [], ◌∷◌, length, map, Option, Some, None, refl, ap, sym, ◌∙◌, subst, arith}
+use Rattle.std.proofs.Common.{◌≡◌, ℕ, ◌≤◌, List, [], ◌∷◌, ◌++◌, map, Option, Some, None, refl, ap, sym, ◌∙◌, subst}
 use Rattle.std.specs.List.{AllByRecursion, AllZip, Contains, flat_map}
 use Rattle.ir_core.specs.Functions.{function_names, line_count, names_of, typed_of}
 use Rattle.ir_core.specs.Limits.{line_limit}
 use Rattle.ir_core.specs.Order.{AreInOrder}
 use Rattle.ir_core.specs.declared.functions.Function.{Function}
 use Rattle.ir_core.specs.declared.functions.Module.{Module}
+use Rattle.ir_core.specs.declared.names.Name.{Name}
 use Rattle.ir_grammar.specs.declared.trees.BlockText.{BlockText}
 use Rattle.ir_grammar.specs.declared.trees.DefinitionText.{DefinitionText}
 use Rattle.ir_grammar.specs.declared.trees.ModuleText.{ModuleText}
+use Rattle.ir_grammar.specs.declared.trees.Placed.{Placed}
 use Rattle.name_claims.specs.declared.claims.Claim.{Claim}
 use Rattle.name_claims.specs.declared.claims.Definition.{Definition}
 use Rattle.name_claims.specs.declared.claims.Fault.{Fault}
 use Rattle.name_claims.specs.declared.claims.Item.{Item}
 use Rattle.name_claims.specs.declared.claims.Reason.{Reason}
 use Rattle.name_claims.specs.Faults.{HasFault, fault_at}
-use Rattle.ir_naming.specs.Modules.{block_from, function_of, module_of}
-use Rattle.ir_naming.specs.Naming.{block_claims, claims_of, definitions_from, due_behind, due_from, function_thing, item_of, label_name, line_claims, module_item, name_claims_from, param_thing, return_claims, things_of}
-use Rattle.ir_naming.specs.Spells.{NamesBlock, NamesFunction, NamesModule}
-use Rattle.ir_naming_laws.specs.Laws.{IsFaultless, IsWithinLines}
+use Rattle.ir_naming.specs.Modules.{block_from, blocks_from, function_of, module_of}
+use Rattle.ir_naming.specs.Naming.{block_claims, block_things, blocks_in, claims_of, definitions_from, due_behind, due_from, function_thing, item_of, label_name, line_claims, module_item, name_claims_from, param_thing, phi_claims, phi_thing, term_claims, things_of}
+use Rattle.ir_naming.specs.Spells.{NamesBlock, NamesFunction, NamesModule, labels_of}
+use Rattle.ir_naming_laws.specs.Laws.{IsFaultless, IsWithinLines, lines_in}
 use Rattle.ir_naming_laws.proofs.Built.{function_is}
 use Rattle.ir_naming_laws.proofs.Claimed.{block_right, names_right}
-use Rattle.ir_naming_laws.proofs.Known.{names_are, registers_are, registers_in}
-use Rattle.ir_naming_laws.proofs.Lists.{all_append, all_from, all_left, all_lists, all_mapped, all_right, all_to, zip_mapped}
+use Rattle.ir_naming_laws.proofs.Known.{labels_are, labels_in, names_are, registers_are, registers_in}
+use Rattle.ir_naming_laws.proofs.Lists.{all_append, all_from, all_left, all_lists, all_mapped, all_right, all_to, zip_lists, zip_mapped}
 use Rattle.ir_naming_laws.proofs.Ordered.{AreRight, IsRight, defined_names, in_order}
-use Rattle.ir_naming_laws.proofs.Parts.{label_named, lines_length, lines_named, params_named, result_named, return_named}
+use Rattle.ir_naming_laws.proofs.Parts.{label_named, lines_are, lines_named, params_named, phis_named, result_named, term_named}
 
 -- ---- each claim is right
 
@@ -45,33 +47,42 @@ all_right_items items none =
 
 -- ---- a function
 
-block_named : (ds : List Definition) (due : ℕ) (b : BlockText) → AreRight ds (block_claims b) → NamesBlock (registers_in ds) b (block_from due b)
-block_named ds due b right =
-    let lines = flat_map line_claims b.lines in
-    let result = return_claims b.result in
+block_named : (ds : List Definition) (function : Placed Name) (due : ℕ) (b : BlockText) → AreRight ds (block_claims b) → NamesBlock (registers_in ds) (labels_in ds) b (block_from function due b)
+block_named ds function due b right =
+    let phis = flat_map phi_claims b.body.phis in
+    let lines = flat_map line_claims b.body.lines in
+    let ends = term_claims b.term in
+    let front = all_left (IsRight ds) (phis ++ lines) ends right in
+    let next = due_behind due (label_name b.label) in
     record {
-      no_phis = refl;
       label = label_named due b.label;
-      lines = lines_named ds (due_behind due (label_name b.label)) b.lines (all_lists (IsRight ds) line_claims b.lines (all_left (IsRight ds) lines result right));
-      returns = return_named ds b.result (all_right (IsRight ds) lines result right);
+      phis = phis_named ds next b.body.phis (all_lists (IsRight ds) phi_claims b.body.phis (all_left (IsRight ds) phis lines front));
+      lines = lines_named ds (due_from next (map (phi_thing function) b.body.phis)) b.body.lines (all_lists (IsRight ds) line_claims b.body.lines (all_right (IsRight ds) phis lines front));
+      ends = term_named ds b.term (all_right (IsRight ds) (phis ++ lines) ends right);
     }
 
-function_named : (d : DefinitionText) → IsRightItem (item_of d) → length d.block.lines + 1 ≤ line_limit → NamesFunction d (function_of d)
+blocks_named : (ds : List Definition) (function : Placed Name) (due : ℕ) (bs : List BlockText) → AreRight ds (flat_map block_claims bs) → AllZip (NamesBlock (registers_in ds) (labels_in ds)) bs (blocks_from function due bs)
+blocks_named ds function due [] right = tt
+blocks_named ds function due (b ∷ bs) right =
+    let here = block_claims b in
+    let more = flat_map block_claims bs in
+    (block_named ds function due b (all_left (IsRight ds) here more right), blocks_named ds function (due_from due (block_things function b)) bs (all_right (IsRight ds) here more right))
+
+function_named : (d : DefinitionText) → IsRightItem (item_of d) → lines_in d ≤ line_limit → NamesFunction d (function_of d)
 function_named d right few =
     let things = things_of d in
     let ds = definitions_from 0 things in
     let count = due_from 0 (map (param_thing d.name) d.params) in
     let named = name_claims_from 0 0 things in
-    let values = block_claims d.block in
+    let values = flat_map block_claims (blocks_in d) in
+    let blocks = blocks_from d.name count (blocks_in d) in
     record {
       name = refl;
       result = result_named d.result;
       params = params_named 0 d.params;
-      block = block_from count d.block;
-      one_block = refl;
-      body = subst (λ registers. NamesBlock registers d.block (block_from count d.block)) (sym (registers_are d)) (block_named ds count d.block (all_right (IsRight ds) named values right));
+      blocks = subst (λ registers. AllZip (NamesBlock registers (labels_of (function_of d))) (blocks_in d) blocks) (sym (registers_are d)) (subst (λ labels. AllZip (NamesBlock (registers_in ds) labels) (blocks_in d) blocks) (sym (labels_are d)) (blocks_named ds d.name count (blocks_in d) (all_right (IsRight ds) named values right)));
       order = subst AreInOrder (sym (names_are d)) (in_order things (all_left (IsRight ds) named values right));
-      few = omega (arith, few, lines_length (due_behind count (label_name d.block.label)) d.block.lines);
+      few = subst (λ n. n ≤ line_limit) (sym (lines_are d.name count (blocks_in d))) few;
     }
 
 -- ---- a module
@@ -90,7 +101,7 @@ module_named w faultless within =
       order = subst AreInOrder (sym (functions_names 0 w.definitions)) (in_order (map function_thing w.definitions) last.0);
     }
   where
-    functions : (ds : List DefinitionText) → AllByRecursion (λ d. IsRightItem (item_of d)) ds → AllByRecursion (λ (d : DefinitionText). length d.block.lines + 1 ≤ line_limit) ds → AllByRecursion (λ d. NamesFunction d (function_of d)) ds
+    functions : (ds : List DefinitionText) → AllByRecursion (λ d. IsRightItem (item_of d)) ds → AllByRecursion (λ d. lines_in d ≤ line_limit) ds → AllByRecursion (λ d. NamesFunction d (function_of d)) ds
     functions [] right few = tt
     functions (d ∷ ds) right few = (function_named d right.0 few.0, functions ds right.1 few.1)
 
@@ -99,7 +110,7 @@ module_named w faultless within =
 pub record IsFunctionRight (d : DefinitionText) (f : Function) : Type 0 where
   pub same : f ≡ function_of d
   pub right : IsRightItem (item_of d)
-  pub few : length d.block.lines + 1 ≤ line_limit
+  pub few : lines_in d ≤ line_limit
 
 function_right : (d : DefinitionText) (f : Function) → NamesFunction d f → IsFunctionRight d f
 function_right d f n =
@@ -107,19 +118,21 @@ function_right d f n =
     let things = things_of d in
     let ds = definitions_from 0 things in
     let order : AreInOrder (defined_names ds) = subst AreInOrder (ap names_of same ∙ names_are d) n.order in
-    let body : NamesBlock (registers_in ds) d.block n.block = subst (λ rs. NamesBlock rs d.block n.block) (ap typed_of same ∙ registers_are d) n.body in
+    let blocks : AllZip (NamesBlock (registers_in ds) (labels_in ds)) (blocks_in d) f.blocks =
+    subst (λ rs. AllZip (NamesBlock rs (labels_in ds)) (blocks_in d) f.blocks) (ap typed_of same ∙ registers_are d) (subst (λ ls. AllZip (NamesBlock (typed_of f) ls) (blocks_in d) f.blocks) (ap labels_of same ∙ labels_are d) n.blocks) in
     let count = due_from 0 (map (param_thing d.name) d.params) in
     let few : line_count (function_of d) ≤ line_limit = subst (λ g. line_count g ≤ line_limit) same n.few in
+    let values = zip_lists (IsRight ds) (NamesBlock (registers_in ds) (labels_in ds)) block_claims (block_right ds order.0) (blocks_in d) f.blocks blocks in
     record {
       same = same;
-      right = all_append (IsRight ds) (name_claims_from 0 0 things) (block_claims d.block) (names_right ds [] things 0 0 order.1 refl refl order.0 order.2) (block_right ds d.block n.block order.0 body);
-      few = omega (arith, few, lines_length (due_behind count (label_name d.block.label)) d.block.lines);
+      right = all_append (IsRight ds) (name_claims_from 0 0 things) (flat_map block_claims (blocks_in d)) (names_right ds [] things 0 0 order.1 refl refl order.0 order.2) values;
+      few = subst (λ n. n ≤ line_limit) (lines_are d.name count (blocks_in d)) few;
     }
 
 pub record AreFunctionsRight (ws : List DefinitionText) (fs : List Function) : Type 0 where
   pub same : fs ≡ map function_of ws
   pub right : AllByRecursion IsRightItem (map item_of ws)
-  pub few : AllByRecursion (λ (d : DefinitionText). length d.block.lines + 1 ≤ line_limit) ws
+  pub few : AllByRecursion (λ d. lines_in d ≤ line_limit) ws
 
 functions_right : (ws : List DefinitionText) (fs : List Function) → AllZip NamesFunction ws fs → AreFunctionsRight ws fs
 functions_right [] [] zip = record { same = refl; right = tt; few = tt }

@@ -7,10 +7,13 @@ use Rattle.ir_core.specs.declared.operands.Pred.TheVariants.{Eq}
 use Rattle.ir_core.specs.declared.operands.Ty.TheVariants.{Int}
 use Rattle.ir_lexer.specs.declared.token.Number.{Number as Numeral}
 use Rattle.ir_grammar.specs.declared.operators.OverflowOp.TheVariants.{Add}
-use Rattle.ir_grammar.specs.declared.trees.ConstantWord.TheVariants.{True}
+use Rattle.ir_grammar.specs.declared.trees.BlockText.{BlockText}
+use Rattle.ir_grammar.specs.declared.trees.BranchText.TheVariants.{Always}
 use Rattle.ir_grammar.specs.declared.trees.DefinitionText.{DefinitionText}
 use Rattle.ir_grammar.specs.declared.trees.ExprText.{ExprText}
 use Rattle.ir_grammar.specs.declared.trees.ExprText.TheVariants.{Operation}
+use Rattle.ir_grammar.specs.declared.trees.IntText.{IntText}
+use Rattle.ir_grammar.specs.declared.trees.IntText.TheVariants as int
 use Rattle.ir_grammar.specs.declared.trees.LineText.{LineText}
 use Rattle.ir_grammar.specs.declared.trees.ModuleText.{ModuleText}
 use Rattle.ir_grammar.specs.declared.trees.OperandText.{OperandText}
@@ -18,13 +21,15 @@ use Rattle.ir_grammar.specs.declared.trees.OperationText.{OperationText}
 use Rattle.ir_grammar.specs.declared.trees.OperationText.TheVariants.{Binary, Compare, Cast}
 use Rattle.ir_grammar.specs.declared.trees.OperatorText.TheVariants.{Overflow}
 use Rattle.ir_grammar.specs.declared.trees.Placed.{Placed}
+use Rattle.ir_grammar.specs.declared.trees.TermText.{TermText}
+use Rattle.ir_grammar.specs.declared.trees.TermText.TheVariants as term
 use Rattle.ir_grammar.specs.declared.trees.ValueText.{ValueText}
 use Rattle.ir_grammar.specs.declared.trees.ValueText.TheVariants as text
 use Rattle.name_claims.specs.declared.claims.Claim.{Claim}
 use Rattle.name_claims.specs.declared.claims.Fault.{Fault}
 use Rattle.name_claims.specs.declared.claims.Meaning.TheVariants as meaning
 use Rattle.name_claims.specs.declared.claims.Reason.{Reason}
-use Rattle.name_claims.specs.declared.claims.Reason.TheVariants.{Twice, WrongNumber, WrongType}
+use Rattle.name_claims.specs.declared.claims.Reason.TheVariants.{Twice, Unknown, WrongNumber, WrongType}
 use Rattle.name_claims.specs.declared.claims.Says.{Says}
 use Rattle.name_claims.specs.declared.claims.Says.TheVariants as says
 use Rattle.name_claims.specs.Faults.{IsFirst}
@@ -40,8 +45,11 @@ name start end what = record { what = what; start = start; end = end }
 abbrev local : ℕ → ℕ → Name → ValueText
 local start end what = text.Local (name start end what)
 
+abbrev written_number : ℕ → ℕ → ℕ → IntText
+written_number start end magnitude = int.Number (record { what = record { negative = false; magnitude = magnitude }; start = start; end = end })
+
 abbrev number : ℕ → ℕ → ℕ → ValueText
-number start end magnitude = text.Number (record { what = record { negative = false; magnitude = magnitude }; start = start; end = end })
+number start end magnitude = text.Int (written_number start end magnitude)
 
 -- a type that begins there
 abbrev i1 : ℕ → Placed ℕ
@@ -62,13 +70,18 @@ add left right = Binary (record { operator = Overflow Add []; left = left; right
 abbrev line : Placed Name → OperationText → LineText
 line register operation = record { register = Some register; operation = operation }
 
+-- a block of lines, whose label is not written
+abbrev block : List LineText → TermText → BlockText
+block lines last = record { label = None; body = record { phis = []; lines = lines }; term = last }
+
 -- define result @name() { lines ret returned }
 abbrev definition : Placed ℕ → Placed Name → List LineText → OperandText → DefinitionText
 definition result name lines returned = record {
   result = Some result;
   name = name;
   params = [];
-  block = record { label = None; lines = lines; result = Some returned };
+  entry = block lines (term.Ret (Some returned));
+  others = [];
 }
 
 abbrev written : List DefinitionText → ModuleText
@@ -146,20 +159,74 @@ types_of_lines =
       result = Some (i1 7);
       name = name 10 12 f;
       params = record { ty = i8 13; name = Some (name 16 18 x) } ∷ [];
-      block = record {
-        label = None;
-        lines =
-            line (name 22 24 c) (Compare (record { pred = Eq; left = operand (i8 35) (local 38 40 x); right = number 42 43 0 }))
-            ∷ line (name 44 46 y) (Cast (record { op = ZExt; from = operand (i1 54) (local 57 59 c); to = i8 63 }))
-            ∷ [];
-        result = Some (operand (i1 70) (local 73 75 y));
-      };
+      entry =
+          block
+          (line (name 22 24 c) (Compare (record { pred = Eq; left = operand (i8 35) (local 38 40 x); right = number 42 43 0 }))
+          ∷ line (name 44 46 y) (Cast (record { op = ZExt; from = operand (i1 54) (local 57 59 c); to = i8 63 }))
+          ∷ [])
+          (term.Ret (Some (operand (i1 70) (local 73 75 y))));
+      others = [];
     }
     ∷ [])
 
 -- `%c` is of i1, as each comparison is, and `%y` of i8, to which it is widened: only its use as an i1 is at fault.
 abbrev pub LinesHaveTypes : Type 0
 LinesHaveTypes = IsFirst (claims_of types_of_lines) (fault 73 75 WrongType)
+
+-- ---- blocks
+
+-- define void @name(i8 %x) { first others }, where the parameter stands at 18
+abbrev of_blocks : BlockText → List BlockText → ModuleText
+of_blocks first others =
+    written (record { result = None; name = name 12 14 f; params = record { ty = i8 15; name = Some (name 18 20 x) } ∷ []; entry = first; others = others } ∷ [])
+
+-- define void @f(i8 %x) { br label %y }
+abbrev pub to_no_block : ModuleText
+to_no_block = of_blocks (block [] (term.Br (Always (name 33 35 y)))) []
+
+abbrev pub LabelsMustBeKnown : Type 0
+LabelsMustBeKnown = IsFirst (claims_of to_no_block) (fault 33 35 Unknown)
+
+-- define void @f(i8 %x) { br label %x }
+abbrev pub to_a_register : ModuleText
+to_a_register = of_blocks (block [] (term.Br (Always (name 33 35 x)))) []
+
+abbrev pub LabelsAreBlocks : Type 0
+LabelsAreBlocks = IsFirst (claims_of to_a_register) (fault 33 35 WrongType)
+
+-- define void @f(i8 %x) { switch i8 %x, label %1 [ i8 256, label %1 ] unreachable }
+abbrev pub large_case : ModuleText
+large_case =
+    of_blocks (block [] (term.Switch (record {
+      value = operand (i8 31) (local 34 36 x);
+      default = name 44 46 (Number 1);
+      cases = record { ty = i8 49; number = written_number 52 55 256; label = name 63 65 (Number 1) } ∷ [];
+    }))) (block [] term.Unreachable ∷ [])
+
+-- The second block has the number 1, as its label is not written. Only the case is at fault, whose number is none of i8.
+abbrev pub CasesAreInRange : Type 0
+CasesAreInRange = IsFirst (claims_of large_case) (fault 52 55 WrongType)
+
+-- define void @f(i8 %x) { br label %1 phi i1 [ %x, %0 ] ret void }
+abbrev pub phi_of_another_type : ModuleText
+phi_of_another_type =
+    of_blocks (block [] (term.Br (Always (name 33 35 (Number 1))))) (record {
+      label = None;
+      body = record {
+        phis = record {
+          register = None;
+          node = record { ty = i1 40; first = record { value = local 45 47 x; from = name 49 51 (Number 0) }; others = [] };
+        }
+            ∷ [];
+        lines = [];
+      };
+      term = term.Ret None;
+    }
+    ∷ [])
+
+-- `%x` is of i8, and not of the type that is stated for the phi.
+abbrev pub PhisHaveTypes : Type 0
+PhisHaveTypes = IsFirst (claims_of phi_of_another_type) (fault 45 47 WrongType)
 
 -- ---- expressions
 
@@ -180,7 +247,7 @@ RegistersClaimNothing = expression_claims (to_x (local 12 14 y)) ≡ record { de
 
 -- add i8 %x, true
 abbrev pub word_of_another_type : ExprText
-word_of_another_type = Operation (add (operand (i8 4) (local 7 9 x)) (text.Constant (record { what = True; start = 11; end = 15 })))
+word_of_another_type = Operation (add (operand (i8 4) (local 7 9 x)) (text.Int (int.Truth (record { what = true; start = 11; end = 15 }))))
 
 abbrev pub TrueIsOfOneBit : Type 0
 TrueIsOfOneBit = IsFirst (expression_claims word_of_another_type) (fault 11 15 WrongType)

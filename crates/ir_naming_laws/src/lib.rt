@@ -3,7 +3,7 @@
 #![tactic(auto)]
 
 ghost use Rattle.ir_naming_laws.specs.Laws.{FaultlessExpressionsNameWhatIsBuilt, FaultlessTextsNameWhatIsBuilt, NamedExpressionsAreFaultless, NamedTextsAreFaultless};
-ghost use Rattle.ir_naming_laws.specs.Examples.{CountingGoesOnByOne, FirstOfThree, LargeNumberIsWrongType, LinesHaveTypes, NegativeNumbersAreKept, NumbersHaveRanges, RegistersClaimNothing, SecondFunctionIsTwice, TrueIsOfOneBit};
+ghost use Rattle.ir_naming_laws.specs.Examples.{CasesAreInRange, CountingGoesOnByOne, FirstOfThree, LabelsAreBlocks, LabelsMustBeKnown, LargeNumberIsWrongType, LinesHaveTypes, NegativeNumbersAreKept, NumbersHaveRanges, PhisHaveTypes, RegistersClaimNothing, SecondFunctionIsTwice, TrueIsOfOneBit};
 
 /// Empty on purpose: its contract is the law.
 ///
@@ -45,6 +45,16 @@ pub fn examples_of_claims()
     ensures twice { SecondFunctionIsTwice }
     ensures count { CountingGoesOnByOne }
     ensures types { LinesHaveTypes }
+{}
+
+/// Empty on purpose: its contract is the law.
+///
+/// A label is known, and is a block; the numbers of cases are in the range of their type, and the values of a phi are of its type.
+pub fn examples_of_blocks()
+    ensures known { LabelsMustBeKnown }
+    ensures label { LabelsAreBlocks }
+    ensures case { CasesAreInRange }
+    ensures phi { PhisHaveTypes }
 {}
 
 /// Empty on purpose: its contract is the law.

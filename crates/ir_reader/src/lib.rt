@@ -1,5 +1,5 @@
-//! Textual LLVM IR (Language Reference 3.7) read as data, as far as it is built: modules of functions of one block over integers of 1
-//! to 64 bits, with binary operators, `icmp`, conversions, `select` and `ret`, and the expressions and names of the logic.
+//! Textual LLVM IR (Language Reference 3.7) read as data, as far as it is built: modules of functions over integers of 1
+//! to 64 bits, with binary operators, `icmp`, conversions, `select`, phis and terminators, and the expressions and names of the logic.
 //!
 //! A text is cut into tokens, the tokens are read as a tree, and the tree is given names; each of these steps tells the first fault.
 #![tactic(auto)]

@@ -56,11 +56,23 @@ abbrev pub register : Ty → Option Definition → Option Reason
 register ty None = Some Unknown
 register ty (Some d) = suits ty d.meaning
 
+-- A label leads to a block. In `br label %x` behind `%x = add i32 1, 2` the name stands for a register.
+abbrev pub leads : Meaning → Option Reason
+leads (meaning.Register ty) = Some WrongType
+leads meaning.Block = None
+leads meaning.Function = Some WrongType
+
+-- a name that is used as a label is defined, before or behind, as a block
+abbrev pub label : Option Definition → Option Reason
+label None = Some Unknown
+label (Some d) = leads d.meaning
+
 -- why what is said is at fault, if it is
 abbrev pub says_wrong : List Definition → Says → Option Reason
 says_wrong ds (says.New k) = twice ds k
 says_wrong ds (says.Counted count) = counted count
 says_wrong ds (says.Register used) = register used.ty (find used.name ds)
+says_wrong ds (says.Label name) = label (find name ds)
 says_wrong ds says.Wrong = Some WrongType
 
 -- why the claim is at fault, if it is

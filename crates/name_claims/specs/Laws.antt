@@ -11,7 +11,7 @@ use Rattle.name_claims.specs.declared.claims.Meaning.TheVariants as meaning
 use Rattle.name_claims.specs.declared.claims.Reason.{Reason}
 use Rattle.name_claims.specs.declared.claims.Reason.TheVariants.{Twice, WrongNumber, Unknown, WrongType}
 use Rattle.name_claims.specs.declared.claims.Says.{Says}
-use Rattle.name_claims.specs.declared.claims.Says.TheVariants.{New, Counted, Register}
+use Rattle.name_claims.specs.declared.claims.Says.TheVariants.{New, Counted, Register, Label}
 use Rattle.name_claims.specs.Faults.{IsFirst}
 
 abbrev register : Name → Definition
@@ -71,3 +71,22 @@ label_as_value = record { definitions = block a ∷ []; claims = claim 18 19 (Ne
 abbrev pub LabelsAreOfNoType : Type 0
 LabelsAreOfNoType =
     IsFirst (label_as_value ∷ []) (fault 29 31 WrongType) × (IsFirst (label_as_value ∷ []) (fault 29 31 Unknown) → ⊥)
+
+-- define void @f(i32 %a) { z: br label %a }
+abbrev pub value_as_label : Item
+value_as_label = record {
+  definitions = register a ∷ block z ∷ [];
+  claims = claim 19 21 (New 0) ∷ claim 25 26 (New 1) ∷ claim 37 39 (Label a) ∷ [];
+}
+
+-- A register's name is known, and is no label.
+abbrev pub RegistersAreNoLabels : Type 0
+RegistersAreNoLabels =
+    IsFirst (value_as_label ∷ []) (fault 37 39 WrongType) × (IsFirst (value_as_label ∷ []) (fault 37 39 Unknown) → ⊥)
+
+-- define void @f() { a: br label %z }
+abbrev pub label_of_no_block : Item
+label_of_no_block = record { definitions = block a ∷ []; claims = claim 19 20 (New 0) ∷ claim 31 33 (Label z) ∷ [] }
+
+abbrev pub LabelsNameBlocks : Type 0
+LabelsNameBlocks = IsFirst (label_of_no_block ∷ []) (fault 31 33 Unknown)

@@ -60,6 +60,8 @@ pub enum Says {
     Counted(Count),
     /// The name is defined, before or behind, as a register of the type.
     Register(Use),
+    /// The name is defined, before or behind, as a block.
+    Label(Name),
     /// What cannot be, as a number that its type does not have.
     Wrong,
 }
@@ -70,6 +72,7 @@ impl Drop for Says {
             Says::New(_) => {}
             Says::Counted(_) => {}
             Says::Register(_) => {}
+            Says::Label(_) => {}
             Says::Wrong => {}
         }
     }

@@ -1,7 +1,7 @@
 ghost use Rattle.std.specs.Prelude.{◌≡◌, IfOk, IfNone, IfSome, None, slice_get, take};
 ghost use Rattle.std.specs.Option.{option_copied};
 ghost use Rattle.name_claims.specs.declared.claims.Fault.{Fault};
-ghost use Rattle.name_claims.specs.Faults.{find, twice, counted, repeats, typed, suits, register, says_wrong, fault_at, rank, before, HasFault, IsFirst};
+ghost use Rattle.name_claims.specs.Faults.{find, twice, counted, repeats, typed, suits, register, leads, label, says_wrong, fault_at, rank, before, HasFault, IsFirst};
 ghost use Rattle.name_claims.specs.Indexes.{Indexes, fault_of, sooner, first_in, first_of};
 
 use crate::claims::{Claim, Count, Definition, Fault, Item, Meaning, Reason, Says};
@@ -94,6 +94,27 @@ fn register(ty: &Ty, definition: Option<&Definition>) -> Option<Reason>
     }
 }
 
+/// Why what this stands for is no block, if it is not.
+fn leads(meaning: &Meaning) -> Option<Reason>
+    ensures { result ≡ leads meaning.now }
+{
+    match meaning {
+        Meaning::Register(_) => Some(Reason::WrongType),
+        Meaning::Block => None,
+        Meaning::Function => Some(Reason::WrongType),
+    }
+}
+
+/// Why the name that is defined so, if it is, is no block.
+fn label(definition: Option<&Definition>) -> Option<Reason>
+    ensures { result ≡ label (option_copied definition.entry) }
+{
+    match definition {
+        None => Some(Reason::Unknown),
+        Some(definition) => leads(&definition.meaning),
+    }
+}
+
 /// Why what is said is at fault, if it is.
 fn says_wrong(definitions: &Seq<Definition>, index: &Index, says: &Says) -> Option<Reason>
     requires { Indexes index.now definitions.now }
@@ -103,6 +124,7 @@ fn says_wrong(definitions: &Seq<Definition>, index: &Index, says: &Says) -> Opti
         Says::New(at) => twice(definitions, index, *at),
         Says::Counted(count) => counted(*count),
         Says::Register(used) => register(&used.ty, find(definitions, index, &used.name)),
+        Says::Label(name) => label(find(definitions, index, name)),
         Says::Wrong => Some(Reason::WrongType),
     }
 }

@@ -1,28 +1,41 @@
 -- A text of definitions passes the limit on lines exactly where one of them has too many.
 use Rattle.std.proofs.Common.{◌≡◌, ◌<◌, ◌≤◌, ℕ, zero, suc, ◌+◌, Bool, true, false, List, [], ◌∷◌, ◌++◌, length, get_or, map, take, Option, Some, None, ⊎_elim, refl, ap, sym, ◌∙◌, subst, append_assoc, arith}
-use Rattle.std.specs.List.{AllByRecursion, flat_map}
+use Rattle.std.specs.List.{AllByRecursion, flat_map, sum_by}
 use Rattle.std.proofs.lemmas.List.{append-nil}
+use Rattle.std.proofs.lemmas.List.Sums.{sum_by-cons}
 use Rattle.std.proofs.lemmas.Bool.Decides.{eqb_tells}
 use Rattle.ir_core.specs.declared.names.Name.{Name}
 use Rattle.ir_core.specs.Limits.{line_limit}
 use Rattle.ir_grammar.specs.declared.operators.FlagWord.{FlagWord}
 use Rattle.ir_grammar.specs.declared.trees.BlockText.{BlockText}
+use Rattle.ir_grammar.specs.declared.trees.BranchText.{BranchText}
+use Rattle.ir_grammar.specs.declared.trees.BranchText.TheVariants as branches
+use Rattle.ir_grammar.specs.declared.trees.CaseText.{CaseText}
 use Rattle.ir_grammar.specs.declared.trees.DefinitionText.{DefinitionText}
+use Rattle.ir_grammar.specs.declared.trees.EntryText.{EntryText}
+use Rattle.ir_grammar.specs.declared.trees.IntText.{IntText}
+use Rattle.ir_grammar.specs.declared.trees.IntText.TheVariants as integer
 use Rattle.ir_grammar.specs.declared.trees.LineText.{LineText}
+use Rattle.ir_grammar.specs.declared.trees.NodeText.{NodeText}
 use Rattle.ir_grammar.specs.declared.trees.OperandText.{OperandText}
 use Rattle.ir_grammar.specs.declared.trees.OperationText.{OperationText}
 use Rattle.ir_grammar.specs.declared.trees.OperationText.TheVariants as form
 use Rattle.ir_grammar.specs.declared.trees.OperatorText.{OperatorText}
 use Rattle.ir_grammar.specs.declared.trees.OperatorText.TheVariants as operators
 use Rattle.ir_grammar.specs.declared.trees.ParamText.{ParamText}
+use Rattle.ir_grammar.specs.declared.trees.PhiText.{PhiText}
 use Rattle.ir_grammar.specs.declared.trees.Placed.{Placed}
+use Rattle.ir_grammar.specs.declared.trees.SwitchText.{SwitchText}
+use Rattle.ir_grammar.specs.declared.trees.TermText.{TermText}
+use Rattle.ir_grammar.specs.declared.trees.TermText.TheVariants as terms
 use Rattle.ir_grammar.specs.declared.trees.ValueText.{ValueText}
 use Rattle.ir_grammar.specs.declared.trees.ValueText.TheVariants as text
-use Rattle.ir_grammar.specs.Symbols.{Symbol, close_brace, close_paren, comma, icmp, kind_of, open_brace, open_paren, ret, select, to}
+use Rattle.ir_grammar.specs.Symbols.{Symbol, br, close_brace, close_bracket, close_paren, comma, icmp, kind_of, open_brace, open_bracket, open_paren, phi, ret, select, switch, to, unreachable}
 use Rattle.ir_grammar.specs.Symbols as symbols
 use Rattle.ir_grammar.specs.Written as write
 use Rattle.tree_reader.proofs.Counting.{one_more as one_more_back}
 use Rattle.tree_reader.specs.Lines.{IsPastLimit, heads_line, is_no_define, lines_after, lines_back}
+use Rattle.ir_naming.specs.Naming.{blocks_in}
 use Rattle.ir_naming_laws.proofs.Lists.{all_append}
 
 -- the word of a line
@@ -164,9 +177,13 @@ no_more n = omega arith
 
 -- ---- what is written
 
+int_quiet : (i : IntText) → IsQuiet (write.int i)
+int_quiet (integer.Number n) = (refl, refl)
+int_quiet (integer.Truth b) = (refl, refl)
+
 value_quiet : (v : ValueText) → IsQuiet (write.value v)
-value_quiet (text.Number n) = (refl, refl)
-value_quiet (text.Constant c) = (refl, refl)
+value_quiet (text.Int i) = int_quiet i
+value_quiet text.Undef = (refl, refl)
 value_quiet (text.Local w) = (refl, refl)
 
 -- an operand, and then what is quiet
@@ -246,23 +263,85 @@ returned_quiet : (o : Option OperandText) → AllByRecursion IsQuiet (write.retu
 returned_quiet None = ((refl, refl), tt)
 returned_quiet (Some o) = ((refl, refl), (value_quiet o.value, tt))
 
-ending_run : (n : ℕ) (o : Option OperandText) → Run n (ret ∷ write.returned o) 1
-ending_run n o = line_run n ret (write.returned o) refl refl (returned_quiet o)
+-- an entry, and then what is quiet
+entry_quiet : (e : EntryText) (ss : List Symbol) → AllByRecursion IsQuiet ss → AllByRecursion IsQuiet (write.entry e ++ ss)
+entry_quiet e ss quiet = ((refl, refl), (value_quiet e.value, ((refl, refl), ((refl, refl), ((refl, refl), quiet)))))
 
-block_run : (n : ℕ) (b : BlockText) → Run n (write.block b) (length b.lines + 1)
+entries_quiet : (es : List EntryText) → AllByRecursion IsQuiet (flat_map write.next_entry es)
+entries_quiet [] = tt
+entries_quiet (e ∷ es) = ((refl, refl), entry_quiet e (flat_map write.next_entry es) (entries_quiet es))
+
+node_run : (n : ℕ) (x : NodeText) → Run n (write.node x) 1
+node_run n x =
+    line_run n phi (symbols.Width x.ty ∷ (write.entry x.first ++ flat_map write.next_entry x.others)) refl refl
+    ((refl, refl), entry_quiet x.first (flat_map write.next_entry x.others) (entries_quiet x.others))
+
+phis_run : (n : ℕ) (ps : List PhiText) → Run n (flat_map write.phi_node ps) (length ps)
+phis_run n [] = quiet_run n [] tt
+phis_run n (p ∷ ps) =
+    subst (Run n (flat_map write.phi_node (p ∷ ps))) (one_more (length ps)) (joined n 1 (length ps) (write.phi_node p) (flat_map write.phi_node ps)
+    (after_quiet n 1 (write.register p.register) (write.node p.node) (register_quiet p.register) (node_run n p.node))
+    (phis_run (n + 1) ps))
+
+-- `label %a`, and then what is quiet
+target_quiet : (w : Placed Name) (ss : List Symbol) → AllByRecursion IsQuiet ss → AllByRecursion IsQuiet (write.target w ++ ss)
+target_quiet w ss quiet = ((refl, refl), ((refl, refl), quiet))
+
+branch_quiet : (b : BranchText) → AllByRecursion IsQuiet (write.branch b)
+branch_quiet (branches.Always w) = target_quiet w [] tt
+branch_quiet (branches.Condition c) =
+    operand_quiet c.condition (comma ∷ (write.target c.on_true ++ (comma ∷ write.target c.on_false)))
+    ((refl, refl), target_quiet c.on_true (comma ∷ write.target c.on_false) ((refl, refl), target_quiet c.on_false [] tt))
+
+cases_quiet : (cs : List CaseText) (ss : List Symbol) → AllByRecursion IsQuiet ss → AllByRecursion IsQuiet (flat_map write.case cs ++ ss)
+cases_quiet [] ss quiet = quiet
+cases_quiet (c ∷ cs) ss quiet =
+    ((refl, refl), (int_quiet c.number, ((refl, refl), target_quiet c.label (flat_map write.case cs ++ ss) (cases_quiet cs ss quiet))))
+
+switch_run : (n : ℕ) (s : SwitchText) → Run n (write.switch s) 1
+switch_run n s =
+    let cases = open_bracket ∷ (flat_map write.case s.cases ++ (close_bracket ∷ [])) in
+    line_run n switch (write.operand s.value ++ (comma ∷ (write.target s.default ++ cases))) refl refl
+    (operand_quiet s.value (comma ∷ (write.target s.default ++ cases))
+    ((refl, refl), target_quiet s.default cases ((refl, refl), cases_quiet s.cases (close_bracket ∷ []) ((refl, refl), tt))))
+
+term_run : (n : ℕ) (t : TermText) → Run n (write.term t) 1
+term_run n (terms.Ret o) = line_run n ret (write.returned o) refl refl (returned_quiet o)
+term_run n (terms.Br b) = line_run n br (write.branch b) refl refl (branch_quiet b)
+term_run n (terms.Switch s) = switch_run n s
+term_run n terms.Unreachable = line_run n unreachable [] refl refl tt
+
+-- how many lines a block is written with: phi nodes, lines and its terminator
+abbrev pub lines_of : BlockText → ℕ
+lines_of b = length b.body.phis + length b.body.lines + 1
+
+block_run : (n : ℕ) (b : BlockText) → Run n (write.block b) (lines_of b)
 block_run n b =
-    after_quiet n (length b.lines + 1) (write.label b.label) (flat_map write.line b.lines ++ (ret ∷ write.returned b.result)) (label_quiet b.label)
-    (joined n (length b.lines) 1 (flat_map write.line b.lines) (ret ∷ write.returned b.result) (lines_run n b.lines) (ending_run (n + length b.lines) b.result))
+    let phis = flat_map write.phi_node b.body.phis in
+    let lines = flat_map write.line b.body.lines in
+    let few = length b.body.phis in
+    let many = length b.body.phis + length b.body.lines in
+    let body : Run n (write.body b.body) many = joined n few (length b.body.lines) phis lines (phis_run n b.body.phis) (lines_run (n + few) b.body.lines) in
+    after_quiet n (lines_of b) (write.label b.label) (write.body b.body ++ write.term b.term) (label_quiet b.label)
+    (joined n many 1 (write.body b.body) (write.term b.term) body (term_run (n + many) b.term))
+
+blocks_run : (n : ℕ) (bs : List BlockText) → Run n (flat_map write.block bs) (sum_by lines_of bs)
+blocks_run n [] = quiet_run n [] tt
+blocks_run n (b ∷ bs) =
+    subst (Run n (flat_map write.block (b ∷ bs))) (sym (sum_by-cons lines_of b bs))
+    (joined n (lines_of b) (sum_by lines_of bs) (write.block b) (flat_map write.block bs) (block_run n b) (blocks_run (n + lines_of b) bs))
 
 result_quiet : (ty : Option (Placed ℕ)) → AllByRecursion IsQuiet (write.result ty)
 result_quiet None = ((refl, refl), tt)
 result_quiet (Some ty) = ((refl, refl), tt)
 
 -- behind `define`
-rest_run : (d : DefinitionText) → Run 0 (write.result d.result ++ (symbols.Global d.name ∷ open_paren ∷ (write.params d.params ++ (close_paren ∷ open_brace ∷ (write.block d.block ++ (close_brace ∷ [])))))) (length d.block.lines + 1)
+rest_run : (d : DefinitionText) → Run 0 (write.result d.result ++ (symbols.Global d.name ∷ open_paren ∷ (write.params d.params ++ (close_paren ∷ open_brace ∷ (write.block d.entry ++ (flat_map write.block d.others ++ (close_brace ∷ []))))))) (sum_by lines_of (blocks_in d))
 rest_run d =
-    let count : ℕ = length d.block.lines + 1 in
-    let ends : Run 0 (write.block d.block ++ (close_brace ∷ [])) count = subst (Run 0 (write.block d.block ++ (close_brace ∷ []))) (no_more count) (joined 0 count 0 (write.block d.block) (close_brace ∷ []) (block_run 0 d.block) (quiet_run (0 + count) (close_brace ∷ []) ((refl, refl), tt))) in
+    let count : ℕ = sum_by lines_of (blocks_in d) in
+    let blocks = flat_map write.block (blocks_in d) in
+    let both : Run 0 (blocks ++ (close_brace ∷ [])) count = subst (Run 0 (blocks ++ (close_brace ∷ []))) (no_more count) (joined 0 count 0 blocks (close_brace ∷ []) (blocks_run 0 (blocks_in d)) (quiet_run (0 + count) (close_brace ∷ []) ((refl, refl), tt))) in
+    let ends = subst (λ ss. Run 0 ss count) (append_assoc (write.block d.entry) (flat_map write.block d.others) (close_brace ∷ [])) both in
     after_quiet 0 count (write.result d.result) _ (result_quiet d.result)
     (after_quiet 0 count (symbols.Global d.name ∷ open_paren ∷ []) _ ((refl, refl), ((refl, refl), tt))
     (after_quiet 0 count (write.params d.params) _ (params_quiet d.params)
@@ -270,7 +349,7 @@ rest_run d =
 
 -- not too many lines
 abbrev pub IsFew : DefinitionText → Type 0
-IsFew d = length d.block.lines + 1 ≤ line_limit
+IsFew d = sum_by lines_of (blocks_in d) ≤ line_limit
 
 pub all_within : (n : ℕ) (ds : List DefinitionText) → AllByRecursion IsFew ds → IsWithin n (flat_map write.definition ds)
 all_within n [] few k past = past
@@ -288,6 +367,6 @@ pub all_few : (n : ℕ) (ds : List DefinitionText) → IsWithin n (flat_map writ
 all_few n [] all = tt
 all_few n (d ∷ ds) all =
     let run = rest_run d in (
-      bare (length d.block.lines + 1) (run.few (λ k past. all (suc k) (past_left n (write.definition d) (flat_map write.definition ds) (suc k) past)) (omega arith)),
+      bare (sum_by lines_of (blocks_in d)) (run.few (λ k past. all (suc k) (past_left n (write.definition d) (flat_map write.definition ds) (suc k) past)) (omega arith)),
       all_few (behind n (write.definition d)) ds (λ k is. all (index_past (write.definition d) k) (past_right n (write.definition d) (flat_map write.definition ds) k is)),
     )

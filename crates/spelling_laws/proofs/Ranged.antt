@@ -1,9 +1,8 @@
 -- A function that a definition names is in range where the written names and types are.
-use Rattle.std.proofs.Common.{◌≡◌, ℕ, ◌-◌, ◌%◌, ◌^◌, ◌<◌, Bool, true, false, cond, List, [], ◌∷◌, ◌++◌, Option, Some, None, ⊎_elim, refl, ap, sym, ◌∙◌, subst, ltb-true, lt-ltb}
-use Rattle.std.specs.Prelude.{◌==◌, ◌&&◌, ◌||◌, not, nat_le, nat_lt, option_map}
+use Rattle.std.proofs.Common.{◌≡◌, ℕ, ◌-◌, ◌%◌, ◌^◌, ◌<◌, Bool, true, false, cond, List, [], ◌∷◌, Option, Some, None, ⊎_elim, refl, ap, sym, ◌∙◌, subst, ltb-true, lt-ltb, lit<}
+use Rattle.std.specs.Prelude.{◌==◌, ◌&&◌, ◌||◌, not, nat_le, nat_lt}
 use Rattle.std.specs.List.{AllByRecursion, AllZip, flat_map}
-use Rattle.std.proofs.lemmas.Bool.{cond_both, eqb-true}
-use Rattle.std.proofs.lemmas.List.{append-nil}
+use Rattle.std.proofs.lemmas.Bool.{eqb-true}
 use Rattle.std.proofs.lemmas.Nat.{mod_below, pow_pos}
 use Rattle.ir_core.specs.declared.expressions.Expr.{Expr}
 use Rattle.ir_core.specs.declared.functions.Block.{Block}
@@ -12,14 +11,15 @@ use Rattle.ir_core.specs.declared.functions.Function.{Function}
 use Rattle.ir_core.specs.declared.functions.Instr.{Instr}
 use Rattle.ir_core.specs.declared.functions.Instr.TheVariants as instr
 use Rattle.ir_core.specs.declared.functions.Param.{Param}
+use Rattle.ir_core.specs.declared.functions.Phi.{Phi}
+use Rattle.ir_core.specs.declared.functions.Term.{Term}
 use Rattle.ir_core.specs.declared.names.Name.{Name}
 use Rattle.ir_core.specs.declared.names.Name.TheVariants.{Text, Number}
 use Rattle.ir_core.specs.declared.operands.Atom.{Atom}
-use Rattle.ir_core.specs.declared.operands.Const.{Const}
 use Rattle.ir_core.specs.declared.operands.Const.TheVariants as const
 use Rattle.ir_core.specs.declared.operands.Ty.{Ty}
 use Rattle.ir_core.specs.declared.operands.Ty.TheVariants.{Int}
-use Rattle.ir_core.specs.Functions.{cases_of, typed_of}
+use Rattle.ir_core.specs.Functions.{block_names, cases_of, phi_registers, set_by, typed_of}
 use Rattle.ir_core.specs.Ranges.{AreFlagsInRange, IsAtomInRange, IsCaseInRange, IsFunctionInRange, IsLineInRange, IsNameInRange, IsOperandInRange, IsTypeInRange, may_have, may_leave, may_wrap}
 use Rattle.ir_core.specs.Types.{constant_fits, is_width}
 use Rattle.ir_lexer.specs.declared.token.Number as lexed
@@ -27,27 +27,32 @@ use Rattle.ir_grammar.specs.declared.operators.ExactOp.{ExactOp}
 use Rattle.ir_grammar.specs.declared.operators.ExactOp.TheVariants as exact
 use Rattle.ir_grammar.specs.declared.operators.OverflowOp.{OverflowOp}
 use Rattle.ir_grammar.specs.declared.operators.OverflowOp.TheVariants as overflow
-use Rattle.ir_grammar.specs.declared.trees.ConstantWord.{ConstantWord}
-use Rattle.ir_grammar.specs.declared.trees.ConstantWord.TheVariants as word
+use Rattle.ir_grammar.specs.declared.trees.BlockText.{BlockText}
+use Rattle.ir_grammar.specs.declared.trees.CaseText.{CaseText}
 use Rattle.ir_grammar.specs.declared.trees.DefinitionText.{DefinitionText}
+use Rattle.ir_grammar.specs.declared.trees.IntText.{IntText}
+use Rattle.ir_grammar.specs.declared.trees.IntText.TheVariants as integer
 use Rattle.ir_grammar.specs.declared.trees.LineText.{LineText}
 use Rattle.ir_grammar.specs.declared.trees.OperationText.{OperationText}
 use Rattle.ir_grammar.specs.declared.trees.OperatorText.{OperatorText}
 use Rattle.ir_grammar.specs.declared.trees.OperatorText.TheVariants as operators
 use Rattle.ir_grammar.specs.declared.trees.ParamText.{ParamText}
+use Rattle.ir_grammar.specs.declared.trees.PhiText.{PhiText}
 use Rattle.ir_grammar.specs.declared.trees.Placed.{Placed}
+use Rattle.ir_grammar.specs.declared.trees.TermText.{TermText}
 use Rattle.ir_grammar.specs.declared.trees.ValueText.{ValueText}
 use Rattle.ir_grammar.specs.declared.trees.ValueText.TheVariants as text
 use Rattle.ir_grammar.specs.Operators.{exact_op, operator_op, overflow_op}
 use Rattle.ir_grammar.specs.Written as write
-use Rattle.ir_naming.specs.Spells.{IsLine, IsNamed, IsParam, IsResult, IsValue, NamesFunction}
-use Rattle.ir_naming.specs.Values.{IsConstant, IsOperation, bit, flags_of, kept, kept_by_sign, kept_negative, kept_positive, number_of, word_of}
+use Rattle.ir_naming.specs.Spells.{IsCase, IsLine, IsNamed, IsParam, IsPhi, IsResult, IsTerm, IsValue, NamesBlock, NamesFunction, labels_of}
+use Rattle.ir_naming.specs.Naming.{blocks_in}
+use Rattle.ir_naming.specs.Values.{IsNumber, IsOperation, bit, flags_of, int_of, kept, kept_by_sign, kept_negative, kept_positive, truth}
 use Rattle.ir_naming_laws.proofs.Lists.{all_append}
 use Rattle.ir_naming_laws.proofs.Operations.{operation_cases}
-use Rattle.spelling_laws.proofs.Flat.{line_names, names_flat, param_names}
+use Rattle.spelling_laws.proofs.Flat.{line_names, names_both, param_names, phi_names}
 use Rattle.spelling_laws.proofs.Tools.{chosen, guard_ok}
-use Rattle.spelling_laws.proofs.Trees.{LineHas, ParamHas}
-use Rattle.spelling_laws.proofs.Walked.{operands_walked, registers_typed, returns_only}
+use Rattle.spelling_laws.proofs.Trees.{BlockHas, CaseHas, LineHas, ParamHas, PhiHas, TermHas}
+use Rattle.spelling_laws.proofs.Walked.{operands_walked, registers_typed, term_cases}
 use Rattle.spelling_laws.proofs.WrittenRanges.{AreWrittenInRange, IsSymbolInRange}
 
 -- ---- names
@@ -88,6 +93,22 @@ lines_in_range registers (w ∷ ws) [] range zip = absurd zip
 lines_in_range registers (w ∷ ws) (instr.Calm c ∷ ls) range zip =
     (named_in_range w.register c.name (register_range w.register range.0.0) zip.0.0, lines_in_range registers ws ls range.1 zip.1)
 
+phis_in_range : (registers : List (Name × Ty)) (labels : List Name) (ws : List PhiText) (ps : List Phi) → AllByRecursion (PhiHas IsSymbolInRange) ws → AllZip (IsPhi registers labels) ws ps → AllByRecursion IsNameInRange (phi_names ps)
+phis_in_range registers labels [] [] range zip = tt
+phis_in_range registers labels [] (p ∷ ps) range zip = absurd zip
+phis_in_range registers labels (w ∷ ws) [] range zip = absurd zip
+phis_in_range registers labels (w ∷ ws) (p ∷ ps) range zip =
+    (named_in_range w.register p.name (register_range w.register range.0.0) zip.0.0, phis_in_range registers labels ws ps range.1 zip.1)
+
+blocks_in_range : (registers : List (Name × Ty)) (labels : List Name) (ws : List BlockText) (bs : List Block) → AllByRecursion (BlockHas IsSymbolInRange) ws → AllZip (NamesBlock registers labels) ws bs → AllByRecursion IsNameInRange (flat_map block_names bs)
+blocks_in_range registers labels [] [] range zip = tt
+blocks_in_range registers labels [] (b ∷ bs) range zip = absurd zip
+blocks_in_range registers labels (w ∷ ws) [] range zip = absurd zip
+blocks_in_range registers labels (w ∷ ws) (b ∷ bs) range zip =
+    all_append IsNameInRange (block_names b) (flat_map block_names bs)
+    (named_in_range w.label b.name (label_range w.label range.0.label) zip.0.label, names_both IsNameInRange (phi_registers b.phis) (set_by b.body) (phis_in_range registers labels w.body.phis b.phis range.0.phis zip.0.phis) (lines_in_range registers w.body.lines b.body range.0.lines zip.0.lines))
+    (blocks_in_range registers labels ws bs range.1 zip.1)
+
 -- ---- constants
 
 guarded : {A : Type 0} (b : Bool) (o : Option A) (x : A) → cond b o None ≡ Some x → o ≡ Some x
@@ -110,33 +131,54 @@ kept_fits width n k e =
     ⊎_elim (λ negative. negative_fits width n.magnitude k negative.1) (λ positive. positive_fits width n.magnitude k positive.1)
     (chosen n.negative (kept_negative width n.magnitude) (kept_positive width n.magnitude) (Some k) (guarded (is_width width) (kept_by_sign width n) k e))
 
-abbrev IsFitting : ℕ → Option Const → Type 0
-IsFitting width None = Unit {0}
-IsFitting width (Some c) = constant_fits (Int width) c ≡ true
+bit_fits : (width n k : ℕ) → n < 2 ^ 1 → bit width n ≡ Some k → k < 2 ^ width
+bit_fits width n k small e =
+    let both = guard_ok (width == 1) n k e in
+    subst (λ m. m < 2 ^ width) both.1 (subst (λ w. n < 2 ^ w) (sym (eqb-true width 1 both.0)) small)
 
-numbers_fit : (width : ℕ) (n : Option ℕ) → ((k : ℕ) → n ≡ Some k → k < 2 ^ width) → IsFitting width (option_map (λ v. const.Number v) n)
-numbers_fit width None small = tt
-numbers_fit width (Some k) small = lt-ltb k (2 ^ width) (small k refl)
+truth_fits : (width : ℕ) (b : Bool) (k : ℕ) → truth width b ≡ Some k → k < 2 ^ width
+truth_fits width true k e = bit_fits width 1 k (lit< tt) e
+truth_fits width false k e = bit_fits width 0 k (lit< tt) e
 
-bit_fits : (width n : ℕ) → nat_lt n (2 ^ 1) ≡ true → IsFitting width (bit width n)
-bit_fits width n small =
-    cond_both (width == 1) (Some (const.Number n)) None (IsFitting width)
-    (λ one. subst (λ w. nat_lt n (2 ^ w) ≡ true) (sym (eqb-true width 1 one)) small) (λ other. tt)
+int_fits : (width : ℕ) (i : IntText) (k : ℕ) → int_of width i ≡ Some k → k < 2 ^ width
+int_fits width (integer.Number n) k e = kept_fits width n.what k e
+int_fits width (integer.Truth b) k e = truth_fits width b.what k e
 
-word_fits : (width : ℕ) (c : ConstantWord) → IsFitting width (word_of width c)
-word_fits width word.True = bit_fits width 1 refl
-word_fits width word.False = bit_fits width 0 refl
-word_fits width word.Undef = refl
-
-constant_in_range : (width : ℕ) (c : Option Const) (atom : Atom Name) → IsFitting width c → IsConstant c atom → IsAtomInRange (Int width) atom
-constant_in_range width None atom fits is = absurd is
-constant_in_range width (Some c) atom fits is = subst (IsAtomInRange (Int width)) (sym is) fits
+number_in_range : (width : ℕ) (n : Option ℕ) (atom : Atom Name) → ((k : ℕ) → n ≡ Some k → k < 2 ^ width) → IsNumber n atom → IsAtomInRange (Int width) atom
+number_in_range width None atom small is = absurd is
+number_in_range width (Some k) atom small is = subst (IsAtomInRange (Int width)) (sym is) (lt-ltb k (2 ^ width) (small k refl))
 
 value_in_range : (registers : List (Name × Ty)) (width : ℕ) (v : ValueText) (atom : Atom Name) → IsValue registers width v atom → IsAtomInRange (Int width) atom
-value_in_range registers width (text.Number n) atom is =
-    constant_in_range width (number_of width n.what) atom (numbers_fit width (kept width n.what) (kept_fits width n.what)) is
-value_in_range registers width (text.Constant c) atom is = constant_in_range width (word_of width c.what) atom (word_fits width c.what) is
+value_in_range registers width (text.Int i) atom is = number_in_range width (int_of width i) atom (int_fits width i) is
+value_in_range registers width text.Undef atom is = subst (IsAtomInRange (Int width)) (sym is) refl
 value_in_range registers width (text.Local name) atom is = subst (IsAtomInRange (Int width)) (sym is.2) tt
+
+-- ---- cases
+
+case_in_range : (labels : List Name) (w : CaseText) (c : Case) → CaseHas IsSymbolInRange w → IsCase labels w c → IsCaseInRange c
+case_in_range labels w c range is =
+    let at : Ty → Type 0 = λ t. IsTypeInRange t × (constant_fits t (const.Number c.number) ≡ true) in
+    subst at (sym is.0) (range.0, lt-ltb c.number (2 ^ w.ty.what) (int_fits w.ty.what w.number c.number is.1))
+
+cases_in_range : (labels : List Name) (ws : List CaseText) (cs : List Case) → AllByRecursion (CaseHas IsSymbolInRange) ws → AllZip (IsCase labels) ws cs → AllByRecursion IsCaseInRange cs
+cases_in_range labels [] [] range zip = tt
+cases_in_range labels [] (c ∷ cs) range zip = absurd zip
+cases_in_range labels (w ∷ ws) [] range zip = absurd zip
+cases_in_range labels (w ∷ ws) (c ∷ cs) range zip = (case_in_range labels w c range.0 zip.0, cases_in_range labels ws cs range.1 zip.1)
+
+term_in_range : (registers : List (Name × Ty)) (labels : List Name) (w : TermText) (t : Term) → IsTerm registers labels w t → TermHas IsSymbolInRange w → AllByRecursion IsCaseInRange (cases_of t)
+term_in_range registers labels =
+    term_cases registers labels (λ w t. TermHas IsSymbolInRange w → AllByRecursion IsCaseInRange (cases_of t))
+    (λ w o is range. tt) (λ range. tt) (λ w label is range. tt) (λ w c is range. tt)
+    (λ w s is range. cases_in_range labels w.cases s.cases range.2 is.2)
+    (λ range. tt)
+
+all_cases : (registers : List (Name × Ty)) (labels : List Name) (ws : List BlockText) (bs : List Block) → AllByRecursion (BlockHas IsSymbolInRange) ws → AllZip (NamesBlock registers labels) ws bs → AllByRecursion IsCaseInRange (flat_map (λ (b : Block). cases_of b.term) bs)
+all_cases registers labels [] [] range zip = tt
+all_cases registers labels [] (b ∷ bs) range zip = absurd zip
+all_cases registers labels (w ∷ ws) [] range zip = absurd zip
+all_cases registers labels (w ∷ ws) (b ∷ bs) range zip =
+    all_append IsCaseInRange (cases_of b.term) (flat_map (λ (b : Block). cases_of b.term) bs) (term_in_range registers labels w.term b.term zip.0.ends range.0.term) (all_cases registers labels ws bs range.1 zip.1)
 
 -- ---- flags
 
@@ -183,17 +225,12 @@ lines_flagged registers (w ∷ ws) [] zip = absurd zip
 lines_flagged registers (w ∷ ws) (instr.Calm c ∷ ls) zip =
     (operation_flagged registers w.operation c.right zip.0.1, lines_flagged registers ws ls zip.1)
 
--- the lines of a function's one block
-in_blocks : (blocks : List Block) (b : Block) → blocks ≡ b ∷ [] → AllByRecursion IsLineInRange b.body → AllByRecursion IsLineInRange (flat_map (λ (b : Block). b.body) blocks)
-in_blocks blocks b one_block all =
-    subst (λ blocks. AllByRecursion IsLineInRange (flat_map (λ (b : Block). b.body) blocks)) (sym one_block)
-    (subst (AllByRecursion IsLineInRange) (sym (append-nil b.body)) all)
-
--- a return has no cases
-no_cases_in : (blocks : List Block) (b : Block) → blocks ≡ b ∷ [] → cases_of b.term ≡ [] → AllByRecursion IsCaseInRange (flat_map (λ (b : Block). cases_of b.term) blocks)
-no_cases_in blocks b one_block none =
-    subst (λ blocks. AllByRecursion IsCaseInRange (flat_map (λ (b : Block). cases_of b.term) blocks)) (sym one_block)
-    (subst (λ (cs : List Case). AllByRecursion IsCaseInRange (cs ++ [])) (sym none) tt)
+blocks_flagged : (registers : List (Name × Ty)) (labels : List Name) (ws : List BlockText) (bs : List Block) → AllZip (NamesBlock registers labels) ws bs → AllByRecursion IsLineInRange (flat_map (λ (b : Block). b.body) bs)
+blocks_flagged registers labels [] [] zip = tt
+blocks_flagged registers labels [] (b ∷ bs) zip = absurd zip
+blocks_flagged registers labels (w ∷ ws) [] zip = absurd zip
+blocks_flagged registers labels (w ∷ ws) (b ∷ bs) zip =
+    all_append IsLineInRange b.body (flat_map (λ (b : Block). b.body) bs) (lines_flagged registers w.body.lines b.body zip.0.lines) (blocks_flagged registers labels ws bs zip.1)
 
 -- ---- functions
 
@@ -202,15 +239,13 @@ result_in_range None ty range is = subst IsTypeInRange (sym is) tt
 result_in_range (Some w) ty range is = subst IsTypeInRange (sym is) range.0
 
 pub ranged : (d : DefinitionText) (f : Function) → AreWrittenInRange d → NamesFunction d f → IsFunctionInRange f
-ranged d f range n =
-    let b = n.block in
-    record {
-      name = subst IsNameInRange (sym n.name) range.name;
-      names = subst (AllByRecursion IsNameInRange) (sym (names_flat f b n.one_block n.body.no_phis)) (all_append IsNameInRange (param_names f.params) (b.name ∷ line_names b.body) (params_in_range d.params f.params range.params n.params) (named_in_range d.block.label b.name (label_range d.block.label range.label) n.body.label, lines_in_range (typed_of f) d.block.lines b.body range.lines n.body.lines));
-      result = result_in_range d.result f.result range.result n.result;
-      registers = registers_typed IsSymbolInRange IsTypeInRange (λ w range. range) refl d f range n;
-      operands = operands_walked IsSymbolInRange IsOperandInRange d f (λ w v atom range is. (range, value_in_range (typed_of f) w.what v atom is)) range n;
-      flags = in_blocks f.blocks b n.one_block (lines_flagged (typed_of f) d.block.lines b.body n.body.lines);
-      cases = no_cases_in f.blocks b n.one_block (returns_only _ _ b.term n.body.returns);
-      lines = n.few;
-    }
+ranged d f range n = record {
+  name = subst IsNameInRange (sym n.name) range.name;
+  names = all_append IsNameInRange (param_names f.params) (flat_map block_names f.blocks) (params_in_range d.params f.params range.params n.params) (blocks_in_range (typed_of f) (labels_of f) (blocks_in d) f.blocks range.blocks n.blocks);
+  result = result_in_range d.result f.result range.result n.result;
+  registers = registers_typed IsSymbolInRange IsTypeInRange (λ w range. range) refl d f range n;
+  operands = operands_walked IsSymbolInRange IsOperandInRange d f (λ w v atom range is. (range, value_in_range (typed_of f) w.what v atom is)) range n;
+  flags = blocks_flagged (typed_of f) (labels_of f) (blocks_in d) f.blocks n.blocks;
+  cases = all_cases (typed_of f) (labels_of f) (blocks_in d) f.blocks range.blocks n.blocks;
+  lines = n.few;
+}

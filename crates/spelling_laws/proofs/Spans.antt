@@ -5,21 +5,31 @@ use Rattle.std.specs.List.{AllByRecursion, flat_map}
 use Rattle.ir_core.specs.declared.names.Name.{Name}
 use Rattle.ir_core.specs.declared.names.Name.TheVariants.{Text, Number}
 use Rattle.ir_core.specs.declared.names.Sigil.{Sigil}
-use Rattle.ir_core.specs.declared.operands.Const.{Const}
 use Rattle.ir_lexer.specs.declared.token.TokenKind.{TokenKind}
 use Rattle.ir_lexer.specs.declared.token.TokenKind.TheVariants as kind
 use Rattle.ir_lexer.specs.Cut.{Placed as PlacedToken}
+use Rattle.ir_grammar.specs.declared.trees.BlockText.{BlockText}
+use Rattle.ir_grammar.specs.declared.trees.BranchText.{BranchText}
+use Rattle.ir_grammar.specs.declared.trees.BranchText.TheVariants as branches
+use Rattle.ir_grammar.specs.declared.trees.CaseText.{CaseText}
 use Rattle.ir_grammar.specs.declared.trees.DefinitionText.{DefinitionText}
+use Rattle.ir_grammar.specs.declared.trees.EntryText.{EntryText}
 use Rattle.ir_grammar.specs.declared.trees.ExprText.{ExprText}
 use Rattle.ir_grammar.specs.declared.trees.ExprText.TheVariants.{Plain, Operation}
+use Rattle.ir_grammar.specs.declared.trees.IntText.{IntText}
+use Rattle.ir_grammar.specs.declared.trees.IntText.TheVariants as integer
 use Rattle.ir_grammar.specs.declared.trees.LineText.{LineText}
 use Rattle.ir_grammar.specs.declared.trees.ModuleText.{ModuleText}
 use Rattle.ir_grammar.specs.declared.trees.OperandText.{OperandText}
 use Rattle.ir_grammar.specs.declared.trees.OperationText.{OperationText}
 use Rattle.ir_grammar.specs.declared.trees.OperationText.TheVariants as form
 use Rattle.ir_grammar.specs.declared.trees.ParamText.{ParamText}
+use Rattle.ir_grammar.specs.declared.trees.PhiText.{PhiText}
 use Rattle.ir_grammar.specs.declared.trees.Placed.{Placed}
 use Rattle.ir_grammar.specs.declared.trees.SelectText.{SelectText}
+use Rattle.ir_grammar.specs.declared.trees.SwitchText.{SwitchText}
+use Rattle.ir_grammar.specs.declared.trees.TermText.{TermText}
+use Rattle.ir_grammar.specs.declared.trees.TermText.TheVariants as terms
 use Rattle.ir_grammar.specs.declared.trees.ValueText.{ValueText}
 use Rattle.ir_grammar.specs.declared.trees.ValueText.TheVariants as text
 use Rattle.ir_grammar.specs.declared.words.Word.{Word}
@@ -33,12 +43,12 @@ use Rattle.name_claims.specs.declared.claims.Fault.{Fault}
 use Rattle.name_claims.specs.declared.claims.Item.{Item}
 use Rattle.name_claims.specs.Faults.{HasFault}
 use Rattle.ir_naming.specs.Expressions.{expression_claims, number_range, operation_ranges, ranges_of}
-use Rattle.ir_naming.specs.Naming.{Thing, block_claims, block_things, claims_of, constant_claims, due_behind, function_thing, item_of, label_name, line_claims, line_thing, module_item, name_claims, name_claims_from, number_claims, operation_claims, param_thing, return_claims, things_of, value_claims}
-use Rattle.ir_naming.specs.Values.{number_of, word_of}
+use Rattle.ir_naming.specs.Naming.{Thing, block_claims, block_things, blocks_in, branch_claims, case_claims, claims_of, due_behind, entries_in, entry_claims, function_thing, int_claims, item_of, kept_claims, label_claims, label_name, line_claims, line_thing, module_item, name_claims, name_claims_from, number_claims, operand_claims, operation_claims, param_thing, phi_claims, phi_thing, return_claims, switch_claims, term_claims, things_of, value_claims}
+use Rattle.ir_naming.specs.Values.{kept, truth}
 use Rattle.ir_spelling.specs.Forms.{expression_form, module_form, name_form}
 use Rattle.ir_naming_laws.proofs.Lists.{all_append, all_to}
 use Rattle.spelling_laws.proofs.Lists.{all_lists}
-use Rattle.spelling_laws.proofs.Trees.{DefinitionHas, LineHas, OperationHas, PairHas, ParamHas, definition_has, operation_has}
+use Rattle.spelling_laws.proofs.Trees.{BlockHas, BranchHas, CaseHas, DefinitionHas, EntryHas, LineHas, OperationHas, PairHas, ParamHas, PhiHas, SwitchHas, TermHas, definition_has, operation_has}
 use Rattle.spelling_laws.specs.Told.{HasSpans, HaveBytes}
 
 -- ---- symbols
@@ -52,7 +62,7 @@ SymbolSpans (symbols.Global w) = Spans w
 SymbolSpans (symbols.Label w) = Spans w
 SymbolSpans (symbols.Numeral w) = Spans w
 SymbolSpans (symbols.Width w) = Spans w
-SymbolSpans (symbols.Constant w) = Spans w
+SymbolSpans (symbols.Truth w) = Spans w
 SymbolSpans s = Unit {0}
 
 abbrev AllSpan : List Symbol → Type 0
@@ -64,7 +74,7 @@ either false s t here there = there
 
 word_spans : (w : Word) (start end : ℕ) → start < end → SymbolSpans (word_symbol w start end)
 word_spans (word.Width n) start end less = less
-word_spans (word.Constant c) start end less = less
+word_spans (word.Truth b) start end less = less
 word_spans (word.Overflow op) start end less = tt
 word_spans (word.Exact op) start end less = tt
 word_spans (word.Plain op) start end less = tt
@@ -82,7 +92,9 @@ mark_spans b =
     (either (b == 40) _ _ tt
     (either (b == 41) _ _ tt
     (either (b == 123) _ _ tt
-    (either (b == 125) _ _ tt tt)))))
+    (either (b == 125) _ _ tt
+    (either (b == 91) _ _ tt
+    (either (b == 93) _ _ tt tt)))))))
 
 token_spans : (k : TokenKind) (start end : ℕ) → start < end → SymbolSpans (symbol_at k start end)
 token_spans (kind.Local name) start end less = less
@@ -109,18 +121,22 @@ ClaimSpans c = c.start ≤ c.end
 abbrev Claims : List Claim → Type 0
 Claims = AllByRecursion ClaimSpans
 
-constant_spans : {T : Type 0} (w : Placed T) (c : Option Const) → Spans w → Claims (constant_claims w c)
-constant_spans w None spans = (omega (arith, spans), tt)
-constant_spans w (Some c) spans = tt
+kept_spans : {T : Type 0} (w : Placed T) (n : Option ℕ) → Spans w → Claims (kept_claims w n)
+kept_spans w None spans = (omega (arith, spans), tt)
+kept_spans w (Some n) spans = tt
+
+int_spans : (width : ℕ) (i : IntText) → SymbolSpans (write.int i) → Claims (int_claims width i)
+int_spans width (integer.Number w) spans = kept_spans w (kept width w.what) spans
+int_spans width (integer.Truth w) spans = kept_spans w (truth width w.what) spans
 
 value_spans : (width : ℕ) (v : ValueText) → SymbolSpans (write.value v) → Claims (value_claims width v)
-value_spans width (text.Number w) spans = constant_spans w (number_of width w.what) spans
-value_spans width (text.Constant w) spans = constant_spans w (word_of width w.what) spans
+value_spans width (text.Int i) spans = int_spans width i spans
+value_spans width text.Undef spans = tt
 value_spans width (text.Local w) spans = (omega (arith, spans), tt)
 
 number_in_range : (width : ℕ) (v : ValueText) → SymbolSpans (write.value v) → Claims (number_range width v)
-number_in_range width (text.Number w) spans = constant_spans w (number_of width w.what) spans
-number_in_range width (text.Constant w) spans = constant_spans w (word_of width w.what) spans
+number_in_range width (text.Int i) spans = int_spans width i spans
+number_in_range width text.Undef spans = tt
 number_in_range width (text.Local w) spans = tt
 
 -- what is claimed of values is claimed of operands
@@ -154,6 +170,58 @@ lines_span (l ∷ ls) spans =
 return_spans : (o : Option OperandText) → AllSpan (write.returned o) → Claims (return_claims o)
 return_spans None spans = tt
 return_spans (Some o) spans = operand_spans value_claims value_spans o spans
+
+target_spans : (w : Placed Name) → Spans w → Claims (label_claims w)
+target_spans w spans = (omega (arith, spans), tt)
+
+entries_span : (width : ℕ) (es : List EntryText) → AllByRecursion (EntryHas SymbolSpans) es → Claims (flat_map (entry_claims width) es)
+entries_span width [] spans = tt
+entries_span width (e ∷ es) spans =
+    all_append ClaimSpans (entry_claims width e) (flat_map (entry_claims width) es)
+    (all_append ClaimSpans (value_claims width e.value) (label_claims e.from) (value_spans width e.value spans.0.0) (target_spans e.from spans.0.1))
+    (entries_span width es spans.1)
+
+phis_span : (ps : List PhiText) → AllByRecursion (PhiHas SymbolSpans) ps → Claims (flat_map phi_claims ps)
+phis_span [] spans = tt
+phis_span (p ∷ ps) spans =
+    all_append ClaimSpans (phi_claims p) (flat_map phi_claims ps) (entries_span p.node.ty.what (entries_in p.node) spans.0.1.1) (phis_span ps spans.1)
+
+branch_spans : (b : BranchText) → BranchHas SymbolSpans b → Claims (branch_claims b)
+branch_spans (branches.Always w) spans = target_spans w spans
+branch_spans (branches.Condition c) spans =
+    all_append ClaimSpans (operand_claims c.condition ++ label_claims c.on_true) (label_claims c.on_false)
+    (all_append ClaimSpans (operand_claims c.condition) (label_claims c.on_true) (operand_spans value_claims value_spans c.condition spans.0) (target_spans c.on_true spans.1))
+    (target_spans c.on_false spans.2)
+
+cases_span : (cs : List CaseText) → AllByRecursion (CaseHas SymbolSpans) cs → Claims (flat_map case_claims cs)
+cases_span [] spans = tt
+cases_span (c ∷ cs) spans =
+    all_append ClaimSpans (case_claims c) (flat_map case_claims cs)
+    (all_append ClaimSpans (int_claims c.ty.what c.number) (label_claims c.label) (int_spans c.ty.what c.number spans.0.1) (target_spans c.label spans.0.2))
+    (cases_span cs spans.1)
+
+switch_spans : (s : SwitchText) → SwitchHas SymbolSpans s → Claims (switch_claims s)
+switch_spans s spans =
+    all_append ClaimSpans (operand_claims s.value ++ label_claims s.default) (flat_map case_claims s.cases)
+    (all_append ClaimSpans (operand_claims s.value) (label_claims s.default) (operand_spans value_claims value_spans s.value spans.0) (target_spans s.default spans.1))
+    (cases_span s.cases spans.2)
+
+term_spans : (t : TermText) → TermHas SymbolSpans t → Claims (term_claims t)
+term_spans (terms.Ret o) spans = return_spans o spans
+term_spans (terms.Br b) spans = branch_spans b spans
+term_spans (terms.Switch s) spans = switch_spans s spans
+term_spans terms.Unreachable spans = tt
+
+blocks_span : (bs : List BlockText) → AllByRecursion (BlockHas SymbolSpans) bs → Claims (flat_map block_claims bs)
+blocks_span [] spans = tt
+blocks_span (b ∷ bs) spans =
+    let phis = flat_map phi_claims b.body.phis in
+    let lines = flat_map line_claims b.body.lines in
+    all_append ClaimSpans (block_claims b) (flat_map block_claims bs)
+    (all_append ClaimSpans (phis ++ lines) (term_claims b.term)
+    (all_append ClaimSpans phis lines (phis_span b.body.phis spans.0.phis) (lines_span b.body.lines spans.0.lines))
+    (term_spans b.term spans.0.term))
+    (blocks_span bs spans.1)
 
 -- ---- claims of names
 
@@ -204,6 +272,17 @@ line_things_span : (function : Placed Name) (ls : List LineText) → function.st
 line_things_span function [] outer spans = tt
 line_things_span function (l ∷ ls) outer spans = ((outer, register_spans l.register spans.0.0), line_things_span function ls outer spans.1)
 
+phi_things_span : (function : Placed Name) (ps : List PhiText) → function.start ≤ function.end → AllByRecursion (PhiHas SymbolSpans) ps → AllByRecursion ThingSpans (map (phi_thing function) ps)
+phi_things_span function [] outer spans = tt
+phi_things_span function (p ∷ ps) outer spans = ((outer, register_spans p.register spans.0.0), phi_things_span function ps outer spans.1)
+
+block_things_span : (function : Placed Name) (bs : List BlockText) → function.start ≤ function.end → AllByRecursion (BlockHas SymbolSpans) bs → AllByRecursion ThingSpans (flat_map (block_things function) bs)
+block_things_span function [] outer spans = tt
+block_things_span function (b ∷ bs) outer spans =
+    all_append ThingSpans (block_things function b) (flat_map (block_things function) bs)
+    ((outer, label_spans b.label spans.0.label), all_append ThingSpans (map (phi_thing function) b.body.phis) (map (line_thing function) b.body.lines) (phi_things_span function b.body.phis outer spans.0.phis) (line_things_span function b.body.lines outer spans.0.lines))
+    (block_things_span function bs outer spans.1)
+
 abbrev DefinitionSpans : DefinitionText → Type 0
 DefinitionSpans = DefinitionHas SymbolSpans
 
@@ -216,9 +295,10 @@ outer_spans d s = let less : d.name.start < d.name.end = s.name in omega (arith,
 item_spans : (d : DefinitionText) → DefinitionSpans d → ItemSpans (item_of d)
 item_spans d s =
     let outer = outer_spans d s in
-    all_append ClaimSpans (name_claims_from 0 0 (things_of d)) (block_claims d.block)
-    (things_span 0 0 (things_of d) (all_append ThingSpans (map (param_thing d.name) d.params) (block_things d.name d.block) (param_things_span d.name d.params outer s.params) ((outer, label_spans d.block.label s.label), line_things_span d.name d.block.lines outer s.lines)))
-    (all_append ClaimSpans (flat_map line_claims d.block.lines) (return_claims d.block.result) (lines_span d.block.lines s.lines) (return_spans d.block.result s.returned))
+    let blocks = flat_map (block_things d.name) (blocks_in d) in
+    all_append ClaimSpans (name_claims_from 0 0 (things_of d)) (flat_map block_claims (blocks_in d))
+    (things_span 0 0 (things_of d) (all_append ThingSpans (map (param_thing d.name) d.params) blocks (param_things_span d.name d.params outer s.params) (block_things_span d.name (blocks_in d) outer s.blocks)))
+    (blocks_span (blocks_in d) s.blocks)
 
 items_span : (ds : List DefinitionText) → AllByRecursion DefinitionSpans ds → AllByRecursion ItemSpans (map item_of ds)
 items_span [] spans = tt

@@ -16,7 +16,7 @@ use Rattle.ir_grammar.specs.declared.words.Word.{Word}
 use Rattle.ir_grammar.specs.declared.words.Word.TheVariants as word
 use Rattle.ir_grammar.specs.Symbols.{Symbol, mark_symbol, symbol, symbol_at, word_symbol}
 use Rattle.ir_grammar.specs.Symbols as symbols
-use Rattle.ir_grammar.specs.Words.{are_width, begins_with_zero, cast_of, constant_of, exact_of, flag_of, key_of, named_word, other_word, overflow_of, plain_of, pred_of, width_in, width_of, word_said}
+use Rattle.ir_grammar.specs.Words.{are_width, begins_with_zero, cast_of, truth_of, exact_of, flag_of, key_of, named_word, other_word, overflow_of, plain_of, pred_of, width_in, width_of, word_said}
 use Rattle.ir_grammar.specs.Written as write
 use Rattle.ir_spelling.specs.Spells.{symbols_cut, symbols_of}
 use Rattle.spelling_laws.proofs.Tools.{some_is}
@@ -38,7 +38,7 @@ either of (Some x) other each rest = each x
 
 others_range : (w : List ℕ) → IsWordInRange (other_word w)
 others_range w =
-    either word.Constant (constant_of w) _ (λ x. tt)
+    either word.Truth (truth_of w) _ (λ x. tt)
     (either word.Pred (pred_of w) _ (λ x. tt)
     (either word.Flag (flag_of w) _ (λ x. tt)
     (either word.Key (key_of w) word.Foreign (λ x. tt) tt)))
@@ -88,7 +88,7 @@ AllInRange = AllByRecursion IsSymbolInRange
 
 said_range : (w : Word) (start end : ℕ) → IsWordInRange w → IsSymbolInRange (word_symbol w start end)
 said_range (word.Width n) start end range = range
-said_range (word.Constant c) start end range = tt
+said_range (word.Truth b) start end range = tt
 said_range (word.Overflow op) start end range = tt
 said_range (word.Exact op) start end range = tt
 said_range (word.Plain op) start end range = tt
@@ -110,7 +110,9 @@ marks_range b =
     (mark_in (b == 40) _ _ tt
     (mark_in (b == 41) _ _ tt
     (mark_in (b == 123) _ _ tt
-    (mark_in (b == 125) _ _ tt tt)))))
+    (mark_in (b == 125) _ _ tt
+    (mark_in (b == 91) _ _ tt
+    (mark_in (b == 93) _ _ tt tt)))))))
 
 symbol_range : (k : TokenKind) (start end : ℕ) → IsKindInRange k → IsSymbolInRange (symbol_at k start end)
 symbol_range (kind.Local name) start end range = range

@@ -1,5 +1,5 @@
 -- What a whole run leaves is the one tree that is written so.
-use Rattle.std.proofs.Common.{◌≡◌, ℕ, List, [], ◌∷◌, map, Option, Some, None, Result, Ok, Err, MatchOption, refl, ap, sym, ◌∙◌, subst}
+use Rattle.std.proofs.Common.{◌≡◌, ℕ, List, [], ◌∷◌, map, Option, Some, None, Result, Ok, Err, MatchOption, OnOk, refl, ap, sym, ◌∙◌, subst}
 use Rattle.std.proofs.lemmas.Bool.{ltb-true}
 use Rattle.std.proofs.lemmas.Simd.{map-map}
 use Rattle.ir_grammar.proofs.Reading.{back_at, lawful}
@@ -52,16 +52,16 @@ once n one made a b e =
     cc
 
 pub module_ends : MayEnd sets 0
-module_ends = (ltb-true 0 22 refl, refl)
+module_ends = (ltb-true 0 33 refl, refl)
 
 pub expression_ends : MayEnd sets 19
-expression_ends = (ltb-true 19 22 refl, refl)
+expression_ends = (ltb-true 19 33 refl, refl)
 
 pub local_ends : MayEnd sets 20
-local_ends = (ltb-true 20 22 refl, refl)
+local_ends = (ltb-true 20 33 refl, refl)
 
 pub global_ends : MayEnd sets 21
-global_ends = (ltb-true 21 22 refl, refl)
+global_ends = (ltb-true 21 33 refl, refl)
 
 -- a run's fault is a reading's
 pub faulty :
@@ -98,3 +98,8 @@ there start symbols r parts e run o taken none =
     let at = on_top start symbols r parts e run in
     let same : Some at.0 ≡ None = sym at.2 ∙ sym taken ∙ none in
     cc
+
+-- what holds where there is no fault, of what follows from it
+pub where_ok : {T E P Q : Type 0} (r : Result T E) → (P → Q) → OnOk r P → OnOk r Q
+where_ok (Ok x) then p = then p
+where_ok (Err e) then p = tt

@@ -14,27 +14,27 @@ facts =
     -- Result
     ∷ record { nullable = false; first = 32800; follow = 4; cost = 2; shortest = 3; rank = 0 }
     -- Params
-    ∷ record { nullable = true; first = 32; follow = 16777216; cost = 4; shortest = 5; rank = 0 }
+    ∷ record { nullable = true; first = 32; follow = 1073741824; cost = 4; shortest = 5; rank = 0 }
     -- More
-    ∷ record { nullable = true; first = 2097152; follow = 16777216; cost = 2; shortest = 7; rank = 0 }
+    ∷ record { nullable = true; first = 134217728; follow = 1073741824; cost = 2; shortest = 7; rank = 0 }
     -- Param
-    ∷ record { nullable = false; first = 32; follow = 18874368; cost = 2; shortest = 9; rank = 1 }
+    ∷ record { nullable = false; first = 32; follow = 1207959552; cost = 2; shortest = 9; rank = 1 }
     -- ParamName
-    ∷ record { nullable = true; first = 2; follow = 18874368; cost = 2; shortest = 10; rank = 0 }
+    ∷ record { nullable = true; first = 2; follow = 1207959552; cost = 2; shortest = 10; rank = 0 }
     -- Block
-    ∷ record { nullable = false; first = 853898; follow = 67108864; cost = 14; shortest = 12; rank = 1 }
+    ∷ record { nullable = false; first = 114100106; follow = 4409067402; cost = 16; shortest = 12; rank = 1 }
     -- BlockLabel
-    ∷ record { nullable = true; first = 8; follow = 853890; cost = 2; shortest = 13; rank = 0 }
+    ∷ record { nullable = true; first = 8; follow = 114100098; cost = 2; shortest = 13; rank = 0 }
     -- Lines
-    ∷ record { nullable = true; first = 788354; follow = 65536; cost = 10; shortest = 15; rank = 0 }
+    ∷ record { nullable = true; first = 788354; follow = 109117440; cost = 10; shortest = 15; rank = 0 }
     -- Line
-    ∷ record { nullable = false; first = 788354; follow = 853890; cost = 8; shortest = 17; rank = 3 }
+    ∷ record { nullable = false; first = 788354; follow = 109905794; cost = 8; shortest = 17; rank = 3 }
     -- Register
-    ∷ record { nullable = true; first = 2; follow = 788352; cost = 2; shortest = 18; rank = 0 }
+    ∷ record { nullable = true; first = 2; follow = 4982656; cost = 2; shortest = 18; rank = 0 }
     -- Returned
-    ∷ record { nullable = false; first = 32800; follow = 67108864; cost = 4; shortest = 20; rank = 0 }
+    ∷ record { nullable = false; first = 32800; follow = 4409067402; cost = 4; shortest = 20; rank = 0 }
     -- Operation
-    ∷ record { nullable = false; first = 788352; follow = 853891; cost = 4; shortest = 22; rank = 2 }
+    ∷ record { nullable = false; first = 788352; follow = 109905795; cost = 4; shortest = 22; rank = 2 }
     -- Operator
     ∷ record { nullable = false; first = 896; follow = 32; cost = 2; shortest = 28; rank = 0 }
     -- Flags
@@ -42,15 +42,37 @@ facts =
     -- Exactness
     ∷ record { nullable = true; first = 131072; follow = 32; cost = 2; shortest = 31; rank = 0 }
     -- Operand
-    ∷ record { nullable = false; first = 32; follow = 71108483; cost = 2; shortest = 33; rank = 1 }
+    ∷ record { nullable = false; first = 32; follow = 4544333707; cost = 2; shortest = 33; rank = 1 }
     -- Value
-    ∷ record { nullable = false; first = 82; follow = 71108483; cost = 2; shortest = 34; rank = 0 }
+    ∷ record { nullable = false; first = 2097234; follow = 4544333707; cost = 4; shortest = 35; rank = 0 }
     -- Expr
     ∷ record { nullable = false; first = 788384; follow = 1; cost = 6; shortest = 37; rank = 2 }
     -- LocalName
     ∷ record { nullable = false; first = 2; follow = 1; cost = 2; shortest = 39; rank = 0 }
     -- GlobalName
     ∷ record { nullable = false; first = 4; follow = 1; cost = 2; shortest = 40; rank = 0 }
+    -- Blocks
+    ∷ record { nullable = true; first = 114100106; follow = 4294967296; cost = 18; shortest = 41; rank = 0 }
+    -- Body
+    ∷ record { nullable = true; first = 4982658; follow = 109117440; cost = 10; shortest = 43; rank = 0 }
+    -- Behind
+    ∷ record { nullable = false; first = 4982656; follow = 109117440; cost = 6; shortest = 45; rank = 3 }
+    -- Node
+    ∷ record { nullable = false; first = 4194304; follow = 114100098; cost = 2; shortest = 47; rank = 2 }
+    -- Entries
+    ∷ record { nullable = true; first = 134217728; follow = 114100098; cost = 2; shortest = 48; rank = 0 }
+    -- Entry
+    ∷ record { nullable = false; first = 8589934592; follow = 248317826; cost = 2; shortest = 50; rank = 1 }
+    -- Term
+    ∷ record { nullable = false; first = 109117440; follow = 4409067402; cost = 2; shortest = 54; rank = 0 }
+    -- Branch
+    ∷ record { nullable = false; first = 16777248; follow = 4409067402; cost = 4; shortest = 55; rank = 0 }
+    -- Cases
+    ∷ record { nullable = true; first = 32; follow = 17179869184; cost = 4; shortest = 57; rank = 0 }
+    -- Case
+    ∷ record { nullable = false; first = 32; follow = 17179869216; cost = 2; shortest = 59; rank = 1 }
+    -- Int
+    ∷ record { nullable = false; first = 80; follow = 4544333707; cost = 2; shortest = 60; rank = 0 }
     ∷ []
 
 abbrev pub listing : Listed

@@ -19,6 +19,12 @@ fn kind_of_key(key: KeyWord) -> u8
         KeyWord::Icmp => 17,
         KeyWord::Select => 18,
         KeyWord::To => 19,
+        KeyWord::Undef => 20,
+        KeyWord::Phi => 21,
+        KeyWord::Br => 22,
+        KeyWord::Label => 23,
+        KeyWord::Switch => 24,
+        KeyWord::Unreachable => 25,
     }
 }
 
@@ -28,7 +34,7 @@ fn kind_of_said(said: Word) -> u8
 {
     match said {
         Word::Width(_) => 4,
-        Word::Constant(_) => 5,
+        Word::Truth(_) => 5,
         Word::Overflow(_) => 6,
         Word::Exact(_) => 7,
         Word::Plain(_) => 8,
@@ -46,12 +52,14 @@ fn kind_of_mark(mark: u8) -> u8
     ensures { result ≡ kind_of (mark_symbol mark) }
 {
     match mark {
-        b',' => 20,
-        b'=' => 21,
-        b'(' => 22,
-        b')' => 23,
-        b'{' => 24,
-        b'}' => 25,
+        b',' => 26,
+        b'=' => 27,
+        b'(' => 28,
+        b')' => 29,
+        b'{' => 30,
+        b'}' => 31,
+        b'[' => 32,
+        b']' => 33,
         _ => 12,
     }
 }
@@ -98,7 +106,7 @@ fn word_leaf(said: Word, token: &Token) -> Option<Leaf>
 {
     match said {
         Word::Width(width) => Some(Leaf::Width(placed(width, token))),
-        Word::Constant(constant) => Some(Leaf::Constant(placed(constant, token))),
+        Word::Truth(truth) => Some(Leaf::Truth(placed(truth, token))),
         Word::Overflow(op) => Some(Leaf::Overflow(op)),
         Word::Exact(op) => Some(Leaf::Exact(op)),
         Word::Plain(op) => Some(Leaf::Plain(op)),

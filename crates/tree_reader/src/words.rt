@@ -4,18 +4,16 @@ ghost use Rattle.ir_grammar.specs.Words as said;
 
 use crate::widths::width_of;
 use ir_core::{BinOp, CastOp, Pred, cast_word, op_word, pred_word};
-use ir_grammar::{ConstantWord, ExactOp, FlagWord, KeyWord, OverflowOp, PlainOp, Word};
+use ir_grammar::{ExactOp, FlagWord, KeyWord, OverflowOp, PlainOp, Word};
 
-/// The constant that the word is, if it is one.
-fn constant_of(word: &[u8]) -> Option<ConstantWord>
-    ensures { result ≡ said.constant_of word.now }
+/// Whether the word is `true` or `false`, if it is one of them.
+fn truth_of(word: &[u8]) -> Option<bool>
+    ensures { result ≡ said.truth_of word.now }
 {
     if word == b"true".as_slice() {
-        Some(ConstantWord::True)
+        Some(true)
     } else if word == b"false".as_slice() {
-        Some(ConstantWord::False)
-    } else if word == b"undef".as_slice() {
-        Some(ConstantWord::Undef)
+        Some(false)
     } else {
         None
     }
@@ -151,6 +149,18 @@ fn key_of(word: &[u8]) -> Option<KeyWord>
         Some(KeyWord::Select)
     } else if word == b"to".as_slice() {
         Some(KeyWord::To)
+    } else if word == b"undef".as_slice() {
+        Some(KeyWord::Undef)
+    } else if word == b"phi".as_slice() {
+        Some(KeyWord::Phi)
+    } else if word == b"br".as_slice() {
+        Some(KeyWord::Br)
+    } else if word == b"label".as_slice() {
+        Some(KeyWord::Label)
+    } else if word == b"switch".as_slice() {
+        Some(KeyWord::Switch)
+    } else if word == b"unreachable".as_slice() {
+        Some(KeyWord::Unreachable)
     } else {
         None
     }
@@ -160,8 +170,8 @@ fn key_of(word: &[u8]) -> Option<KeyWord>
 fn other_word(word: &[u8]) -> Word
     ensures { result ≡ said.other_word word.now }
 {
-    if let Some(said) = constant_of(word) {
-        return Word::Constant(said);
+    if let Some(said) = truth_of(word) {
+        return Word::Truth(said);
     }
     if let Some(said) = pred_of(word) {
         return Word::Pred(said);
