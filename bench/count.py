@@ -4,10 +4,13 @@
 usage: bench/count.py [--program PATH] [--only WORD] [--write FILE]
 
 A row of budgets.tsv has, between tabs: its name, an input, a command, a unit (byte or line), a budget (instructions a unit), the peak of
-memory in MB, and whether the count has to grow linearly (yes or no). In a command {} stands for the input's file, NONE for hints that
+memory in MB, and whether the count has to grow linearly (yes or no). Where a unit is neither byte nor line it is what N counts. A budget or
+a peak that isn't set yet is inf. In a command {} stands for the input's file, HINTS for the hints that belong to it, NONE for hints that
 say nothing, STEP for one step before the first line, with which facts are kept along the block, BASE for a module of one line. An input is
-made by rule: chain:N is a function of N lines of i32, mixed:N one of all operators over integers of several widths, steps:N a hint file of
-N steps, blocks:N one of N blocks.
+made by rule: chain:N is a function of N lines of i32, mixed:N one of all operators over integers of several widths, flow:N one of N blocks
+that branch, join and loop, steps:N a hint file of N steps, blocks:N one of N blocks. Two have HINTS, under which they are valid against
+themselves: edges:N, a function of N blocks with a phi each, at whose starts 60 facts are known; ghosts:N, one of N blocks with two ghost
+and two same steps each.
 
 Counts are callgrind's totals less those of the same command on an empty input, so they don't depend on the machine's load; two runs
 differ by less than 0.2 %. Peak memory is that of a run of its own. Where growth has to be linear the input is made at half its size too,
@@ -74,6 +77,47 @@ def mixed(count):
     return "\n".join(lines + [f"  ret i32 {known['i32'][-1]}", "}", ""])
 
 
+def flow(count):
+    """A function of so many blocks, by four: a loop's head, two arms, and a join from which the loop goes round or on."""
+    groups = max(1, count // 4)
+    lines = ["define i32 @f(i32 %p0) {", "j0:", "  br label %h1"]
+    for k in range(1, groups + 1):
+        lines += [f"h{k}:", f"  %q{k} = phi i32 [ %p{k - 1}, %j{k - 1} ], [ %p{k}, %j{k} ]", f"  %c{k} = icmp ult i32 %q{k}, {k}", f"  br i1 %c{k}, label %t{k}, label %e{k}",
+                  f"t{k}:", f"  %a{k} = add i32 %q{k}, {k}", f"  br label %j{k}",
+                  f"e{k}:", f"  %b{k} = mul i32 %q{k}, 3", f"  br label %j{k}",
+                  f"j{k}:", f"  %p{k} = phi i32 [ %a{k}, %t{k} ], [ %b{k}, %e{k} ]", f"  %d{k} = icmp eq i32 %p{k}, {k}", f"  br i1 %d{k}, label %h{k}, label %h{k + 1}"]
+    return "\n".join(lines + [f"h{groups + 1}:", f"  ret i32 %p{groups}", "}", ""])
+
+
+def edges(count):
+    """A function of so many blocks in a row, each with a phi, behind a first one whose lines give the facts."""
+    lines = ["define i32 @f(i32 %x) {", "b0:"] + [f"  %v{j} = add i32 %x, {j}" for j in range(15)] + ["  %p0 = add i32 %x, 15"]
+    for k in range(1, count + 1):
+        lines += [f"  br label %b{k}", f"b{k}:", f"  %p{k} = phi i32 [ %p{k - 1}, %b{k - 1} ]"]
+    return "\n".join(lines + [f"  ret i32 %p{count}", "}", ""])
+
+
+def edge_hints(count):
+    """Each block but the first states 30 facts of the source and 30 of the target."""
+    facts = ",".join(f'["ge","i32 %v{j}","add i32 %x, {j}"],["ge","add i32 %x, {j}","i32 %v{j}"]' for j in range(15))
+    return hints([f'{{"at":"%b{k}","src":[{facts}],"tgt":[{facts}]}}' for k in range(1, count + 1)])
+
+
+def ghosts(count):
+    """A function of so many blocks in a row, each of two lines, the second over the first."""
+    lines = ["define i32 @f(i32 %x) {", "b0:"]
+    for k in range(1, count + 1):
+        lines += [f"  br label %b{k}", f"b{k}:", f"  %v{k} = add i32 %x, {k}", f"  %w{k} = sub i32 %v{k}, 1"]
+    return "\n".join(lines + ["  ret i32 %x", "}", ""])
+
+
+def ghost_hints(count):
+    """In each block the first line stands apart on the two sides, and its register is related by a step."""
+    steps = ('{{"at":2,"same":"%v{0}","by":"add i32 %x, {0}"}},{{"at":2,"ghost":"%g","is":"i32 %v{0}"}},'
+             '{{"at":3,"ghost":"%h","is":"add i32 ghost %g, 1"}},{{"at":3,"same":"%w{0}","by":"sub i32 %v{0}, 1"}}')
+    return hints([f'{{"at":"%b{k}","lines":"stb","steps":[{steps.format(k)}]}}' for k in range(1, count + 1)])
+
+
 def hints(blocks):
     return '{"format":1,"functions":{"@f":{"blocks":[%s]}}}' % ",".join(blocks)
 
@@ -88,8 +132,10 @@ def blocks(count):
 
 
 ONE_STEP = hints(['{"at":"%entry","steps":[{"at":0,"rule":"undef_const","side":"src","from":[],"to":["ge","i32 undef","i32 7"]}]}'])
-MAKERS = {"chain": chain, "mixed": mixed, "steps": steps, "blocks": blocks}
-EMPTY = {"chain": "define i32 @f() {\n  ret i32 0\n}\n", "mixed": "define i32 @f() {\n  ret i32 0\n}\n", "steps": steps(0), "blocks": blocks(0)}
+RETURN = "define i32 @f() {\n  ret i32 0\n}\n"
+MAKERS = {"chain": chain, "mixed": mixed, "flow": flow, "edges": edges, "ghosts": ghosts, "steps": steps, "blocks": blocks}
+HINTS = {"edges": edge_hints, "ghosts": ghost_hints}
+EMPTY = {"steps": steps(0), "blocks": blocks(0)}
 
 
 class Bench:
@@ -103,8 +149,11 @@ class Bench:
             file.write(text)
         return path
 
-    def words(self, command, path):
-        files = {"{}": path, "NONE": self.put("none.json", NO_HINTS), "STEP": self.put("step.json", ONE_STEP), "BASE": self.put("base.ll", chain(1))}
+    def words(self, command, kind, count):
+        """The words of a command on an input of that kind and size; of size 0 it is a function that returns, or a hint file that says nothing."""
+        text = MAKERS[kind](count) if count else EMPTY.get(kind, RETURN)
+        belonging = HINTS[kind](count) if kind in HINTS else NO_HINTS
+        files = {"{}": self.put("input", text), "HINTS": self.put("hints.json", belonging), "NONE": self.put("none.json", NO_HINTS), "STEP": self.put("step.json", ONE_STEP), "BASE": self.put("base.ll", chain(1))}
         return [self.program] + [files.get(word, word) for word in command.split()]
 
     def count(self, words):
@@ -143,20 +192,19 @@ def measure(bench, row, shares):
     """The line that tells of a row, and whether it is within its budgets."""
     name, source, command, unit, budget, memory, linear = row.rstrip("\n").split("\t")
     kind, size = source.split(":")
-    text = MAKERS[kind](int(size))
-    words = bench.words(command, bench.put("input", text))
-    start = bench.count(bench.words(command, bench.put("empty", EMPTY[kind])))[0]
+    size = int(size)
+    start = bench.count(bench.words(command, kind, 0))[0]
+    half = bench.count(bench.words(command, kind, size // 2))[0] - start if linear == "yes" else 0
+    words = bench.words(command, kind, size)
     total, status, out = bench.count(words)
-    net, units = total - start, len(text) if unit == "byte" else int(size)
+    net, units = total - start, len(MAKERS[kind](size)) if unit == "byte" else size
     peak, over = bench.peak(words), []
     if net > float(budget) * units:
         over.append("OVER")
     if peak > float(memory):
         over.append("MEMORY")
-    if linear == "yes":
-        half = bench.count(bench.words(command, bench.put("half", MAKERS[kind](int(size) // 2))))[0] - start
-        if net > 2.1 * half:
-            over.append(f"GROWTH {net / half:.2f}")
+    if linear == "yes" and net > 2.1 * half:
+        over.append(f"GROWTH {net / half:.2f}")
     told = (f"{name:14} {source:14} {units:9} {unit}s {net:13} instructions {net / units:9.1f} a {unit} (budget {budget})"
             f" {peak:7.1f} MB ({memory}) status {status} {' '.join(over) or 'ok'}")
     lines = [told]

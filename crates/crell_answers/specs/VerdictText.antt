@@ -4,12 +4,12 @@ use Rattle.std.specs.Fmt.{decimal}
 use Rattle.ir_core.specs.declared.names.Sigil.TheVariants.{Local, Global}
 use Rattle.ir_core.specs.declared.operands.Operand.{Operand}
 use Rattle.ir_core.specs.declared.names.Name.{Name}
-use Rattle.ir_printer.specs.Printed.{printed_name, printed_value}
+use Rattle.ir_printer.specs.Printed.{printed_name, printed_register, printed_value}
 use Rattle.hint_format.specs.Form.{printed_fact}
 use Rattle.erhl_assert.specs.declared.verdict.Reason.{Reason}
-use Rattle.erhl_assert.specs.declared.verdict.Reason.TheVariants.{AlignmentDiffers, KindsDiffer, Unmatched, TargetMayTrap, UnknownRule, RuleUnfit, MissingPremise, MissingFact}
+use Rattle.erhl_assert.specs.declared.verdict.Reason.TheVariants.{AlignmentDiffers, KindsDiffer, Unmatched, TargetMayTrap, UnknownRule, RuleUnfit, MissingPremise, MissingFact, DiffLeft}
 use Rattle.erhl_assert.specs.declared.verdict.Spot.{Spot}
-use Rattle.erhl_assert.specs.declared.verdict.Spot.TheVariants.{Start, Line}
+use Rattle.erhl_assert.specs.declared.verdict.Spot.TheVariants.{Start, Line, Edge}
 use Rattle.erhl_assert.specs.declared.verdict.Difference.{Difference}
 use Rattle.erhl_assert.specs.declared.verdict.Difference.TheVariants.{Functions}
 use Rattle.erhl_assert.specs.declared.verdict.ModuleVerdict.{ModuleVerdict}
@@ -20,6 +20,7 @@ use Rattle.crell_answers.specs.Answer.{line}
 abbrev pub spot_text : Spot → List ℕ
 spot_text Start = codes "start"
 spot_text (Line k) = decimal k
+spot_text (Edge to) = codes "edge " ++ printed_name Local to
 
 -- operands are printed without their types
 abbrev pub operand_text : Operand Name → List ℕ
@@ -34,6 +35,7 @@ reason_text (UnknownRule rule) = codes "unknown rule " ++ rule
 reason_text (RuleUnfit rule) = codes "rule unfit " ++ rule
 reason_text (MissingPremise f) = codes "missing premise " ++ printed_fact f
 reason_text (MissingFact f) = codes "missing fact " ++ printed_fact f
+reason_text (DiffLeft register) = codes "diff left " ++ printed_register register
 
 abbrev pub difference_text : Difference → List ℕ
 difference_text Functions = codes "functions"

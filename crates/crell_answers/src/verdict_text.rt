@@ -9,7 +9,7 @@ use contents::Seq;
 use erhl_assert::{Difference, Fact, ModuleVerdict, Reason, Spot};
 use hint_format::print_fact;
 use ir_core::{Name, Operand, Sigil};
-use ir_printer::print_value;
+use ir_printer::{print_register, print_value};
 use std::alloc::{AllocError, Global};
 
 /// The verdict on a line of out: status 0 for a pair that is valid, 1 for one that is refused or differs.
@@ -116,6 +116,10 @@ fn push_spot(alloc: Global, text: &mut Vec<u8>, spot: &Spot) -> Result<(), Alloc
     match spot {
         Spot::Start => text.extend_from_slice(b"start"),
         Spot::Line(k) => push_number(alloc, text, *k),
+        Spot::Edge(to) => {
+            text.extend_from_slice(b"edge ")?;
+            push_name(alloc, text, Sigil::Local, to)
+        }
     }
 }
 
@@ -147,6 +151,10 @@ fn push_reason(alloc: Global, text: &mut Vec<u8>, reason: &Reason) -> Result<(),
         Reason::RuleUnfit(rule) => push_both(text, b"rule unfit ", rule.as_slice()),
         Reason::MissingPremise(fact) => push_fact(alloc, text, b"missing premise ", fact),
         Reason::MissingFact(fact) => push_fact(alloc, text, b"missing fact ", fact),
+        Reason::DiffLeft(register) => {
+            let printed = print_register(alloc, register)?;
+            push_both(text, b"diff left ", printed.as_slice())
+        }
     }
 }
 

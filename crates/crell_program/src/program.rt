@@ -1,4 +1,5 @@
 ghost use Rattle.std.specs.Prelude.{◌≡◌, ◌≤◌, None, Some, IfOk, map, string_bytes};
+ghost use Rattle.ir_core.specs.WellFormed.{HasShape};
 ghost use Rattle.ir_machine.specs.Refinement.{Refines};
 ghost use Rattle.erhl_assert.specs.Acceptance.{module_answer};
 ghost use Rattle.rule_base.specs.Book.{meanings_of};
@@ -18,6 +19,7 @@ use crell_answers::{Answer, module_fault, past_limit, unfit, usage_text, verdict
 use crell_io::{Shelf, Sink};
 use erhl_assert::{Hints, ModuleVerdict};
 use erhl_checker::{CheckEnd, check_module_under};
+use erhl_soundness::shapes_keep_phis_apart;
 use hint_format::{HintFault, read_hints};
 use ir_core::{Limit, Module};
 use module_input::{first_faults_agree, read_input};
@@ -268,10 +270,13 @@ fn judge<R: RuleSet>(
     hints: &Hints,
     rules: &R,
 ) -> Result<Answer, AllocError>
+    requires source { HasShape source.now }
+    requires target { HasShape target.now }
     ensures verdict { IfOk result
         (λ answer. answer ≡ checked (module_answer (R.rules rules.now) source.now target.now hints.now) file.now) }
     ensures refines { IfOk result (λ answer. answer.status ≡ 0 → Refines source.now target.now) }
 {
+    shapes_keep_phis_apart();
     match check_module_under(alloc, source, target, hints, rules) {
         Ok(verdict) => verdict_answer(alloc, &verdict),
         Err(CheckEnd::Limit(limit)) => past_limit(alloc, limit, file),

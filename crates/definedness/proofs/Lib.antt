@@ -6,6 +6,6 @@ pub mod Answered
 pub mod Defining
 pub mod Everywhere
 pub mod Judged
-pub mod Reached
+pub mod BlocksReached
 pub mod Shaped
 pub mod NotDefined

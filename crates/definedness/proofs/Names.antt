@@ -1,17 +1,14 @@
 -- Lists of names: which are known, which stand apart, and their places.
-use Rattle.std.proofs.Common.{◌≡◌, ◌∙◌, ◌⊎◌, ⊎_elim, inl, inr, ℕ, suc, zero, ◌<◌, ◌≤◌, Bool, true, false, cond, ltb, List, [], ◌∷◌, ◌++◌, length, get_or, Option, None, Some, refl, sym, ap, subst, append_assoc, arith, if◌then◌else◌}
-use Rattle.std.proofs.lemmas.Bool.{cases_lt, lt-ltb}
+use Rattle.std.proofs.Common.{◌≡◌, ◌∙◌, ◌⊎◌, ⊎_elim, inl, inr, ℕ, suc, zero, ◌<◌, true, false, List, [], ◌∷◌, ◌++◌, length, get_or, Option, None, Some, refl, sym, ap, subst, append_assoc, arith, if◌then◌else◌}
+use Rattle.std.proofs.lemmas.Bool.{cases_lt}
 use Rattle.std.proofs.lemmas.List.{append-nil}
 use Rattle.std.proofs.lemmas.List.Elements.{Contains-append_left, Contains-push, Contains-push_cases}
-use Rattle.std.proofs.lemmas.List.Quantifiers.{position-Some}
-use Rattle.std.proofs.lemmas.List.Sums.{fails_before_first}
-use Rattle.std.specs.List.{Contains, position_or_len}
+use Rattle.std.specs.List.{Contains}
 use Rattle.ir_core.specs.declared.names.Name.{Name}
-use Rattle.ir_core.specs.NameLaws.{same_name_true, same_name_refl}
 use Rattle.ir_core.specs.Order.{AreNew}
-use Rattle.ir_core.specs.Same.{same_name}
 use Rattle.name_index.specs.Among.{is_among, place_among}
 use Rattle.name_index.proofs.Among.{among_is, not_there}
+use Rattle.name_index.proofs.FirstPlaces.{no_place, place_is}
 use Rattle.definedness.specs.Along.{with_name, with_names}
 
 -- ---- names that are known, and names that are defined
@@ -52,18 +49,6 @@ known_or n ns =
 
 -- ---- names that stand apart
 
-new_stay : (xs taken : List Name) → AreNew taken xs → with_names taken xs ≡ taken ++ xs
-new_stay [] taken new = sym (append-nil taken)
-new_stay (x ∷ xs) taken new =
-    ap (λ ns. with_names ns xs) (is_new (is_among x taken) refl) ∙ new_stay xs (taken ++ x ∷ []) new.1 ∙ append_assoc taken (x ∷ []) xs
-  where
-    is_new : (b : Bool) → is_among x taken ≡ b → (if is_among x taken then taken else (taken ++ x ∷ [])) ≡ taken ++ x ∷ []
-    is_new true e = absurd (new.0 (among_is x taken e))
-    is_new false e = ap (λ b. if b then taken else (taken ++ x ∷ [])) e
-
-pub labels_stay : (xs : List Name) → AreNew [] xs → with_names [] xs ≡ xs
-labels_stay xs new = new_stay xs [] new
-
 new_not_taken : (xs taken : List Name) → AreNew taken xs → (x : Name) → Contains taken x → (n : ℕ) → n < length xs → get_or xs n x ≡ x → ⊥
 new_not_taken [] taken new x there n within is = absurd (omega arith)
 new_not_taken (y ∷ xs) taken new x there zero within is = new.0 (subst (Contains taken) (sym is) there)
@@ -84,20 +69,6 @@ one_place xs new x m n in_m in_n this that =
     (λ ge. ⊎_elim (λ less. absurd (new_apart xs [] new x n m less in_m that this)) (λ le. omega arith) (cases_lt n m)) (cases_lt m n)
 
 -- ---- places
-
-pub place_is : (x : Name) (xs : List Name) (n : ℕ) → place_among x xs ≡ Some n → (n < length xs) × (get_or xs n x ≡ x)
-place_is x xs n e =
-    let found = position-Some (same_name x) xs n x e in (found.0, sym (same_name_true x (get_or xs n x) found.1))
-
-no_place_by : (p : ℕ) (l : ℕ) → cond (ltb p l) (Some p) None ≡ None → l ≤ p
-no_place_by p l e = ⊎_elim (λ less. let t = lt-ltb p l less in absurd (cc)) (λ ge. ge) (cases_lt p l)
-
-pub no_place : (x : Name) (xs : List Name) → place_among x xs ≡ None → Contains xs x → ⊥
-no_place x xs e (n, within, is) =
-    let behind = no_place_by (position_or_len (same_name x) xs) (length xs) e in
-    let fails = fails_before_first (same_name x) xs n x (omega arith) in
-    let same : same_name x (get_or xs n x) ≡ true = ap (same_name x) is ∙ same_name_refl x in
-    absurd (cc)
 
 pub place_at : (xs : List Name) → AreNew [] xs → (x : Name) (n : ℕ) → n < length xs → get_or xs n x ≡ x → place_among x xs ≡ Some n
 place_at xs new x n within is = go (place_among x xs) refl

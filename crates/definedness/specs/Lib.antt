@@ -1,4 +1,5 @@
 pub mod Undefined
 pub mod Along
+pub mod Graph
 pub mod Flow
 pub mod Laws

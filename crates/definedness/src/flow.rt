@@ -4,29 +4,34 @@ ghost use Rattle.ir_core.specs.declared.functions.Block.{Block};
 ghost use Rattle.ir_core.specs.declared.functions.Case.{Case};
 ghost use Rattle.ir_core.specs.Functions.{names_in, phi_registers, set_by, successors_of};
 ghost use Rattle.name_index.specs.Among.{is_among, place_among};
-ghost use Rattle.definedness.specs.Along.{with_names};
-ghost use Rattle.definedness.specs.Flow.{closed_for, defines, graph_in, labels_in, places_in};
+ghost use Rattle.name_index.specs.Places.{ArePlaces};
+ghost use Rattle.definedness.specs.Flow.{closed_for, defines, places_by};
+ghost use Rattle.definedness.specs.Graph.{graph_in, labels_in};
 
-use crate::uses::add;
 use flow_solver::Graph;
 use ir_core::{Block, Case, Instr, Name, Phi, Term, same_name};
-use name_index::NameIndex;
+use name_index::PlaceIndex;
 use std::alloc::{AllocError, Global};
 
-/// The names of blocks.
-pub(crate) fn labels_of(alloc: Global, blocks: &[Block]) -> Result<NameIndex, AllocError>
-    ensures { IfOk result (λ labels. labels ≡ with_names [] (labels_in blocks.now)) }
+/// Where the names of blocks stand first among them.
+pub(crate) fn labels_of<'a>(
+    alloc: Global,
+    blocks: &'a [Block],
+) -> Result<PlaceIndex<'a>, AllocError>
+    ensures { IfOk result (λ labels. ArePlaces labels (labels_in blocks.now)) }
 {
-    let mut labels = NameIndex::with_room(alloc, blocks.len())?;
-    for block in blocks {
-        add(alloc, &mut labels, &block.name)?;
+    let mut labels = PlaceIndex::with_room(alloc, blocks.len())?;
+    let mut at = blocks.len();
+    while at > 0 {
+        at -= 1;
+        labels.put(&blocks[at].name, at)?;
     }
     Ok(labels)
 }
 
 /// Puts the place of a block behind the others.
-fn add_place(labels: &NameIndex, label: &Name, places: &mut Vec<usize>) -> Result<(), AllocError>
-    ensures { OnOk result (places.new.items ≡ places.old.items ++ places_in labels.now (label.now ∷ [])) }
+fn add_place(labels: &PlaceIndex, label: &Name, places: &mut Vec<usize>) -> Result<(), AllocError>
+    ensures { OnOk result (places.new.items ≡ places.old.items ++ places_by labels.now (label.now ∷ [])) }
 {
     if let Some(place) = labels.position(label) {
         places.push(place)?;
@@ -34,9 +39,9 @@ fn add_place(labels: &NameIndex, label: &Name, places: &mut Vec<usize>) -> Resul
     Ok(())
 }
 
-fn add_cases(labels: &NameIndex, cases: &[Case], places: &mut Vec<usize>) -> Result<(), AllocError>
+fn add_cases(labels: &PlaceIndex, cases: &[Case], places: &mut Vec<usize>) -> Result<(), AllocError>
     ensures { OnOk result
-        (places.new.items ≡ places.old.items ++ places_in labels.now (map (λ (c : Case). c.label) cases.now)) }
+        (places.new.items ≡ places.old.items ++ places_by labels.now (map (λ (c : Case). c.label) cases.now)) }
 {
     for case in cases {
         add_place(labels, &case.label, places)?;
@@ -44,9 +49,18 @@ fn add_cases(labels: &NameIndex, cases: &[Case], places: &mut Vec<usize>) -> Res
     Ok(())
 }
 
+/// The place of the block of that name, the first one.
+pub(crate) fn place_of(blocks: &[Block], labels: &PlaceIndex, name: &Name) -> Option<usize>
+    requires { ArePlaces labels.now (labels_in blocks.now) }
+    ensures { result ≡ place_among name.now (labels_in blocks.now) }
+{
+    let place = labels.position(name);
+    place
+}
+
 /// The places of the blocks to which a terminator leads.
-fn places_of(alloc: Global, labels: &NameIndex, term: &Term) -> Result<Vec<usize>, AllocError>
-    ensures { IfOk result (λ places. places.items ≡ places_in labels.now (successors_of term.now)) }
+fn places_of(alloc: Global, labels: &PlaceIndex, term: &Term) -> Result<Vec<usize>, AllocError>
+    ensures { IfOk result (λ places. places.items ≡ places_by labels.now (successors_of term.now)) }
 {
     let mut places = Vec::new(alloc);
     match term {
@@ -68,10 +82,10 @@ fn places_of(alloc: Global, labels: &NameIndex, term: &Term) -> Result<Vec<usize
 pub(crate) fn graph_of(
     alloc: Global,
     blocks: &[Block],
-    labels: &NameIndex,
+    labels: &PlaceIndex,
 ) -> Result<Graph, AllocError>
-    requires { labels.now ≡ labels_in blocks.now }
-    ensures { IfOk result (λ graph. graph ≡ graph_in labels.now blocks.now) }
+    requires { ArePlaces labels.now (labels_in blocks.now) }
+    ensures { IfOk result (λ graph. graph ≡ graph_in (labels_in blocks.now) blocks.now) }
 {
     let mut successors = Vec::new(alloc);
     for block in blocks {

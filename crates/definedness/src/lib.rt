@@ -8,4 +8,4 @@ mod paths;
 mod uses;
 
 pub use laws::{shape_knows_labels, undefined_uses_are_faults};
-pub use paths::{DefEnd, Undefined, defined, reachable};
+pub use paths::{DefEnd, Undefined, defined, reachable, reached};

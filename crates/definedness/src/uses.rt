@@ -53,7 +53,7 @@ fn note<'a>(
         ≡ map use_of uses.old.items ++ left_in known.now.params known.now.own block.now line (option_copied end_of.entry) atom.now) }
 {
     if let Atom::Register(name) = atom {
-        if !known.params.has(name) && !known.own.has(name) {
+        if !known.own.has(name) && !known.params.has(name) {
             uses.push(Crossing {
                 block,
                 line,

@@ -18,7 +18,7 @@ use Rattle.erhl_assert.specs.declared.verdict.Verdict.TheVariants as verdict
 use Rattle.erhl_assert.specs.Facts.{with_fact, expr_names, without_naming}
 use Rattle.erhl_assert.specs.Alignment.{Line}
 use Rattle.erhl_assert.specs.Postcondition.{right_side, left_side, facts_after, diff_after, after_line}
-use Rattle.erhl_assert.specs.Course.{Ends, Refuses, Gives, Course, gives, refuses, after_ends, and_then, tested, Judged, Good, Bad, with_sizes, placed_end, placed, sizes_of, verdict_of, are_too_many, within, judged_answer, answer_at, IsGood}
+use Rattle.erhl_assert.specs.Course.{Ends, Refuses, Gives, Course, gives, refuses, after_ends, and_then, tested, Judged, Good, Bad, with_sizes, placed_end, placed, then_also, sizes_of, verdict_of, are_too_many, within, judged_answer, answer_at, IsGood}
 use Rattle.erhl_assert.specs.Allowed.{line_fault}
 use Rattle.erhl_assert.specs.Growth.{adds, forgetting, over_calm, over_side, over_allowed, over_line}
 
@@ -119,6 +119,11 @@ pub good_parts : {A : Type 0} (block : Name) (where_ : Spot) (c : Course A) (nex
     → (a : A) × (c.ends ≡ Gives a) × IsGood (next a)
 good_parts block where_ c next h = good_end block where_ c.sizes c.ends next h
 
+-- of two checks that follow one another both are good
+pub both_good : (first next : Judged) → IsGood (then_also first next) → IsGood first × IsGood next
+both_good (Good sizes) next h = ((sizes, refl), good_with_sizes sizes next h)
+both_good (Bad sizes block where_ why) next h = absurd (bad_is_not_good sizes block where_ why h)
+
 gives_parts_at : {A B : Type 0} (sizes : List ℕ) (e : Ends A) (next : A → Course B) (b : B) → (after_ends sizes e next).ends ≡ Gives b
     → (a : A) × (e ≡ Gives a) × ((next a).ends ≡ Gives b)
 gives_parts_at sizes (Refuses r) next b h = absurd (cc)
@@ -174,7 +179,7 @@ side_ends Src None known = refl
 side_ends Tgt None known = refl
 side_ends side (Some (line.Calm l)) known = calm_ends side l known
 
-then_ends : {A B : Type 0} (c : Course A) (a : A) (next : A → Course B) → c.ends ≡ Gives a → (and_then c next).ends ≡ (next a).ends
+pub then_ends : {A B : Type 0} (c : Course A) (a : A) (next : A → Course B) → c.ends ≡ Gives a → (and_then c next).ends ≡ (next a).ends
 then_ends c a next h = ap (λ e. (after_ends c.sizes e next).ends) h
 
 -- over an aligned line that is allowed a course comes to what is known after it

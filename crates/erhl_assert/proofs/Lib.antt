@@ -1,2 +1,4 @@
 pub mod Courses
+pub mod Edges
+pub mod Judging
 pub mod SameFact

@@ -6,7 +6,6 @@ use Rattle.ir_core.specs.declared.names.Name.{Name}
 use Rattle.ir_core.specs.declared.names.Name.TheVariants.{Number}
 use Rattle.ir_core.specs.declared.functions.Instr.{Instr}
 use Rattle.ir_core.specs.declared.functions.Param.{Param}
-use Rattle.ir_core.specs.declared.functions.Term.{Term}
 use Rattle.ir_core.specs.declared.functions.Block.{Block}
 use Rattle.ir_core.specs.declared.functions.Function.{Function}
 use Rattle.ir_core.specs.Same.{same_list, same_name, same_ty}
@@ -50,7 +49,7 @@ no_facts = record { src = []; tgt = []; diff = [] }
 -- the block's hint: the first entry of its name, or an empty one
 abbrev pub entry_or_empty : Name → Option HintBlock → HintBlock
 entry_or_empty x (Some h) = h
-entry_or_empty x None = record { at = x; lines = None; entry = no_facts; steps = [] }
+entry_or_empty x None = record { at = x; lines = None; entry = no_facts; steps = []; edges = [] }
 
 abbrev pub block_hint : Hint → Name → HintBlock
 block_hint hint x = entry_or_empty x (find (λ h. same_name h.at x) hint.blocks)
@@ -59,15 +58,14 @@ block_hint hint x = entry_or_empty x (find (λ h. same_name h.at x) hint.blocks)
 abbrev pub block_lines : Hint → Block → Block → Option (List Line)
 block_lines hint b c = cond (same_name b.name c.name) (aligned (letters_or_both (block_hint hint b.name).lines (length b.body)) b.body c.body) None
 
--- two blocks aligned: their name, their aligned lines, and their terminators
+-- two blocks of one name, and their aligned lines
 pub record AlignedBlock : Type 0 where
-  pub name : Name
   pub lines : List Line
-  pub source : Term
-  pub target : Term
+  pub source : Block
+  pub target : Block
 
 abbrev pub block_aligned : Hint → Block → Block → Option AlignedBlock
-block_aligned hint b c = option_map (λ ls. record { name = b.name; lines = ls; source = b.term; target = c.term }) (block_lines hint b c)
+block_aligned hint b c = option_map (λ ls. record { lines = ls; source = b; target = c }) (block_lines hint b c)
 
 -- what aligning two functions gives: their blocks, or the block at fault
 pub data Alignment : Type 0 where

@@ -1,5 +1,6 @@
 -- A check as a course: what it comes to, and how many facts are known on the way.
-use Rattle.std.specs.Prelude.{◌≡◌, ℕ, Bool, nat_lt, cond, List, [], ◌++◌, Option, None, Some}
+use Rattle.std.specs.Prelude.{◌≡◌, ℕ, Bool, nat_lt, cond, List, [], ◌∷◌, ◌++◌, Option, None, Some}
+use Rattle.std.specs.Option.{option_or}
 use Rattle.std.specs.List.{list_any}
 use Rattle.ir_core.specs.declared.names.Name.{Name}
 use Rattle.ir_core.specs.Limits.{fact_limit}
@@ -37,6 +38,11 @@ abbrev pub tested : {A : Type 0} → Option Reason → A → Course A
 tested None a = gives a
 tested (Some r) a = refuses r
 
+-- of faults that are tested for in their order the first
+abbrev pub first_fault : List (Option Reason) → Option Reason
+first_fault [] = None
+first_fault (o ∷ os) = option_or o (first_fault os)
+
 -- A check: sizes in their order, and whether all tests are passed, or where and why the first one fails.
 pub data Judged : Type 0 where
   Good : List ℕ → Judged
@@ -53,6 +59,11 @@ placed_end block where_ sizes (Gives a) next = with_sizes sizes (next a)
 -- a course at a place of a block, whose refusal is one there; and then what follows it
 abbrev pub placed : {A : Type 0} → Name → Spot → Course A → (A → Judged) → Judged
 placed block where_ c next = placed_end block where_ c.sizes c.ends next
+
+-- a check, and then the next, unless it fails
+abbrev pub then_also : Judged → Judged → Judged
+then_also (Good sizes) next = with_sizes sizes next
+then_also (Bad sizes block where_ why) next = Bad sizes block where_ why
 
 abbrev pub sizes_of : Judged → List ℕ
 sizes_of (Good sizes) = sizes

@@ -61,12 +61,24 @@ each_once known = record known { src = with_facts known.src []; tgt = with_facts
 abbrev pub expr_names : Reg → Expr0 → Bool
 expr_names r e = expr_has (same_reg r) e
 
+-- the fact names a register that passes the test
+abbrev pub fact_has : (Reg → Bool) → Fact → Bool
+fact_has test (LessDef a b) = expr_has test a || expr_has test b
+
+-- the facts that name no register that passes the test: all kills are this one
+abbrev pub without : (Reg → Bool) → List Fact → List Fact
+without test fs = filter (λ f. not (fact_has test f)) fs
+
 abbrev pub fact_names : Reg → Fact → Bool
-fact_names r (LessDef a b) = expr_names r a || expr_names r b
+fact_names r f = fact_has (same_reg r) f
 
 -- the facts that don't name the register
 abbrev pub without_naming : Reg → List Fact → List Fact
-without_naming r fs = filter (λ f. not (fact_names r f)) fs
+without_naming r fs = without (same_reg r) fs
+
+-- the two are less defined than each other
+abbrev pub both_ways : Expr0 → Expr0 → List Fact
+both_ways a b = LessDef a b ∷ LessDef b a ∷ []
 
 -- the facts that a kill leaves
 abbrev pub killed : Kill → List Fact → List Fact

@@ -1,5 +1,5 @@
--- How facts grow, one at a time: where a fact is added, and over an aligned line.
-use Rattle.std.specs.Prelude.{ℕ, ◌+◌, cond, List, [], ◌∷◌, length, Option, None, Some}
+-- How facts grow, one at a time: where a fact is added, over an aligned line, and over an edge.
+use Rattle.std.specs.Prelude.{ℕ, ◌+◌, cond, List, [], ◌∷◌, length, map, Option, None, Some}
 use Rattle.ir_core.specs.declared.functions.Calm.{Calm}
 use Rattle.ir_core.specs.declared.functions.Instr.{Instr}
 use Rattle.ir_core.specs.declared.functions.Instr.TheVariants as line
@@ -10,10 +10,11 @@ use Rattle.erhl_assert.specs.declared.facts.Fact.TheVariants.{LessDef}
 use Rattle.erhl_assert.specs.declared.facts.Assertion.{Assertion}
 use Rattle.erhl_assert.specs.declared.facts.Side.{Side}
 use Rattle.erhl_assert.specs.declared.facts.Side.TheVariants.{Src, Tgt}
-use Rattle.erhl_assert.specs.Facts.{has_fact, with_fact, expr_names, without_naming}
+use Rattle.erhl_assert.specs.Facts.{has_fact, with_fact, expr_names, without, without_naming}
 use Rattle.erhl_assert.specs.Alignment.{Line}
 use Rattle.erhl_assert.specs.Postcondition.{right_side, left_side, diff_after}
 use Rattle.erhl_assert.specs.Allowed.{line_fault}
+use Rattle.erhl_assert.specs.Edges.{Edge, without_old, as_old, is_of_phi, phi_facts, diff_over}
 use Rattle.erhl_assert.specs.Course.{Course, Gives, gives, and_then, tested}
 
 -- how many facts are known, of both sides together
@@ -34,6 +35,15 @@ adds side f known = record {
   sizes = cond (has_fact f (facts_of side known)) [] (size (with_conclusion side f known) ∷ []);
   ends = Gives (with_conclusion side f known);
 }
+
+-- facts are added one after the other
+abbrev pub adds_all : Side → List Fact → Assertion → Course Assertion
+adds_all side [] known = gives known
+adds_all side (f ∷ fs) known = and_then (adds side f known) (adds_all side fs)
+
+-- The lists of a hint are put into empty ones, first those of the source. What it gives is `each_once`.
+abbrev pub put_in : Assertion → Course Assertion
+put_in lists = and_then (adds_all Src lists.src (record { src = []; tgt = []; diff = lists.diff })) (adds_all Tgt lists.tgt)
 
 -- the facts of a side that don't name the register stay
 abbrev pub forgetting : Side → Reg → Assertion → Assertion
@@ -61,3 +71,17 @@ over_allowed l known =
 -- Over an aligned line: one that isn't allowed is refused before anything is added. Beside no line of the source, `%x = udiv i8 1, %y` is.
 abbrev pub over_line : Line → Assertion → Course Assertion
 over_line l known = and_then (tested (line_fault known l) known) (over_allowed l)
+
+-- the facts that name a register of a phi of their side go
+abbrev pub without_phis : Edge → Assertion → Assertion
+without_phis e known = record known { src = without (is_of_phi e.source) known.src; tgt = without (is_of_phi e.target) known.tgt }
+
+-- Over an edge, before its steps: the copies are added while their originals are all there, and then, behind those that go, the facts of
+-- phis; each time first the source's. What it gives is `after_edge`.
+abbrev pub over_edge : Edge → Assertion → Course Assertion
+over_edge e known =
+    let kept = without_old known in
+    and_then (adds_all Src (map as_old kept.src) kept) (λ half.
+    and_then (adds_all Tgt (map as_old kept.tgt) half) (λ copied.
+    and_then (adds_all Src (phi_facts e.from e.source) (without_phis e copied)) (λ more.
+    and_then (adds_all Tgt (phi_facts e.from e.target) more) (λ after. gives (record after { diff = diff_over e known })))))

@@ -2,6 +2,7 @@ pub mod Acceptance
 pub mod Alignment
 pub mod Allowed
 pub mod Course
+pub mod Edges
 pub mod FactLaws
 pub mod Facts
 pub mod Growth

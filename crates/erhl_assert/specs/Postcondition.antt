@@ -13,10 +13,9 @@ use Rattle.ir_core.specs.Same.{same_name, same_reg}
 use Rattle.ir_core.specs.Expressions.{Expr0, type_of, operands_in, map_expr}
 use Rattle.ir_values.specs.Laws.{flags_among}
 use Rattle.erhl_assert.specs.declared.facts.Fact.{Fact}
-use Rattle.erhl_assert.specs.declared.facts.Fact.TheVariants.{LessDef}
 use Rattle.erhl_assert.specs.declared.facts.Assertion.{Assertion}
 use Rattle.erhl_assert.specs.Sides.{has_reg}
-use Rattle.erhl_assert.specs.Facts.{with_fact, expr_names, without_naming}
+use Rattle.erhl_assert.specs.Facts.{with_facts, both_ways, expr_names, without_naming}
 use Rattle.erhl_assert.specs.Matched.{are_matched}
 use Rattle.erhl_assert.specs.Allowed.{same_operator}
 use Rattle.erhl_assert.specs.Alignment.{Line}
@@ -33,8 +32,7 @@ left_side l = expr.Plain (record { ty = type_of l.right; atom = atom.Register (N
 abbrev pub facts_after_line : Calm → List Fact → List Fact
 facts_after_line l fs =
     let kept = without_naming (Now l.name) fs in
-    cond (expr_names (Now l.name) (right_side l)) kept
-    (with_fact (LessDef (right_side l) (left_side l)) (with_fact (LessDef (left_side l) (right_side l)) kept))
+    cond (expr_names (Now l.name) (right_side l)) kept (with_facts (both_ways (left_side l) (right_side l)) kept)
 
 abbrev pub facts_after : Option Instr → List Fact → List Fact
 facts_after None fs = fs

@@ -3,6 +3,7 @@ use Rattle.std.specs.Prelude.{◌≡◌, Bool, false, List}
 use Rattle.std.specs.List.{list_any}
 use Rattle.ir_core.specs.declared.values.Value.{Value}
 use Rattle.ir_core.specs.declared.values.Kind.{Kind}
+use Rattle.ir_core.specs.declared.names.Name.{Name}
 use Rattle.ir_core.specs.declared.expressions.Reg.{Reg}
 use Rattle.ir_core.specs.declared.expressions.Reg.TheVariants.{Now, Old, Ghost}
 use Rattle.ir_core.specs.Same.{same_reg}
@@ -46,6 +47,8 @@ has_reg r rs = list_any (same_reg r) rs
 abbrev pub IsRelated : Value → Value → Type 0
 IsRelated v w = IsLessDefined v w
 
--- each register outside of those that may differ has, read at any kind, related values on the source and the target
-abbrev pub AreRelated : List Reg → SideState → SideState → Type 0
-AreRelated diff source target = (r : Reg) (k : Kind) → has_reg r diff ≡ false → IsRelated (read_reg source k r) (read_reg target k r)
+-- Each register outside of those that may differ, read at any kind, is related on the source and the target; and so is each ghost register,
+-- whether it may differ or not, as one is chosen by an expression whose registers don't differ.
+pub record AreRelated (diff : List Reg) (source target : SideState) : Type 0 where
+  pub outside : (r : Reg) (k : Kind) → has_reg r diff ≡ false → IsRelated (read_reg source k r) (read_reg target k r)
+  pub ghosts : (g : Name) (k : Kind) → IsRelated (read source.ghost k g) (read target.ghost k g)

@@ -63,7 +63,8 @@ fn atom_names(register: &Reg, atom: &Atom<Reg>) -> bool
     }
 }
 
-fn expr_names(register: &Reg, expr: &Expr0) -> bool
+/// Whether the expression names the register.
+pub fn expr_names(register: &Reg, expr: &Expr0) -> bool
     ensures { result ≡ expr_names register.now expr.now }
 {
     match expr {

@@ -1,6 +1,6 @@
 use crate::{Assertion, Schema, Side};
 use contents::Seq;
-use ir_core::Name;
+use ir_core::{Expr0, Name, Reg};
 
 /// A step that names a rule: what it concludes is added to the side's facts.
 pub struct RuleStep {
@@ -20,15 +20,34 @@ impl Drop for RuleStep {
     }
 }
 
+/// A step that chooses a ghost register: from now on it is worth what the expression is worth (Crellvm's ghost registers).
+#[derive(Drop)]
+pub struct GhostStep {
+    pub register: Reg,
+    pub value: Expr0,
+}
+
+/// A step that takes a register out of those that may differ: the source's is less defined than the expression, and the
+/// expression than the target's.
+#[derive(Drop)]
+pub struct SameStep {
+    pub register: Reg,
+    pub by: Expr0,
+}
+
 /// One step of a hint.
 pub enum HintStep {
     Rule(RuleStep),
+    Ghost(GhostStep),
+    Same(SameStep),
 }
 
 impl Drop for HintStep {
     fn drop(self) {
         match self {
             HintStep::Rule(_) => {}
+            HintStep::Ghost(_) => {}
+            HintStep::Same(_) => {}
         }
     }
 }
@@ -45,6 +64,18 @@ impl Drop for PlacedStep {
     }
 }
 
+/// The steps that are done on the edges to a block, behind its phis. Old registers are those before the edge.
+pub struct HintEdge {
+    pub to: Name,
+    pub steps: Seq<HintStep>,
+}
+
+impl Drop for HintEdge {
+    fn drop(self) {
+        let HintEdge { to: _, steps: _ } = self;
+    }
+}
+
 /// Which sides an aligned line stands on.
 #[derive(Drop, Clone, Copy)]
 pub enum Letter {
@@ -58,9 +89,11 @@ pub struct HintBlock {
     pub at: Name,
     /// One letter for each aligned line. Without it all lines stand on both sides.
     pub lines: Option<Seq<Letter>>,
-    /// What the hint claims at the block's start.
+    /// What the hint claims at the block's start, behind its phis.
     pub entry: Assertion,
     pub steps: Seq<PlacedStep>,
+    /// Of two entries for one block both count, in their order.
+    pub edges: Seq<HintEdge>,
 }
 
 impl Drop for HintBlock {
@@ -70,6 +103,7 @@ impl Drop for HintBlock {
             lines: _,
             entry: _,
             steps: _,
+            edges: _,
         } = self;
     }
 }

@@ -8,10 +8,10 @@ mod hashing;
 mod hints;
 mod verdict;
 
-pub use fact_set::{FactSet, Kill, bare_name, fact_names};
+pub use fact_set::{FactSet, Kill, bare_name, expr_names, fact_names};
 pub use facts::{Assertion, Expr, Fact, Schema, Side, same_fact, same_fact_is_equality};
 pub use hints::{
-    FunctionHint, FunctionLoops, Hint, HintBlock, HintStep, Hints, Letter, Loop, LoopHints,
-    PlacedStep, RuleStep,
+    FunctionHint, FunctionLoops, GhostStep, Hint, HintBlock, HintEdge, HintStep, Hints, Letter,
+    Loop, LoopHints, PlacedStep, RuleStep, SameStep,
 };
 pub use verdict::{Difference, ModuleVerdict, Reason, Spot, Verdict};

@@ -1,6 +1,6 @@
 use crate::Fact;
 use contents::Seq;
-use ir_core::{Name, Operand};
+use ir_core::{Name, Operand, Reg};
 
 /// Where in a block a test failed.
 pub enum Spot {
@@ -8,6 +8,8 @@ pub enum Spot {
     Start,
     /// At the aligned line of that number, or a step before it; at the number of aligned lines, at the terminator.
     Line(u64),
+    /// On the edge to the block of that name.
+    Edge(Name),
 }
 
 impl Drop for Spot {
@@ -15,6 +17,7 @@ impl Drop for Spot {
         match self {
             Spot::Start => {}
             Spot::Line(_) => {}
+            Spot::Edge(_) => {}
         }
     }
 }
@@ -23,7 +26,7 @@ impl Drop for Spot {
 pub enum Reason {
     /// The headers, the numbers of blocks or the names of blocks differ, or a block's lines don't give back both bodies.
     AlignmentDiffers,
-    /// The terminators are of two kinds.
+    /// The terminators are of two kinds, or lead to other labels, or have other cases.
     KindsDiffer,
     /// These operands, the source's and the target's, aren't known to be related.
     Unmatched(Operand<Name>, Operand<Name>),
@@ -31,12 +34,14 @@ pub enum Reason {
     TargetMayTrap,
     /// The book has no rule of that name.
     UnknownRule(Seq<u8>),
-    /// The rule of that name doesn't take the step.
+    /// The rule of that name doesn't take the step. Of a ghost step and a same step the name is `ghost`.
     RuleUnfit(Seq<u8>),
     /// The step wants a fact that isn't there.
     MissingPremise(Fact),
     /// The place wants a fact that isn't there.
     MissingFact(Fact),
+    /// The register may differ between the two sides, where it must not.
+    DiffLeft(Reg),
 }
 
 impl Drop for Reason {
@@ -50,6 +55,7 @@ impl Drop for Reason {
             Reason::RuleUnfit(_) => {}
             Reason::MissingPremise(_) => {}
             Reason::MissingFact(_) => {}
+            Reason::DiffLeft(_) => {}
         }
     }
 }

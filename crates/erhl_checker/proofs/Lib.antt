@@ -1,3 +1,2 @@
-pub mod Agreements
 pub mod Differing
-pub mod Progressing
+pub mod Reaching

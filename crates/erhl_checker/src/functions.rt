@@ -1,38 +1,225 @@
 //! The verdict on two functions.
-ghost use Rattle.std.specs.Prelude.{◌≡◌, IfOk, IfErr, None, Some, map};
+ghost use Rattle.std.specs.Prelude.{◌≡◌, IfOk, IfErr, None, Some, [], cond, true, map};
 ghost use Rattle.ir_core.specs.declared.limits.Limit.{Limit};
 ghost use Rattle.ir_core.specs.declared.limits.Limit.TheVariants.{Facts};
-ghost use Rattle.erhl_assert.specs.Course.{judged_answer};
-ghost use Rattle.erhl_assert.specs.Acceptance.{function_answer, reached_judged};
+ghost use Rattle.ir_core.specs.Functions.{typed_of};
+ghost use Rattle.ir_core.specs.Modules.{scope_of};
+ghost use Rattle.flow_solver.specs.Near.{reached_nodes};
+ghost use Rattle.definedness.specs.Graph.{flow_of};
+ghost use Rattle.erhl_assert.specs.Course.{Good, judged_answer};
+ghost use Rattle.erhl_assert.specs.Acceptance as judged;
+ghost use Rattle.erhl_assert.specs.Acceptance.{function_answer};
 ghost use Rattle.erhl_assert.specs.Steps.{beside};
 ghost use Rattle.rule_base.specs.Book.{meanings_of};
 ghost use Rattle.line_align.specs.Lent.{lent_block};
-ghost use Rattle.erhl_checker.specs.Progress.{Answers};
+ghost use Rattle.block_checker.specs.Asked.{asked};
+ghost use Rattle.block_checker.specs.Defining.{definition_of};
+ghost use Rattle.block_checker.specs.Progress.{Answers};
+ghost use Rattle.erhl_checker.specs.Reached.{from_entry_answer};
 
-use crate::CheckEnd;
-use crate::blocks::entry_verdict;
-use erhl_assert::{Hint, Reason, Spot, Verdict};
+use block_checker::{CheckEnd, Definition, Definitions, Pair, block_answer, definitions_of};
+use contents::Exact;
+use definedness::reached;
+use erhl_assert::{
+    Assertion, Hint, HintBlock, HintEdge, HintStep, PlacedStep, Reason, Spot, Verdict,
+};
+use flow_solver::reached_nodes_are_reached;
 use ir_core::{Function, Module};
-use line_align::{AlignEnd, AlignedBlock, align};
+use line_align::{AlignEnd, AlignedBlock, ByName, align};
 use rule_base::{InferRule, LentBook, RuleBook, RuleSet};
-use std::alloc::Global;
+use std::alloc::{AllocError, Global};
 use std::marker::PhantomData;
 
-/// The blocks that are reached: no terminator leads to another block, so the entry alone.
-fn reached_verdict<B: RuleSet>(
+/// Of each block whether a path from the first one ends there.
+fn marks_of(alloc: Global, function: &Function) -> Result<Vec<bool>, AllocError>
+    ensures { IfOk result (λ marks. marks.items ≡ reached_nodes (flow_of «function».now)) }
+{
+    reached_nodes_are_reached();
+    let marks = reached(alloc, function)?;
+    Ok(marks)
+}
+
+/// The answer on two blocks, if they are reached.
+fn answer_if_reached<B: RuleSet>(
     alloc: Global,
-    module: &Module,
-    book: &B,
-    hint: &Hint,
+    pair: &Pair<'_, '_, '_, B>,
+    is_reached: bool,
+    block: &AlignedBlock<'_>,
+) -> Result<Verdict, CheckEnd>
+    ensures { Answers result
+        (judged_answer (cond is_reached (judged.block_judged (asked B.rules pair.now) (lent_block block.now)) (Good []))) }
+{
+    if is_reached {
+        block_answer(alloc, pair, block)
+    } else {
+        Ok(Verdict::Valid)
+    }
+}
+
+/// The blocks that are reached, of which the first that is refused decides.
+#[tactic(auto, using(crate::proofs::Reaching::blocks_more, crate::proofs::Reaching::blocks_refused, crate::proofs::Reaching::blocks_stopped))]
+fn blocks_answer<B: RuleSet>(
+    alloc: Global,
+    pair: &Pair<'_, '_, '_, B>,
+    marks: &[bool],
+    blocks: &[AlignedBlock<'_>],
+) -> Result<Verdict, CheckEnd>
+    ensures { Answers result (judged_answer (judged.blocks_judged (asked B.rules pair.now) marks.now (map lent_block blocks.now))) }
+{
+    let mut rest = marks;
+    for block in blocks {
+        let Some((mark, after)) = rest.split_first() else {
+            return Ok(Verdict::Valid);
+        };
+        match answer_if_reached(alloc, pair, *mark, block)? {
+            Verdict::Valid => {}
+            Verdict::Refused {
+                block,
+                spot,
+                reason,
+            } => {
+                return Ok(Verdict::Refused {
+                    block,
+                    spot,
+                    reason,
+                });
+            }
+        }
+        rest = after;
+    }
+    Ok(Verdict::Valid)
+}
+
+/// The first fact that the entry claims, as a reason.
+#[tactic(auto, using(crate::proofs::Reaching::source_claims, crate::proofs::Reaching::target_claims, crate::proofs::Reaching::nothing_claimed))]
+fn entry_fault(alloc: Global, entry: &Assertion) -> Result<Option<Reason>, AllocError>
+    ensures { IfOk result (λ fault. fault ≡ judged.entry_fault entry.now) }
+{
+    match entry.src.as_slice().first() {
+        Some(fact) => Ok(Some(Reason::MissingFact(fact.copy(alloc)?))),
+        None => match entry.tgt.as_slice().first() {
+            Some(fact) => Ok(Some(Reason::MissingFact(fact.copy(alloc)?))),
+            None => Ok(None),
+        },
+    }
+}
+
+/// What the hint claims at the entry, and then the blocks that are reached from there.
+fn from_entry<B: RuleSet>(
+    alloc: Global,
+    pair: &Pair<'_, '_, '_, B>,
+    entry: &AlignedBlock<'_>,
+    blocks: &[AlignedBlock<'_>],
+) -> Result<Verdict, CheckEnd>
+    ensures { Answers result (from_entry_answer (asked B.rules pair.now) (lent_block entry.now) (map lent_block blocks.now)) }
+{
+    let name = &entry.source.name;
+    match entry_fault(alloc, &pair.hint_of(name).entry)? {
+        Some(reason) => Ok(Verdict::Refused {
+            block: name.copy(alloc)?,
+            spot: Spot::Start,
+            reason,
+        }),
+        None => {
+            let marks = marks_of(alloc, pair.source_function())?;
+            blocks_answer(alloc, pair, marks.as_slice(), blocks)
+        }
+    }
+}
+
+fn reached_answer<B: RuleSet>(
+    alloc: Global,
+    pair: &Pair<'_, '_, '_, B>,
+    blocks: &[AlignedBlock<'_>],
+) -> Result<Verdict, CheckEnd>
+    ensures { Answers result (judged_answer (judged.reached_judged (asked B.rules pair.now) (map lent_block blocks.now))) }
+{
+    match blocks.first() {
+        Some(entry) => from_entry(alloc, pair, entry, blocks),
+        None => Ok(Verdict::Valid),
+    }
+}
+
+fn is_same(step: &HintStep) -> bool {
+    matches!(step, HintStep::Same(_))
+}
+
+fn has_same_placed(steps: &[PlacedStep]) -> bool {
+    for placed in steps {
+        if is_same(&placed.step) {
+            return true;
+        }
+    }
+    false
+}
+
+fn has_same_step(steps: &[HintStep]) -> bool {
+    for step in steps {
+        if is_same(step) {
+            return true;
+        }
+    }
+    false
+}
+
+fn has_same_edge(edges: &[HintEdge]) -> bool {
+    for edge in edges {
+        if has_same_step(edge.steps.as_slice()) {
+            return true;
+        }
+    }
+    false
+}
+
+/// Whether the hint has a step that takes a register out of those that may differ. Where it has none, definitions of registers aren't
+/// asked for.
+fn has_same(blocks: &[HintBlock]) -> bool {
+    for block in blocks {
+        if has_same_placed(block.steps.as_slice()) || has_same_edge(block.edges.as_slice()) {
+            return true;
+        }
+    }
+    false
+}
+
+/// The definitions of a function's registers, where they are asked for.
+fn definitions_if(
+    alloc: Global,
+    asked: bool,
+    function: &Function,
+) -> Result<Vec<Definition<'_>>, AllocError>
+    ensures { IfOk result (λ found. asked ≡ true → map definition_of found.items ≡ typed_of «function».now) }
+{
+    if asked {
+        definitions_of(alloc, function)
+    } else {
+        Ok(Vec::new(alloc))
+    }
+}
+
+/// The answer on two functions whose blocks align.
+fn aligned_answer<'a, B: RuleSet>(
+    alloc: Global,
+    module: &'a Module,
+    book: &'a B,
+    hints: ByName<'a, HintBlock>,
+    asked: bool,
+    source: &'a Function,
+    target: &'a Function,
     blocks: &[AlignedBlock<'_>],
 ) -> Result<Verdict, CheckEnd>
     ensures { Answers result
-        (judged_answer (reached_judged (beside (B.rules book.now) «module».now) hint.now (map lent_block blocks.now))) }
+        (judged_answer
+        (judged.reached_judged
+        (beside (B.rules book.now) (scope_of «module».now) source.now target.now (record { blocks = hints.entry }))
+        (map lent_block blocks.now))) }
 {
-    match blocks.first() {
-        Some(block) => entry_verdict(alloc, module, book, hint, block),
-        None => Ok(Verdict::Valid),
-    }
+    let of_source = definitions_if(alloc, asked, source)?;
+    let of_target = definitions_if(alloc, asked, target)?;
+    let source = Definitions::new(alloc, source, of_source.as_slice(), asked)?;
+    let target = Definitions::new(alloc, target, of_target.as_slice(), asked)?;
+    let pair = Pair::new(alloc, module, book, source, target, hints)?;
+    reached_answer(alloc, &pair, blocks)
 }
 
 pub(crate) fn function_answer<B: RuleSet>(
@@ -44,17 +231,31 @@ pub(crate) fn function_answer<B: RuleSet>(
     target: &Function,
 ) -> Result<Verdict, CheckEnd>
     ensures { Answers result
-        (function_answer
-        (beside (B.rules book.now) «module».now) source.now target.now hint.now) }
+        (function_answer (beside (B.rules book.now) (scope_of «module».now) source.now target.now hint.now)) }
 {
-    match align(alloc, source, target, hint) {
-        Ok(blocks) => reached_verdict(alloc, module, book, hint, blocks.as_slice()),
-        Err(AlignEnd::Differs(block)) => Ok(Verdict::Refused {
-            block,
-            spot: Spot::Start,
-            reason: Reason::AlignmentDiffers,
-        }),
-        Err(AlignEnd::Memory) => Err(CheckEnd::Memory),
+    let hints = ByName::new(alloc, hint.blocks.as_slice())?;
+    match align(alloc, source, target, &hints) {
+        Ok(blocks) => {
+            let asked = has_same(hint.blocks.as_slice());
+            aligned_answer(
+                alloc,
+                module,
+                book,
+                hints,
+                asked,
+                source,
+                target,
+                blocks.as_slice(),
+            )
+        }
+        Err(end) => match end {
+            AlignEnd::Differs(block) => Ok(Verdict::Refused {
+                block,
+                spot: Spot::Start,
+                reason: Reason::AlignmentDiffers,
+            }),
+            AlignEnd::Memory => Err(CheckEnd::Memory),
+        },
     }
 }
 
@@ -76,8 +277,7 @@ pub fn check_function(
         (λ b. (⟦<dyn InferRule as InferRule>⟧ b.vtable).called b.value)
         (λ b. (⟦<dyn InferRule as InferRule>⟧ b.vtable).takes b.value)
         book.now.rules.items)
-        «module».now)
-        src.now tgt.now hint.now
+        (scope_of «module».now) src.now tgt.now hint.now)
         ≡ Some v) }
     ensures limit { IfErr result
         (λ fault. (l : Limit) → fault ≡ CheckEnd.Limit l
@@ -88,8 +288,7 @@ pub fn check_function(
         (λ b. (⟦<dyn InferRule as InferRule>⟧ b.vtable).called b.value)
         (λ b. (⟦<dyn InferRule as InferRule>⟧ b.vtable).takes b.value)
         book.now.rules.items)
-        «module».now)
-        src.now tgt.now hint.now
+        (scope_of «module».now) src.now tgt.now hint.now)
         ≡ None)) }
 {
     let rules = LentBook {

@@ -2,13 +2,9 @@
 //! first place and the first reason.
 #![tactic(auto)]
 
-mod agreeing;
-mod blocks;
-mod ends;
 mod functions;
 mod modules;
-mod steps;
 
-pub use ends::CheckEnd;
+pub use block_checker::CheckEnd;
 pub use functions::check_function;
 pub use modules::{check_module, check_module_under};

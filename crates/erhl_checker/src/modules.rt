@@ -1,23 +1,24 @@
 //! The verdict on two modules.
-ghost use Rattle.std.specs.Prelude.{◌≡◌, ◌↔◌, false, map, find, IfOk, IfErr, None, Some};
-ghost use Rattle.std.specs.Option.{option_copied};
+ghost use Rattle.std.specs.Prelude.{◌≡◌, ◌↔◌, false, map, IfOk, IfErr, None, Some};
+ghost use Rattle.std.specs.List.{AllByRecursion};
 ghost use Rattle.ir_core.specs.declared.limits.Limit.{Limit};
 ghost use Rattle.ir_core.specs.declared.limits.Limit.TheVariants.{Facts};
 ghost use Rattle.ir_core.specs.Same as same;
-ghost use Rattle.ir_core.specs.Modules.{definitions_of};
+ghost use Rattle.ir_core.specs.Modules.{definitions_of, scope_of};
 ghost use Rattle.ir_machine.specs.Refinement.{Refines};
 ghost use Rattle.erhl_assert.specs.Acceptance as acceptance;
 ghost use Rattle.erhl_assert.specs.Steps.{beside};
 ghost use Rattle.rule_base.specs.Book.{meanings_of};
-ghost use Rattle.erhl_checker.specs.Progress.{Answers};
+ghost use Rattle.erhl_soundness.specs.Laws.{ArePhisApart};
+ghost use Rattle.block_checker.specs.Progress.{Answers};
 
-use crate::CheckEnd;
 use crate::functions::function_answer;
+use block_checker::CheckEnd;
 use contents::{Exact, Seq};
 use erhl_assert::{Difference, FunctionHint, Hint, Hints, ModuleVerdict, Verdict};
 use erhl_soundness::accepted_modules_refine;
-use ir_core::{Function, Module, Name, Param, same_name, same_ty};
-use line_align::{Likeness, all_alike, first_named};
+use ir_core::{Function, Module, Param, same_name, same_ty};
+use line_align::{ByName, Likeness, all_alike};
 use rule_base::{InferRule, LentBook, RuleBook, RuleSet};
 use std::alloc::Global;
 use std::marker::PhantomData;
@@ -57,27 +58,21 @@ impl Likeness<Function> for Signature {
     }
 }
 
-/// The function's hint: the first of its name.
-fn hint_of<'a>(hints: &'a Hints, function: &Name) -> Option<&'a FunctionHint>
-    ensures { option_copied result ≡ find (λ h. same.same_name h.function function.now) hints.now.functions }
-{
-    first_named(hints.functions.as_slice(), function)
-}
-
 /// The answer on two functions under the hint that the hints have for the source's, or an empty one.
 fn hinted_answer<B: RuleSet>(
     alloc: Global,
     module: &Module,
     book: &B,
-    hints: &Hints,
+    hints: &ByName<'_, FunctionHint>,
     source: &Function,
     target: &Function,
 ) -> Result<Verdict, CheckEnd>
     ensures { Answers result
         (acceptance.function_answer
-        (beside (B.rules book.now) «module».now) source.now target.now (acceptance.hint_for hints.now source.now.name)) }
+        (beside (B.rules book.now) (scope_of «module».now) source.now target.now
+        (acceptance.hint_for (record { functions = hints.now }) source.now.name))) }
 {
-    match hint_of(hints, &source.name) {
+    match hints.first(&source.name) {
         Some(found) => function_answer(alloc, module, book, &found.hint, source, target),
         None => {
             let empty = Hint {
@@ -93,13 +88,13 @@ fn functions_answer<B: RuleSet>(
     alloc: Global,
     module: &Module,
     book: &B,
-    hints: &Hints,
+    hints: &ByName<'_, FunctionHint>,
     source: &[Function],
     target: &[Function],
 ) -> Result<ModuleVerdict, CheckEnd>
     ensures { Answers result
-        (acceptance.functions_answer
-        (beside (B.rules book.now) «module».now) hints.now source.now target.now) }
+        (acceptance.functions_answer (B.rules book.now) (scope_of «module».now)
+        (record { functions = hints.now }) source.now target.now) }
 {
     let mut rest = target;
     for f in source {
@@ -145,7 +140,8 @@ fn module_answer<B: RuleSet>(
     let functions = source.functions.as_slice();
     let others = target.functions.as_slice();
     if all_alike(&Signature, functions, others) {
-        functions_answer(alloc, source, book, hints, functions, others)
+        let hints = ByName::new(alloc, hints.functions.as_slice())?;
+        functions_answer(alloc, source, book, &hints, functions, others)
     } else {
         Ok(ModuleVerdict::Differs(Difference::Functions))
     }
@@ -154,7 +150,7 @@ fn module_answer<B: RuleSet>(
 /// Checks one module against another, by a book of rules: `Valid` exactly where each pair of functions has one signature and is
 /// accepted under its hint, `Differs` exactly where their functions' names, return types or parameter types differ, else the
 /// first function that isn't valid, with its place and reason. Whatever rules the book holds, a target that is `Valid` refines
-/// its source.
+/// its source, where no two phis of a block set one register.
 pub fn check_module(
     alloc: Global,
     source: &Module,
@@ -183,17 +179,19 @@ pub fn check_module(
     ensures accepted { IfOk result
         (λ v. v ≡ ModuleVerdict.Valid
         ↔ acceptance.AreAcceptedUnder hints.now
-        (beside
         (meanings_of
         (λ b. (⟦<dyn InferRule as InferRule>⟧ b.vtable).called b.value)
         (λ b. (⟦<dyn InferRule as InferRule>⟧ b.vtable).takes b.value)
         book.now.rules.items)
-        source.now)
+        (scope_of source.now)
         (definitions_of source.now) (definitions_of target.now)) }
     ensures differs { IfOk result
         (λ v. v ≡ ModuleVerdict.Differs Difference.Functions
         ↔ same.same_list acceptance.same_signature (definitions_of source.now) (definitions_of target.now) ≡ false) }
-    ensures refines { IfOk result (λ v. v ≡ ModuleVerdict.Valid → Refines source.now target.now) }
+    // Where no two phis of a block set one register.
+    ensures refines { IfOk result
+        (λ v. AllByRecursion ArePhisApart (definitions_of source.now) → AllByRecursion ArePhisApart (definitions_of target.now)
+        → v ≡ ModuleVerdict.Valid → Refines source.now target.now) }
 {
     let rules = LentBook {
         book,
@@ -217,12 +215,15 @@ pub fn check_module_under<B: RuleSet>(
         → (l ≡ Facts) × (acceptance.module_answer (B.rules rules.now) source.now target.now hints.now ≡ None)) }
     ensures accepted { IfOk result
         (λ v. v ≡ ModuleVerdict.Valid
-        ↔ acceptance.AreAcceptedUnder hints.now (beside (B.rules rules.now) source.now)
+        ↔ acceptance.AreAcceptedUnder hints.now (B.rules rules.now) (scope_of source.now)
         (definitions_of source.now) (definitions_of target.now)) }
     ensures differs { IfOk result
         (λ v. v ≡ ModuleVerdict.Differs Difference.Functions
         ↔ same.same_list acceptance.same_signature (definitions_of source.now) (definitions_of target.now) ≡ false) }
-    ensures refines { IfOk result (λ v. v ≡ ModuleVerdict.Valid → Refines source.now target.now) }
+    // Where no two phis of a block set one register.
+    ensures refines { IfOk result
+        (λ v. AllByRecursion ArePhisApart (definitions_of source.now) → AllByRecursion ArePhisApart (definitions_of target.now)
+        → v ≡ ModuleVerdict.Valid → Refines source.now target.now) }
 {
     rules.are_sound();
     accepted_modules_refine();

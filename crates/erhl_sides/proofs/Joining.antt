@@ -11,9 +11,10 @@ use Rattle.erhl_assert.specs.declared.facts.Fact.{Fact}
 use Rattle.erhl_assert.specs.declared.facts.Fact.TheVariants.{LessDef}
 use Rattle.erhl_assert.specs.declared.fact_set.Kill.{Kill}
 use Rattle.erhl_assert.specs.declared.fact_set.Kill.TheVariants.{Naming}
-use Rattle.erhl_assert.specs.Facts.{fact_names, has_fact, with_fact, killed}
+use Rattle.erhl_assert.specs.Facts.{fact_names, has_fact, with_fact, with_facts, killed}
 use Rattle.erhl_assert.specs.Matched.{from_fact, into_fact}
-use Rattle.erhl_sides.specs.Joining.{joins, IsTold}
+use Rattle.erhl_sides.specs.Joining.{joins, AreTold}
+use Rattle.erhl_sides.proofs.Once.{one_once, killed_once}
 
 and_false : (b : Bool) → (b && false) ≡ false
 and_false true = refl
@@ -62,17 +63,21 @@ pub none_leads_from : (p : Operand Reg → Bool) (a : Operand Reg) (fs : List Fa
 none_leads_from p a fs h = any_none (from_fact p a) (from_none p a) fs h
 
 -- ---- what is told of a set
-pub none_told : (may : Bool) (fs : List Fact) → fs ≡ [] → IsTold may fs
-unfolding IsTold
-none_told may fs none h = ap (list_any joins) none
+pub none_told : (may is : Bool) (fs : List Fact) → fs ≡ [] → AreTold may is fs
+unfolding AreTold
+none_told may is fs none = (λ h. ap (list_any joins) none, λ h. ap (λ gs. with_facts gs []) none ∙ sym none)
 
-pub told : (may : Bool) (fs : List Fact) → IsTold may fs → may ≡ false → list_any joins fs ≡ false
-unfolding IsTold
-told may fs is h = is h
+pub told : (may is : Bool) (fs : List Fact) → AreTold may is fs → may ≡ false → list_any joins fs ≡ false
+unfolding AreTold
+told may is fs are = are.0
 
-pub all_told : (may : Bool) (fs : List Fact) → may ≡ true → IsTold may fs
-unfolding IsTold
-all_told may fs all h = absurd (false≢true (sym h ∙ all))
+pub whole : (may is : Bool) (fs : List Fact) → AreTold may is fs → is ≡ true → with_facts fs [] ≡ fs
+unfolding AreTold
+whole may is fs are = are.1
+
+pub all_told : (may is : Bool) (fs : List Fact) → may ≡ true → is ≡ false → AreTold may is fs
+unfolding AreTold
+all_told may is fs all none = (λ h. absurd (false≢true (sym h ∙ all)), λ h. absurd (false≢true (sym none ∙ h)))
 
 added : (f : Fact) (fs : List Fact) → list_any joins fs ≡ false → joins f ≡ false → list_any joins (with_fact f fs) ≡ false
 added f fs h k = elim (has_fact f fs) as (λ b. list_any joins (cond b fs (fs ++ f ∷ [])) ≡ false) [
@@ -80,11 +85,12 @@ added f fs h k = elim (has_fact f fs) as (λ b. list_any joins (cond b fs (fs ++
   | false ↦ list_any-append joins fs (f ∷ []) ∙ both_false (list_any joins fs) (joins f || false) h (both_false (joins f) false k refl)
 ]
 
-pub one_told : (may before : Bool) (f : Fact) (fs gs : List Fact) → IsTold before fs → may ≡ (before || joins f) → gs ≡ with_fact f fs → IsTold may gs
-unfolding IsTold
-one_told may before f fs gs is e e' h =
-    let two = neither before (joins f) (sym e ∙ h) in
-    ap (list_any joins) e' ∙ added f fs (is two.0) two.1
+pub one_told : (may is before : Bool) (f : Fact) (fs gs : List Fact) → AreTold before is fs → may ≡ (before || joins f) → gs ≡ with_fact f fs → AreTold may is gs
+unfolding AreTold
+one_told may is before f fs gs are e e' = (
+  λ h. let two = neither before (joins f) (sym e ∙ h) in ap (list_any joins) e' ∙ added f fs (are.0 two.0) two.1,
+  λ h. ap (λ hs. with_facts hs []) e' ∙ one_once f fs (are.1 h) ∙ sym e',
+)
 
 filtered : (q : Fact → Bool) (fs : List Fact) → list_any joins fs ≡ false → list_any joins (filter q fs) ≡ false
 filtered q [] h = refl
@@ -98,6 +104,9 @@ filtered q (f ∷ fs) h =
 killed_none : (k : Kill) (fs : List Fact) → list_any joins fs ≡ false → list_any joins (killed k fs) ≡ false
 killed_none (Naming r) fs h = filtered (λ f. not (fact_names r f)) fs h
 
-pub left_told : (may : Bool) (k : Kill) (fs gs : List Fact) → IsTold may fs → gs ≡ killed k fs → IsTold may gs
-unfolding IsTold
-left_told may k fs gs is e h = ap (list_any joins) e ∙ killed_none k fs (is h)
+pub left_told : (may is : Bool) (k : Kill) (fs gs : List Fact) → AreTold may is fs → gs ≡ killed k fs → AreTold may is gs
+unfolding AreTold
+left_told may is k fs gs are e = (
+  λ h. ap (list_any joins) e ∙ killed_none k fs (are.0 h),
+  λ h. ap (λ hs. with_facts hs []) e ∙ killed_once k fs (are.1 h) ∙ sym e,
+)

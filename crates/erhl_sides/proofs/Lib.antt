@@ -1,4 +1,7 @@
+pub mod Once
 pub mod Atoms
 pub mod Joining
 pub mod Walked
 pub mod Adding
+pub mod Walks
+pub mod Telling

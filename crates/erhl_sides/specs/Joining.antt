@@ -1,10 +1,11 @@
 -- Words of private functions. Facts between two operands, which alone lead from one operand to another.
-use Rattle.std.specs.Prelude.{◌≡◌, Bool, true, false, ◌&&◌, List}
+use Rattle.std.specs.Prelude.{◌≡◌, Bool, true, false, ◌&&◌, List, []}
 use Rattle.std.specs.List.{list_any}
 use Rattle.ir_core.specs.declared.expressions.Expr.TheVariants.{Plain}
 use Rattle.ir_core.specs.Expressions.{Expr0}
 use Rattle.erhl_assert.specs.declared.facts.Fact.{Fact}
 use Rattle.erhl_assert.specs.declared.facts.Fact.TheVariants.{LessDef}
+use Rattle.erhl_assert.specs.Facts.{with_facts}
 
 abbrev pub is_operand : Expr0 → Bool
 is_operand (Plain o) = true
@@ -13,6 +14,6 @@ is_operand e = false
 abbrev pub joins : Fact → Bool
 joins (LessDef x y) = is_operand x && is_operand y
 
--- where none may join two operands, none does
-unfoldable pub IsTold : Bool → List Fact → Type 0
-IsTold may_join fs = may_join ≡ false → list_any joins fs ≡ false
+-- where none may join two operands, none does; and where they are whole, each stands once
+unfoldable pub AreTold : Bool → Bool → List Fact → Type 0
+AreTold may_join is_whole fs = (may_join ≡ false → list_any joins fs ≡ false) × (is_whole ≡ true → with_facts fs [] ≡ fs)

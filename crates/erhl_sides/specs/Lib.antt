@@ -1,1 +1,3 @@
+pub mod Beside
+pub mod Differing
 pub mod Joining

@@ -4,8 +4,11 @@
 
 mod in_logic;
 mod joined;
+mod leaving;
 mod matching;
+mod naming;
 mod sides;
 
 pub use matching::{atoms_matched, matched};
+pub use naming::{OldRegisters, Sort, fact_has, names_old};
 pub use sides::{Sides, sides_for, sides_of};

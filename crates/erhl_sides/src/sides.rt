@@ -1,17 +1,25 @@
-ghost use Rattle.std.specs.Prelude.{◌≡◌, [], IfOk, OnOk, None, Some, cond, not, nat_lt};
+ghost use Rattle.std.specs.Prelude.{◌≡◌, ◌+◌, [], ◌∷◌, IfOk, OnOk, None, Some, find, true, cond, not, nat_lt};
+ghost use Rattle.std.specs.Option.{option_copied, option_map};
 ghost use Rattle.erhl_assert.specs.Sides.{has_reg};
 ghost use Rattle.erhl_assert.specs.Alignment.{no_facts};
-ghost use Rattle.erhl_assert.specs.Facts.{has_fact, with_facts, each_once, killed, on_side};
+ghost use Rattle.erhl_assert.specs.Facts.{has_fact, with_facts, without, killed, on_side};
 ghost use Rattle.erhl_assert.specs.Postcondition.{with_reg, without_reg};
 ghost use Rattle.ir_core.specs.Limits.{fact_limit};
 ghost use Rattle.erhl_assert.specs.Course.{Gives, within};
-ghost use Rattle.erhl_assert.specs.Growth.{adds, facts_of, size, with_conclusion};
+ghost use Rattle.erhl_assert.specs.Growth.{adds, adds_all, facts_of, put_in, size, with_conclusion};
+ghost use Rattle.erhl_assert.specs.Edges.{is_old};
+ghost use Rattle.erhl_assert.specs.Steps.{first_missing, registers_in, as_new};
+ghost use Rattle.erhl_assert.specs.Acceptance.{first_printed, left_over};
+ghost use Rattle.erhl_sides.specs.Beside.{adds_beside};
+ghost use Rattle.erhl_sides.specs.Differing.{differing_among};
 
 use crate::joined::Joined;
+use crate::leaving::first_left_over;
+use crate::naming::names_old;
 use contents::{Exact, Seq};
 use erhl_assert::{Assertion, Fact, FactSet, Kill, Side};
 use fact_sets::{IndexedSet, RegisterSet};
-use ir_core::{Limit, Reg};
+use ir_core::{Atom, Expr, Expr0, Limit, Reg};
 use std::alloc::{AllocError, Global};
 use std::marker::Model;
 
@@ -41,25 +49,6 @@ impl<S: FactSet> Drop for Sides<S> {
     }
 }
 
-/// The facts, each once, in a set that has none yet.
-fn filled<S: FactSet>(alloc: Global, facts: &[Fact], empty: S) -> Result<Joined<S>, AllocError>
-    requires { S.contents empty ≡ [] }
-    ensures { IfOk result (λ set. set ≡ with_facts facts.now []) }
-{
-    let mut set = Joined::of_none(empty);
-    for fact in facts {
-        set.add(fact.copy(alloc)?)?;
-    }
-    Ok(set)
-}
-
-/// The facts, each once.
-fn set_of<S: FactSet>(alloc: Global, facts: &[Fact]) -> Result<Joined<S>, AllocError>
-    ensures { IfOk result (λ set. set ≡ with_facts facts.now []) }
-{
-    filled(alloc, facts, S::empty(alloc))
-}
-
 /// No facts, and room for those of so many lines, of which each leaves two, as far as the limit on facts goes.
 fn facts_for(alloc: Global, lines: usize) -> Result<IndexedSet, AllocError>
     ensures { IfOk result (λ set. set ≡ []) }
@@ -82,23 +71,48 @@ pub fn sides_for(
     Ok(Sides { src, tgt, diff })
 }
 
-/// What the assertion says. A fact that stands twice in it is there once. There is room as in `sides_for`.
+/// Adds facts to the side's, one after the other, as far as the limit on facts allows: whether it allows all.
+#[tactic(auto, using(crate::proofs::Walks::one_in, crate::proofs::Walks::one_too_many))]
+fn put<S: FactSet>(
+    alloc: Global,
+    side: Side,
+    facts: &[Fact],
+    sides: &mut Sides<S>,
+) -> Result<bool, AllocError>
+    ensures { IfOk result
+        (λ few. within (adds_all side facts.now sides.old) ≡ cond few (Some (Gives sides.new)) None) }
+{
+    for fact in facts {
+        if !sides.add_within(side, fact.copy(alloc)?)? {
+            return Ok(false);
+        }
+    }
+    Ok(true)
+}
+
+/// The facts of the lists are put in one after the other, those of the source first, and the registers that may differ as they stand.
+/// None where more facts would be known than the limit allows. There is room as in `sides_for`.
+#[tactic(auto, using(erhl_assert::proofs::Courses::within_more, erhl_assert::proofs::Courses::within_none))]
 pub fn sides_of(
     alloc: Global,
     known: &Assertion,
     source: usize,
     target: usize,
-) -> Result<Sides<IndexedSet>, AllocError>
-    ensures { IfOk result (λ sides. sides ≡ each_once known.now) }
+) -> Result<Option<Sides<IndexedSet>>, AllocError>
+    ensures { IfOk result (λ sides. within (put_in known.now) ≡ option_map Gives sides) }
 {
-    let src = filled(alloc, known.src.as_slice(), facts_for(alloc, source)?)?;
-    let tgt = filled(alloc, known.tgt.as_slice(), facts_for(alloc, target)?)?;
-    let diff = known.diff.copy(alloc)?;
-    Ok(Sides {
-        src,
-        tgt,
-        diff: RegisterSet::of(alloc, diff)?,
-    })
+    let mut sides = Sides {
+        src: Joined::of_none(facts_for(alloc, source)?),
+        tgt: Joined::of_none(facts_for(alloc, target)?),
+        diff: RegisterSet::of(alloc, known.diff.copy(alloc)?)?,
+    };
+    if !put(alloc, Side::Src, known.src.as_slice(), &mut sides)? {
+        return Ok(None);
+    }
+    if !put(alloc, Side::Tgt, known.tgt.as_slice(), &mut sides)? {
+        return Ok(None);
+    }
+    Ok(Some(sides))
 }
 
 impl<S: FactSet> Sides<S> {
@@ -110,18 +124,6 @@ impl<S: FactSet> Sides<S> {
             src: Joined::of_none(S::empty(alloc)),
             tgt: Joined::of_none(S::empty(alloc)),
             diff: RegisterSet::of(alloc, Seq::new(alloc))?,
-        })
-    }
-
-    /// What the assertion says. A fact that stands twice in it is there once.
-    pub fn of(alloc: Global, known: &Assertion) -> Result<Sides<S>, AllocError>
-        ensures { IfOk result (λ sides. sides ≡ each_once known.now) }
-    {
-        let diff = known.diff.copy(alloc)?;
-        Ok(Sides {
-            src: set_of(alloc, known.src.as_slice())?,
-            tgt: set_of(alloc, known.tgt.as_slice())?,
-            diff: RegisterSet::of(alloc, diff)?,
         })
     }
 
@@ -164,6 +166,117 @@ impl<S: FactSet> Sides<S> {
         self.facts(side).has(fact)
     }
 
+    /// Whether each fact of the side stands once. It does, unless memory was refused to one that was to be added.
+    pub fn is_whole(&self, side: Side) -> bool
+        ensures { result ≡ true → with_facts (facts_of side self.now) [] ≡ facts_of side self.now }
+    {
+        self.joined(side).is_whole()
+    }
+
+    /// Whether the fact isn't known on the side once those that name old registers are passed over.
+    #[tactic(auto, using(crate::proofs::Once::is_left))]
+    fn is_missing(&self, side: Side, fact: &Fact) -> bool
+        ensures { result ≡ not (has_fact fact.now (without is_old (facts_of side self.now))) }
+    {
+        names_old(fact) || !self.has_fact(side, fact)
+    }
+
+    /// The first of these facts that isn't known on the side. Facts that name old registers are passed over.
+    pub fn first_missing<'a>(&self, side: Side, wanted: &'a [Fact]) -> Option<&'a Fact>
+        ensures { option_copied result ≡ first_missing (without is_old (facts_of side self.now)) wanted.now }
+    {
+        for fact in wanted {
+            if self.is_missing(side, fact) {
+                return Some(fact);
+            }
+        }
+        None
+    }
+
+    /// Of the registers that may differ, are not old and aren't wanted, the one whose printed form comes first by its bytes.
+    pub fn first_left_over(
+        &self,
+        alloc: Global,
+        wanted: &Seq<Reg>,
+    ) -> Result<Option<&Reg>, AllocError>
+        ensures { IfOk result
+            (λ first. option_copied first ≡ first_printed (left_over wanted.now self.now.diff)) }
+    {
+        let wanted = RegisterSet::of(alloc, wanted.copy(alloc)?)?;
+        first_left_over(alloc, &wanted, self.differing())
+    }
+
+    /// The atom's register, if it may differ.
+    #[tactic(auto, using(crate::proofs::Telling::constant_doesnt_differ, crate::proofs::Telling::differs, crate::proofs::Telling::doesnt_differ))]
+    fn differing_in<'a>(&self, atom: &'a Atom<Reg>) -> Option<&'a Reg>
+        ensures { option_copied result ≡ differing_among self.now.diff (atom.now ∷ []) }
+    {
+        match atom {
+            Atom::Constant(_) => None,
+            Atom::Register(register) => {
+                if self.diff.has(register) {
+                    Some(register)
+                } else {
+                    None
+                }
+            }
+        }
+    }
+
+    #[tactic(auto, using(crate::proofs::Telling::first_differs, crate::proofs::Telling::first_doesnt))]
+    fn differing_in_two<'a>(&self, a: &'a Atom<Reg>, b: &'a Atom<Reg>) -> Option<&'a Reg>
+        ensures { option_copied result ≡ differing_among self.now.diff (a.now ∷ b.now ∷ []) }
+    {
+        match self.differing_in(a) {
+            Some(register) => Some(register),
+            None => self.differing_in(b),
+        }
+    }
+
+    #[tactic(auto, using(crate::proofs::Telling::first_differs, crate::proofs::Telling::first_doesnt))]
+    fn differing_in_three<'a>(
+        &self,
+        a: &'a Atom<Reg>,
+        b: &'a Atom<Reg>,
+        c: &'a Atom<Reg>,
+    ) -> Option<&'a Reg>
+        ensures { option_copied result ≡ differing_among self.now.diff (a.now ∷ b.now ∷ c.now ∷ []) }
+    {
+        match self.differing_in(a) {
+            Some(register) => Some(register),
+            None => self.differing_in_two(b, c),
+        }
+    }
+
+    /// The first register of the expression that may differ.
+    pub fn first_differing<'a>(&self, expr: &'a Expr0) -> Option<&'a Reg>
+        ensures { option_copied result ≡ find (λ r. has_reg r self.now.diff) (registers_in expr.now) }
+    {
+        match expr {
+            Expr::Plain(operand) => self.differing_in(&operand.atom),
+            Expr::Binary(binary) => self.differing_in_two(&binary.left, &binary.right),
+            Expr::Icmp(icmp) => self.differing_in_two(&icmp.left, &icmp.right),
+            Expr::Cast(cast) => self.differing_in(&cast.operand.atom),
+            Expr::Select(select) => self.differing_in_three(
+                &select.condition.atom,
+                &select.left.atom,
+                &select.right.atom,
+            ),
+        }
+    }
+
+    /// Nothing is known of the register any more, and it doesn't differ.
+    #[tactic(auto, using(crate::proofs::Telling::is_new))]
+    pub fn take_as_new(&mut self, register: Reg)
+        ensures { self.new ≡ as_new register self.old }
+    {
+        let kill = Kill::Naming(register);
+        self.kill(Side::Src, &kill);
+        self.kill(Side::Tgt, &kill);
+        let Kill::Naming(register) = &kill;
+        self.remove_differing(register);
+    }
+
     /// Puts the fact at the end of the side's, where it isn't there yet.
     pub fn add_fact(&mut self, side: Side, fact: Fact) -> Result<(), AllocError>
         ensures { OnOk result (self.new ≡ with_conclusion side fact self.old) }
@@ -183,7 +296,17 @@ impl<S: FactSet> Sides<S> {
         source <= most && self.tgt.facts().len() <= most - source
     }
 
-    /// The same, and whether no more facts are known then than the limit allows. A fact that is there already passes no limit.
+    /// Whether with so many others no more facts are known than the limit allows.
+    fn is_within_limit_beside(&self, others: u128) -> bool
+        ensures { result ≡ not (nat_lt fact_limit (size self.now + others)) }
+    {
+        let most = Limit::Facts.number() as usize;
+        let source = self.src.facts().len();
+        let target = self.tgt.facts().len();
+        source <= most && target <= most - source && others <= (most - source - target) as u128
+    }
+
+    /// Puts the fact at the end of the side's, where it isn't there yet. Whether no more facts are known then than the limit allows: a fact that is there already passes no limit.
     #[tactic(auto, using(crate::proofs::Adding::there_already, crate::proofs::Adding::added_within))]
     pub fn add_within(&mut self, side: Side, fact: Fact) -> Result<bool, AllocError>
         ensures { IfOk result
@@ -195,6 +318,20 @@ impl<S: FactSet> Sides<S> {
             return Ok(true);
         }
         Ok(self.is_within_limit())
+    }
+
+    /// The same, where so many facts are known beside these.
+    #[tactic(auto, using(crate::proofs::Adding::there_already_beside, crate::proofs::Adding::added_beside))]
+    pub fn add_beside(&mut self, others: u128, side: Side, fact: Fact) -> Result<bool, AllocError>
+        ensures { IfOk result
+            (λ few. within (adds_beside others side fact self.old) ≡ cond few (Some (Gives self.new)) None) }
+    {
+        let before = self.facts(side).len();
+        self.add_fact(side, fact)?;
+        if self.facts(side).len() == before {
+            return Ok(true);
+        }
+        Ok(self.is_within_limit_beside(others))
     }
 
     /// Takes facts out of the side.
@@ -212,6 +349,14 @@ impl<S: FactSet> Sides<S> {
         ensures { OnOk result (self.new ≡ record self.old { diff = with_reg register self.old.diff }) }
     {
         self.diff.add(alloc, register)
+    }
+
+    /// Makes these the registers that may differ.
+    pub fn set_differing(&mut self, alloc: Global, registers: Seq<Reg>) -> Result<(), AllocError>
+        ensures { OnOk result (self.new ≡ record self.old { diff = registers }) }
+    {
+        self.diff = RegisterSet::of(alloc, registers)?;
+        Ok(())
     }
 
     /// Takes the register out of those that may differ.

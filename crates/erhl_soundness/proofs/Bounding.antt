@@ -1,5 +1,5 @@
 -- What a course comes to has no more facts than the greatest of its sizes, or than were known before.
-use Rattle.std.proofs.Common.{ℕ, suc, ◌+◌, ◌≤◌, Bool, true, false, not, cond, filter, List, [], ◌∷◌, ◌++◌, length, Option, None, Some, subst, arith}
+use Rattle.std.proofs.Common.{ℕ, suc, ◌+◌, ◌≤◌, Bool, true, false, not, cond, filter, List, [], ◌∷◌, ◌++◌, length, map, Option, None, Some, subst, arith}
 use Rattle.std.specs.List.{AllByRecursion}
 use Rattle.std.proofs.lemmas.Bool.{cond_both}
 use Rattle.ir_core.specs.declared.functions.Calm.{Calm}
@@ -14,17 +14,19 @@ use Rattle.erhl_assert.specs.declared.facts.Side.{Side}
 use Rattle.erhl_assert.specs.declared.facts.Side.TheVariants.{Src, Tgt}
 use Rattle.erhl_assert.specs.declared.hints.RuleStep.{RuleStep}
 use Rattle.erhl_assert.specs.declared.hints.HintStep.{HintStep}
-use Rattle.erhl_assert.specs.declared.hints.HintStep.TheVariants.{Rule}
-use Rattle.erhl_assert.specs.declared.hints.PlacedStep.{PlacedStep}
+use Rattle.erhl_assert.specs.declared.hints.HintStep.TheVariants.{Rule, Ghost as GhostOf, Same as SameAs}
 use Rattle.erhl_assert.specs.declared.verdict.Reason.{Reason}
 use Rattle.erhl_assert.specs.declared.verdict.Reason.TheVariants.{RuleUnfit}
-use Rattle.erhl_assert.specs.Facts.{has_fact, expr_names, fact_names}
+use Rattle.ir_core.specs.Expressions.{Expr0}
+use Rattle.ir_core.specs.Same.{same_reg}
+use Rattle.erhl_assert.specs.Facts.{has_fact, expr_names, fact_names, fact_has, without}
+use Rattle.erhl_assert.specs.Edges.{Edge, is_old, without_old, as_old, is_of_phi, phi_facts, diff_over}
 use Rattle.erhl_assert.specs.Alignment.{Line}
 use Rattle.erhl_assert.specs.Allowed.{line_fault}
-use Rattle.erhl_assert.specs.Postcondition.{right_side, left_side, diff_after}
+use Rattle.erhl_assert.specs.Postcondition.{right_side, left_side, diff_after, without_reg}
 use Rattle.erhl_assert.specs.Course.{Ends, Refuses, Gives, Course, gives, refuses, after_ends, and_then, tested}
-use Rattle.erhl_assert.specs.Growth.{size, facts_of, adds, forgetting, over_calm, over_side, over_allowed, over_line}
-use Rattle.erhl_assert.specs.Steps.{Meaning, Beside, rule_named, first_missing, concluded, after_rule, after_step, after_steps}
+use Rattle.erhl_assert.specs.Growth.{size, facts_of, adds, adds_all, put_in, forgetting, over_calm, over_side, over_allowed, over_line, without_phis, over_edge}
+use Rattle.erhl_assert.specs.Steps.{Meaning, Beside, rule_named, first_missing, concluded, after_rule, choice, as_new, chosen, ghost_fault, same_fault, after_step, after_steps}
 use Rattle.erhl_soundness.specs.Laws.{SizesBoundWhatIsKnown}
 
 all_first : (P : ℕ → Type 0) (xs ys : List ℕ) → AllByRecursion P (xs ++ ys) → AllByRecursion P xs
@@ -125,15 +127,58 @@ module _ (n : ℕ) where
       (λ e. concluded_bounded (first_missing (facts_of step.side known) step.schema.from) step known h)
       (λ e all. tt)
 
+  without_bounded : (p q : Reg → Bool) (known : Assertion) (diff : List Reg) → size known ≤ n
+      → size (record { src = without p known.src; tgt = without q known.tgt; diff = diff }) ≤ n
+  without_bounded p q known diff h =
+      let fewer : length (filter (λ f. not (fact_has p f)) known.src) ≤ length known.src = filter_shorter (λ f. not (fact_has p f)) known.src in
+      let fewer' : length (filter (λ f. not (fact_has q f)) known.tgt) ≤ length known.tgt = filter_shorter (λ f. not (fact_has q f)) known.tgt in
+      let had : length known.src + length known.tgt ≤ n = h in
+      omega arith
+
+  all_bounded : (side : Side) (fs : List Fact) (known : Assertion) → size known ≤ n → IsBounded (adds_all side fs known)
+  all_bounded side [] known h = λ all. h
+  all_bounded side (f ∷ fs) known h = and_then_bounded (adds side f known) (adds_all side fs) (adds_bounded side f known h) (λ known' less. all_bounded side fs known' less)
+
+  put_in_bounded : (lists : Assertion) → IsBounded (put_in lists)
+  put_in_bounded lists =
+      let none : Assertion = record { src = []; tgt = []; diff = lists.diff } in
+      and_then_bounded (adds_all Src lists.src none) (adds_all Tgt lists.tgt) (all_bounded Src lists.src none (omega arith)) (λ known less. all_bounded Tgt lists.tgt known less)
+
+  edge_bounded : (e : Edge) (known : Assertion) → size known ≤ n → IsBounded (over_edge e known)
+  edge_bounded e known h =
+      let kept = without_old known in
+      let last : Assertion → Course Assertion = λ after. gives (record after { diff = diff_over e known }) in
+      let with_target : Assertion → Course Assertion = λ more. and_then (adds_all Tgt (phi_facts e.from e.target) more) last in
+      let with_source : Assertion → Course Assertion = λ copied. and_then (adds_all Src (phi_facts e.from e.source) (without_phis e copied)) with_target in
+      and_then_bounded (adds_all Src (map as_old kept.src) kept) (λ half. and_then (adds_all Tgt (map as_old kept.tgt) half) with_source)
+      (all_bounded Src (map as_old kept.src) kept (without_bounded is_old is_old known known.diff h))
+      (λ half less. and_then_bounded (adds_all Tgt (map as_old kept.tgt) half) with_source (all_bounded Tgt (map as_old kept.tgt) half less)
+      (λ copied less'. and_then_bounded (adds_all Src (phi_facts e.from e.source) (without_phis e copied)) with_target
+      (all_bounded Src (phi_facts e.from e.source) (without_phis e copied) (without_bounded (is_of_phi e.source) (is_of_phi e.target) copied copied.diff less'))
+      (λ more less''. and_then_bounded (adds_all Tgt (phi_facts e.from e.target) more) last (all_bounded Tgt (phi_facts e.from e.target) more less'') (λ after fewer all. fewer))))
+
+  chosen_bounded : (g : Reg) (e : Expr0) (known : Assertion) → size known ≤ n → IsBounded (chosen g e known)
+  chosen_bounded g e known h =
+      and_then_bounded (adds_all Src (choice g e) (as_new g known)) (adds_all Tgt (choice g e))
+      (all_bounded Src (choice g e) (as_new g known) (without_bounded (same_reg g) (same_reg g) known (without_reg g known.diff) h))
+      (λ known' less. all_bounded Tgt (choice g e) known' less)
+
   step_bounded : (w : Beside) (step : HintStep) (known : Assertion) → size known ≤ n → IsBounded (after_step w step known)
   step_bounded w (Rule step) known h = rule_bounded w (rule_named w.rules step.rule) step known h
+  step_bounded w (GhostOf step) known h =
+      and_then_bounded (tested (ghost_fault known step.register step.value) known) (chosen step.register step.value)
+      (tested_bounded (ghost_fault known step.register step.value) known h) (λ known' less. chosen_bounded step.register step.value known' less)
+  step_bounded w (SameAs step) known h =
+      tested_bounded (same_fault w known step.register step.by) (record known { diff = without_reg step.register known.diff }) h
 
-  steps_bounded : (w : Beside) (steps : List PlacedStep) (known : Assertion) → size known ≤ n → IsBounded (after_steps w steps known)
+  steps_bounded : (w : Beside) (steps : List HintStep) (known : Assertion) → size known ≤ n → IsBounded (after_steps w steps known)
   steps_bounded w [] known h = λ all. h
-  steps_bounded w (s ∷ ss) known h = and_then_bounded (after_step w s.step known) (after_steps w ss) (step_bounded w s.step known h) (steps_bounded w ss)
+  steps_bounded w (s ∷ ss) known h = and_then_bounded (after_step w s known) (after_steps w ss) (step_bounded w s known h) (steps_bounded w ss)
 
 pub sizes_bound : SizesBoundWhatIsKnown
 sizes_bound = record {
+  at_a_start = λ n lists after all ends. subst (EndAtMost n) ends (put_in_bounded n lists all);
   over_steps = λ n w steps known h after all ends. subst (EndAtMost n) ends (steps_bounded n w steps known h all);
   over_a_line = λ n l known h after all ends. subst (EndAtMost n) ends (line_bounded n l known h all);
+  over_an_edge = λ n e known h after all ends. subst (EndAtMost n) ends (edge_bounded n e known h all);
 }

@@ -1,5 +1,7 @@
--- What a body line sets its register to, and the side after it.
-use Rattle.std.proofs.Common.{◌≡◌, false, Option, None, Some, refl, sym, ap, ◌∙◌}
+-- What a body line sets its register to, and the side after it, with its facts.
+use Rattle.std.proofs.Common.{◌≡◌, false, List, Option, None, Some, refl, sym, ap, ◌∙◌}
+use Rattle.std.specs.List.{AllByRecursion}
+use Rattle.std.proofs.lemmas.Bool.{cond_both}
 use Rattle.ir_core.specs.declared.names.Name.{Name}
 use Rattle.ir_core.specs.declared.values.Value.{Value}
 use Rattle.ir_core.specs.declared.values.Value.TheVariants.{Poison}
@@ -10,14 +12,16 @@ use Rattle.ir_core.specs.declared.expressions.Reg.{Reg}
 use Rattle.ir_core.specs.declared.expressions.Reg.TheVariants as reg
 use Rattle.ir_core.specs.Same.{same_reg}
 use Rattle.ir_core.specs.Types.{kind_of}
-use Rattle.ir_core.specs.Expressions.{Expr0, type_of}
+use Rattle.ir_core.specs.Expressions.{type_of}
 use Rattle.ir_values.specs.declared.operations.Outcome.TheVariants.{Gives}
 use Rattle.ir_machine.specs.Registers.{read, set, atom_value, outcome}
 use Rattle.ir_machine.proofs.Runs.{read_set_same, read_set_other}
 use Rattle.erhl_assert.specs.Sides.{SideState, read_reg, worth}
-use Rattle.erhl_assert.specs.Facts.{expr_names}
-use Rattle.erhl_assert.specs.Postcondition.{right_side, left_side}
-use Rattle.erhl_soundness.proofs.Readings.{outcome_same, outcome_mapped, poison_without_kind}
+use Rattle.erhl_assert.specs.declared.facts.Fact.{Fact}
+use Rattle.erhl_assert.specs.Facts.{Holds, with_facts, both_ways, expr_names, without_naming}
+use Rattle.erhl_assert.specs.Postcondition.{right_side, left_side, facts_after_line}
+use Rattle.erhl_soundness.proofs.Readings.{outcome_mapped, type_mapped, poison_without_kind}
+use Rattle.erhl_soundness.proofs.Facts.{worth_kept, without_holds, with_facts_hold, both_ways_hold}
 
 -- a side of which a register is set: old and ghost registers stay
 abbrev pub set_now : SideState → Name → Option Kind → Value → SideState
@@ -29,12 +33,6 @@ pub read_reg_other : (side : SideState) (x : Name) (o : Option Kind) (v : Value)
 read_reg_other side x o v k (reg.Now y) h = read_set_other side.now x y o k v h
 read_reg_other side x o v k (reg.Old y) h = refl
 read_reg_other side x o v k (reg.Ghost y) h = refl
-
--- what doesn't name the register that is set is worth the same
-pub worth_kept : (side : SideState) (x : Name) (o : Option Kind) (v : Value) (e : Expr0) → expr_names (reg.Now x) e ≡ false
-    → worth (set_now side x o v) e ≡ worth side e
-worth_kept side x o v e h =
-    outcome_same (read_reg side) (read_reg (set_now side x o v)) (same_reg (reg.Now x)) (λ k r out. read_reg_other side x o v k r out) e h
 
 -- a side after a line that gave a value
 abbrev pub side_after : SideState → Calm → Value → SideState
@@ -54,6 +52,20 @@ module _ (side : SideState) (l : Calm) (v : Value) (gives : outcome (read side.n
   register_gives = ap Gives (reads_back (kind_of (type_of l.right)) poison_of_none)
 
   -- and its right side is worth it, where the register isn't in it
-  pub right_side_gives : expr_names (reg.Now l.name) (right_side l) ≡ false → worth (side_after side l v) (right_side l) ≡ Gives v
+  right_side_gives : expr_names (reg.Now l.name) (right_side l) ≡ false → worth (side_after side l v) (right_side l) ≡ Gives v
   right_side_gives apart =
-      worth_kept side l.name (kind_of (type_of l.right)) v (right_side l) apart ∙ outcome_mapped reg.Now (read_reg side) l.right ∙ gives
+      worth_kept (same_reg (reg.Now l.name)) side (side_after side l v) (read_reg_other side l.name (kind_of (type_of l.right)) v) (right_side l) apart
+      ∙ outcome_mapped reg.Now (read_reg side) l.right ∙ gives
+
+  -- the facts after a line hold after it
+  pub facts_after_hold : (fs : List Fact) → AllByRecursion (Holds side) fs → AllByRecursion (Holds (side_after side l v)) (facts_after_line l fs)
+  facts_after_hold fs all =
+      let after = side_after side l v in
+      let kept = without_naming (reg.Now l.name) fs in
+      let both = both_ways (left_side l) (right_side l) in
+      let hold = without_holds (same_reg (reg.Now l.name)) side after (read_reg_other side l.name (kind_of (type_of l.right)) v) fs all in
+      cond_both (expr_names (reg.Now l.name) (right_side l)) kept (with_facts both kept) (AllByRecursion (Holds after))
+      (λ e. hold)
+      (λ e.
+      with_facts_hold after both kept
+      (both_ways_hold after (left_side l) (right_side l) v (sym (ap kind_of (type_mapped reg.Now l.right))) register_gives (right_side_gives e)) hold)

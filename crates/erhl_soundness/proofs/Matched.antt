@@ -83,7 +83,7 @@ meet_at_related diff source target related k c d (atom.Constant m) (atom.Constan
 meet_at_related diff source target related k c d (atom.Register x) (atom.Register y) h =
     let same = same_reg_true x y (left_true (same_reg x y) (not (has_reg x diff)) h) in
     let free = not-true (has_reg x diff) (right_true (same_reg x y) (not (has_reg x diff)) h) in
-    subst (λ r. IsRelated (read_reg source k x) (read_reg target k r)) same (related x k free)
+    subst (λ r. IsRelated (read_reg source k x) (read_reg target k r)) same (related.outside x k free)
 meet_at_related diff source target related k c d (atom.Constant m) (atom.Register y) h = absurd (false≢true h)
 meet_at_related diff source target related k c d (atom.Register x) (atom.Constant n) h = absurd (false≢true h)
 

@@ -1,5 +1,6 @@
 -- Operators on related values have related outcomes.
-use Rattle.std.proofs.Common.{◌≡◌, true, cond, Bool, false, Option, None, Some, refl}
+use Rattle.std.proofs.Common.{◌≡◌, true, cond, not, ◌||◌, Bool, false, Option, None, Some, refl}
+use Rattle.ir_core.proofs.SameLaws.{all_true}
 use Rattle.ir_core.specs.declared.values.Value.{Value}
 use Rattle.ir_core.specs.declared.values.Value.TheVariants.{Poison}
 use Rattle.ir_core.specs.declared.values.Kind.{Kind}
@@ -64,3 +65,12 @@ traps_whatever_flags op f g (Some (kind.Int width)) a b h = traps_at (traps op w
 pub only_trap : (o : Outcome) → IsOutcomeLessDefined o Trap → o ≡ Trap
 only_trap Trap h = refl
 only_trap (Gives v) h = absurd h
+
+-- flags are among themselves
+pub flags_among_themselves : (flags : Flags) → flags_among flags flags ≡ true
+flags_among_themselves flags =
+    all_true (all_true (kept flags.nuw) (kept flags.nsw)) (kept flags.exact)
+  where
+    kept : (b : Bool) → (not b || b) ≡ true
+    kept true = refl
+    kept false = refl

@@ -1,7 +1,6 @@
 -- Registers stay related over an aligned line, but for those that it lets differ.
-use Rattle.std.proofs.Common.{◌≡◌, ◌⊎◌, inl, inr, Bool, true, false, ◌&&◌, ◌||◌, not, cond, List, [], ◌∷◌, ◌++◌, Option, None, Some, refl, sym, ap, ◌∙◌, subst, subst₂, ⊎_elim}
-use Rattle.std.proofs.lemmas.Bool.{false≢true, cond_both, false_from_ne_true, or_parts, or_from, cases_Bool, not_from_false, not_from_true, cond-true, cond-false}
-use Rattle.std.proofs.lemmas.List.Folds.{list_any-append}
+use Rattle.std.proofs.Common.{◌≡◌, ◌⊎◌, inl, inr, Bool, true, false, ◌&&◌, cond, List, Option, None, Some, refl, sym, ap, ◌∙◌, subst, subst₂, ⊎_elim}
+use Rattle.std.proofs.lemmas.Bool.{false≢true, cond_both, cases_Bool}
 use Rattle.ir_core.specs.declared.names.Name.{Name}
 use Rattle.ir_core.specs.declared.values.Value.{Value}
 use Rattle.ir_core.specs.declared.values.Value.TheVariants.{Poison}
@@ -19,7 +18,7 @@ use Rattle.ir_core.specs.declared.expressions.Expr.TheVariants as expr
 use Rattle.ir_core.specs.declared.expressions.Reg.{Reg}
 use Rattle.ir_core.specs.declared.expressions.Reg.TheVariants as reg
 use Rattle.ir_core.specs.Same.{same_name, same_ty, same_op, same_cast, same_pred, same_reg}
-use Rattle.ir_core.proofs.SameLaws.{left_true, right_true, all_true, same_name_true, same_name_refl, same_ty_true, same_op_true, same_cast_true, same_pred_true, same_reg_true, same_reg_refl}
+use Rattle.ir_core.proofs.SameLaws.{left_true, right_true, same_name_true, same_name_refl, same_ty_true, same_op_true, same_cast_true, same_pred_true, same_reg_true}
 use Rattle.ir_values.specs.Values.{same_kind}
 use Rattle.ir_values.specs.Laws.{flags_among}
 use Rattle.ir_core.specs.declared.operands.CastOp.{CastOp}
@@ -35,7 +34,7 @@ use Rattle.ir_machine.specs.State.{Frame, Pending, World}
 use Rattle.ir_machine.specs.Machine.{set_to}
 use Rattle.ir_machine.proofs.Runs.{read_set_at}
 use Rattle.erhl_assert.specs.declared.facts.Assertion.{Assertion}
-use Rattle.erhl_assert.specs.Sides.{SideState, IsRelated, read_reg, has_reg, AreRelated}
+use Rattle.erhl_assert.specs.Sides.{SideState, IsRelated, read_reg, AreRelated}
 use Rattle.erhl_assert.specs.Facts.{AssertionHolds}
 use Rattle.erhl_assert.specs.declared.verdict.Reason.{Reason}
 use Rattle.erhl_assert.specs.declared.verdict.Reason.TheVariants.{Unmatched, TargetMayTrap}
@@ -44,78 +43,51 @@ use Rattle.erhl_assert.specs.Allowed.{can_trap, same_operator, first_unmatched, 
 use Rattle.erhl_assert.specs.Postcondition.{flags_agree, rights_agree, lines_agree, without_reg, with_reg, diff_after, after_line}
 use Rattle.erhl_soundness.specs.Laws.{goes_on, LineLeads, Keeps, ALineKeepsWhatHolds, MatchedOperandsAreRelated}
 use Rattle.erhl_soundness.proofs.Trapping.{no_trap}
-use Rattle.erhl_soundness.proofs.Operators.{binary_related, icmp_related, cast_related, select_related, traps_whatever_flags, only_trap}
-use Rattle.erhl_soundness.proofs.Lines.{set_now, read_reg_other, side_after}
-use Rattle.erhl_soundness.proofs.Facts.{facts_after_hold}
+use Rattle.erhl_soundness.proofs.Operators.{binary_related, icmp_related, cast_related, select_related, traps_whatever_flags, only_trap, flags_among_themselves}
+use Rattle.erhl_soundness.proofs.Outside.{outside_with, outside_without}
+use Rattle.erhl_soundness.proofs.Lines.{set_now, read_reg_other, side_after, facts_after_hold}
 use Rattle.erhl_soundness.proofs.Matched.{matched_related, matched_type, atoms_matched_related}
-
-same_reg_apart : (a b : Reg) → same_reg a b ≡ false → same_reg b a ≡ false
-same_reg_apart a b h =
-    false_from_ne_true (same_reg b a)
-    (λ e. let same = same_reg_true b a e in false≢true (sym h ∙ ap (same_reg a) same ∙ same_reg_refl a))
-
--- a register outside of the list with r is outside of the list, and is another
-pub outside_with : (q r : Reg) (rs : List Reg) → has_reg q (with_reg r rs) ≡ false → (has_reg q rs ≡ false) × (same_reg r q ≡ false)
-outside_with q r rs h = ⊎_elim
-    (λ e.
-    let out : has_reg q rs ≡ false = sym (ap (has_reg q) (cond-true (has_reg r rs) rs (rs ++ r ∷ []) e)) ∙ h in (
-      out,
-      false_from_ne_true (same_reg r q)
-          (λ s. false≢true (sym out ∙ subst (λ x. has_reg x rs ≡ true) (same_reg_true r q s) e)),
-    ))
-    (λ e.
-    let all : has_reg q (rs ++ r ∷ []) ≡ false = sym (ap (has_reg q) (cond-false (has_reg r rs) rs (rs ++ r ∷ []) e)) ∙ h in
-    let parts = or_parts (has_reg q rs) (has_reg q (r ∷ [])) (sym (list_any-append (same_reg q) rs (r ∷ [])) ∙ all) in
-    (parts.0, same_reg_apart q r (or_parts (same_reg q r) false parts.1).0))
-    (cases_Bool (has_reg r rs))
-
--- another register than r outside of the list without r is outside of the list
-pub outside_without : (q r : Reg) (rs : List Reg) → same_reg r q ≡ false → has_reg q (without_reg r rs) ≡ false → has_reg q rs ≡ false
-outside_without q r [] other h = refl
-outside_without q r (s ∷ rs) other h = ⊎_elim
-    (λ e.
-    let gone : has_reg q (without_reg r rs) ≡ false =
-    sym (ap (has_reg q) (cond-false (not (same_reg r s)) (s ∷ without_reg r rs) (without_reg r rs) (not_from_true (same_reg r s) e))) ∙ h in
-    or_from (same_reg q s) (has_reg q rs) (subst (λ x. same_reg q x ≡ false) (same_reg_true r s e) (same_reg_apart r q other))
-    (outside_without q r rs other gone))
-    (λ e.
-    let kept : (same_reg q s || has_reg q (without_reg r rs)) ≡ false =
-    sym (ap (has_reg q) (cond-true (not (same_reg r s)) (s ∷ without_reg r rs) (without_reg r rs) (not_from_false (same_reg r s) e))) ∙ h in
-    let parts = or_parts (same_reg q s) (has_reg q (without_reg r rs)) kept in
-    or_from (same_reg q s) (has_reg q rs) parts.0 (outside_without q r rs other parts.1))
-    (cases_Bool (same_reg r s))
 
 -- a line of the source alone, and of the target alone
 module _ (diff : List Reg) (source target : SideState) (related : AreRelated diff source target) (x : Name) (o : Option Kind) (v : Value) where
   pub related_source : AreRelated (with_reg (reg.Now x) diff) (set_now source x o v) target
-  related_source r k out =
-      let parts = outside_with r (reg.Now x) diff out in
-      subst (λ a. IsRelated a (read_reg target k r)) (sym (read_reg_other source x o v k r parts.1)) (related r k parts.0)
+  related_source = record {
+    outside = λ r k out.
+        let parts = outside_with r (reg.Now x) diff out in
+        subst (λ a. IsRelated a (read_reg target k r)) (sym (read_reg_other source x o v k r parts.1)) (related.outside r k parts.0);
+    ghosts = related.ghosts;
+  }
 
   pub related_target : AreRelated (with_reg (reg.Now x) diff) source (set_now target x o v)
-  related_target r k out =
-      let parts = outside_with r (reg.Now x) diff out in
-      subst (λ b. IsRelated (read_reg source k r) b) (sym (read_reg_other target x o v k r parts.1)) (related r k parts.0)
+  related_target = record {
+    outside = λ r k out.
+        let parts = outside_with r (reg.Now x) diff out in
+        subst (λ b. IsRelated (read_reg source k r) b) (sym (read_reg_other target x o v k r parts.1)) (related.outside r k parts.0);
+    ghosts = related.ghosts;
+  }
 
 -- two lines that set one register to related values
 at_related : (b : Bool) (v w : Value) → IsRelated v w → IsRelated (cond b v Poison) (cond b w Poison)
 at_related true v w h = h
 at_related false v w h = tt
 
-held_related : (o : Option Kind) (k : Kind) (v w : Value) → IsRelated v w → IsRelated (held_at k (holding o v)) (held_at k (holding o w))
+pub held_related : (o : Option Kind) (k : Kind) (v w : Value) → IsRelated v w → IsRelated (held_at k (holding o v)) (held_at k (holding o w))
 held_related None k v w h = tt
 held_related (Some j) k v w h = at_related (same_kind j k) v w h
 
 pub related_both : (diff : List Reg) (source target : SideState) (x : Name) (o : Option Kind) (v w : Value) → IsRelated v w
     → AreRelated diff source target → AreRelated (without_reg (reg.Now x) diff) (set_now source x o v) (set_now target x o w)
-related_both diff source target x o v w less related r k out = ⊎_elim
-    (λ e.
-    subst (λ q. IsRelated (read_reg (set_now source x o v) k q) (read_reg (set_now target x o w) k q)) (same_reg_true (reg.Now x) r e)
-    (subst₂ IsRelated (sym (read_set_at source.now x x o k v (same_name_refl x))) (sym (read_set_at target.now x x o k w (same_name_refl x))) (held_related o k v w less)))
-    (λ e.
-    subst₂ IsRelated (sym (read_reg_other source x o v k r e)) (sym (read_reg_other target x o w k r e))
-    (related r k (outside_without r (reg.Now x) diff e out)))
-    (cases_Bool (same_reg (reg.Now x) r))
+related_both diff source target x o v w less related = record {
+  outside = λ r k out. ⊎_elim
+      (λ e.
+      subst (λ q. IsRelated (read_reg (set_now source x o v) k q) (read_reg (set_now target x o w) k q)) (same_reg_true (reg.Now x) r e)
+      (subst₂ IsRelated (sym (read_set_at source.now x x o k v (same_name_refl x))) (sym (read_set_at target.now x x o k w (same_name_refl x))) (held_related o k v w less)))
+      (λ e.
+      subst₂ IsRelated (sym (read_reg_other source x o v k r e)) (sym (read_reg_other target x o w k r e))
+      (related.outside r k (outside_without r (reg.Now x) diff e out)))
+      (cases_Bool (same_reg (reg.Now x) r));
+  ghosts = related.ghosts;
+}
 
 -- what it takes of two right sides to agree
 record Agree (known : Assertion) (s t : Expr Name) : Type 0 where
@@ -130,14 +102,6 @@ agree_parts known s t h =
     let operands = are_matched known (operands_in s) (operands_in t) in
     let two : (operator && flags) ≡ true = left_true (operator && flags) operands h in
     record { operator = left_true operator flags two; flags = right_true operator flags two; operands = right_true (operator && flags) operands h }
-
-flags_among_themselves : (flags : Flags) → flags_among flags flags ≡ true
-flags_among_themselves flags =
-    all_true (all_true (kept flags.nuw) (kept flags.nsw)) (kept flags.exact)
-  where
-    kept : (b : Bool) → (not b || b) ≡ true
-    kept true = refl
-    kept false = refl
 
 -- a fault that isn't there
 no_right_fault : (may same : Bool) (o : Option Reason) (r : Reason) → cond may (cond same o (Some r)) None ≡ None → (may ≡ false) ⊎ ((same ≡ true) × (o ≡ None))
@@ -329,7 +293,7 @@ outcome_leads : (k : Option Kind) (x : Name) (o : Outcome) (registers : Register
 outcome_leads k x (Gives v) registers frame rest world = refl
 outcome_leads k x Trap registers frame rest world = refl
 
-leads_so : (i : Option Instr) (registers : Registers) → LineLeads i registers (registers_after i registers)
+pub leads_so : (i : Option Instr) (registers : Registers) → LineLeads i registers (registers_after i registers)
 leads_so None registers = refl
 leads_so (Some (line.Calm l)) registers =
     λ frame rest world. outcome_leads (kind_of (type_of l.right)) l.name (outcome (read registers) l.right) registers frame rest world
@@ -366,7 +330,7 @@ module _ (known : Assertion) (source target : SideState) (holds : AssertionHolds
     related = both_related known source target holds s t v w is_source is_target;
   }
 
-  keeps_so : (i j : Option Instr) → line_fault_of known i j ≡ None
+  pub keeps_so : (i j : Option Instr) → line_fault_of known i j ≡ None
       → Keeps (after_line known (record { source = i; target = j })) source target (registers_after i source.now) (registers_after j target.now)
   keeps_so None None allowed = holds
   keeps_so (Some (line.Calm s)) None allowed = source_keeps s (outcome (read source.now) s.right) refl

@@ -1,84 +1,362 @@
 -- The steps of a hint add only what holds, where the rules are sound.
-use Rattle.std.proofs.Common.{◌≡◌, ℕ, true, not, List, [], ◌∷◌, Option, None, Some, refl, sym, ◌∙◌, ⊎_elim}
-use Rattle.std.specs.List.{AllByRecursion}
-use Rattle.std.proofs.lemmas.Bool.{cond_both, cases_Bool, not_from_true, not_from_false, cond-true, cond-false}
+use Rattle.std.proofs.Common.{◌≡◌, ℕ, Bool, true, false, ◌&&◌, not, cond, List, [], ◌∷◌, Option, None, Some, refl, sym, ap, ◌∙◌, subst, subst₂, ⊎_elim}
+use Rattle.std.specs.Prelude.{find}
+use Rattle.std.specs.Option.{option_or, option_map}
+use Rattle.std.specs.List.{AllByRecursion, list_any}
+use Rattle.std.proofs.lemmas.Bool.{cond_both, cases_Bool, not-true, false≢true}
+use Rattle.ir_core.specs.declared.names.Name.{Name}
+use Rattle.ir_core.specs.declared.operands.Ty.{Ty}
+use Rattle.ir_core.specs.declared.operands.Ty.TheVariants as ty
+use Rattle.ir_core.specs.declared.operands.Atom.TheVariants.{Register}
+use Rattle.ir_core.specs.declared.values.Value.{Value}
+use Rattle.ir_core.specs.declared.values.Kind.{Kind}
+use Rattle.ir_core.specs.declared.values.Kind.TheVariants as kind
+use Rattle.ir_core.specs.declared.expressions.Reg.{Reg}
+use Rattle.ir_core.specs.declared.expressions.Reg.TheVariants.{Now, Old, Ghost}
+use Rattle.ir_core.specs.declared.expressions.Expr.{Expr}
+use Rattle.ir_core.specs.declared.expressions.Expr.TheVariants.{Plain, Binary, Icmp, Cast, Select}
+use Rattle.ir_core.specs.Expressions.{Expr0, type_of, expr_has}
+use Rattle.ir_core.specs.Functions.{typed_of}
+use Rattle.ir_core.specs.Modules.{Scope}
+use Rattle.ir_core.specs.Ranges as ranges
+use Rattle.ir_core.specs.Same.{same_name, same_reg}
+use Rattle.ir_core.specs.Types.{kind_of, converts}
+use Rattle.ir_core.proofs.SameLaws.{left_true, right_true, same_reg_true}
+use Rattle.ir_values.specs.declared.operations.Outcome.{Outcome}
+use Rattle.ir_values.specs.declared.operations.Outcome.TheVariants.{Gives, Trap}
+use Rattle.ir_values.specs.Operations.{IsOutcomeLessDefined, GivesInKind}
+use Rattle.ir_values.specs.Values.{same_kind}
+use Rattle.ir_values.proofs.KindLaws.{same_kind_true}
+use Rattle.ir_values.proofs.OperationLaws.{less_defined_trans}
+use Rattle.ir_machine.specs.Registers.{Registers, read, set, atom_value, selects, outcome}
+use Rattle.ir_machine.proofs.InKind.{outcome_in_kind}
+use Rattle.ir_machine.proofs.Runs.{set_in_kind, read_set_at, read_set_other}
 use Rattle.erhl_assert.specs.declared.facts.Fact.{Fact}
+use Rattle.erhl_assert.specs.declared.facts.Fact.TheVariants.{LessDef}
 use Rattle.erhl_assert.specs.declared.facts.Assertion.{Assertion}
 use Rattle.erhl_assert.specs.declared.facts.Side.{Side}
 use Rattle.erhl_assert.specs.declared.facts.Side.TheVariants.{Src, Tgt}
 use Rattle.erhl_assert.specs.declared.hints.RuleStep.{RuleStep}
+use Rattle.erhl_assert.specs.declared.hints.GhostStep.{GhostStep}
+use Rattle.erhl_assert.specs.declared.hints.SameStep.{SameStep}
 use Rattle.erhl_assert.specs.declared.hints.HintStep.{HintStep}
-use Rattle.erhl_assert.specs.declared.hints.HintStep.TheVariants.{Rule}
-use Rattle.erhl_assert.specs.declared.hints.PlacedStep.{PlacedStep}
-use Rattle.erhl_assert.specs.declared.verdict.Reason.TheVariants.{RuleUnfit}
-use Rattle.erhl_assert.specs.Sides.{SideState, IsSideInKind}
-use Rattle.erhl_assert.specs.Facts.{Holds, AssertionHolds, IsSound, has_fact}
-use Rattle.erhl_assert.specs.Course.{Ends, Refuses, Gives, Course, refuses, after_ends}
-use Rattle.erhl_assert.specs.Growth.{facts_of, with_conclusion}
-use Rattle.erhl_assert.specs.Steps.{Meaning, Beside, rule_named, rule_takes, AreSound, first_missing, concluded, after_rule, after_step, after_steps}
-use Rattle.erhl_soundness.proofs.Facts.{has_fact_holds, with_fact_holds}
+use Rattle.erhl_assert.specs.declared.hints.HintStep.TheVariants.{Rule, Ghost as GhostOf, Same as SameAs}
+use Rattle.erhl_assert.specs.declared.verdict.Reason.{Reason}
+use Rattle.erhl_assert.specs.declared.verdict.Reason.TheVariants.{RuleUnfit, MissingPremise, DiffLeft}
+use Rattle.erhl_assert.specs.Sides.{SideState, IsSideInKind, IsRelated, read_reg, worth, has_reg, AreRelated}
+use Rattle.erhl_assert.specs.Facts.{Holds, IsSound, kind_of_expr, has_fact, with_facts, expr_names, without_naming}
+use Rattle.erhl_assert.specs.Typed.{has_values, has_type}
+use Rattle.erhl_assert.specs.Allowed.{can_trap}
+use Rattle.erhl_assert.specs.Postcondition.{without_reg}
+use Rattle.erhl_assert.specs.Edges.{register_at}
+use Rattle.erhl_assert.specs.Course as course
+use Rattle.erhl_assert.specs.Course.{Ends, Refuses, Course, refuses, after_ends, and_then, tested, first_fault}
+use Rattle.erhl_assert.specs.Growth.{facts_of, with_conclusion, adds_all}
+use Rattle.erhl_assert.specs.Steps.{Meaning, Beside, rule_named, rule_takes, AreSound, first_missing, concluded, after_rule, registers_in, differing_fault, ghost_word, may_be, ghost_fault, choice, as_new, chosen, after_ghost, is_other, has_other_kind, premise_fault, same_fault, after_same, after_step, after_steps}
+use Rattle.erhl_assert.proofs.Courses.{then_ends}
+use Rattle.erhl_assert.proofs.Edges.{with_all, adds_all_ends}
+use Rattle.erhl_soundness.proofs.Alike.{outcome_alike, none_found}
+use Rattle.erhl_soundness.proofs.Facts.{has_fact_holds, premises_hold, with_fact_holds, with_facts_hold, both_ways_hold, worth_kept, without_holds}
+use Rattle.erhl_soundness.proofs.Outside.{outside_without}
+use Rattle.erhl_soundness.proofs.Related.{held_related}
+use Rattle.erhl_soundness.proofs.Trapping.{no_trap}
+use Rattle.erhl_soundness.proofs.Definitions.{AreDefined, reads_poison}
+use Rattle.erhl_soundness.proofs.Standing.{Files, side, Stand, knowing, with_ghost, reads_in_kind, register_worth, none_is_poison, set_ghost, ghost_other, ghost_at}
 
--- where no premise is missing, all premises hold
-pub premises_hold : (side : SideState) (fs premises : List Fact) → AllByRecursion (Holds side) fs → first_missing fs premises ≡ None → AllByRecursion (Holds side) premises
-premises_hold side fs [] all h = tt
-premises_hold side fs (p ∷ ps) all h = ⊎_elim
-    (λ e.
-    let rest : first_missing fs ps ≡ None =
-    sym (cond-false (not (has_fact p fs)) (Some p) (first_missing fs ps) (not_from_true (has_fact p fs) e)) ∙ h in
-    (has_fact_holds side p fs e all, premises_hold side fs ps all rest))
-    (λ e.
-    let missing : Some p ≡ None = sym (cond-true (not (has_fact p fs)) (Some p) (first_missing fs ps) (not_from_false (has_fact p fs) e)) ∙ h in
-    absurd (cc))
-    (cases_Bool (has_fact p fs))
+-- what a course comes to, if it isn't refused, stands, for some ghost registers
+abbrev pub EndsStand : Beside → Files → Files → Ends Assertion → Type 0
+EndsStand w a b (Refuses r) = Unit {0}
+EndsStand w a b (course.Gives known) = (g : Registers) × (h : Registers) × Stand w known (with_ghost a g) (with_ghost b h)
 
--- what a course ends with, if it isn't a refusal, holds
-abbrev pub EndHolds : SideState → SideState → Ends Assertion → Type 0
-EndHolds source target (Refuses r) = Unit {0}
-EndHolds source target (Gives known) = AssertionHolds known source target
+-- ---- tests that find no fault
 
-module _ (w : Beside) (rules_sound : AreSound w.rules) (source target : SideState) (source_scope : source.scope ≡ w.scope) (target_scope : target.scope ≡ w.scope)
-    (source_in_kind : IsSideInKind source) (target_in_kind : IsSideInKind target) where
-  conclusion_holds : (side : Side) (from : List Fact) (to : Fact) (known : Assertion) → AssertionHolds known source target
-      → ((at : SideState) → at.scope ≡ w.scope → IsSideInKind at → AllByRecursion (Holds at) from → Holds at to)
-      → first_missing (facts_of side known) from ≡ None → AssertionHolds (with_conclusion side to known) source target
-  conclusion_holds Src from to known holds sound h = record {
-    source_facts = with_fact_holds source to known.src holds.source_facts
-        (sound source source_scope source_in_kind (premises_hold source known.src from holds.source_facts h));
-    target_facts = holds.target_facts;
-    related = holds.related;
+pub no_first : {A : Type 0} (o p : Option A) → option_or o p ≡ None → (o ≡ None) × (p ≡ None)
+no_first None p h = (refl, h)
+no_first (Some x) p h = absurd (cc)
+
+pub not_mapped : {A B : Type 0} (f : A → B) (o : Option A) → option_map f o ≡ None → o ≡ None
+not_mapped f None h = refl
+not_mapped f (Some x) h = absurd (cc)
+
+pub passed : {A : Type 0} (b : Bool) (r : A) → cond b None (Some r) ≡ None → b ≡ true
+passed true r h = refl
+passed false r h = absurd (cc)
+
+pub none_differs : (known : Assertion) (e : Expr0) → differing_fault known e ≡ None → expr_has (λ r. has_reg r known.diff) e ≡ false
+none_differs known e h =
+    none_found (λ r. has_reg r known.diff) e (not_mapped DiffLeft (find (λ r. has_reg r known.diff) (registers_in e)) h)
+
+-- ---- what can't trap gives a value
+
+value_of : (o : Outcome) → (o ≡ Trap → ⊥) → (v : Value) × (o ≡ Gives v)
+value_of (Gives v) h = (v, refl)
+value_of Trap h = absurd (h refl)
+
+pub gives_value : {R : Type 0} (reading : Kind → R → Value) (e : Expr R) → can_trap e ≡ false → (v : Value) × (outcome reading e ≡ Gives v)
+gives_value reading e h = value_of (outcome reading e) (no_trap reading e h)
+
+-- ---- what has a type has a kind
+
+type_has_kind : (t : Ty) → has_values t ≡ true → (k : Kind) × (kind_of t ≡ Some k)
+type_has_kind (ty.Int width) h = (kind.Int width, ap (λ b. cond b (Some (kind.Int width)) None) h)
+type_has_kind ty.Void h = absurd (false≢true h)
+
+expr_has_kind : (e : Expr0) → has_type e ≡ true → (k : Kind) × (kind_of_expr e ≡ Some k)
+expr_has_kind (Plain o) h = type_has_kind o.ty h
+expr_has_kind (Binary b) h = type_has_kind b.ty (left_true (has_values b.ty) (ranges.may_have b.op b.flags) h)
+expr_has_kind (Icmp c) h = (kind.Int 1, refl)
+expr_has_kind (Cast c) h =
+    type_has_kind c.to (right_true (has_values c.operand.ty) (has_values c.to)
+    (left_true (has_values c.operand.ty && has_values c.to) (converts c.op c.operand.ty c.to) h))
+expr_has_kind (Select s) h = type_has_kind s.left.ty (left_true (has_values s.left.ty) (selects s.condition.ty s.left.ty s.right.ty) h)
+
+outcome_trans : (o p q : Outcome) → IsOutcomeLessDefined o p → IsOutcomeLessDefined p q → IsOutcomeLessDefined o q
+outcome_trans Trap p q h i = tt
+outcome_trans (Gives a) (Gives b) (Gives c) h i = less_defined_trans a b c h i
+outcome_trans (Gives a) (Gives b) Trap h i = absurd i
+outcome_trans (Gives a) Trap q h i = absurd h
+
+-- ---- ghost, on one side: facts that name it go, and it is known to be the expression
+module _ (scope : Scope) (a : Files) (g : Name) (e : Expr0) (v : Value) (gives : worth (side scope a) e ≡ Gives v) (apart : expr_names (Ghost g) e ≡ false) where
+  abbrev after_choice : Files
+  after_choice = set_ghost a g (kind_of (type_of e)) v
+
+  chosen_facts : (fs : List Fact) → AllByRecursion (Holds (side scope a)) fs
+      → AllByRecursion (Holds (side scope after_choice)) (with_facts (choice (Ghost g) e) (without_naming (Ghost g) fs))
+  chosen_facts fs all =
+      let before = side scope a in
+      let after = side scope after_choice in
+      let o = kind_of (type_of e) in
+      let same = ghost_other scope a g o v in
+      with_facts_hold after (choice (Ghost g) e) (without_naming (Ghost g) fs)
+      (both_ways_hold after e (register_at (type_of e) (Ghost g)) v refl
+      (worth_kept (same_reg (Ghost g)) before after same e apart ∙ gives)
+      (register_worth (read_reg after) (Ghost g) v (type_of e) (ghost_at scope a g o v) (none_is_poison (read_reg before) e v gives)))
+      (without_holds (same_reg (Ghost g)) before after same fs all)
+
+  choice_in_kind : IsSideInKind (side scope a) → IsSideInKind (side scope after_choice)
+  choice_in_kind h = record {
+    now = h.now;
+    old = h.old;
+    ghost = set_in_kind a.ghost g (kind_of (type_of e)) v h.ghost
+        (subst (GivesInKind (kind_of (type_of e))) gives (outcome_in_kind (read_reg (side scope a)) (reads_in_kind (side scope a) h) e));
   }
-  conclusion_holds Tgt from to known holds sound h = record {
-    source_facts = holds.source_facts;
-    target_facts = with_fact_holds target to known.tgt holds.target_facts
-        (sound target target_scope target_in_kind (premises_hold target known.tgt from holds.target_facts h));
-    related = holds.related;
-  }
 
-  concluded_holds : (step : RuleStep) (known : Assertion) → AssertionHolds known source target → IsSound w.scope step.schema
-      → (o : Option Fact) → first_missing (facts_of step.side known) step.schema.from ≡ o → EndHolds source target (concluded o step known).ends
-  concluded_holds step known holds sound (Some f) h = tt
-  concluded_holds step known holds sound None h = conclusion_holds step.side step.schema.from step.schema.to known holds sound h
+module _ (w : Beside) (sound : AreSound w.rules) (a b : Files) where
+  abbrev source : SideState
+  source = side w.scope a
 
-  rule_holds : (step : RuleStep) (known : Assertion) → AssertionHolds known source target → (o : Option Meaning)
-      → (rule_takes o w.scope step.schema ≡ true → IsSound w.scope step.schema) → EndHolds source target (after_rule o w.scope step known).ends
-  rule_holds step known holds None sound = tt
-  rule_holds step known holds (Some r) sound =
+  abbrev target : SideState
+  target = side w.scope b
+
+  tested_stands : (o : Option Reason) (known : Assertion) (next : Assertion → Course Assertion) → (o ≡ None → EndsStand w a b (next known).ends)
+      → EndsStand w a b (and_then (tested o known) next).ends
+  tested_stands None known next h = h refl
+  tested_stands (Some r) known next h = tt
+
+  -- ---- rules
+
+  conclusion_stands : (at : Side) (from : List Fact) (to : Fact) (known : Assertion) → Stand w known a b → IsSound w.scope (record { from = from; to = to })
+      → first_missing (facts_of at known) from ≡ None → Stand w (with_conclusion at to known) a b
+  conclusion_stands Src from to known stand rule h =
+      let holds = stand.holds in
+      knowing w known (with_conclusion Src to known) a b stand (record {
+        source_facts = with_fact_holds source to known.src holds.source_facts
+            (rule source refl stand.source_in_kind (premises_hold source known.src from holds.source_facts h));
+        target_facts = holds.target_facts;
+        related = holds.related;
+      })
+  conclusion_stands Tgt from to known stand rule h =
+      let holds = stand.holds in
+      knowing w known (with_conclusion Tgt to known) a b stand (record {
+        source_facts = holds.source_facts;
+        target_facts = with_fact_holds target to known.tgt holds.target_facts
+            (rule target refl stand.target_in_kind (premises_hold target known.tgt from holds.target_facts h));
+        related = holds.related;
+      })
+
+  concluded_stands : (step : RuleStep) (known : Assertion) → Stand w known a b → IsSound w.scope step.schema
+      → (o : Option Fact) → first_missing (facts_of step.side known) step.schema.from ≡ o → EndsStand w a b (concluded o step known).ends
+  concluded_stands step known stand rule (Some f) h = tt
+  concluded_stands step known stand rule None h = (a.ghost, b.ghost, conclusion_stands step.side step.schema.from step.schema.to known stand rule h)
+
+  rule_stands : (step : RuleStep) (known : Assertion) → Stand w known a b → (o : Option Meaning)
+      → (rule_takes o w.scope step.schema ≡ true → IsSound w.scope step.schema) → EndsStand w a b (after_rule o w.scope step known).ends
+  rule_stands step known stand None rule = tt
+  rule_stands step known stand (Some r) rule =
       cond_both (r.takes w.scope step.schema) (concluded (first_missing (facts_of step.side known) step.schema.from) step known) (refuses (RuleUnfit step.rule))
-      (λ (c : Course Assertion). EndHolds source target c.ends)
-      (λ e. concluded_holds step known holds (sound e) (first_missing (facts_of step.side known) step.schema.from) refl)
+      (λ (c : Course Assertion). EndsStand w a b c.ends)
+      (λ e. concluded_stands step known stand (rule e) (first_missing (facts_of step.side known) step.schema.from) refl)
       (λ e. tt)
 
-  after_ends_hold : (sizes : List ℕ) (e : Ends Assertion) (next : Assertion → Course Assertion) → EndHolds source target e
-      → ((known : Assertion) → AssertionHolds known source target → EndHolds source target (next known).ends)
-      → EndHolds source target (after_ends sizes e next).ends
-  after_ends_hold sizes (Refuses r) next h on = tt
-  after_ends_hold sizes (Gives known) next h on = on known h
+  -- registers that may not differ are related, so what is made of them is
+  related_worth : (known : Assertion) (e : Expr0) → Stand w known a b → differing_fault known e ≡ None → IsOutcomeLessDefined (worth source e) (worth target e)
+  related_worth known e stand free =
+      outcome_alike (read_reg source) (read_reg target) (λ r. has_reg r known.diff) (λ k r out. stand.holds.related.outside r k out) e (none_differs known e free)
 
-  step_holds : (step : HintStep) (known : Assertion) → AssertionHolds known source target → EndHolds source target (after_step w step known).ends
-  step_holds (Rule step) known holds = rule_holds step known holds (rule_named w.rules step.rule) (rules_sound step.rule w.scope step.schema)
+  -- ---- same
 
-  pub steps_hold : (steps : List PlacedStep) (known : Assertion) → AssertionHolds known source target → EndHolds source target (after_steps w steps known).ends
-  steps_hold [] known holds = holds
-  steps_hold (s ∷ ss) known holds =
-      let step = after_step w s.step known in
-      after_ends_hold step.sizes step.ends (after_steps w ss) (step_holds s.step known holds) (λ known' holds'. steps_hold ss known' holds')
+  module _ (e : Expr0) (k : Kind) (of_expr : kind_of_expr e ≡ Some k) where
+    -- of facts at the expression's kind, and no definition at another
+    same_now : (x : Name) (s t : Registers) → list_any (is_other x e) (typed_of w.source) ≡ false → AreDefined w.source s
+        → IsRelated (read s k x) (read t k x) → (j : Kind) → IsRelated (read s j x) (read t j x)
+    same_now x s t none defined related j = ⊎_elim
+        (λ h. subst (λ i. IsRelated (read s i x) (read t i x)) (same_kind_true k j h) related)
+        (λ h. subst (λ v. IsRelated v (read t j x)) (sym (reads_poison e k of_expr w.source x j (s x) none (defined x) h)) tt)
+        (cases_Bool (same_kind k j))
+
+    same_reads : (x : Reg) (known : Assertion) → Stand w known a b → has_other_kind w.source x e ≡ false
+        → IsRelated (read_reg source k x) (read_reg target k x) → (j : Kind) → IsRelated (read_reg source j x) (read_reg target j x)
+    same_reads (Now x) known stand none related j = same_now x a.now b.now none stand.now_defined related j
+    same_reads (Old x) known stand none related j = same_now x a.old b.old none stand.old_defined related j
+    same_reads (Ghost g) known stand none related j = stand.holds.related.ghosts g j
+
+    between : (x : Reg) (known : Assertion) → Stand w known a b
+        → has_fact (LessDef (register_at (type_of e) x) e) known.src ≡ true → has_fact (LessDef e (register_at (type_of e) x)) known.tgt ≡ true
+        → differing_fault known e ≡ None → IsRelated (read_reg source k x) (read_reg target k x)
+    between x known stand above below free =
+        let r = register_at (type_of e) x in
+        let first = (has_fact_holds source (LessDef r e) known.src above stand.holds.source_facts).1 in
+        let last = (has_fact_holds target (LessDef e r) known.tgt below stand.holds.target_facts).1 in
+        let whole = outcome_trans (worth source r) (worth source e) (worth target r) first
+        (outcome_trans (worth source e) (worth target e) (worth target r) (related_worth known e stand free) last) in
+        subst (λ o. IsOutcomeLessDefined (Gives (atom_value (read_reg source) o (Register x))) (Gives (atom_value (read_reg target) o (Register x)))) of_expr whole
+
+  same_related : (x : Reg) (known : Assertion) → Stand w known a b → ((j : Kind) → IsRelated (read_reg source j x) (read_reg target j x))
+      → Stand w (record known { diff = without_reg x known.diff }) a b
+  same_related x known stand related =
+      let holds = stand.holds in
+      knowing w known (record known { diff = without_reg x known.diff }) a b stand (record {
+        source_facts = holds.source_facts;
+        target_facts = holds.target_facts;
+        related = record {
+          outside = λ r k out. ⊎_elim
+              (λ e. subst (λ q. IsRelated (read_reg source k q) (read_reg target k q)) (same_reg_true x r e) (related k))
+              (λ e. holds.related.outside r k (outside_without r x known.diff e out))
+              (cases_Bool (same_reg x r));
+          ghosts = holds.related.ghosts;
+        };
+      })
+
+  same_stands : (step : SameStep) (known : Assertion) → Stand w known a b → EndsStand w a b (after_same w step known).ends
+  same_stands step known stand = go (same_fault w known step.register step.by) refl
+    where
+      after : Assertion
+      after = record known { diff = without_reg step.register known.diff }
+
+      go : (o : Option Reason) → same_fault w known step.register step.by ≡ o → EndsStand w a b (tested o after).ends
+      go (Some r) h = tt
+      go None h =
+          let e = step.by in
+          let x = step.register in
+          let r = register_at (type_of e) x in
+          let in_source = premise_fault w.source x e known.src (LessDef r e) in
+          let in_target = premise_fault w.target x e known.tgt (LessDef e r) in
+          let differing = differing_fault known e in
+          let typed = no_first (cond (has_type e) None (Some (RuleUnfit ghost_word))) (first_fault (in_source ∷ in_target ∷ differing ∷ [])) h in
+          let first = no_first in_source (first_fault (in_target ∷ differing ∷ [])) typed.1 in
+          let second = no_first in_target (first_fault (differing ∷ [])) first.1 in
+          let free = no_first differing None second.1 in
+          let k = expr_has_kind e (passed (has_type e) (RuleUnfit ghost_word) typed.0) in
+          let above = passed (has_fact (LessDef r e) known.src && not (has_other_kind w.source x e)) (MissingPremise (LessDef r e)) first.0 in
+          let below = passed (has_fact (LessDef e r) known.tgt && not (has_other_kind w.target x e)) (MissingPremise (LessDef e r)) second.0 in (
+            a.ghost,
+            b.ghost,
+            same_related x known stand
+                (same_reads e k.0 k.1 x known stand
+                (not-true (has_other_kind w.source x e) (right_true (has_fact (LessDef r e) known.src) (not (has_other_kind w.source x e)) above))
+                (between e k.0 k.1 x known stand (left_true (has_fact (LessDef r e) known.src) (not (has_other_kind w.source x e)) above)
+                (left_true (has_fact (LessDef e r) known.tgt) (not (has_other_kind w.target x e)) below) free.0)),
+          )
+
+  -- ---- ghost
+
+  choice_related : (g : Name) (o : Option Kind) (v u : Value) (known : Assertion) → AreRelated known.diff source target → IsRelated v u
+      → AreRelated (without_reg (Ghost g) known.diff) (side w.scope (set_ghost a g o v)) (side w.scope (set_ghost b g o u))
+  choice_related g o v u known related less = record { outside = outside; ghosts = ghosts }
+    where
+      ghosts : (x : Name) (k : Kind) → IsRelated (read (set a.ghost g o v) k x) (read (set b.ghost g o u) k x)
+      ghosts x k = ⊎_elim
+          (λ c. subst₂ IsRelated (sym (read_set_at a.ghost g x o k v c)) (sym (read_set_at b.ghost g x o k u c)) (held_related o k v u less))
+          (λ c. subst₂ IsRelated (sym (read_set_other a.ghost g x o k v c)) (sym (read_set_other b.ghost g x o k u c)) (related.ghosts x k))
+          (cases_Bool (same_name g x))
+
+      outside : (r : Reg) (k : Kind) → has_reg r (without_reg (Ghost g) known.diff) ≡ false
+          → IsRelated (read_reg (side w.scope (set_ghost a g o v)) k r) (read_reg (side w.scope (set_ghost b g o u)) k r)
+      outside (Now x) k out = related.outside (Now x) k (outside_without (Now x) (Ghost g) known.diff refl out)
+      outside (Old x) k out = related.outside (Old x) k (outside_without (Old x) (Ghost g) known.diff refl out)
+      outside (Ghost x) k out = ghosts x k
+
+  -- what a choice comes to
+  chosen_ends : (g : Reg) (e : Expr0) (known : Assertion)
+      → (chosen g e known).ends ≡ course.Gives (with_all Tgt (choice g e) (with_all Src (choice g e) (as_new g known)))
+  chosen_ends g e known =
+      then_ends (adds_all Src (choice g e) (as_new g known)) (with_all Src (choice g e) (as_new g known)) (adds_all Tgt (choice g e))
+      (adds_all_ends Src (choice g e) (as_new g known))
+      ∙ adds_all_ends Tgt (choice g e) (with_all Src (choice g e) (as_new g known))
+
+  choice_stands : (g : Name) (e : Expr0) (known : Assertion) → Stand w known a b → can_trap e ≡ false → expr_names (Ghost g) e ≡ false → differing_fault known e ≡ None
+      → EndsStand w a b (chosen (Ghost g) e known).ends
+  choice_stands g e known stand calm apart free =
+      let v = gives_value (read_reg source) e calm in
+      let u = gives_value (read_reg target) e calm in
+      let less : IsRelated v.0 u.0 = subst₂ IsOutcomeLessDefined v.1 u.1 (related_worth known e stand free) in
+      subst (EndsStand w a b) (sym (chosen_ends (Ghost g) e known)) (
+        set a.ghost g (kind_of (type_of e)) v.0,
+        set b.ghost g (kind_of (type_of e)) u.0,
+        record {
+          source_in_kind = choice_in_kind w.scope a g e v.0 v.1 apart stand.source_in_kind;
+          target_in_kind = choice_in_kind w.scope b g e u.0 u.1 apart stand.target_in_kind;
+          now_defined = stand.now_defined;
+          old_defined = stand.old_defined;
+          holds = record {
+            source_facts = chosen_facts w.scope a g e v.0 v.1 apart known.src stand.holds.source_facts;
+            target_facts = chosen_facts w.scope b g e u.0 u.1 apart known.tgt stand.holds.target_facts;
+            related = choice_related g (kind_of (type_of e)) v.0 u.0 known stand.holds.related less;
+          };
+        },
+      )
+
+  may_be_stands : (r : Reg) (e : Expr0) (known : Assertion) → Stand w known a b → may_be r e ≡ true → differing_fault known e ≡ None
+      → EndsStand w a b (chosen r e known).ends
+  may_be_stands (Now x) e known stand may free = absurd (false≢true may)
+  may_be_stands (Old x) e known stand may free = absurd (false≢true may)
+  may_be_stands (Ghost g) e known stand may free =
+      let two = has_type e && not (can_trap e) in
+      let apart = not-true (expr_names (Ghost g) e) (right_true two (not (expr_names (Ghost g) e)) may) in
+      let calm = not-true (can_trap e) (right_true (has_type e) (not (can_trap e)) (left_true two (not (expr_names (Ghost g) e)) may)) in
+      choice_stands g e known stand calm apart free
+
+  ghost_stands : (step : GhostStep) (known : Assertion) → Stand w known a b → EndsStand w a b (after_ghost step known).ends
+  ghost_stands step known stand =
+      tested_stands (ghost_fault known step.register step.value) known (chosen step.register step.value) (λ h.
+      let g = step.register in
+      let e = step.value in
+      let may = no_first (cond (may_be g e) None (Some (RuleUnfit ghost_word))) (first_fault (differing_fault known e ∷ [])) h in
+      may_be_stands g e known stand (passed (may_be g e) (RuleUnfit ghost_word) may.0) (no_first (differing_fault known e) None may.1).0)
+
+  step_stands : (s : HintStep) (known : Assertion) → Stand w known a b → EndsStand w a b (after_step w s known).ends
+  step_stands (Rule step) known stand = rule_stands step known stand (rule_named w.rules step.rule) (sound step.rule w.scope step.schema)
+  step_stands (GhostOf step) known stand = ghost_stands step known stand
+  step_stands (SameAs step) known stand = same_stands step known stand
+
+module _ (w : Beside) (sound : AreSound w.rules) where
+  joined : (a b : Files) (sizes : List ℕ) (ends : Ends Assertion) (next : Assertion → Course Assertion) → EndsStand w a b ends
+      → ((c d : Files) (known : Assertion) → Stand w known c d → EndsStand w c d (next known).ends) → EndsStand w a b (after_ends sizes ends next).ends
+  joined a b sizes (Refuses r) next h on = tt
+  joined a b sizes (course.Gives known) next h on = again (next known).ends (on (with_ghost a h.0) (with_ghost b h.1) known h.2)
+    where
+      again : (ends : Ends Assertion) → EndsStand w (with_ghost a h.0) (with_ghost b h.1) ends → EndsStand w a b ends
+      again (Refuses r) k = tt
+      again (course.Gives known) k = k
+
+  steps_stand : (steps : List HintStep) (a b : Files) (known : Assertion) → Stand w known a b → EndsStand w a b (after_steps w steps known).ends
+  steps_stand [] a b known stand = (a.ghost, b.ghost, stand)
+  steps_stand (s ∷ ss) a b known stand =
+      joined a b (after_step w s known).sizes (after_step w s known).ends (after_steps w ss) (step_stands w sound a b s known stand)
+      (λ c d known' stand'. steps_stand ss c d known' stand')
+
+  -- where the steps of a hint come to something, it stands
+  pub steps_lead : (steps : List HintStep) (a b : Files) (known after : Assertion) → Stand w known a b → (after_steps w steps known).ends ≡ course.Gives after
+      → (g : Registers) × (h : Registers) × Stand w after (with_ghost a g) (with_ghost b h)
+  steps_lead steps a b known after stand ends = subst (EndsStand w a b) ends (steps_stand steps a b known stand)

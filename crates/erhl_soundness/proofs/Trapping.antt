@@ -27,9 +27,6 @@ use Rattle.ir_values.specs.Operations.{may_be, traps, binary_value}
 use Rattle.ir_machine.specs.Registers.{atom_value, operand_value, binary_at, icmp_at, cast_at, selects, outcome}
 use Rattle.erhl_assert.specs.Allowed.{divides_all, can_trap}
 
-gives_no_trap : (v : Value) → Gives v ≡ Trap → ⊥
-gives_no_trap v h = cc
-
 -- ---- operators that give a value
 
 icmp_no_trap : (pred : Pred) (k : Option Kind) (a b : Value) → icmp_at pred k a b ≡ Trap → ⊥

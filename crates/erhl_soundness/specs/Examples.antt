@@ -23,7 +23,7 @@ use Rattle.erhl_assert.specs.declared.hints.HintStep.TheVariants.{Rule}
 use Rattle.erhl_assert.specs.declared.hints.PlacedStep.{PlacedStep}
 use Rattle.erhl_assert.specs.declared.hints.Hint.{Hint}
 use Rattle.erhl_assert.specs.Alignment.{Line, no_facts}
-use Rattle.erhl_assert.specs.Steps.{Beside}
+use Rattle.erhl_assert.specs.Steps.{Beside, beside}
 
 -- %x = add i32 %y, 0
 abbrev pub adds_zero : ℕ → ℕ → Instr
@@ -82,9 +82,10 @@ defining lines result = record {
   blocks = record { name = Number 1; phis = []; body = lines; term = Ret (record { ty = Int 32; atom = Register (Number result) }) } ∷ [];
 }
 
--- one rule, whose name is of no letters, and which takes whatever it is given
-abbrev pub taking_all : Beside
-taking_all = record { rules = record { name = []; takes = λ scope schema. true } ∷ []; scope = no_scope }
+-- two functions under a hint, beside one rule, whose name is of no letters, and which takes whatever it is given
+abbrev pub taking_all : Function → Function → Hint → Beside
+taking_all source target hint =
+    beside (record { name = []; takes = λ scope schema. true } ∷ []) no_scope source target hint
 
 -- undef >= undef
 abbrev pub claim : Fact
@@ -96,4 +97,4 @@ abbrev pub concluding : ℕ → List ℕ → Side → PlacedStep
 concluding k name side = record { at = k; step = Rule (record { rule = name; side = side; schema = record { from = []; to = claim } }) }
 
 abbrev pub hinting : List Letter → List PlacedStep → Hint
-hinting letters steps = record { blocks = record { at = Number 1; lines = Some letters; entry = no_facts; steps = steps } ∷ [] }
+hinting letters steps = record { blocks = record { at = Number 1; lines = Some letters; entry = no_facts; steps = steps; edges = [] } ∷ [] }

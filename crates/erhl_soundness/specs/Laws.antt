@@ -1,6 +1,6 @@
 -- The laws of the logic's words, and then its soundness laws (Crellvm's soundness theorem; the idea of checking each result
 -- of a compiler and proving the checker is credible compilation).
-use Rattle.std.specs.Prelude.{◌≡◌, ℕ, ◌≤◌, true, false, List, [], ◌∷◌, Option, None, Some}
+use Rattle.std.specs.Prelude.{◌≡◌, ℕ, ◌≤◌, true, false, List, [], ◌∷◌, map, Option, None, Some}
 use Rattle.std.specs.List.{AllByRecursion}
 use Rattle.ir_core.specs.declared.names.Name.{Name}
 use Rattle.ir_core.specs.declared.names.Name.TheVariants.{Number}
@@ -10,31 +10,38 @@ use Rattle.ir_core.specs.declared.operands.Const.TheVariants as constant
 use Rattle.ir_core.specs.declared.operands.Atom.TheVariants.{Constant, Register}
 use Rattle.ir_core.specs.declared.operands.BinOp.TheVariants.{UDiv, SDiv, URem, SRem, Shl}
 use Rattle.ir_core.specs.declared.functions.Instr.{Instr}
+use Rattle.ir_core.specs.declared.functions.Phi.{Phi}
+use Rattle.ir_core.specs.declared.functions.Block.{Block}
+use Rattle.ir_core.specs.declared.functions.Function.{Function}
 use Rattle.ir_core.specs.declared.functions.Module.{Module}
-use Rattle.ir_core.specs.Modules.{definitions_of}
+use Rattle.ir_core.specs.Modules.{scope_of, definitions_of}
+use Rattle.ir_core.specs.Order.{AreNew}
+use Rattle.ir_core.specs.WellFormed.{HasShape}
 use Rattle.ir_machine.specs.declared.items.Item.TheVariants.{Wrong}
 use Rattle.ir_machine.specs.Registers.{Registers, read, operand_value}
 use Rattle.ir_machine.specs.State.{Frame, Pending, World, Running, Over}
-use Rattle.ir_machine.specs.Machine.{Asks, Does, line_step}
+use Rattle.ir_machine.specs.Machine.{Asks, Does, line_step, with_phis}
 use Rattle.ir_machine.specs.Refinement.{Refines}
 use Rattle.erhl_assert.specs.declared.facts.Assertion.{Assertion}
 use Rattle.erhl_assert.specs.declared.facts.Side.TheVariants.{Src, Tgt}
-use Rattle.erhl_assert.specs.declared.hints.PlacedStep.{PlacedStep}
+use Rattle.erhl_assert.specs.declared.hints.HintStep.{HintStep}
 use Rattle.erhl_assert.specs.declared.hints.Letter.TheVariants.{Both, Source, Target}
 use Rattle.erhl_assert.specs.declared.verdict.Reason.{Reason}
 use Rattle.erhl_assert.specs.declared.verdict.Reason.TheVariants.{UnknownRule, TargetMayTrap, Unmatched}
 use Rattle.erhl_assert.specs.declared.verdict.Spot.TheVariants as spot
 use Rattle.erhl_assert.specs.Sides.{SideState, IsRelated}
-use Rattle.erhl_assert.specs.Facts.{AssertionHolds}
+use Rattle.erhl_assert.specs.Facts.{AssertionHolds, each_once}
 use Rattle.erhl_assert.specs.Matched.{matched}
 use Rattle.erhl_assert.specs.Alignment.{Line, no_facts}
 use Rattle.erhl_assert.specs.Allowed.{line_fault}
 use Rattle.erhl_assert.specs.Postcondition.{lines_agree, after_line}
+use Rattle.erhl_assert.specs.Edges.{Edge, after_edge}
 use Rattle.erhl_assert.specs.Course.{Gives, Course, refuses, Good, Bad}
-use Rattle.erhl_assert.specs.Growth.{size, over_line}
-use Rattle.erhl_assert.specs.Steps.{Rules, Beside, AreSound, beside, after_steps}
+use Rattle.erhl_assert.specs.Growth.{size, put_in, over_line, over_edge}
+use Rattle.erhl_assert.specs.Steps.{Rules, Beside, AreSound, after_steps}
 use Rattle.erhl_assert.specs.Acceptance.{function_judged, AreAccepted}
 use Rattle.erhl_soundness.specs.Examples.{adds_zero, number, dividing, adding, of_target, of_both, defining, taking_all, concluding, hinting}
+use Rattle.erhl_soundness.specs.FlowExamples.{by_line, swap, before_swap}
 
 -- a step over a line shows nothing and leaves these registers, or is undefined behaviour
 abbrev pub goes_on : Option Registers → Frame → List Pending → World → Asks
@@ -64,30 +71,44 @@ ComesTo (Some r) l known = over_line l known ≡ refuses r
 abbrev pub ALineComesToWhatIsKnown : Type 0
 ALineComesToWhatIsKnown = (l : Line) (known : Assertion) → ComesTo (line_fault known l) l known
 
+-- Over an edge, fact by fact, a check comes to what is known after it, before the edge's steps.
+abbrev pub AnEdgeComesToWhatIsKnown : Type 0
+AnEdgeComesToWhatIsKnown = (e : Edge) (known : Assertion) → (over_edge e known).ends ≡ Gives (after_edge known e)
+
+-- A hint's lists, put in fact by fact, give each fact once.
+abbrev pub HintsArePutIn : Type 0
+HintsArePutIn = (lists : Assertion) → (put_in lists).ends ≡ Gives (each_once lists)
+
 -- where none of its sizes is more than n, the course comes to no more than n facts
 abbrev pub StaysWithin : ℕ → Course Assertion → Type 0
 StaysWithin n c = (after : Assertion) → AllByRecursion (λ s. s ≤ n) c.sizes → c.ends ≡ Gives after → size after ≤ n
 
--- From no more than n facts, over whatever steps and lines, sizes tell where more than n are known.
+-- At a block's start, and from no more than n facts over whatever steps, lines and edges, sizes tell where more than n are known.
 pub record SizesBoundWhatIsKnown : Type 0 where
-  pub over_steps : (n : ℕ) (w : Beside) (steps : List PlacedStep) (known : Assertion) → size known ≤ n → StaysWithin n (after_steps w steps known)
+  pub at_a_start : (n : ℕ) (lists : Assertion) → StaysWithin n (put_in lists)
+  pub over_steps : (n : ℕ) (w : Beside) (steps : List HintStep) (known : Assertion) → size known ≤ n → StaysWithin n (after_steps w steps known)
   pub over_a_line : (n : ℕ) (l : Line) (known : Assertion) → size known ≤ n → StaysWithin n (over_line l known)
+  pub over_an_edge : (n : ℕ) (e : Edge) (known : Assertion) → size known ≤ n → StaysWithin n (over_edge e known)
 
 -- how facts are counted: checks written out, with all of their sizes
 pub record FactsAreCounted : Type 0 where
   -- The facts of both sides are counted together: two of the source and two of the target after a line of both, two more of the
   -- source after a line of its own, and one of a step. The second step adds what is there already, and no size.
-  pub of_both_sides : function_judged taking_all (defining (adds_zero 2 0 ∷ adds_zero 3 2 ∷ []) 2) (defining (adds_zero 2 0 ∷ []) 2)
-      (hinting (Both ∷ Source ∷ []) (concluding 2 [] Tgt ∷ concluding 2 [] Tgt ∷ []))
+  pub of_both_sides : function_judged (taking_all (defining (adds_zero 2 0 ∷ adds_zero 3 2 ∷ []) 2) (defining (adds_zero 2 0 ∷ []) 2)
+      (hinting (Both ∷ Source ∷ []) (concluding 2 [] Tgt ∷ concluding 2 [] Tgt ∷ [])))
       ≡ Good (1 ∷ 2 ∷ 3 ∷ 4 ∷ 5 ∷ 6 ∷ 7 ∷ [])
   -- The same fact is counted of each side. A refusal comes after the sizes before it.
-  pub up_to_a_refusal : function_judged taking_all (defining [] 0) (defining [] 0)
-      (hinting [] (concluding 0 [] Src ∷ concluding 0 [] Tgt ∷ concluding 0 (0 ∷ []) Tgt ∷ []))
+  pub up_to_a_refusal : function_judged (taking_all (defining [] 0) (defining [] 0)
+      (hinting [] (concluding 0 [] Src ∷ concluding 0 [] Tgt ∷ concluding 0 (0 ∷ []) Tgt ∷ [])))
       ≡ Bad (1 ∷ 2 ∷ []) (Number 1) (spot.Line 0) (UnknownRule (0 ∷ []))
   -- A line of both sides adds to the source's facts before those of the target go.
-  pub source_first : function_judged taking_all (defining (adds_zero 2 0 ∷ []) 2) (defining (adds_zero 2 0 ∷ adds_zero 2 0 ∷ []) 2)
-      (hinting (Target ∷ Both ∷ []) [])
+  pub source_first : function_judged (taking_all (defining (adds_zero 2 0 ∷ []) 2) (defining (adds_zero 2 0 ∷ adds_zero 2 0 ∷ []) 2)
+      (hinting (Target ∷ Both ∷ []) []))
       ≡ Good (1 ∷ 2 ∷ 3 ∷ 4 ∷ 3 ∷ 4 ∷ [])
+  -- Over an edge each fact is there twice, as it is and as it was: two of the source, and then two of the target.
+  pub along_an_edge : function_judged (taking_all by_line by_line (record { blocks = [] })) ≡ Good (1 ∷ 2 ∷ 3 ∷ 4 ∷ 5 ∷ 6 ∷ 7 ∷ 8 ∷ [])
+  -- Over an edge with phis: one copy beside its original, which goes, as a phi sets its register; then four facts of two phis, of either side.
+  pub over_phis : (over_edge swap before_swap).sizes ≡ 2 ∷ 2 ∷ 3 ∷ 4 ∷ 5 ∷ 6 ∷ 7 ∷ 8 ∷ 9 ∷ []
 
 -- Where an assertion holds of two sides and an aligned line is allowed, the two lines lead them to sides of which holds what `after_line`
 -- gives, unless the source's line is undefined behaviour. So where the target's line is, the source's is.
@@ -127,8 +148,29 @@ MatchedOperandsAreRelated = (known : Assertion) (source target : SideState) (a b
     → AssertionHolds known source target → matched known a b ≡ true
     → IsRelated (operand_value (read source.now) a) (operand_value (read target.now) b)
 
--- Where the rules are sound, and each pair of functions of two modules has one signature and is accepted under some hint,
--- the target refines the source.
+-- no two phis of a block set one register, as in every well-formed function
+abbrev pub AreApart : List Phi → Type 0
+AreApart phis = AreNew [] (map (λ (p : Phi). p.name) phis)
+
+abbrev pub ArePhisApart : Function → Type 0
+ArePhisApart f = AllByRecursion (λ (b : Block). AreApart b.phis) f.blocks
+
+-- In a module of well-formed shape no two phis of a block set one register.
+abbrev pub ShapesKeepPhisApart : Type 0
+ShapesKeepPhisApart = (m : Module) → HasShape m → AllByRecursion ArePhisApart (definitions_of m)
+
+-- a side behind the phis of a block that it enters from that one: its old registers are those before the edge
+abbrev pub crossed : Name → List Phi → SideState → SideState
+crossed from phis side = record side { now = with_phis side.now from phis side.now; old = side.now }
+
+-- Where an assertion holds of two sides, and each crosses the edge with its phis, what `after_edge` gives holds of the two behind them.
+abbrev pub AnEdgeKeepsWhatHolds : Type 0
+AnEdgeKeepsWhatHolds = (known : Assertion) (e : Edge) (source target : SideState) → AreApart e.source → AreApart e.target
+    → AssertionHolds known source target → AssertionHolds (after_edge known e) (crossed e.from e.source source) (crossed e.from e.target target)
+
+-- Where the rules are sound, no two phis of a block set one register, and each pair of functions of two modules has one signature and is
+-- accepted under some hint, the target refines the source.
 abbrev pub AcceptedModulesRefine : Type 0
 AcceptedModulesRefine = (rules : Rules) (source target : Module) → AreSound rules
-    → AreAccepted (beside rules source) (definitions_of source) (definitions_of target) → Refines source target
+    → AllByRecursion ArePhisApart (definitions_of source) → AllByRecursion ArePhisApart (definitions_of target)
+    → AreAccepted rules (scope_of source) (definitions_of source) (definitions_of target) → Refines source target

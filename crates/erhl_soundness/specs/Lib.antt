@@ -1,2 +1,4 @@
 pub mod Examples
+pub mod FlowExamples
+pub mod FlowLaws
 pub mod Laws

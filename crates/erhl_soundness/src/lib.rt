@@ -1,12 +1,13 @@
 //! The soundness of the checker's logic: what it accepts refines. Laws over definitions alone, each the contract of a function
 //! that does nothing; callers take the law from the contract.
 //!
-//! This is the soundness theorem of Crellvm (Kang et al., PLDI 2018) for functions of one block, proved for the definitions of
+//! This is the soundness theorem of Crellvm (Kang et al., PLDI 2018) for functions with control flow, proved for the definitions of
 //! `erhl_assert` (the logic) and `ir_machine` (what a module can show). Checking each result of an optimiser by a proved checker,
 //! in place of proving the optimiser, is credible compilation (Rinard).
 #![tactic(auto)]
 
-ghost use Rattle.erhl_soundness.specs.Laws.{ALineComesToWhatIsKnown, SizesBoundWhatIsKnown, FactsAreCounted, LinesAreJudged, ALineKeepsWhatHolds, MatchedOperandsAreRelated, AcceptedModulesRefine};
+ghost use Rattle.erhl_soundness.specs.Laws.{ALineComesToWhatIsKnown, AnEdgeComesToWhatIsKnown, HintsArePutIn, SizesBoundWhatIsKnown, FactsAreCounted, LinesAreJudged, ALineKeepsWhatHolds, AnEdgeKeepsWhatHolds, MatchedOperandsAreRelated, ShapesKeepPhisApart, AcceptedModulesRefine};
+ghost use Rattle.erhl_soundness.specs.FlowLaws.{ControlFlowIsJudged, PhisMustBeApart};
 
 /// Empty on purpose: its contract is the law.
 ///
@@ -14,6 +15,20 @@ ghost use Rattle.erhl_soundness.specs.Laws.{ALineComesToWhatIsKnown, SizesBoundW
 /// refuses before any fact is added.
 pub fn a_line_comes_to_what_is_known()
     ensures { ALineComesToWhatIsKnown }
+{}
+
+/// Empty on purpose: its contract is the law.
+///
+/// Over an edge, fact by fact, a check comes to what the postcondition gives, before the edge's steps.
+pub fn an_edge_comes_to_what_is_known()
+    ensures { AnEdgeComesToWhatIsKnown }
+{}
+
+/// Empty on purpose: its contract is the law.
+///
+/// The facts that a hint claims at a block's start are put in one by one, and each is known once.
+pub fn hints_are_put_in()
+    ensures { HintsArePutIn }
 {}
 
 /// Empty on purpose: its contract is the law.
@@ -29,6 +44,14 @@ pub fn sizes_bound_what_is_known()
 /// How many facts are known in the course of a check, in checks that are written out.
 pub fn facts_are_counted()
     ensures { FactsAreCounted }
+{}
+
+/// Empty on purpose: its contract is the law.
+///
+/// What is judged of edges, phis, ghost registers and loops, in checks that are written out: a line is moved out of a loop, steps on an edge
+/// speak of registers before it, two phis change places, and a ghost register is chosen again.
+pub fn control_flow_is_judged()
+    ensures { ControlFlowIsJudged }
 {}
 
 /// Empty on purpose: its contract is the law.
@@ -49,6 +72,14 @@ pub fn a_line_keeps_what_holds()
 
 /// Empty on purpose: its contract is the law.
 ///
+/// Two sides of which an assertion holds come, behind the phis of an edge that are apart, to two sides of which holds what the
+/// postcondition gives; their old registers are those before the edge, and their ghost registers stay.
+pub fn an_edge_keeps_what_holds()
+    ensures { AnEdgeKeepsWhatHolds }
+{}
+
+/// Empty on purpose: its contract is the law.
+///
 /// Where an assertion holds of two sides and two operands are matched, the source's value and the target's are related.
 pub fn matched_operands_are_related()
     ensures { MatchedOperandsAreRelated }
@@ -56,9 +87,23 @@ pub fn matched_operands_are_related()
 
 /// Empty on purpose: its contract is the law.
 ///
-/// Where every step that the rules take is sound, and each pair of functions of two modules is accepted under some hint, the
-/// target refines the source: whichever function is entered, on whatever input, what the target can show the source can show
+/// The soundness theorem's premise on phis is met by every module of well-formed shape.
+pub fn shapes_keep_phis_apart()
+    ensures { ShapesKeepPhisApart }
+{}
+
+/// Empty on purpose: its contract is the law.
+///
+/// Where every step that the rules take is sound, no two phis of a block set one register, and each pair of functions of two modules
+/// is accepted under some hint, the target refines the source: whichever function is entered, on whatever input, what the target can show the source can show
 /// too, or it has undefined behaviour after a first part of it.
 pub fn accepted_modules_refine()
     ensures { AcceptedModulesRefine }
+{}
+
+/// Empty on purpose: its contract is the law.
+///
+/// The theorem needs its premise: there are modules that are accepted and don't refine, of which a block has two phis of one register.
+pub fn phis_must_be_apart()
+    ensures { PhisMustBeApart }
 {}

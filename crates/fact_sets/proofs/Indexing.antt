@@ -1,5 +1,5 @@
 -- What is indexed stays so where things are added or taken out, and no register is spoken of whose name isn't there.
-use Rattle.std.proofs.Common.{◌≡◌, ◌∙◌, Bool, true, false, ◌||◌, cond, not, filter, List, [], ◌∷◌, ◌++◌, refl, sym, ap, subst}
+use Rattle.std.proofs.Common.{◌≡◌, ◌∙◌, Bool, true, false, ◌||◌, cond, not, filter, List, [], ◌∷◌, ◌++◌, refl, sym, ap}
 use Rattle.std.proofs.lemmas.List.Folds.{list_any-append}
 use Rattle.std.specs.List.{list_any}
 use Rattle.indexmap.specs.IndexSet.{insert_key}
@@ -9,7 +9,7 @@ use Rattle.ir_core.specs.Same.{same_name, same_reg}
 use Rattle.ir_core.specs.NameLaws.{same_name_refl}
 use Rattle.ir_core.proofs.SameLaws.{same_reg_true}
 use Rattle.erhl_assert.specs.Named.{name_of}
-use Rattle.fact_sets.specs.Names.{with_registers, IsIndexed}
+use Rattle.fact_sets.specs.Names.{IsIndexed}
 
 pub true_or_false : (b : Bool) → (b ≡ true → ⊥) → b ≡ false
 true_or_false true h = absurd (h refl)
@@ -40,33 +40,8 @@ insert_has k names = (elim (list_any (same_name k) names) as (λ b. list_any (sa
 pub register_has : (r s : Reg) (names : List Name) → same_reg r s ≡ true → Has (name_of r) (insert_key same_name names (name_of s))
 register_has r s names h = let e : r ≡ s = same_reg_true r s h in let here = insert_has (name_of r) names in rw (← e) here
 
-registers_keep : (n : Name) (rs : List Reg) (names : List Name) → Has n names → Has n (with_registers rs names)
-registers_keep n [] names h = h
-registers_keep n (r ∷ rs) names h = registers_keep n rs _ (insert_keeps n (name_of r) names h)
-
-registers_have : (r : Reg) (rs : List Reg) (names : List Name) → list_any (same_reg r) rs ≡ true → Has (name_of r) (with_registers rs names)
-registers_have r [] names h = cc
-registers_have r (s ∷ rs) names h =
-    or_cases (same_reg r s) (list_any (same_reg r) rs) h (λ k. registers_keep _ rs _ (register_has r s names k)) (λ k. registers_have r rs _ k)
-
 pub any_append : {X : Type 0} (p : X → Bool) (xs : List X) (x : X) → list_any p (xs ++ x ∷ []) ≡ true → (list_any p xs || p x) ≡ true
 any_append p xs x h = (elim (p x) as (λ b. (list_any p xs || (b || false)) ≡ true → (list_any p xs || b) ≡ true) [ true ↦ λ e. e | false ↦ λ e. e ]) (sym (list_any-append p xs (x ∷ [])) ∙ h)
-
--- all registers of a list
-pub registers_indexed : (rs : List Reg) (names : List Name) → IsIndexed same_reg (with_registers rs names) rs
-unfolding IsIndexed
-registers_indexed rs names r h = registers_have r rs names h
-
--- one name more
-pub name_indexed : {X : Type 0} (speaks_of : Reg → X → Bool) (names : List Name) (xs : List X) (n : Name) → IsIndexed speaks_of names xs → IsIndexed speaks_of (insert_key same_name names n) xs
-unfolding IsIndexed
-name_indexed speaks_of names xs n indexed r h = insert_keeps _ n names (indexed r h)
-
--- one register more
-pub register_indexed : (names : List Name) (rs : List Reg) (s : Reg) → IsIndexed same_reg names rs → IsIndexed same_reg (insert_key same_name names (name_of s)) (rs ++ s ∷ [])
-unfolding IsIndexed
-register_indexed names rs s indexed r h =
-    or_cases (list_any (same_reg r) rs) (same_reg r s) (any_append (same_reg r) rs s h) (λ k. insert_keeps _ _ names (indexed r k)) (λ k. register_has r s names k)
 
 any_filter : {X : Type 0} (p q : X → Bool) (xs : List X) → list_any p (filter q xs) ≡ true → list_any p xs ≡ true
 any_filter p q [] h = h

@@ -1,5 +1,5 @@
 -- What is indexed stays so where a fact is added, or names alone.
-use Rattle.std.proofs.Common.{◌≡◌, ◌∙◌, Bool, true, false, ◌||◌, cond, List, [], ◌∷◌, ◌++◌, refl, sym, ap, subst}
+use Rattle.std.proofs.Common.{◌≡◌, ◌∙◌, true, false, ◌||◌, cond, List, [], ◌∷◌, ◌++◌, sym, ap}
 use Rattle.std.specs.List.{list_any}
 use Rattle.indexmap.specs.IndexSet.{insert_key}
 use Rattle.ir_core.specs.declared.names.Name.{Name}
@@ -11,7 +11,7 @@ use Rattle.ir_core.specs.Same.{same_name, same_reg}
 use Rattle.ir_core.specs.Expressions.{Expr0, atom_has}
 use Rattle.erhl_assert.specs.declared.facts.Fact.{Fact}
 use Rattle.erhl_assert.specs.declared.facts.Fact.TheVariants.{LessDef}
-use Rattle.erhl_assert.specs.Facts.{same_fact, expr_names, fact_names, with_fact, has_fact}
+use Rattle.erhl_assert.specs.Facts.{expr_names, fact_names, with_fact, has_fact}
 use Rattle.erhl_assert.specs.Named.{name_of}
 use Rattle.fact_sets.proofs.Indexing.{Has, or_cases, any_append, insert_keeps, register_has}
 use Rattle.fact_sets.specs.Names.{with_atom, with_expr, with_named, IsKept, IsIndexed}

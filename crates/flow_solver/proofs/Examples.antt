@@ -1,7 +1,7 @@
 -- Paths and ways through two graphs.
 use Rattle.std.proofs.Common.{◌≡◌, ◌⊎◌, inl, inr, ℕ, suc, zero, ◌<◌, Bool, true, false, List, [], ◌∷◌, length, get_or, refl, subst, arith}
 use Rattle.std.specs.List.{AllByRecursion, Contains}
-use Rattle.flow_solver.specs.Examples.{NodesOfLoops, NodesPassed, WaysPart, circling, looping, parting}
+use Rattle.flow_solver.specs.Examples.{NodesNear, NodesOfLoops, NodesPassed, WaysPart, circling, looping, parting}
 use Rattle.flow_solver.specs.Ways.{IsBefore, IsPassed, IsPath, Leads, last_of, led_to}
 
 of_all : (xs : List ℕ) (m k : ℕ) → k < length xs → get_or xs k m ≡ m → AllByRecursion (λ n. n < 3) xs → m < 3
@@ -26,6 +26,9 @@ nodes_of_loops = (
   (2 ∷ [], ((1, omega arith, refl), tt), refl),
   λ reached. let less : 3 < 3 = subst (λ n. n < 3) reached.2 (stays 0 reached.0 (omega arith) reached.1) in absurd (omega arith),
 )
+
+pub nodes_near : NodesNear
+nodes_near = (refl, refl, refl, refl)
 
 abbrev FirstTo : List ℕ → List ℕ → Type 0
 FirstTo turns others = (turns ≡ others) ⊎ IsBefore turns others

@@ -11,5 +11,5 @@ mod walk;
 
 pub use dominance::{Dominators, dominators_of};
 pub use graph::Graph;
-pub use laws::examples_of_ways;
+pub use laws::{examples_of_ways, reached_nodes_are_reached};
 pub use reached::{first_way, reachable};

@@ -5,18 +5,23 @@ ghost use Rattle.ir_grammar.specs.Rules as rule;
 ghost use Rattle.ir_grammar.specs.Sorts.{vocabulary};
 ghost use Rattle.typed_grammars.specs.Typed.{action};
 
+use crate::atoms::{ExactnessPart, IntPart, NamePart, ResultPart, ValuePart};
 use crate::flow;
-use crate::forms::{
-    BlockPart, BlocksPart, BodyPart, CastPart, DefinitionPart, ExactPart, ExactnessPart, FlagPart,
-    FlagsPart, GlobalPart, IntPart, LabelPart, LinePart, LinesPart, LocalPart, ModulePart,
-    NamePart, OperandPart, OperationPart, OperatorPart, OverflowPart, ParamPart, ParamsPart,
-    PlainPart, PredPart, ResultPart, ReturnedPart, TermPart, ValuePart, WidthPart, take,
+use crate::forms::take;
+use crate::leaves::{
+    CastPart, ExactPart, FlagPart, GlobalPart, LabelPart, LocalPart, OverflowPart, PlainPart,
+    PredPart, WidthPart,
+};
+use crate::lists::{BlocksPart, FlagsPart, LinesPart, ParamsPart};
+use crate::trees::{
+    BlockPart, BodyPart, DefinitionPart, LinePart, ModulePart, OperandPart, OperationPart,
+    OperatorPart, ParamPart, ReturnedPart, TermPart,
 };
 use contents::Boxed;
 use ir_grammar::{
     Atom, BinaryText, BlockText, CastText, CompareText, DefinitionText, ExprText, Leaf, LineText,
-    List, ModuleText, OperandText, OperationText, OperatorText, ParamText, Part, SelectText, Tree,
-    ValueText,
+    List, ModuleText, OperandText, OperationText, OperatorText, ParamText, Part, SelectText, Tag,
+    Tree, ValueText,
 };
 use std::alloc::{AllocError, Global};
 use typed_grammars::Stack;
@@ -428,6 +433,28 @@ fn local(parts: &mut Stack<Part>) -> Result<(), AllocError>
     parts.push(Part::Atom(Atom::Value(ValueText::Local(name))))
 }
 
+/// `old LOCAL` as a value
+fn old_register(parts: &mut Stack<Part>) -> Result<(), AllocError>
+    ensures { OnOk result (parts.new ≡ action vocabulary rule.old_register parts.old) }
+{
+    let Some(name) = take::<LocalPart>(parts) else {
+        return Ok(());
+    };
+    let tag = Tag::Old;
+    parts.push(Part::Atom(Atom::Value(ValueText::Tagged { tag, name })))
+}
+
+/// `ghost LOCAL` as a value
+fn ghost_register(parts: &mut Stack<Part>) -> Result<(), AllocError>
+    ensures { OnOk result (parts.new ≡ action vocabulary rule.ghost_register parts.old) }
+{
+    let Some(name) = take::<LocalPart>(parts) else {
+        return Ok(());
+    };
+    let tag = Tag::Ghost;
+    parts.push(Part::Atom(Atom::Value(ValueText::Tagged { tag, name })))
+}
+
 /// `TYPE value` as an expression.
 fn expression_operand(parts: &mut Stack<Part>, alloc: Global) -> Result<(), AllocError>
     ensures { OnOk result (parts.new ≡ action vocabulary rule.expression_operand parts.old) }
@@ -535,6 +562,8 @@ pub fn reduce(parts: &mut Stack<Part>, alloc: Global, p: u16) -> Result<(), Allo
         59 => flow::case(parts, alloc),
         60 => flow::number(parts),
         61 => flow::truth(parts),
+        62 => old_register(parts),
+        63 => ghost_register(parts),
         _ => Ok(()),
     }
 }

@@ -6,10 +6,13 @@ ghost use Rattle.ir_grammar.specs.Rules as rule;
 ghost use Rattle.ir_grammar.specs.Sorts.{vocabulary};
 ghost use Rattle.typed_grammars.specs.Typed.{action};
 
-use crate::forms::{
-    BehindPart, BlockPart, BlocksPart, BodyPart, BranchPart, CasePart, CasesPart, EntriesPart,
-    EntryPart, IntPart, LinesPart, LocalPart, NamePart, NodePart, NumberPart, OperandPart,
-    OperationPart, ReturnedPart, TruthPart, ValuePart, WidthPart, take,
+use crate::atoms::{IntPart, NamePart, ValuePart};
+use crate::forms::take;
+use crate::leaves::{LocalPart, NumberPart, TruthPart, WidthPart};
+use crate::lists::{BlocksPart, CasesPart, EntriesPart, LinesPart};
+use crate::trees::{
+    BehindPart, BlockPart, BodyPart, BranchPart, CasePart, EntryPart, NodePart, OperandPart,
+    OperationPart, ReturnedPart,
 };
 use contents::Boxed;
 use ir_core::Name;

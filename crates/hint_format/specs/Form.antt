@@ -1,6 +1,6 @@
 -- The form of a hint file, as far as it is read, as one function of the file's JSON value: it answers the hints, or what is first at
 -- fault. A value is judged before what it holds, and members in the order of their bytes.
-use Rattle.std.specs.Prelude.{◌≡◌, ◌⊎◌, ◌<◌, ℕ, ◌==◌, Bool, List, [], ◌∷◌, ◌++◌, length, map, codes, if◌then◌else◌, Option, option_and_then, Ok, Err}
+use Rattle.std.specs.Prelude.{◌≡◌, ◌⊎◌, ◌<◌, ℕ, ◌==◌, ◌||◌, not, Bool, true, false, List, [], ◌∷◌, ◌++◌, length, map, drop, take, codes, if◌then◌else◌, Option, Some, None, option_and_then, Ok, Err}
 use Rattle.std.specs.List.{list_any}
 use Rattle.std.specs.Str.{bytes_eq}
 use Rattle.serde_json.specs.Data.{Data, string, array, no_items, item}
@@ -10,7 +10,9 @@ use Rattle.ir_core.specs.declared.limits.Limit.TheVariants as limit
 use Rattle.ir_core.specs.declared.names.Name.{Name}
 use Rattle.ir_core.specs.declared.names.Sigil.{Sigil}
 use Rattle.ir_core.specs.declared.names.Sigil.TheVariants.{Local, Global}
-use Rattle.ir_core.specs.Expressions.{Expr0}
+use Rattle.ir_core.specs.declared.expressions.Reg.{Reg}
+use Rattle.ir_core.specs.declared.expressions.Reg.TheVariants.{Now, Old, Ghost}
+use Rattle.ir_core.specs.Expressions.{Expr0, expr_has}
 use Rattle.ir_core.specs.Limits.{text_limit}
 use Rattle.ir_core.specs.Same.{same_name}
 use Rattle.ir_spelling.specs.Faults.{IsShort}
@@ -22,11 +24,16 @@ use Rattle.erhl_assert.specs.declared.facts.Side.{Side}
 use Rattle.erhl_assert.specs.declared.facts.Side.TheVariants.{Src, Tgt}
 use Rattle.erhl_assert.specs.declared.hints.Letter.{Letter}
 use Rattle.erhl_assert.specs.declared.hints.Letter.TheVariants.{Both, Source, Target}
-use Rattle.erhl_assert.specs.declared.hints.HintStep.TheVariants.{Rule}
+use Rattle.erhl_assert.specs.declared.hints.HintStep.{HintStep}
+use Rattle.erhl_assert.specs.declared.hints.HintStep.TheVariants as step
+use Rattle.erhl_assert.specs.declared.hints.HintEdge.{HintEdge}
 use Rattle.erhl_assert.specs.declared.hints.PlacedStep.{PlacedStep}
 use Rattle.erhl_assert.specs.declared.hints.HintBlock.{HintBlock}
 use Rattle.erhl_assert.specs.declared.hints.FunctionHint.{FunctionHint}
 use Rattle.erhl_assert.specs.declared.hints.Hints.{Hints}
+use Rattle.erhl_assert.specs.Edges.{is_old}
+use Rattle.hint_format.specs.declared.steps.StepKind.{StepKind}
+use Rattle.hint_format.specs.declared.steps.StepKind.TheVariants.{ByRule, ByGhost, BySame}
 use Rattle.json_forms.specs.declared.failure.Fault.{Fault}
 use Rattle.json_forms.specs.declared.failure.Fault.TheVariants.{Past}
 use Rattle.json_forms.specs.Answers.{IsReading}
@@ -59,6 +66,32 @@ abbrev pub AreLeaves : Leaves → Type 0
 AreLeaves leaves = ((text : List ℕ) → IsTextReading SpellsExpression text (leaves.expression text))
     × ((sigil : Sigil) (text : List ℕ) → IsTextReading (IsNameText sigil) text (leaves.name sigil text))
 
+-- ---- registers and expressions
+
+-- Where an old register may not stand, a text that names one is itself at fault, once it is a text of its form.
+abbrev pub expression_of_text : Leaves → Bool → List ℕ → Reading Expr0
+expression_of_text leaves may_be_old text =
+    read_then (leaves.expression text) (λ e. if may_be_old || not (expr_has is_old e) then Ok e else Err here)
+
+-- what stands behind a word with which the text begins
+abbrev pub behind : List ℕ → List ℕ → Option (List ℕ)
+behind word text = if bytes_eq (take (length word) text) word then Some (drop (length word) text) else None
+
+abbrev pub old_register : Bool → Name → Reading Reg
+old_register may_be_old name = if may_be_old then Ok (Old name) else Err here
+
+abbrev pub ghost_or_now : Leaves → List ℕ → Option (List ℕ) → Reading Reg
+ghost_or_now leaves text (Some rest) = read_then (leaves.name Local rest) (λ name. Ok (Ghost name))
+ghost_or_now leaves text None = read_then (leaves.name Local text) (λ name. Ok (Now name))
+
+abbrev pub old_or_other : Leaves → Bool → List ℕ → Option (List ℕ) → Reading Reg
+old_or_other leaves may_be_old text (Some rest) = read_then (leaves.name Local rest) (old_register may_be_old)
+old_or_other leaves may_be_old text None = ghost_or_now leaves text (behind (codes "ghost ") text)
+
+-- `%x`, `old %x` or `ghost %x`
+abbrev pub register_of_text : Leaves → Bool → List ℕ → Reading Reg
+register_of_text leaves may_be_old text = old_or_other leaves may_be_old text (behind (codes "old ") text)
+
 -- ---- facts and steps
 
 -- the one kind of fact
@@ -66,11 +99,11 @@ abbrev pub ge_of_text : List ℕ → Reading (Unit {0})
 ge_of_text word = if bytes_eq word (codes "ge") then Ok tt else Err here
 
 -- `["ge", E, E]`. Another length is the fault of the array, also where it begins with `"ge"`; another first entry is at fault itself.
-abbrev pub fact_form : Leaves → Data → Reading Fact
-fact_form leaves d = if count_of d == 3
+abbrev pub fact_form : Leaves → Bool → Data → Reading Fact
+fact_form leaves may_be_old d = if count_of d == 3
     then read_then (item_of 0 (λ e. text_of ge_of_text e) d) (λ _.
-    read_then (item_of 1 (λ e. text_of leaves.expression e) d) (λ a.
-    read_then (item_of 2 (λ e. text_of leaves.expression e) d) (λ b.
+    read_then (item_of 1 (λ e. text_of (expression_of_text leaves may_be_old) e) d) (λ a.
+    read_then (item_of 2 (λ e. text_of (expression_of_text leaves may_be_old) e) d) (λ b.
     Ok (LessDef a b))))
     else Err here
 
@@ -82,15 +115,51 @@ any_text text = Ok text
 abbrev pub side_of_text : List ℕ → Reading Side
 side_of_text word = if bytes_eq word (codes "src") then Ok Src else (if bytes_eq word (codes "tgt") then Ok Tgt else Err here)
 
--- `{"at":0,"from":[],"rule":"zero_right","side":"src","to":["ge","add i32 %x, 0","i32 %x"]}`, its members in any order
-abbrev pub step_form : Leaves → Data → Reading PlacedStep
-step_form leaves d = if has_members (codes "at" ∷ codes "from" ∷ codes "rule" ∷ codes "side" ∷ codes "to" ∷ []) [] d
-    then read_then (member_of (codes "at") u64_of d) (λ at.
-    read_then (member_of (codes "from") (list_of (fact_form leaves)) d) (λ from.
+-- Steps are told apart by their members, of which a step in a block has `at` besides. No other members make a step.
+abbrev pub placed_kind : Data → Option StepKind
+placed_kind d = if has_members (codes "at" ∷ codes "from" ∷ codes "rule" ∷ codes "side" ∷ codes "to" ∷ []) [] d then Some ByRule
+    else (if has_members (codes "at" ∷ codes "ghost" ∷ codes "is" ∷ []) [] d then Some ByGhost
+    else (if has_members (codes "at" ∷ codes "by" ∷ codes "same" ∷ []) [] d then Some BySame else None))
+
+abbrev pub edge_kind : Data → Option StepKind
+edge_kind d = if has_members (codes "from" ∷ codes "rule" ∷ codes "side" ∷ codes "to" ∷ []) [] d then Some ByRule
+    else (if has_members (codes "ghost" ∷ codes "is" ∷ []) [] d then Some ByGhost
+    else (if has_members (codes "by" ∷ codes "same" ∷ []) [] d then Some BySame else None))
+
+abbrev pub step_as : StepKind → Leaves → Bool → Data → Reading HintStep
+step_as ByRule leaves may_be_old d =
+    read_then (member_of (codes "from") (list_of (fact_form leaves may_be_old)) d) (λ from.
     read_then (member_of (codes "rule") (λ e. text_of any_text e) d) (λ rule.
     read_then (member_of (codes "side") (λ e. text_of side_of_text e) d) (λ side.
-    read_then (member_of (codes "to") (fact_form leaves) d) (λ to.
-    Ok (record { at = at; step = Rule (record { rule = rule; side = side; schema = record { from = from; to = to } }) }))))))
+    read_then (member_of (codes "to") (fact_form leaves may_be_old) d) (λ to.
+    Ok (step.Rule (record { rule = rule; side = side; schema = record { from = from; to = to } }))))))
+step_as ByGhost leaves may_be_old d =
+    read_then (member_of (codes "ghost") (λ e. text_of (leaves.name Local) e) d) (λ name.
+    read_then (member_of (codes "is") (λ e. text_of (expression_of_text leaves may_be_old) e) d) (λ value.
+    Ok (step.Ghost (record { register = Ghost name; value = value }))))
+step_as BySame leaves may_be_old d =
+    read_then (member_of (codes "by") (λ e. text_of (expression_of_text leaves may_be_old) e) d) (λ by_.
+    read_then (member_of (codes "same") (λ e. text_of (register_of_text leaves may_be_old) e) d) (λ register.
+    Ok (step.Same (record { register = register; by = by_ }))))
+
+-- `{"at":0,"from":[],"rule":"zero_right","side":"src","to":["ge","add i32 %x, 0","i32 %x"]}`, `{"at":0,"ghost":"%g","is":"i32 %x"}` or
+-- `{"at":0,"by":"i32 ghost %g","same":"%x"}`, its members in any order. No old register stands in it.
+abbrev pub placed_step_form : Leaves → Data → Reading PlacedStep
+placed_step_form leaves d = or_unfit (λ kind.
+    read_then (member_of (codes "at") u64_of d) (λ at.
+    read_then (step_as kind leaves false d) (λ step.
+    Ok (record { at = at; step = step })))) (placed_kind d)
+
+-- the same without `at`, where old registers may stand
+abbrev pub edge_step_form : Leaves → Data → Reading HintStep
+edge_step_form leaves d = or_unfit (λ kind. step_as kind leaves true d) (edge_kind d)
+
+-- `{"to":"%b","steps":[]}`
+abbrev pub edge_form : Leaves → Data → Reading HintEdge
+edge_form leaves d = if has_members (codes "steps" ∷ codes "to" ∷ []) [] d
+    then read_then (member_of (codes "steps") (list_of (edge_step_form leaves)) d) (λ steps.
+    read_then (member_of (codes "to") (λ e. text_of (leaves.name Local) e) d) (λ to.
+    Ok (record { to = to; steps = steps })))
     else Err here
 
 -- ---- blocks
@@ -110,20 +179,22 @@ block_names blocks = map (λ (b : HintBlock). b.at) blocks
 abbrev pub has_block : Name → List HintBlock → Bool
 has_block name blocks = list_any (same_name name) (block_names blocks)
 
--- nothing is claimed at the block's start
-abbrev pub hint_block : Name → Option (List Letter) → List PlacedStep → HintBlock
-hint_block name lines steps = record { at = name; lines = lines; entry = record { src = []; tgt = []; diff = [] }; steps = steps }
-
--- the hint of the block of that name: `lines` and `steps` may be left out
+-- the hint of the block of that name: all other members may be left out
 abbrev pub named_block : Leaves → Name → Data → Reading HintBlock
 named_block leaves name d =
+    read_then (optional_list_of (codes "diff") (λ e. text_of (register_of_text leaves false) e) d) (λ diff.
+    read_then (optional_list_of (codes "edges") (edge_form leaves) d) (λ edges.
     read_then (optional_of (codes "lines") (λ e. text_of (letters_of []) e) d) (λ lines.
-    read_then (optional_list_of (codes "steps") (step_form leaves) d) (λ steps.
-    Ok (hint_block name lines steps)))
+    read_then (optional_list_of (codes "src") (fact_form leaves false) d) (λ src.
+    read_then (optional_list_of (codes "steps") (placed_step_form leaves) d) (λ steps.
+    read_then (optional_list_of (codes "tgt") (fact_form leaves false) d) (λ tgt.
+    Ok (record { at = name; lines = lines; entry = record { src = src; tgt = tgt; diff = diff }; steps = steps; edges = edges })))))))
 
--- `{"at":"%0","lines":"bs","steps":[]}`, in which only `at` must stand. Of two blocks with one name the second is at fault, at `/at`.
+-- `{"at":"%0","diff":["%x"],"edges":[],"lines":"bs","src":[],"steps":[],"tgt":[]}`, in which only `at` must stand. Of two blocks with one
+-- name the second is at fault, at `/at`.
 abbrev pub block_form : Leaves → List HintBlock → Data → Reading HintBlock
-block_form leaves before d = if has_members (codes "at" ∷ []) (codes "lines" ∷ codes "steps" ∷ []) d
+block_form leaves before d =
+    if has_members (codes "at" ∷ []) (codes "diff" ∷ codes "edges" ∷ codes "lines" ∷ codes "src" ∷ codes "steps" ∷ codes "tgt" ∷ []) d
     then read_then (member_of (codes "at") (λ e. text_of (leaves.name Local) e) d) (λ name.
     if has_block name before then Err (within (key_step (codes "at")) here) else named_block leaves name d)
     else Err here

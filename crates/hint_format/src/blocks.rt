@@ -1,13 +1,14 @@
-ghost use Rattle.std.specs.Prelude.{◌≡◌, []};
+ghost use Rattle.std.specs.Prelude.{◌≡◌, [], IfOk};
 ghost use Rattle.serde_json.specs.View.{view};
 ghost use Rattle.json_forms.specs.Answers.{Answers};
-ghost use Rattle.hint_format.specs.Form.{block_form, block_names, hint_block, letter_of, letters_of, named_block};
+ghost use Rattle.hint_format.specs.Form.{block_form, block_names, letter_of, letters_of, named_block};
 ghost use Rattle.hint_format.specs.Reading.{read_leaves};
 
-use crate::steps::StepForm;
-use crate::texts::NameText;
+use crate::facts::FactForm;
+use crate::steps::{EdgeForm, PlacedStepForm};
+use crate::texts::{NameText, RegisterText};
 use contents::Seq;
-use erhl_assert::{Assertion, HintBlock, Letter, PlacedStep};
+use erhl_assert::{Assertion, HintBlock, Letter};
 use ir_core::{Name, Sigil};
 use json_forms::{
     Failure, RowForm, Text, TextForm, has_members, member, optional, optional_list, under_key,
@@ -41,7 +42,8 @@ impl RowForm for BlockForm {
         _before: &[HintBlock],
         value: &Value,
     ) -> Result<HintBlock, Failure> {
-        if !has_members(value, &["at"], &["lines", "steps"]) {
+        let optional = ["diff", "edges", "lines", "src", "steps", "tgt"];
+        if !has_members(value, &["at"], &optional) {
             return Err(unfit(alloc));
         }
         let sigil = Sigil::Local;
@@ -55,32 +57,23 @@ impl RowForm for BlockForm {
 
 /// The hint of the block of that name.
 fn named_block(alloc: Global, name: Name, value: &Value) -> Result<HintBlock, Failure>
-    ensures { Answers result (named_block read_leaves name (view value.now)) }
+    ensures answers { Answers result (named_block read_leaves name (view value.now)) }
+    ensures named { IfOk result (λ block. block.at ≡ name) }
 {
+    let may_be_old = false;
+    let diff = optional_list(alloc, value, "diff", &Text(RegisterText { may_be_old }))?;
+    let edges = optional_list(alloc, value, "edges", &EdgeForm)?;
     let lines = optional(alloc, value, "lines", &Text(LettersText))?;
-    let steps = optional_list(alloc, value, "steps", &StepForm)?;
-    Ok(hint_block(alloc, name, lines, steps))
-}
-
-/// Nothing is claimed at the block's start.
-fn hint_block(
-    alloc: Global,
-    name: Name,
-    lines: Option<Seq<Letter>>,
-    steps: Seq<PlacedStep>,
-) -> HintBlock
-    ensures { result ≡ hint_block name lines steps }
-{
-    HintBlock {
+    let src = optional_list(alloc, value, "src", &FactForm { may_be_old })?;
+    let steps = optional_list(alloc, value, "steps", &PlacedStepForm)?;
+    let tgt = optional_list(alloc, value, "tgt", &FactForm { may_be_old })?;
+    Ok(HintBlock {
         at: name,
         lines,
-        entry: Assertion {
-            src: Seq::new(alloc),
-            tgt: Seq::new(alloc),
-            diff: Seq::new(alloc),
-        },
+        entry: Assertion { src, tgt, diff },
         steps,
-    }
+        edges,
+    })
 }
 
 /// One letter for each line.

@@ -11,20 +11,23 @@ use std::alloc::Global;
 
 /// A fact, `["ge", E, E]`.
 #[derive(Drop)]
-pub(crate) struct FactForm;
+pub(crate) struct FactForm {
+    pub may_be_old: bool,
+}
 
 impl Form for FactForm {
     type Value = Fact;
 
-    ghost form = { λ _. fact_form read_leaves };
+    ghost form = { λ it. fact_form read_leaves it.may_be_old };
 
     fn read(&self, alloc: Global, value: &Value) -> Result<Fact, Failure> {
         if item_count(value) != 3 {
             return Err(unfit(alloc));
         }
+        let may_be_old = self.may_be_old;
         item(alloc, value, 0, &Text(GeText))?;
-        let greater = item(alloc, value, 1, &Text(ExpressionText))?;
-        let lesser = item(alloc, value, 2, &Text(ExpressionText))?;
+        let greater = item(alloc, value, 1, &Text(ExpressionText { may_be_old }))?;
+        let lesser = item(alloc, value, 2, &Text(ExpressionText { may_be_old }))?;
         Ok(Fact::LessDef(greater, lesser))
     }
 }

@@ -17,10 +17,11 @@ use Rattle.ir_grammar.specs.declared.operators.PlainOp.TheVariants as flagless
 use Rattle.ir_grammar.specs.declared.trees.OperatorText.{OperatorText}
 use Rattle.ir_grammar.specs.declared.trees.OperatorText.TheVariants as operators
 use Rattle.ir_grammar.specs.declared.words.KeyWord.TheVariants as key
+use Rattle.ir_grammar.specs.declared.words.Language.TheVariants.{Logic}
 use Rattle.ir_grammar.specs.declared.words.Word.{Word}
 use Rattle.ir_grammar.specs.Operators.{exact_op, operator_op, overflow_op, plain_op}
 use Rattle.ir_grammar.specs.Symbols.{Flag, symbol_at, word_symbol}
-use Rattle.ir_grammar.specs.Words.{word_said}
+use Rattle.ir_grammar.specs.Words.{word_of}
 use Rattle.ir_grammar.specs.Written as write
 use Rattle.ir_naming.specs.Values.{flags_of}
 use Rattle.hint_laws.proofs.Places.{AreSymbols}
@@ -32,13 +33,13 @@ pub record IsOperator (op : BinOp) (flags : Flags) : Type 0 where
   pub text : OperatorText
   pub op_is : op ≡ operator_op text
   pub flags_are : flags ≡ flags_of text
-  pub symbols : AreSymbols (kinds.word (words.op_word op) ∷ kinds.flags flags) (write.operator text)
+  pub symbols : AreSymbols Logic (kinds.word (words.op_word op) ∷ kinds.flags flags) (write.operator text)
 
 abbrev of : Bool → Bool → Bool → Flags
 of nuw nsw exact = record { nuw = nuw; nsw = nsw; exact = exact }
 
--- the symbol of a word, wherever it stands
-pub at_any : (w : List ℕ) (said : Word) → word_said w ≡ said → (start end : ℕ) → symbol_at (kinds.word w) start end ≡ word_symbol said start end
+-- the symbol of a word of an expression, wherever it stands
+pub at_any : (w : List ℕ) (said : Word) → word_of Logic w ≡ said → (start end : ℕ) → symbol_at Logic (kinds.word w) start end ≡ word_symbol said start end
 at_any w said is start end = ap (λ x. word_symbol x start end) is
 
 -- ---- which flags there are
@@ -67,7 +68,7 @@ flag_words_mean op true false = refl
 flag_words_mean op false true = refl
 flag_words_mean op false false = refl
 
-flag_symbols : (nuw nsw : Bool) → AreSymbols (kinds.flags (of nuw nsw false)) (map Flag (flag_words nuw nsw))
+flag_symbols : (nuw nsw : Bool) → AreSymbols Logic (kinds.flags (of nuw nsw false)) (map Flag (flag_words nuw nsw))
 flag_symbols true true = (at_any words.nuw_word _ (flag_said Nuw), (at_any words.nsw_word _ (flag_said Nsw), tt))
 flag_symbols true false = (at_any words.nuw_word _ (flag_said Nuw), tt)
 flag_symbols false true = (at_any words.nsw_word _ (flag_said Nsw), tt)
@@ -84,7 +85,7 @@ of_overflow op nuw nsw false unset = record {
 
 -- ---- udiv, sdiv, lshr, ashr
 
-exact_symbols : (exact : Bool) → AreSymbols (kinds.flags (of false false exact)) (write.exactness exact)
+exact_symbols : (exact : Bool) → AreSymbols Logic (kinds.flags (of false false exact)) (write.exactness exact)
 exact_symbols true = (at_any words.exact_word _ (key_said key.Exact), tt)
 exact_symbols false = tt
 

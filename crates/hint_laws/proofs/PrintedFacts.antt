@@ -1,5 +1,5 @@
 -- A printed fact is read as that fact.
-use Rattle.std.proofs.Common.{◌≡◌, ℕ, List, [], codes, Option, Some, arith, refl, ap, sym, ◌∙◌}
+use Rattle.std.proofs.Common.{◌≡◌, ◌||◌, if◌then◌else◌, ℕ, Bool, true, false, not, true≢false, List, [], codes, Option, Some, Ok, Err, arith, refl, ap, sym, ◌∙◌}
 use Rattle.std.specs.Prelude.{option_and_then}
 use Rattle.json.specs.Json as json
 use Rattle.json.specs.Print.{ArePrintable}
@@ -13,8 +13,13 @@ use Rattle.serde_json.specs.Data.{Data, string, array, no_items, item}
 use Rattle.serde_json.specs.Read.{max_depth, of_json, read}
 use Rattle.serde_json.specs.Written.{compact_text, outline}
 use Rattle.serde_json.proofs.Texts.{print-outline}
+use Rattle.ir_core.specs.Expressions.{Expr0, expr_has}
 use Rattle.ir_printer.specs.Printed.{printed_expr, printed_register}
 use Rattle.erhl_assert.specs.declared.facts.Fact.TheVariants.{LessDef}
+use Rattle.erhl_assert.specs.Edges.{is_old}
+use Rattle.json_forms.specs.Faults.{here}
+use Rattle.json_forms.specs.Forms.{Reading, read_then}
+use Rattle.hint_format.specs.Form.{Leaves, expression_of_text}
 use Rattle.hint_format.proofs.Readings.{expression_read}
 use Rattle.hint_laws.specs.Laws.{PrintedFactsAreRead}
 use Rattle.hint_laws.proofs.PrintedExpressions.{printed_expressions_are_read}
@@ -47,10 +52,28 @@ three_read a b c =
     ap tokens (sym (print-outline (three a b c))) ∙ tokens-print written (three_printable a b c) in
     ap of_tokens cut ∙ three_tokens a b c
 
+-- an expression that names old registers only where they may stand is kept
+kept_by : (old may : Bool) (e : Expr0) → (old ≡ true → may ≡ true) → ◌≡◌ {A = Reading Expr0} (if may || not old then Ok e else Err here) (Ok e)
+kept_by true true e allowed = refl
+kept_by true false e allowed = absurd (true≢false (sym (allowed refl)))
+kept_by false true e allowed = refl
+kept_by false false e allowed = refl
+
+kept : (leaves : Leaves) (may : Bool) (text : List ℕ) (e : Expr0) → leaves.expression text ≡ Ok e → (expr_has is_old e ≡ true → may ≡ true)
+    → expression_of_text leaves may text ≡ Ok e
+kept leaves may text e is allowed =
+    ap (λ found. read_then found (λ x. if may || not (expr_has is_old x) then Ok x else Err here)) is ∙ kept_by (expr_has is_old e) may e allowed
+
+or_true : (b : Bool) → (b || true) ≡ true
+or_true true = refl
+or_true false = refl
+
 pub printed_facts_are_read : PrintedFactsAreRead
-printed_facts_are_read leaves are (LessDef a b) writable =
+printed_facts_are_read leaves are (LessDef a b) may writable allowed =
     let left = printed_expr printed_register a in
     let right = printed_expr printed_register b in
-    let left_read = expression_read leaves are left a writable.0.1 (printed_expressions_are_read a writable.0.0) in
-    let right_read = expression_read leaves are right b writable.1.1 (printed_expressions_are_read b writable.1.0) in
+    let left_read = kept leaves may left a (expression_read leaves are left a writable.0.1 (printed_expressions_are_read a writable.0.0))
+    (λ old. allowed (ap (λ x. x || expr_has is_old b) old)) in
+    let right_read = kept leaves may right b (expression_read leaves are right b writable.1.1 (printed_expressions_are_read b writable.1.0))
+    (λ old. allowed (ap (λ x. expr_has is_old a || x) old ∙ or_true (expr_has is_old a))) in
     (three (codes "ge") left right, three_read (codes "ge") left right, rw (left_read, right_read) refl)

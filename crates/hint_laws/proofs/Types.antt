@@ -9,9 +9,10 @@ use Rattle.ir_core.specs.declared.operands.Ty.TheVariants.{Int, Void}
 use Rattle.ir_core.specs.Types.{is_width}
 use Rattle.ir_lexer.specs.declared.token.TokenKind.{TokenKind}
 use Rattle.ir_lexer.specs.Pieces.{plain}
+use Rattle.ir_grammar.specs.declared.words.Language.TheVariants.{Logic}
 use Rattle.ir_grammar.specs.declared.words.Word.TheVariants as word
 use Rattle.ir_grammar.specs.Symbols.{Width, symbol_at, word_symbol}
-use Rattle.ir_grammar.specs.Words.{are_width, width_of, word_said}
+use Rattle.ir_grammar.specs.Words.{are_width, width_of, word_of, word_said}
 use Rattle.ir_printer.specs.Printed.{printed_type}
 use Rattle.hint_laws.specs.Laws.{IsWritableType}
 use Rattle.hint_laws.proofs.Decimals.{decimal_means}
@@ -64,15 +65,18 @@ width_written : (w : ℕ) → is_width w ≡ true → are_width (decimal w) ≡ 
 unfolding is_written digits
 width_written w is = agree_below_at is_written is_width 65 w refl (omega (arith, at_most_64 w is)) ∙ is
 
-width_said : (w : ℕ) → is_width w ≡ true → word_said (105 ∷ decimal w) ≡ word.Width w
+width_word : (w : ℕ) → is_width w ≡ true → word_said (105 ∷ decimal w) ≡ word.Width w
 unfolding word_said
-width_said w is =
+width_word w is =
     let small : w < 2 ^ 64 = omega (arith, at_most_64 w is) in
     let found : width_of (105 ∷ decimal w) ≡ Some w =
     cond-true (are_width (decimal w)) _ _ (width_written w is) ∙ ap Some (decimal_means w small).value in
     rw found refl
 
+width_said : (w : ℕ) → is_width w ≡ true → word_of Logic (105 ∷ decimal w) ≡ word.Width w
+width_said = width_word
+
 pub type_symbol : (t : Ty) → IsWritableType t → (start end : ℕ)
-    → symbol_at (type_token t) start end ≡ Width (record { what = width t; start = start; end = end })
+    → symbol_at Logic (type_token t) start end ≡ Width (record { what = width t; start = start; end = end })
 type_symbol (Int w) writable start end = ap (λ said. word_symbol said start end) (width_said w writable)
 type_symbol Void none start end = absurd none

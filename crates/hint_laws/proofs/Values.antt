@@ -1,5 +1,5 @@
--- A printed atom is one token, which is a value that names the atom.
-use Rattle.std.proofs.Common.{◌≡◌, ℕ, ◌-◌, ◌%◌, ◌^◌, ◌<◌, ◌≤◌, Bool, true, false, List, [], ◌∷◌, Option, Some, arith, refl, ap, sym, ◌∙◌, subst}
+-- A printed atom is one token, or a tag and a name, which are a value that names the atom.
+use Rattle.std.proofs.Common.{◌≡◌, ℕ, ◌-◌, ◌%◌, ◌^◌, ◌<◌, ◌≤◌, Bool, true, false, List, [], ◌∷◌, ◌++◌, Option, Some, arith, refl, ap, sym, ◌∙◌, subst}
 use Rattle.std.specs.Prelude.{◌==◌, nat_le, nat_lt, if◌then◌else◌}
 use Rattle.std.specs.Fmt.{decimal}
 use Rattle.std.proofs.Math.Nat.{mod-eq_of_lt}
@@ -8,50 +8,67 @@ use Rattle.std.proofs.lemmas.Bool.{and_parts, cond_both, cond-true, eqb-true, le
 use Rattle.std.proofs.lemmas.Bool.Decides.{nat_tests}
 use Rattle.ir_core.specs.declared.expressions.Reg.{Reg}
 use Rattle.ir_core.specs.declared.expressions.Reg.TheVariants.{Now, Old, Ghost}
+use Rattle.ir_core.specs.declared.names.Name.{Name}
 use Rattle.ir_core.specs.declared.names.Sigil.TheVariants.{Local}
 use Rattle.ir_core.specs.declared.operands.Atom.{Atom}
 use Rattle.ir_core.specs.declared.operands.Atom.TheVariants.{Constant, Register}
 use Rattle.ir_core.specs.declared.operands.Const.TheVariants as const
 use Rattle.ir_core.specs.declared.operands.Ty.{Ty}
 use Rattle.ir_core.specs.declared.operands.Ty.TheVariants.{Int, Void}
+use Rattle.ir_core.specs.Ranges.{IsNameInRange}
 use Rattle.ir_core.specs.Types.{is_width}
 use Rattle.ir_core.specs.Words as words
 use Rattle.ir_lexer.specs.declared.token.Number.{Number}
 use Rattle.ir_lexer.specs.declared.token.TokenKind.{TokenKind}
 use Rattle.ir_lexer.specs.declared.token.TokenKind.TheVariants as kind
 use Rattle.ir_grammar.specs.declared.trees.IntText.TheVariants as integer
+use Rattle.ir_grammar.specs.declared.trees.Placed.{Placed}
+use Rattle.ir_grammar.specs.declared.trees.Tag.{Tag}
+use Rattle.ir_grammar.specs.declared.trees.Tag.TheVariants as tags
 use Rattle.ir_grammar.specs.declared.trees.ValueText.{ValueText}
 use Rattle.ir_grammar.specs.declared.trees.ValueText.TheVariants as text
-use Rattle.ir_grammar.specs.Symbols.{symbol_at, word_symbol}
 use Rattle.ir_grammar.specs.declared.words.KeyWord.TheVariants as key
+use Rattle.ir_grammar.specs.declared.words.Language.TheVariants.{Logic}
+use Rattle.ir_grammar.specs.Symbols.{Symbol, symbol_at, word_symbol}
+use Rattle.ir_grammar.specs.Symbols as symbols
 use Rattle.ir_grammar.specs.Words.{truth_text}
 use Rattle.ir_grammar.specs.Written as write
-use Rattle.ir_naming.specs.Expressions.{IsNow}
+use Rattle.ir_naming.specs.Expressions.{IsLogicAtom, register_of}
 use Rattle.ir_naming.specs.Values.{IsNumber, kept, truth}
-use Rattle.ir_printer.specs.Printed.{is_negative, name_text, printed_atom, printed_register, signed_text}
+use Rattle.ir_printer.specs.Printed.{is_negative, name_text, printed_atom, printed_local, printed_register, signed_text, spaced}
 use Rattle.ir_printer.proofs.Powers.{power_is_two_halves}
-use Rattle.hint_laws.specs.Laws.{IsWritableAtom, IsWritableType}
+use Rattle.hint_laws.specs.Laws.{IsWritableAtom, IsWritableRegister, IsWritableType}
 use Rattle.hint_laws.proofs.Decimals.{decimal_means}
 use Rattle.hint_laws.proofs.Lexed as lexed
 use Rattle.hint_laws.proofs.Names.{name_found}
+use Rattle.hint_laws.proofs.Places.{AtPlaces, Writes, first_is}
 use Rattle.hint_laws.proofs.ReadTexts.{Reads}
 use Rattle.hint_laws.proofs.ReadTexts as reads
 use Rattle.hint_laws.proofs.Runs.{run_stops, positive, negative}
 use Rattle.hint_laws.proofs.TokenWords as kinds
 use Rattle.hint_laws.proofs.Types.{at_least_one, at_most_64, width}
-use Rattle.hint_laws.proofs.WordSymbols.{key_said, truth_is, truth_said, undef_is}
+use Rattle.hint_laws.proofs.WordSymbols.{key_said, tag_is, tag_text, truth_is, truth_said, undef_is}
 
--- the token is, wherever it stands, a value that is this atom of so many bits
-pub record IsValue (w : ℕ) (atom : Atom Reg) (token : TokenKind) : Type 0 where
-  pub value : ℕ → ℕ → ValueText
-  pub stands : (start end : ℕ) → symbol_at token start end ≡ write.value (value start end)
-  pub now : (start end : ℕ) → IsNow w (value start end) atom
+-- the tokens are, wherever they stand, a value that is this atom of so many bits
+abbrev pub IsValue : ℕ → Atom Reg → List TokenKind → Type 0
+IsValue w atom tokens = (ss : List Symbol) → AtPlaces Logic tokens ss → Writes write.value (λ v. IsLogicAtom w v atom) ss
 
--- the text is such a token
+-- the text is such tokens
 pub record ReadsValue (w : ℕ) (atom : Atom Reg) (bytes : List ℕ) : Type 0 where
-  pub token : TokenKind
-  pub is : IsValue w atom token
-  pub reads : Reads bytes (token ∷ [])
+  pub tokens : List TokenKind
+  pub is : IsValue w atom tokens
+  pub reads : Reads bytes tokens
+
+-- one token that is written as such a value wherever it stands
+one_token :
+    (w : ℕ) (atom : Atom Reg) (token : TokenKind) (value : ℕ → ℕ → ValueText)
+    → ((start end : ℕ) → symbol_at Logic token start end ∷ [] ≡ write.value (value start end))
+    → ((start end : ℕ) → IsLogicAtom w (value start end) atom) → IsValue w atom (token ∷ [])
+one_token w atom token value stands named ss (start, end, more, first, none) = record {
+  tree = value start end;
+  are = first ∙ ap (λ m. symbol_at Logic token start end ∷ m) none ∙ stands start end;
+  names = named start end;
+}
 
 -- ---- constants
 
@@ -61,35 +78,26 @@ is_number found n e = subst (λ o. IsNumber {R = Reg} o (Constant (const.Number 
 -- `true` or `false`, which is this number
 truth_read : (w n : ℕ) (b : Bool) → truth w b ≡ Some n → ReadsValue w (Constant (const.Number n)) (truth_text b)
 truth_read w n b found = record {
-  token = kinds.word (truth_text b);
-  is = record {
-    value = λ start end. text.Int (integer.Truth (record { what = b; start = start; end = end }));
-    stands = λ start end. ap (λ said. word_symbol said start end) (truth_said b);
-    now = λ start end. is_number (truth w b) n found;
-  };
+  tokens = kinds.word (truth_text b) ∷ [];
+  is = one_token w (Constant (const.Number n)) (kinds.word (truth_text b)) (λ start end. text.Int (integer.Truth (record { what = b; start = start; end = end })))
+      (λ start end. ap (λ said. word_symbol said start end ∷ []) (truth_said b)) (λ start end. is_number (truth w b) n found);
   reads = reads.word (truth_text b) (truth_is b);
 }
 
 undef_read : (w : ℕ) → ReadsValue w (Constant const.Undef) words.undef_word
 undef_read w = record {
-  token = kinds.word words.undef_word;
-  is = record {
-    value = λ start end. text.Undef;
-    stands = λ start end. ap (λ said. word_symbol said start end) (key_said key.Undef);
-    now = λ start end. refl;
-  };
+  tokens = kinds.word words.undef_word ∷ [];
+  is = one_token w (Constant const.Undef) (kinds.word words.undef_word) (λ start end. text.Undef)
+      (λ start end. ap (λ said. word_symbol said start end ∷ []) (key_said key.Undef)) (λ start end. refl);
   reads = reads.word words.undef_word undef_is;
 }
 
 -- a number that is kept as this one
 number_read : (w n : ℕ) (token : Number) (bytes : List ℕ) → kept w token ≡ Some n → Reads bytes (kind.Number token ∷ []) → ReadsValue w (Constant (const.Number n)) bytes
 number_read w n token bytes is lexes = record {
-  token = kind.Number token;
-  is = record {
-    value = λ start end. text.Int (integer.Number (record { what = token; start = start; end = end }));
-    stands = λ start end. refl;
-    now = λ start end. is_number (kept w token) n is;
-  };
+  tokens = kind.Number token ∷ [];
+  is = one_token w (Constant (const.Number n)) (kind.Number token) (λ start end. text.Int (integer.Number (record { what = token; start = start; end = end })))
+      (λ start end. refl) (λ start end. is_number (kept w token) n is);
   reads = lexes;
 }
 
@@ -148,8 +156,6 @@ bit_read w n one small =
     (λ other. truth_read w n true
     (cond-true (w == 1) _ _ one ∙ ap Some (one_of_bit n (subst (λ v. n < 2 ^ v) (eqb-true w 1 one) small) other)))
 
--- ---- atoms
-
 constant_number : (w n : ℕ) → is_width w ≡ true → n < 2 ^ w
     → ReadsValue w (Constant (const.Number n)) (printed_atom printed_register (Int w) (Constant (const.Number n)))
 constant_number w n is small =
@@ -157,23 +163,54 @@ constant_number w n is small =
     (λ one. bit_read w n one small)
     (λ _. signed_read w n is small)
 
+-- ---- registers
+
+local_reads : (name : Name) → IsNameInRange name → Reads (printed_local name) (kind.Local name ∷ [])
+local_reads name writable = record {
+  lexes = λ rest more stop lexes. lexed.name Local name (name_text name) rest more (name_found name rest writable (run_stops rest stop)) lexes;
+}
+
+now_read : (w : ℕ) (name : Name) → IsNameInRange name → ReadsValue w (Register (Now name)) (printed_local name)
+now_read w name writable = record {
+  tokens = kind.Local name ∷ [];
+  is = one_token w (Register (Now name)) (kind.Local name) (λ start end. text.Local (record { what = name; start = start; end = end }))
+      (λ start end. refl) (λ start end. (Now name, refl, refl));
+  reads = local_reads name writable;
+}
+
+tag_symbol : (t : Tag) (start end : ℕ) → symbol_at Logic (kinds.word (tag_text t)) start end ≡ write.tag t
+tag_symbol tags.Old start end = ap (λ said. word_symbol said start end) (key_said key.Old)
+tag_symbol tags.Ghost start end = ap (λ said. word_symbol said start end) (key_said key.Ghost)
+
+tagged_is : (w : ℕ) (t : Tag) (name : Name) → IsValue w (Register (register_of (Some t) name)) (kinds.word (tag_text t) ∷ kind.Local name ∷ [])
+tagged_is w t name ss (i, j, more, tag_first, (k, l, none, name_first, end)) =
+    let written : Placed Name = record { what = name; start = k; end = l } in
+    record {
+      tree = text.Tagged t written;
+      are = first_is (symbol_at Logic (kinds.word (tag_text t)) i j) (write.tag t) ss more (symbols.Local written ∷ [])
+          tag_first (tag_symbol t i j) (name_first ∙ ap (λ m. symbols.Local written ∷ m) end);
+      names = (register_of (Some t) name, refl, refl);
+    }
+
+-- a register behind its tag and a space
+tagged_read : (w : ℕ) (t : Tag) (name : Name) → IsNameInRange name → ReadsValue w (Register (register_of (Some t) name)) (spaced (tag_text t) ++ printed_local name)
+tagged_read w t name writable = record {
+  tokens = kinds.word (tag_text t) ∷ kind.Local name ∷ [];
+  is = tagged_is w t name;
+  reads = reads.word_then (tag_text t) (printed_local name) (kind.Local name ∷ []) (tag_is t) (local_reads name writable);
+}
+
+register_read : (w : ℕ) (r : Reg) → IsWritableRegister r → ReadsValue w (Register r) (printed_register r)
+register_read w (Now name) writable = now_read w name writable
+register_read w (Old name) writable = tagged_read w tags.Old name writable
+register_read w (Ghost name) writable = tagged_read w tags.Ghost name writable
+
+-- ---- atoms
+
 atom_read : (w : ℕ) (atom : Atom Reg) → is_width w ≡ true → IsWritableAtom (Int w) atom → ReadsValue w atom (printed_atom printed_register (Int w) atom)
 atom_read w (Constant (const.Number n)) is small = constant_number w n is (ltb-true n (2 ^ w) small)
 atom_read w (Constant const.Undef) is fits = undef_read w
-atom_read w (Register (Now name)) is writable =
-    record {
-      token = kind.Local name;
-      is = record {
-        value = λ start end. text.Local (record { what = name; start = start; end = end });
-        stands = λ start end. refl;
-        now = λ start end. (Now name, refl, refl);
-      };
-      reads = record {
-        lexes = λ rest more stop lexes. lexed.name Local name (name_text name) rest more (name_found name rest writable (run_stops rest stop)) lexes;
-      };
-    }
-atom_read w (Register (Old name)) is none = absurd none
-atom_read w (Register (Ghost name)) is none = absurd none
+atom_read w (Register r) is writable = register_read w r writable
 
 pub value_read : (t : Ty) (atom : Atom Reg) → IsWritableType t → IsWritableAtom t atom → ReadsValue (width t) atom (printed_atom printed_register t atom)
 value_read (Int w) atom typed writable = atom_read w atom typed writable

@@ -1,5 +1,5 @@
 -- Each word of an expression is a word of a text, and the symbol that the grammar has for it.
-use Rattle.std.proofs.Common.{◌≡◌, Bool, true, false, refl}
+use Rattle.std.proofs.Common.{◌≡◌, ℕ, List, Bool, true, false, refl}
 use Rattle.ir_core.specs.declared.operands.BinOp.{BinOp}
 use Rattle.ir_core.specs.declared.operands.BinOp.TheVariants.{Add, Sub, Mul, Shl, UDiv, SDiv, LShr, AShr, URem, SRem, And, Or, Xor}
 use Rattle.ir_core.specs.declared.operands.CastOp.{CastOp}
@@ -16,11 +16,14 @@ use Rattle.ir_grammar.specs.declared.operators.OverflowOp.{OverflowOp}
 use Rattle.ir_grammar.specs.declared.operators.OverflowOp.TheVariants as overflow
 use Rattle.ir_grammar.specs.declared.operators.PlainOp.{PlainOp}
 use Rattle.ir_grammar.specs.declared.operators.PlainOp.TheVariants as flagless
+use Rattle.ir_grammar.specs.declared.trees.Tag.{Tag}
+use Rattle.ir_grammar.specs.declared.trees.Tag.TheVariants as tags
 use Rattle.ir_grammar.specs.declared.words.KeyWord.{KeyWord}
 use Rattle.ir_grammar.specs.declared.words.KeyWord.TheVariants as key
+use Rattle.ir_grammar.specs.declared.words.Language.TheVariants.{Logic}
 use Rattle.ir_grammar.specs.declared.words.Word.TheVariants as word
 use Rattle.ir_grammar.specs.Operators.{exact_op, overflow_op, plain_op}
-use Rattle.ir_grammar.specs.Words.{flag_text, key_text, truth_text, word_said}
+use Rattle.ir_grammar.specs.Words.{flag_text, key_text, truth_text, word_of, word_said}
 use Rattle.hint_laws.proofs.ReadTexts.{IsWord}
 
 -- ---- words of a text
@@ -82,23 +85,33 @@ pub to_is : IsWord words.to_word
 unfolding plain
 to_is = record { all = refl; is = refl }
 
+-- the word of a tag
+abbrev pub tag_text : Tag → List ℕ
+tag_text tags.Old = key_text key.Old
+tag_text tags.Ghost = key_text key.Ghost
+
+pub tag_is : (t : Tag) → IsWord (tag_text t)
+unfolding plain
+tag_is tags.Old = record { all = refl; is = refl }
+tag_is tags.Ghost = record { all = refl; is = refl }
+
 -- ---- words of the grammar
 
-pub overflow_said : (op : OverflowOp) → word_said (words.op_word (overflow_op op)) ≡ word.Overflow op
+pub overflow_said : (op : OverflowOp) → word_of Logic (words.op_word (overflow_op op)) ≡ word.Overflow op
 unfolding word_said
 overflow_said overflow.Add = refl
 overflow_said overflow.Sub = refl
 overflow_said overflow.Mul = refl
 overflow_said overflow.Shl = refl
 
-pub exact_said : (op : ExactOp) → word_said (words.op_word (exact_op op)) ≡ word.Exact op
+pub exact_said : (op : ExactOp) → word_of Logic (words.op_word (exact_op op)) ≡ word.Exact op
 unfolding word_said
 exact_said exact.UDiv = refl
 exact_said exact.SDiv = refl
 exact_said exact.LShr = refl
 exact_said exact.AShr = refl
 
-pub plain_said : (op : PlainOp) → word_said (words.op_word (plain_op op)) ≡ word.Plain op
+pub plain_said : (op : PlainOp) → word_of Logic (words.op_word (plain_op op)) ≡ word.Plain op
 unfolding word_said
 plain_said flagless.URem = refl
 plain_said flagless.SRem = refl
@@ -106,7 +119,7 @@ plain_said flagless.And = refl
 plain_said flagless.Or = refl
 plain_said flagless.Xor = refl
 
-pub pred_said : (p : Pred) → word_said (words.pred_word p) ≡ word.Pred p
+pub pred_said : (p : Pred) → word_of Logic (words.pred_word p) ≡ word.Pred p
 unfolding word_said
 pred_said Eq = refl
 pred_said Ne = refl
@@ -119,24 +132,24 @@ pred_said Sge = refl
 pred_said Slt = refl
 pred_said Sle = refl
 
-pub cast_said : (op : CastOp) → word_said (words.cast_word op) ≡ word.Cast op
+pub cast_said : (op : CastOp) → word_of Logic (words.cast_word op) ≡ word.Cast op
 unfolding word_said
 cast_said ZExt = refl
 cast_said SExt = refl
 cast_said Trunc = refl
 cast_said BitCast = refl
 
-pub flag_said : (f : FlagWord) → word_said (flag_text f) ≡ word.Flag f
+pub flag_said : (f : FlagWord) → word_of Logic (flag_text f) ≡ word.Flag f
 unfolding word_said
 flag_said Nuw = refl
 flag_said Nsw = refl
 
-pub truth_said : (b : Bool) → word_said (truth_text b) ≡ word.Truth b
+pub truth_said : (b : Bool) → word_of Logic (truth_text b) ≡ word.Truth b
 unfolding word_said
 truth_said true = refl
 truth_said false = refl
 
-pub key_said : (k : KeyWord) → word_said (key_text k) ≡ word.Key k
+pub key_said : (k : KeyWord) → word_of Logic (key_text k) ≡ word.Key k
 unfolding word_said
 key_said key.Define = refl
 key_said key.Void = refl
@@ -151,3 +164,5 @@ key_said key.Br = refl
 key_said key.Label = refl
 key_said key.Switch = refl
 key_said key.Unreachable = refl
+key_said key.Old = refl
+key_said key.Ghost = refl

@@ -1,5 +1,5 @@
 -- The laws that tie printing to reading.
-use Rattle.std.specs.Prelude.{◌≡◌, ◌≤◌, true, length, Some, Ok}
+use Rattle.std.specs.Prelude.{◌≡◌, ◌≤◌, Bool, true, length, Some, Ok}
 use Rattle.std.specs.List.{AllByRecursion}
 use Rattle.serde_json.specs.Data.{Data}
 use Rattle.serde_json.specs.Read.{read}
@@ -20,6 +20,8 @@ use Rattle.ir_spelling.specs.Spells.{SpellsExpression, SpellsName}
 use Rattle.ir_printer.specs.Printed.{printed_name, printed_register, printed_expr}
 use Rattle.erhl_assert.specs.declared.facts.Fact.{Fact}
 use Rattle.erhl_assert.specs.declared.facts.Fact.TheVariants.{LessDef}
+use Rattle.erhl_assert.specs.Edges.{is_old}
+use Rattle.erhl_assert.specs.Facts.{fact_has}
 use Rattle.hint_format.specs.Form.{Leaves, AreLeaves, fact_form, printed_fact}
 
 -- A printed name spells that name, and nothing else.
@@ -38,11 +40,11 @@ PrintedNamesAreKeys = (leaves : Leaves) → AreLeaves leaves
 
 -- ---- expressions
 
--- a register as it is now, of such a name
+-- a register of such a name: `%x`, `old %x`, `ghost %x`
 abbrev pub IsWritableRegister : Reg → Type 0
 IsWritableRegister (Now name) = IsNameInRange name
-IsWritableRegister (Old name) = ⊥
-IsWritableRegister (Ghost name) = ⊥
+IsWritableRegister (Old name) = IsNameInRange name
+IsWritableRegister (Ghost name) = IsNameInRange name
 
 -- a constant of the type, or such a register
 abbrev pub IsWritableAtom : Ty → Atom Reg → Type 0
@@ -79,7 +81,8 @@ IsShortExpression e = IsWritableExpression e × (length (printed_expr printed_re
 abbrev pub IsWritableFact : Fact → Type 0
 IsWritableFact (LessDef a b) = IsShortExpression a × IsShortExpression b
 
--- A printed fact is JSON, which is read as that fact.
+-- A printed fact is JSON, which is read as that fact where old registers may stand; and elsewhere too, if it names none.
 abbrev pub PrintedFactsAreRead : Type 0
 PrintedFactsAreRead = (leaves : Leaves) → AreLeaves leaves
-    → (fact : Fact) → IsWritableFact fact → (d : Data) × (read (printed_fact fact) ≡ Some d) × (fact_form leaves d ≡ Ok fact)
+    → (fact : Fact) (may_be_old : Bool) → IsWritableFact fact → (fact_has is_old fact ≡ true → may_be_old ≡ true)
+    → (d : Data) × (read (printed_fact fact) ≡ Some d) × (fact_form leaves may_be_old d ≡ Ok fact)

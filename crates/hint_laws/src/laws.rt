@@ -11,7 +11,7 @@ pub fn printed_names_are_read()
 
 /// Empty on purpose: its contract is the law.
 ///
-/// A printed expression, over registers as they are now, is read as that expression.
+/// A printed expression, over registers as they are now, old ones and ghosts, is read as that expression.
 pub fn printed_expressions_are_read()
     ensures read { PrintedExpressionsAreRead }
     ensures apart { PrintedExpressionsAreApart }

@@ -3,6 +3,7 @@ use Rattle.std.proofs.Common.{◌≡◌, ℕ, List, [], ◌∷◌, map, Ok, Err,
 use Rattle.ir_lexer.specs.declared.token.Token.{Token}
 use Rattle.ir_lexer.specs.Cut.{AreThoseOf, Cut, Placed, token, unsaid}
 use Rattle.ir_lexer.specs.Said.{said_in}
+use Rattle.ir_grammar.specs.declared.words.Language.{Language}
 use Rattle.ir_grammar.specs.Symbols.{kind_in, kind_of_token, placed_in, symbol, symbol_in}
 
 placed_are : (text : List ℕ) (tokens : List Token) (placed : List Placed) → tokens ≡ map unsaid placed → map (said_in text) tokens ≡ map (λ (t : Placed). t.kind) placed → map (placed_in text) tokens ≡ placed
@@ -21,14 +22,15 @@ pub are_placed : (text : List ℕ) (tokens : List Token) (whole : Cut) → AreTh
 are_placed text tokens (Ok placed) those = ap Ok (sym (placed_are text tokens placed those.0 those.1))
 are_placed text tokens (Err fault) those = absurd those
 
-pub symbols_in : (text : List ℕ) (tokens : List Token) → map (symbol_in text) tokens ≡ map symbol (map (placed_in text) tokens)
-symbols_in text [] = refl
-symbols_in text (t ∷ ts) = ap (λ ss. symbol_in text t ∷ ss) (symbols_in text ts)
+module _ (language : Language) (text : List ℕ) where
+  pub symbols_in : (tokens : List Token) → map (symbol_in language text) tokens ≡ map (symbol language) (map (placed_in text) tokens)
+  symbols_in [] = refl
+  symbols_in (t ∷ ts) = ap (λ ss. symbol_in language text t ∷ ss) (symbols_in ts)
 
-pub kinds_in : (text : List ℕ) (tokens : List Token) → map (kind_in text) tokens ≡ map kind_of_token (map (placed_in text) tokens)
-kinds_in text [] = refl
-kinds_in text (t ∷ ts) = ap (λ ks. kind_in text t ∷ ks) (kinds_in text ts)
+  pub kinds_in : (tokens : List Token) → map (kind_in language text) tokens ≡ map (kind_of_token language) (map (placed_in text) tokens)
+  kinds_in [] = refl
+  kinds_in (t ∷ ts) = ap (λ ks. kind_in language text t ∷ ks) (kinds_in ts)
 
--- the symbols of a text's small tokens are those of the tokens that it is cut into
-pub symbols_are : (text : List ℕ) (tokens : List Token) (placed : List Placed) → AreThoseOf text tokens (Ok placed) → map (symbol_in text) tokens ≡ map symbol placed
-symbols_are text tokens placed those = symbols_in text tokens ∙ ap (map symbol) (placed_are text tokens placed those.0 those.1)
+  -- the symbols of a text's small tokens are those of the tokens that it is cut into
+  pub symbols_are : (tokens : List Token) (placed : List Placed) → AreThoseOf text tokens (Ok placed) → map (symbol_in language text) tokens ≡ map (symbol language) placed
+  symbols_are tokens placed those = symbols_in tokens ∙ ap (map (symbol language)) (placed_are text tokens placed those.0 those.1)

@@ -18,11 +18,12 @@ use Rattle.ir_grammar.specs.declared.trees.OperationText.TheVariants.{Binary, Co
 use Rattle.ir_grammar.specs.declared.trees.OperatorText.TheVariants as operators
 use Rattle.ir_grammar.specs.declared.trees.PhiText.{PhiText}
 use Rattle.ir_grammar.specs.declared.trees.Placed.{Placed}
+use Rattle.ir_grammar.specs.declared.trees.Tag.TheVariants.{Old, Ghost}
 use Rattle.ir_grammar.specs.declared.trees.TermText.{TermText}
 use Rattle.ir_grammar.specs.declared.trees.TermText.TheVariants as term
 use Rattle.ir_grammar.specs.declared.trees.ValueText.{ValueText}
 use Rattle.ir_grammar.specs.declared.trees.ValueText.TheVariants as value
-use Rattle.ir_grammar.specs.Symbols.{Symbol, define, void, ret, exact, icmp, select, to, undef, phi, br, label, switch, unreachable, comma, equals, open_paren, close_paren, open_brace, close_brace, open_bracket, close_bracket}
+use Rattle.ir_grammar.specs.Symbols.{Symbol, define, void, ret, exact, icmp, select, to, undef, phi, br, label, switch, unreachable, old, ghost, comma, equals, open_paren, close_paren, open_brace, close_brace, open_bracket, close_bracket}
 use Rattle.ir_grammar.specs.Symbols as symbol
 
 abbrev pub type_at : ℕ → ℕ → ℕ → Placed ℕ
@@ -121,6 +122,18 @@ select_x_symbols =
     select ∷ symbol.Width (type_at 1 7 9) ∷ symbol.Local (x_at 10 12) ∷ comma
     ∷ symbol.Width (type_at 8 14 16) ∷ symbol.Numeral (number_at 7 17 18) ∷ comma
     ∷ symbol.Width (type_at 8 20 22) ∷ undef ∷ []
+
+-- `xor i8 old %x, ghost %x`
+abbrev pub xor_tagged : OperationText
+xor_tagged = Binary (record {
+  operator = operators.Plain Xor;
+  left = record { ty = type_at 8 4 6; value = value.Tagged Old (x_at 11 13) };
+  right = value.Tagged Ghost (x_at 21 23);
+})
+
+abbrev pub xor_tagged_symbols : List Symbol
+xor_tagged_symbols =
+    symbol.Plain Xor ∷ symbol.Width (type_at 8 4 6) ∷ old ∷ symbol.Local (x_at 11 13) ∷ comma ∷ ghost ∷ symbol.Local (x_at 21 23) ∷ []
 
 -- `%x = phi i8 [ 7, %x ], [ undef, %x ]`
 abbrev pub phi_x : PhiText

@@ -1,5 +1,5 @@
--- What a part of the stack is, if it is one of this form.
-use Rattle.std.specs.Prelude.{ℕ, Bool, List, Option, Some, None}
+-- What a part of the stack is, if it is one of this form: of one of four groups, and in that of one form.
+use Rattle.std.specs.Prelude.{ℕ, Bool, List, Option, Some, None, option_and_then}
 use Rattle.ir_core.specs.declared.names.Name.{Name}
 use Rattle.ir_core.specs.declared.operands.CastOp.{CastOp}
 use Rattle.ir_core.specs.declared.operands.Pred.{Pred as Predicate}
@@ -8,11 +8,15 @@ use Rattle.ir_grammar.specs.declared.operators.ExactOp.{ExactOp}
 use Rattle.ir_grammar.specs.declared.operators.FlagWord.{FlagWord}
 use Rattle.ir_grammar.specs.declared.operators.OverflowOp.{OverflowOp}
 use Rattle.ir_grammar.specs.declared.operators.PlainOp.{PlainOp}
+use Rattle.ir_grammar.specs.declared.parts.Atom.{Atom}
 use Rattle.ir_grammar.specs.declared.parts.Atom.TheVariants as atom
+use Rattle.ir_grammar.specs.declared.parts.Leaf.{Leaf}
 use Rattle.ir_grammar.specs.declared.parts.Leaf.TheVariants as leaf
+use Rattle.ir_grammar.specs.declared.parts.List.{List as PartList}
 use Rattle.ir_grammar.specs.declared.parts.List.TheVariants as list
 use Rattle.ir_grammar.specs.declared.parts.Part.{Part}
 use Rattle.ir_grammar.specs.declared.parts.Part.TheVariants as part
+use Rattle.ir_grammar.specs.declared.parts.Tree.{Tree}
 use Rattle.ir_grammar.specs.declared.parts.Tree.TheVariants as tree
 use Rattle.ir_grammar.specs.declared.trees.BehindText.{BehindText}
 use Rattle.ir_grammar.specs.declared.trees.BlockText.{BlockText}
@@ -34,162 +38,302 @@ use Rattle.ir_grammar.specs.declared.trees.Placed.{Placed}
 use Rattle.ir_grammar.specs.declared.trees.TermText.{TermText}
 use Rattle.ir_grammar.specs.declared.trees.ValueText.{ValueText}
 
+-- ---- the groups
+
+abbrev pub a_leaf : Part → Option Leaf
+a_leaf (part.Leaf x) = Some x
+a_leaf _ = None
+
+abbrev pub a_atom : Part → Option Atom
+a_atom (part.Atom x) = Some x
+a_atom _ = None
+
+abbrev pub a_list : Part → Option PartList
+a_list (part.List x) = Some x
+a_list _ = None
+
+abbrev pub a_tree : Part → Option Tree
+a_tree (part.Tree x) = Some x
+a_tree _ = None
+
+-- ---- the forms of each group
+
+abbrev pub tree_module : Tree → Option ModuleText
+tree_module (tree.Module x) = Some x
+tree_module _ = None
+
 abbrev pub a_module : Part → Option ModuleText
-a_module (part.Tree (tree.Module x)) = Some x
-a_module _ = None
+a_module p = option_and_then tree_module (a_tree p)
+
+abbrev pub tree_definition : Tree → Option DefinitionText
+tree_definition (tree.Definition x) = Some x
+tree_definition _ = None
 
 abbrev pub a_definition : Part → Option DefinitionText
-a_definition (part.Tree (tree.Definition x)) = Some x
-a_definition _ = None
+a_definition p = option_and_then tree_definition (a_tree p)
+
+abbrev pub atom_result : Atom → Option (Option (Placed ℕ))
+atom_result (atom.Result x) = Some x
+atom_result _ = None
 
 abbrev pub a_result : Part → Option (Option (Placed ℕ))
-a_result (part.Atom (atom.Result x)) = Some x
-a_result _ = None
+a_result p = option_and_then atom_result (a_atom p)
+
+abbrev pub list_params : PartList → Option (List ParamText)
+list_params (list.Params x) = Some x
+list_params _ = None
 
 abbrev pub a_params : Part → Option (List ParamText)
-a_params (part.List (list.Params x)) = Some x
-a_params _ = None
+a_params p = option_and_then list_params (a_list p)
+
+abbrev pub tree_param : Tree → Option ParamText
+tree_param (tree.Param x) = Some x
+tree_param _ = None
 
 abbrev pub a_param : Part → Option ParamText
-a_param (part.Tree (tree.Param x)) = Some x
-a_param _ = None
+a_param p = option_and_then tree_param (a_tree p)
+
+abbrev pub atom_name : Atom → Option (Option (Placed Name))
+atom_name (atom.Name x) = Some x
+atom_name _ = None
 
 abbrev pub a_name : Part → Option (Option (Placed Name))
-a_name (part.Atom (atom.Name x)) = Some x
-a_name _ = None
+a_name p = option_and_then atom_name (a_atom p)
+
+abbrev pub tree_block : Tree → Option BlockText
+tree_block (tree.Block x) = Some x
+tree_block _ = None
 
 abbrev pub a_block : Part → Option BlockText
-a_block (part.Tree (tree.Block x)) = Some x
-a_block _ = None
+a_block p = option_and_then tree_block (a_tree p)
+
+abbrev pub list_blocks : PartList → Option (List BlockText)
+list_blocks (list.Blocks x) = Some x
+list_blocks _ = None
 
 abbrev pub a_blocks : Part → Option (List BlockText)
-a_blocks (part.List (list.Blocks x)) = Some x
-a_blocks _ = None
+a_blocks p = option_and_then list_blocks (a_list p)
+
+abbrev pub tree_body : Tree → Option BodyText
+tree_body (tree.Body x) = Some x
+tree_body _ = None
 
 abbrev pub a_body : Part → Option BodyText
-a_body (part.Tree (tree.Body x)) = Some x
-a_body _ = None
+a_body p = option_and_then tree_body (a_tree p)
+
+abbrev pub tree_behind : Tree → Option BehindText
+tree_behind (tree.Behind x) = Some x
+tree_behind _ = None
 
 abbrev pub a_behind : Part → Option BehindText
-a_behind (part.Tree (tree.Behind x)) = Some x
-a_behind _ = None
+a_behind p = option_and_then tree_behind (a_tree p)
+
+abbrev pub tree_node : Tree → Option NodeText
+tree_node (tree.Node x) = Some x
+tree_node _ = None
 
 abbrev pub a_node : Part → Option NodeText
-a_node (part.Tree (tree.Node x)) = Some x
-a_node _ = None
+a_node p = option_and_then tree_node (a_tree p)
+
+abbrev pub list_entries : PartList → Option (List EntryText)
+list_entries (list.Entries x) = Some x
+list_entries _ = None
 
 abbrev pub a_entries : Part → Option (List EntryText)
-a_entries (part.List (list.Entries x)) = Some x
-a_entries _ = None
+a_entries p = option_and_then list_entries (a_list p)
+
+abbrev pub tree_entry : Tree → Option EntryText
+tree_entry (tree.Entry x) = Some x
+tree_entry _ = None
 
 abbrev pub a_entry : Part → Option EntryText
-a_entry (part.Tree (tree.Entry x)) = Some x
-a_entry _ = None
+a_entry p = option_and_then tree_entry (a_tree p)
+
+abbrev pub tree_term : Tree → Option TermText
+tree_term (tree.Term x) = Some x
+tree_term _ = None
 
 abbrev pub a_term : Part → Option TermText
-a_term (part.Tree (tree.Term x)) = Some x
-a_term _ = None
+a_term p = option_and_then tree_term (a_tree p)
+
+abbrev pub tree_branch : Tree → Option BranchText
+tree_branch (tree.Branch x) = Some x
+tree_branch _ = None
 
 abbrev pub a_branch : Part → Option BranchText
-a_branch (part.Tree (tree.Branch x)) = Some x
-a_branch _ = None
+a_branch p = option_and_then tree_branch (a_tree p)
+
+abbrev pub list_cases : PartList → Option (List CaseText)
+list_cases (list.Cases x) = Some x
+list_cases _ = None
 
 abbrev pub a_cases : Part → Option (List CaseText)
-a_cases (part.List (list.Cases x)) = Some x
-a_cases _ = None
+a_cases p = option_and_then list_cases (a_list p)
+
+abbrev pub tree_case : Tree → Option CaseText
+tree_case (tree.Case x) = Some x
+tree_case _ = None
 
 abbrev pub a_case : Part → Option CaseText
-a_case (part.Tree (tree.Case x)) = Some x
-a_case _ = None
+a_case p = option_and_then tree_case (a_tree p)
+
+abbrev pub tree_returned : Tree → Option (Option OperandText)
+tree_returned (tree.Returned x) = Some x
+tree_returned _ = None
 
 abbrev pub a_returned : Part → Option (Option OperandText)
-a_returned (part.Tree (tree.Returned x)) = Some x
-a_returned _ = None
+a_returned p = option_and_then tree_returned (a_tree p)
+
+abbrev pub list_lines : PartList → Option (List LineText)
+list_lines (list.Lines x) = Some x
+list_lines _ = None
 
 abbrev pub a_lines : Part → Option (List LineText)
-a_lines (part.List (list.Lines x)) = Some x
-a_lines _ = None
+a_lines p = option_and_then list_lines (a_list p)
+
+abbrev pub tree_line : Tree → Option LineText
+tree_line (tree.Line x) = Some x
+tree_line _ = None
 
 abbrev pub a_line : Part → Option LineText
-a_line (part.Tree (tree.Line x)) = Some x
-a_line _ = None
+a_line p = option_and_then tree_line (a_tree p)
+
+abbrev pub tree_operation : Tree → Option OperationText
+tree_operation (tree.Operation x) = Some x
+tree_operation _ = None
 
 abbrev pub a_operation : Part → Option OperationText
-a_operation (part.Tree (tree.Operation x)) = Some x
-a_operation _ = None
+a_operation p = option_and_then tree_operation (a_tree p)
+
+abbrev pub tree_operator : Tree → Option OperatorText
+tree_operator (tree.Operator x) = Some x
+tree_operator _ = None
 
 abbrev pub a_operator : Part → Option OperatorText
-a_operator (part.Tree (tree.Operator x)) = Some x
-a_operator _ = None
+a_operator p = option_and_then tree_operator (a_tree p)
+
+abbrev pub list_flags : PartList → Option (List FlagWord)
+list_flags (list.Flags x) = Some x
+list_flags _ = None
 
 abbrev pub a_flags : Part → Option (List FlagWord)
-a_flags (part.List (list.Flags x)) = Some x
-a_flags _ = None
+a_flags p = option_and_then list_flags (a_list p)
+
+abbrev pub atom_exactness : Atom → Option Bool
+atom_exactness (atom.Exactness x) = Some x
+atom_exactness _ = None
 
 abbrev pub a_exactness : Part → Option Bool
-a_exactness (part.Atom (atom.Exactness x)) = Some x
-a_exactness _ = None
+a_exactness p = option_and_then atom_exactness (a_atom p)
+
+abbrev pub tree_operand : Tree → Option OperandText
+tree_operand (tree.Operand x) = Some x
+tree_operand _ = None
 
 abbrev pub a_operand : Part → Option OperandText
-a_operand (part.Tree (tree.Operand x)) = Some x
-a_operand _ = None
+a_operand p = option_and_then tree_operand (a_tree p)
+
+abbrev pub atom_int : Atom → Option IntText
+atom_int (atom.Int x) = Some x
+atom_int _ = None
 
 abbrev pub a_int : Part → Option IntText
-a_int (part.Atom (atom.Int x)) = Some x
-a_int _ = None
+a_int p = option_and_then atom_int (a_atom p)
+
+abbrev pub atom_value : Atom → Option ValueText
+atom_value (atom.Value x) = Some x
+atom_value _ = None
 
 abbrev pub a_value : Part → Option ValueText
-a_value (part.Atom (atom.Value x)) = Some x
-a_value _ = None
+a_value p = option_and_then atom_value (a_atom p)
+
+abbrev pub tree_expr : Tree → Option ExprText
+tree_expr (tree.Expr x) = Some x
+tree_expr _ = None
 
 abbrev pub a_expr : Part → Option ExprText
-a_expr (part.Tree (tree.Expr x)) = Some x
-a_expr _ = None
+a_expr p = option_and_then tree_expr (a_tree p)
+
+abbrev pub leaf_local : Leaf → Option (Placed Name)
+leaf_local (leaf.Local x) = Some x
+leaf_local _ = None
 
 abbrev pub a_local : Part → Option (Placed Name)
-a_local (part.Leaf (leaf.Local x)) = Some x
-a_local _ = None
+a_local p = option_and_then leaf_local (a_leaf p)
+
+abbrev pub leaf_global : Leaf → Option (Placed Name)
+leaf_global (leaf.Global x) = Some x
+leaf_global _ = None
 
 abbrev pub a_global : Part → Option (Placed Name)
-a_global (part.Leaf (leaf.Global x)) = Some x
-a_global _ = None
+a_global p = option_and_then leaf_global (a_leaf p)
+
+abbrev pub leaf_label : Leaf → Option (Placed Name)
+leaf_label (leaf.Label x) = Some x
+leaf_label _ = None
 
 abbrev pub a_label : Part → Option (Placed Name)
-a_label (part.Leaf (leaf.Label x)) = Some x
-a_label _ = None
+a_label p = option_and_then leaf_label (a_leaf p)
+
+abbrev pub leaf_number : Leaf → Option (Placed Number)
+leaf_number (leaf.Number x) = Some x
+leaf_number _ = None
 
 abbrev pub a_number : Part → Option (Placed Number)
-a_number (part.Leaf (leaf.Number x)) = Some x
-a_number _ = None
+a_number p = option_and_then leaf_number (a_leaf p)
+
+abbrev pub leaf_width : Leaf → Option (Placed ℕ)
+leaf_width (leaf.Width x) = Some x
+leaf_width _ = None
 
 abbrev pub a_width : Part → Option (Placed ℕ)
-a_width (part.Leaf (leaf.Width x)) = Some x
-a_width _ = None
+a_width p = option_and_then leaf_width (a_leaf p)
+
+abbrev pub leaf_truth : Leaf → Option (Placed Bool)
+leaf_truth (leaf.Truth x) = Some x
+leaf_truth _ = None
 
 abbrev pub a_truth : Part → Option (Placed Bool)
-a_truth (part.Leaf (leaf.Truth x)) = Some x
-a_truth _ = None
+a_truth p = option_and_then leaf_truth (a_leaf p)
+
+abbrev pub leaf_overflow : Leaf → Option OverflowOp
+leaf_overflow (leaf.Overflow x) = Some x
+leaf_overflow _ = None
 
 abbrev pub a_overflow : Part → Option OverflowOp
-a_overflow (part.Leaf (leaf.Overflow x)) = Some x
-a_overflow _ = None
+a_overflow p = option_and_then leaf_overflow (a_leaf p)
+
+abbrev pub leaf_exact : Leaf → Option ExactOp
+leaf_exact (leaf.Exact x) = Some x
+leaf_exact _ = None
 
 abbrev pub a_exact : Part → Option ExactOp
-a_exact (part.Leaf (leaf.Exact x)) = Some x
-a_exact _ = None
+a_exact p = option_and_then leaf_exact (a_leaf p)
+
+abbrev pub leaf_plain : Leaf → Option PlainOp
+leaf_plain (leaf.Plain x) = Some x
+leaf_plain _ = None
 
 abbrev pub a_plain : Part → Option PlainOp
-a_plain (part.Leaf (leaf.Plain x)) = Some x
-a_plain _ = None
+a_plain p = option_and_then leaf_plain (a_leaf p)
+
+abbrev pub leaf_cast : Leaf → Option CastOp
+leaf_cast (leaf.Cast x) = Some x
+leaf_cast _ = None
 
 abbrev pub a_cast : Part → Option CastOp
-a_cast (part.Leaf (leaf.Cast x)) = Some x
-a_cast _ = None
+a_cast p = option_and_then leaf_cast (a_leaf p)
+
+abbrev pub leaf_pred : Leaf → Option Predicate
+leaf_pred (leaf.Pred x) = Some x
+leaf_pred _ = None
 
 abbrev pub a_pred : Part → Option Predicate
-a_pred (part.Leaf (leaf.Pred x)) = Some x
-a_pred _ = None
+a_pred p = option_and_then leaf_pred (a_leaf p)
+
+abbrev pub leaf_flag : Leaf → Option FlagWord
+leaf_flag (leaf.Flag x) = Some x
+leaf_flag _ = None
 
 abbrev pub a_flag : Part → Option FlagWord
-a_flag (part.Leaf (leaf.Flag x)) = Some x
-a_flag _ = None
+a_flag p = option_and_then leaf_flag (a_leaf p)

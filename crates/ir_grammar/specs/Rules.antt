@@ -11,6 +11,7 @@ use Rattle.ir_grammar.specs.declared.trees.IntText.TheVariants as integer
 use Rattle.ir_grammar.specs.declared.trees.OperationText.TheVariants as form
 use Rattle.ir_grammar.specs.declared.trees.OperatorText.TheVariants as operators
 use Rattle.ir_grammar.specs.declared.trees.Placed.{Placed}
+use Rattle.ir_grammar.specs.declared.trees.Tag.TheVariants.{Old, Ghost}
 use Rattle.ir_grammar.specs.declared.trees.TermText.TheVariants as term_text
 use Rattle.ir_grammar.specs.declared.trees.ValueText.TheVariants as value
 use Rattle.ir_grammar.specs.Sorts.{sort, vocabulary, written}
@@ -426,6 +427,14 @@ number = rule 32 (NUMBER ∷ []) (λ n. integer.Number n)
 abbrev pub truth : Rule vocabulary
 truth = rule 32 (TRUTH ∷ []) (λ b. integer.Truth b)
 
+-- old LOCAL
+abbrev pub old_register : Rule vocabulary
+old_register = rule 18 (fixed symbol.old ∷ LOCAL ∷ []) (λ name. value.Tagged Old name)
+
+-- ghost LOCAL
+abbrev pub ghost_register : Rule vocabulary
+ghost_register = rule 18 (fixed symbol.ghost ∷ LOCAL ∷ []) (λ name. value.Tagged Ghost name)
+
 abbrev pub rules : List (Rule vocabulary)
 rules =
     definitions_end ∷ definitions ∷ definition ∷ void_result ∷ typed_result ∷ params_end ∷ params ∷ more_end ∷ more ∷ param ∷ unnamed ∷ named
@@ -433,7 +442,7 @@ rules =
     ∷ select ∷ overflow ∷ exact ∷ plain ∷ flags_end ∷ flags ∷ inexact ∷ exactly ∷ operand ∷ int ∷ undef ∷ local
     ∷ expression_operand ∷ expression_operation ∷ local_name ∷ global_name ∷ blocks_end ∷ blocks ∷ body_end ∷ body ∷ behind_phi
     ∷ behind_line ∷ node ∷ entries_end ∷ entries ∷ entry ∷ ret ∷ br ∷ switch ∷ unreachable ∷ always ∷ condition ∷ cases_end ∷ cases ∷ case
-    ∷ number ∷ truth ∷ []
+    ∷ number ∷ truth ∷ old_register ∷ ghost_register ∷ []
 
 -- how a nonterminal's values are written
 abbrev pub written_at : (n : ℕ) → vocabulary.Value n → List symbol.Symbol

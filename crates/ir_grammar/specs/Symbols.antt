@@ -16,9 +16,10 @@ use Rattle.ir_grammar.specs.declared.operators.PlainOp.{PlainOp}
 use Rattle.ir_grammar.specs.declared.trees.Placed.{Placed}
 use Rattle.ir_grammar.specs.declared.words.KeyWord.{KeyWord}
 use Rattle.ir_grammar.specs.declared.words.KeyWord.TheVariants as key
+use Rattle.ir_grammar.specs.declared.words.Language.{Language}
 use Rattle.ir_grammar.specs.declared.words.Word.{Word}
 use Rattle.ir_grammar.specs.declared.words.Word.TheVariants as word
-use Rattle.ir_grammar.specs.Words.{word_said}
+use Rattle.ir_grammar.specs.Words.{word_of}
 
 -- A name, a number, a type `iN` by its width, or `true` or `false`, with its place; an operator, a predicate or a flag; or a word or mark
 -- that says nothing but itself, wherever it stands: of these each has a number of its own.
@@ -40,7 +41,7 @@ pub data Symbol : Type 0 where
   Flag : FlagWord → Symbol
   Fixed : ℕ → Symbol
 
--- all tokens that the grammar lacks: nothing is written with them
+-- all tokens that the language lacks: nothing is written with them
 abbrev pub foreign : Symbol
 foreign = Fixed 0
 
@@ -59,6 +60,8 @@ key_number key.Br = 10
 key_number key.Label = 11
 key_number key.Switch = 12
 key_number key.Unreachable = 13
+key_number key.Old = 14
+key_number key.Ghost = 15
 
 abbrev pub define : Symbol
 define = Fixed (key_number key.Define)
@@ -99,29 +102,35 @@ switch = Fixed (key_number key.Switch)
 abbrev pub unreachable : Symbol
 unreachable = Fixed (key_number key.Unreachable)
 
+abbrev pub old : Symbol
+old = Fixed (key_number key.Old)
+
+abbrev pub ghost : Symbol
+ghost = Fixed (key_number key.Ghost)
+
 abbrev pub comma : Symbol
-comma = Fixed 14
+comma = Fixed 16
 
 abbrev pub equals : Symbol
-equals = Fixed 15
+equals = Fixed 17
 
 abbrev pub open_paren : Symbol
-open_paren = Fixed 16
+open_paren = Fixed 18
 
 abbrev pub close_paren : Symbol
-close_paren = Fixed 17
+close_paren = Fixed 19
 
 abbrev pub open_brace : Symbol
-open_brace = Fixed 18
+open_brace = Fixed 20
 
 abbrev pub close_brace : Symbol
-close_brace = Fixed 19
+close_brace = Fixed 21
 
 abbrev pub open_bracket : Symbol
-open_bracket = Fixed 20
+open_bracket = Fixed 22
 
 abbrev pub close_bracket : Symbol
-close_bracket = Fixed 21
+close_bracket = Fixed 23
 
 -- the symbol of a word at a place
 abbrev pub word_symbol : Word → ℕ → ℕ → Symbol
@@ -149,28 +158,28 @@ mark_symbol b =
     else (if b == 93 then close_bracket
     else foreign)))))))
 
-abbrev pub symbol_at : TokenKind → ℕ → ℕ → Symbol
-symbol_at (kind.Local name) start end = Local (record { what = name; start = start; end = end })
-symbol_at (kind.Global name) start end = Global (record { what = name; start = start; end = end })
-symbol_at (kind.Label name) start end = Label (record { what = name; start = start; end = end })
-symbol_at (kind.Number number) start end = Numeral (record { what = number; start = start; end = end })
-symbol_at (kind.Word w) start end = word_symbol (word_said w) start end
-symbol_at (kind.Mark b) start end = mark_symbol b
-symbol_at _ start end = foreign
+abbrev pub symbol_at : Language → TokenKind → ℕ → ℕ → Symbol
+symbol_at language (kind.Local name) start end = Local (record { what = name; start = start; end = end })
+symbol_at language (kind.Global name) start end = Global (record { what = name; start = start; end = end })
+symbol_at language (kind.Label name) start end = Label (record { what = name; start = start; end = end })
+symbol_at language (kind.Number number) start end = Numeral (record { what = number; start = start; end = end })
+symbol_at language (kind.Word w) start end = word_symbol (word_of language w) start end
+symbol_at language (kind.Mark b) start end = mark_symbol b
+symbol_at language _ start end = foreign
 
--- the symbol that a token is
-abbrev pub symbol : PlacedToken → Symbol
-symbol t = symbol_at t.kind t.start t.end
+-- the symbol that a token is in the language
+abbrev pub symbol : Language → PlacedToken → Symbol
+symbol language t = symbol_at language t.kind t.start t.end
 
 -- a token of a text, with what it says there
 abbrev pub placed_in : List ℕ → Token → PlacedToken
 placed_in text t = record { kind = said_in text t; start = t.start; end = t.end }
 
--- the symbol that a token of a text is
+-- the symbol that a token of a text in the language is
 --
 -- In the text `ret i32 %x` a token of the kind `Local` from 8 up to 10 is the symbol of the name `x` at these places.
-abbrev pub symbol_in : List ℕ → Token → Symbol
-symbol_in text t = symbol_at (said_in text t) t.start t.end
+abbrev pub symbol_in : Language → List ℕ → Token → Symbol
+symbol_in language text t = symbol_at language (said_in text t) t.start t.end
 
 -- a number of a word or mark as a kind, behind the kinds of the other symbols
 abbrev pub behind_others : ℕ → ℕ
@@ -193,8 +202,8 @@ kind_of (Pred pred) = 10
 kind_of (Flag flag) = 11
 kind_of (Fixed k) = behind_others k
 
-abbrev pub kind_of_token : PlacedToken → ℕ
-kind_of_token t = kind_of (symbol t)
+abbrev pub kind_of_token : Language → PlacedToken → ℕ
+kind_of_token language t = kind_of (symbol language t)
 
-abbrev pub kind_in : List ℕ → Token → ℕ
-kind_in text t = kind_of (symbol_in text t)
+abbrev pub kind_in : Language → List ℕ → Token → ℕ
+kind_in language text t = kind_of (symbol_in language text t)

@@ -19,6 +19,8 @@ use Rattle.ir_grammar.specs.declared.operators.PlainOp.{PlainOp}
 use Rattle.ir_grammar.specs.declared.operators.PlainOp.TheVariants as plain
 use Rattle.ir_grammar.specs.declared.words.KeyWord.{KeyWord}
 use Rattle.ir_grammar.specs.declared.words.KeyWord.TheVariants as key
+use Rattle.ir_grammar.specs.declared.words.Language.{Language}
+use Rattle.ir_grammar.specs.declared.words.Language.TheVariants.{Ir, Logic}
 use Rattle.ir_grammar.specs.declared.words.Word.{Word}
 use Rattle.ir_grammar.specs.declared.words.Word.TheVariants as word
 use Rattle.ir_grammar.specs.Operators.{exact_op, overflow_op, plain_op}
@@ -95,12 +97,19 @@ key_text key.Br = codes "br"
 key_text key.Label = codes "label"
 key_text key.Switch = codes "switch"
 key_text key.Unreachable = codes "unreachable"
+key_text key.Old = codes "old"
+key_text key.Ghost = codes "ghost"
 
+-- those of textual IR
 abbrev pub key_of : List ℕ → Option KeyWord
 key_of w =
     written_so key_text
     (key.Define ∷ key.Void ∷ key.Ret ∷ key.Exact ∷ key.Icmp ∷ key.Select ∷ key.To ∷ key.Undef ∷ key.Phi ∷ key.Br ∷ key.Label ∷ key.Switch
     ∷ key.Unreachable ∷ []) w
+
+-- those that the logic's expressions have besides
+abbrev pub logic_key_of : List ℕ → Option KeyWord
+logic_key_of w = written_so key_text (key.Old ∷ key.Ghost ∷ []) w
 
 -- ---- all words
 
@@ -120,6 +129,11 @@ named_word w =
     (unwrap_or (option_map word.Plain (plain_of w))
     (unwrap_or (option_map word.Cast (cast_of w)) (other_word w))))
 
--- `i8` is `Width 8`, `mul` is `Overflow Mul`, `ret` is `Key Ret`, `load` is `Foreign`
+-- What a word is in textual IR. `i8` is `Width 8`, `mul` is `Overflow Mul`, `ret` is `Key Ret`, `load` is `Foreign`, and so is `old`.
 unfoldable pub word_said : List ℕ → Word
 word_said w = unwrap_or (option_map word.Width (width_of w)) (named_word w)
+
+-- What a word is in a text of the language. In the logic's `old` is `Key Old`.
+abbrev pub word_of : Language → List ℕ → Word
+word_of Ir w = word_said w
+word_of Logic w = unwrap_or (option_map word.Key (logic_key_of w)) (word_said w)

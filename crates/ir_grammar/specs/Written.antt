@@ -34,11 +34,13 @@ use Rattle.ir_grammar.specs.declared.trees.PhiText.{PhiText}
 use Rattle.ir_grammar.specs.declared.trees.Placed.{Placed}
 use Rattle.ir_grammar.specs.declared.trees.SelectText.{SelectText}
 use Rattle.ir_grammar.specs.declared.trees.SwitchText.{SwitchText}
+use Rattle.ir_grammar.specs.declared.trees.Tag.{Tag}
+use Rattle.ir_grammar.specs.declared.trees.Tag.TheVariants as tags
 use Rattle.ir_grammar.specs.declared.trees.TermText.{TermText}
 use Rattle.ir_grammar.specs.declared.trees.TermText.TheVariants as term_text
 use Rattle.ir_grammar.specs.declared.trees.ValueText.{ValueText}
 use Rattle.ir_grammar.specs.declared.trees.ValueText.TheVariants as text
-use Rattle.ir_grammar.specs.Symbols.{Symbol, Local, Global, Label, Numeral, Width, Truth, Overflow, Exact, Plain, Cast, Pred, Flag, define, void, ret, exact, icmp, to, undef, phi, br, unreachable, comma, equals, open_paren, close_paren, open_brace, close_brace, open_bracket, close_bracket}
+use Rattle.ir_grammar.specs.Symbols.{Symbol, Local, Global, Label, Numeral, Width, Truth, Overflow, Exact, Plain, Cast, Pred, Flag, define, void, ret, exact, icmp, to, undef, phi, br, unreachable, old, ghost, comma, equals, open_paren, close_paren, open_brace, close_brace, open_bracket, close_bracket}
 use Rattle.ir_grammar.specs.Symbols as symbol
 
 -- NUMBER, true or false: `7`, `true`
@@ -46,15 +48,21 @@ abbrev pub int : IntText → Symbol
 int (integer.Number number) = Numeral number
 int (integer.Truth b) = Truth b
 
--- INT, undef or LOCAL: `7`, `undef`, `%x`
-abbrev pub value : ValueText → Symbol
-value (text.Int i) = int i
-value text.Undef = undef
-value (text.Local name) = Local name
+-- `old`, `ghost`
+abbrev pub tag : Tag → Symbol
+tag tags.Old = old
+tag tags.Ghost = ghost
+
+-- INT, undef or [old | ghost] LOCAL: `7`, `undef`, `%x`, `old %x`
+abbrev pub value : ValueText → List Symbol
+value (text.Int i) = int i ∷ []
+value text.Undef = undef ∷ []
+value (text.Local name) = Local name ∷ []
+value (text.Tagged t name) = tag t ∷ Local name ∷ []
 
 -- T V: `i8 %x`
 abbrev pub operand : OperandText → List Symbol
-operand o = Width o.ty ∷ value o.value ∷ []
+operand o = Width o.ty ∷ value o.value
 
 -- a name behind its sigil: `%x`, `@f`
 abbrev pub name : Sigil → Placed Name → Symbol
@@ -74,11 +82,11 @@ operator (operators.Plain op) = Plain op ∷ []
 
 -- operator T V, V: `add nsw i32 %x, 7`
 abbrev pub binary : BinaryText → List Symbol
-binary b = operator b.operator ++ (operand b.left ++ (comma ∷ value b.right ∷ []))
+binary b = operator b.operator ++ (operand b.left ++ (comma ∷ value b.right))
 
 -- icmp PRED T V, V: `icmp ult i8 %x, 7`
 abbrev pub compare : CompareText → List Symbol
-compare c = icmp ∷ Pred c.pred ∷ (operand c.left ++ (comma ∷ value c.right ∷ []))
+compare c = icmp ∷ Pred c.pred ∷ (operand c.left ++ (comma ∷ value c.right))
 
 -- OP T V to T, OP being zext, sext, trunc or bitcast: `zext i8 %x to i32`
 abbrev pub cast : CastText → List Symbol
@@ -138,7 +146,7 @@ returned (Some o) = operand o
 
 -- [ V, LOCAL ]: `[ 7, %entry ]`
 abbrev pub entry : EntryText → List Symbol
-entry e = open_bracket ∷ value e.value ∷ comma ∷ Local e.from ∷ close_bracket ∷ []
+entry e = open_bracket ∷ (value e.value ++ (comma ∷ Local e.from ∷ close_bracket ∷ []))
 
 -- , [ V, LOCAL ]
 abbrev pub next_entry : EntryText → List Symbol

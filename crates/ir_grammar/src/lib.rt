@@ -15,6 +15,6 @@ pub use trees::{
     BehindText, BinaryText, BlockText, BodyText, BranchText, CaseText, CastText, CompareText,
     ConditionText, DefinitionText, EntryText, ExprText, IntText, LineText, ModuleText, NodeText,
     OperandText, OperationText, OperatorText, ParamText, PhiText, Placed, SelectText, SwitchText,
-    TermText, ValueText,
+    Tag, TermText, ValueText,
 };
-pub use words::{KeyWord, Word};
+pub use words::{KeyWord, Language, Word};

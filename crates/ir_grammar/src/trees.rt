@@ -18,12 +18,21 @@ pub enum IntText {
     Truth(Placed<bool>),
 }
 
-/// A value as it is written.
+/// The word before a register that the logic alone has (Crellvm): `old %x` is `%x` as it was before the edge that is being crossed,
+/// `ghost %x` one that the proof alone has.
+#[derive(Drop, Clone, Copy)]
+pub enum Tag {
+    Old,
+    Ghost,
+}
+
+/// A value as it is written. A register with a tag stands in expressions of the logic alone.
 #[derive(Drop)]
 pub enum ValueText {
     Int(IntText),
     Undef,
     Local(Placed<Name>),
+    Tagged { tag: Tag, name: Placed<Name> },
 }
 
 /// `iN V` as it is written. The type is its width N, from 1 to 64.

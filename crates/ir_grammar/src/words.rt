@@ -17,6 +17,15 @@ pub enum KeyWord {
     Label,
     Switch,
     Unreachable,
+    Old,
+    Ghost,
+}
+
+/// The language that a text is in: textual LLVM IR, or that of the logic's expressions, which has the words `old` and `ghost` besides.
+#[derive(Drop, Clone, Copy)]
+pub enum Language {
+    Ir,
+    Logic,
 }
 
 /// What a word is in the grammar: a type `iN` by its width, a word of a group, one that stands alone, or none of the grammar's.

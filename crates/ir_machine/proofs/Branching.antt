@@ -3,7 +3,6 @@ use Rattle.std.proofs.Common.{◌≡◌, ℕ, List, [], ◌∷◌, Option, None,
 use Rattle.std.specs.Prelude.{IsErr, IsErrAnd}
 use Rattle.ir_core.specs.declared.functions.Block.{Block}
 use Rattle.ir_core.specs.declared.functions.CondBr.{CondBr as CondBrLine}
-use Rattle.ir_core.specs.declared.functions.Function.{Function}
 use Rattle.ir_core.specs.declared.functions.Switch.{Switch as SwitchLine}
 use Rattle.ir_core.specs.declared.functions.Term.{Term}
 use Rattle.ir_core.specs.declared.functions.Term.TheVariants.{CondBr, Switch}
@@ -18,9 +17,9 @@ use Rattle.ir_machine.specs.declared.machine.StepEnd.{StepEnd}
 use Rattle.ir_machine.specs.declared.machine.StepEnd.TheVariants as end
 use Rattle.ir_machine.specs.declared.machine.Stepped.{Stepped}
 use Rattle.ir_machine.specs.Choices.{Did, Lacks, answer, TakesAsked}
-use Rattle.ir_machine.specs.Machine.{Asks, Does, Ask, at_block, block_named, branch, case_of, entering, gone, is_label, jump, landed, side_of, term_step, with_phis}
+use Rattle.ir_machine.specs.Machine.{Asks, Does, Ask, at_block, block_named, branch, case_of, entering, gone, is_label, jump, side_of, term_step, with_phis}
 use Rattle.ir_machine.specs.Places.{progress_of}
-use Rattle.ir_machine.specs.Registers.{Registers, operand_value, read}
+use Rattle.ir_machine.specs.Registers.{operand_value, read}
 use Rattle.ir_machine.specs.State.{Frame, no_world, State, Running, Over}
 use Rattle.ir_machine.specs.Stepping.{Answers}
 use Rattle.ir_machine.proofs.Telling.{did_takes_asked, lacks_takes_asked}
@@ -30,12 +29,8 @@ use Rattle.ir_machine.proofs.Telling.{did_takes_asked, lacks_takes_asked}
 abbrev pub JustDoes : Asks → Type 0
 JustDoes tree = (items : List Item) × (after : State) × (tree ≡ Does items after)
 
-landed_does : (f : Function) (b : Block) (entered : Option Registers) → JustDoes (landed f b [] no_world entered)
-landed_does f b (Some registers) = (Turn ∷ [], Running (at_block f b registers) [] no_world, refl)
-landed_does f b None = (Wrong ∷ [], Over, refl)
-
 entering_does : (frame : Frame) (o : Option Block) → JustDoes (entering frame [] no_world o)
-entering_does frame (Some b) = landed_does frame.function b (with_phis frame.registers frame.block b.phis frame.registers)
+entering_does frame (Some b) = (Turn ∷ [], Running (at_block frame.function b (with_phis frame.registers frame.block b.phis frame.registers)) [] no_world, refl)
 entering_does frame None = (Wrong ∷ [], Over, refl)
 
 jump_does : (frame : Frame) (to : Name) → JustDoes (jump frame [] no_world to)

@@ -1,6 +1,6 @@
 -- In a module with shape labels and the entries of phis are found, in each state that a run comes to.
 use Rattle.std.proofs.Common.{◌≡◌, ℕ, zero, suc, Bool, true, false, List, [], ◌∷◌, map, Option, None, Some, refl, sym, ap, ◌∙◌, subst, arith}
-use Rattle.std.specs.Prelude.{find, option_and_then, option_map}
+use Rattle.std.specs.Prelude.{find, option_and_then, IsSome}
 use Rattle.std.specs.List.{AllByRecursion, Contains, filter, flat_map}
 use Rattle.std.proofs.lemmas.List.Elements.{Contains-append_left, Contains-append_right}
 use Rattle.std.proofs.lemmas.List.Sorted.{Contains-permutation}
@@ -25,9 +25,9 @@ use Rattle.ir_core.proofs.SameLaws.{same_name_refl, same_name_true}
 use Rattle.ir_machine.specs.declared.items.Input.{Input}
 use Rattle.ir_machine.specs.declared.items.Item.{Item}
 use Rattle.ir_machine.specs.Laws.{Leads}
-use Rattle.ir_machine.specs.Machine.{asks, at_block, at_entry, entered, entry_from, frame_step, function_named, jump, phi_value, return_step, return_void, started, term_step, with_phis}
+use Rattle.ir_machine.specs.Machine.{asks, at_block, at_entry, entered, entry_from, frame_step, function_named, jump, return_step, return_void, started, term_step}
 use Rattle.ir_machine.specs.Reached.{FindsItsLabels, IsFound, NothingIsLost}
-use Rattle.ir_machine.specs.Registers.{Registers, atom_value, no_registers, operand_value, outcome, read, set}
+use Rattle.ir_machine.specs.Registers.{Registers, no_registers, operand_value, outcome, read}
 use Rattle.ir_machine.specs.State.{Frame, Pending, World, State, Running, Over}
 use Rattle.ir_machine.proofs.Trees.{AllDo, all_do_branch, all_do_jump, all_do_made, all_do_set_to, all_do_show}
 
@@ -100,25 +100,14 @@ found_inside test (y ∷ ys) x found = finds_inside test y ys x (test y) refl fo
 
 -- ---- phis
 
-of_entry : (old : Registers) (p : Phi) (o : Option Entry) (e : Entry) → o ≡ Some e
-    → (v : Value) × (option_map (λ (e : Entry). atom_value (read old) (kind_of p.ty) e.value) o ≡ Some v)
-of_entry old p o e is = (atom_value (read old) (kind_of p.ty) e.value, rw is refl)
-
-abbrev SetsAll : Registers → Name → List Phi → Type 0
-SetsAll old from ps = (registers : Registers) → (after : Registers) × (with_phis old from ps registers ≡ Some after)
-
-set_first : (old : Registers) (from : Name) (p : Phi) (ps : List Phi) (v : Value) → phi_value old from p ≡ Some v → SetsAll old from ps → SetsAll old from (p ∷ ps)
-set_first old from p ps v is rest registers =
-    let more = rest (set registers p.name (kind_of p.ty) v) in
-    (more.0, ap (λ (o : Option Value). option_and_then (λ v. with_phis old from ps (set registers p.name (kind_of p.ty) v)) o) is ∙ more.1)
-
-set_all : (old : Registers) (f : Function) (b : Block) (from : Name) (ps : List Phi) → Contains (edges_into f b.name) from → AllByRecursion (FitsEdges f b) ps → SetsAll old from ps
-set_all old f b from [] enters fit = λ registers. (registers, refl)
-set_all old f b from (p ∷ ps) enters fit =
+-- each has an entry for a block from which an edge comes
+have_entries : (f : Function) (b : Block) (from : Name) (ps : List Phi) → Contains (edges_into f b.name) from → AllByRecursion (FitsEdges f b) ps
+    → AllByRecursion (λ (p : Phi). IsSome (entry_from from p.entries)) ps
+have_entries f b from [] enters fit = tt
+have_entries f b from (p ∷ ps) enters fit =
     let there = Contains-permutation (edges_into f b.name) (map (λ (e : Entry). e.from) p.entries) from fit.0.edges enters in
     let entry = is_found (λ (e : Entry). e.from) p.entries from there in
-    let value = of_entry old p (entry_from from p.entries) entry.first entry.found in
-    set_first old from p ps value.0 value.1 (set_all old f b from ps enters fit.1)
+    (subst IsSome (sym entry.found) refl, have_entries f b from ps enters fit.1)
 
 -- ---- where frames stand
 
@@ -154,7 +143,7 @@ void_stands m (p ∷ ps) world h = h
 
 jump_stands : (m : Module) (frame : Frame) (rest : List Pending) (world : World) → FrameStands m frame → AllStand m rest → (to : Name) → AllDo (LeadsThere m) (jump frame rest world to)
 jump_stands m frame rest world h w to = all_do_jump (LeadsThere m) frame rest world to tt
-    (λ b registers named is. (
+    (λ b named. (
       record { function = h.function; block = b; inside = found_inside (λ (b : Block). same_name b.name to) frame.function.blocks b named; name_is = refl; term_is = refl },
       w,
     ))
@@ -215,8 +204,8 @@ finds_label frame b shape inside at x leads known =
     let enters : Contains (edges_into frame.function c.name) b.name =
     is_in_flat_map (λ (b : Block). map (λ _. b.name) (filter (same_name c.name) (successors_of b.term))) frame.function.blocks b b.name inside
     (is_in_map (λ (_ : Name). b.name) (filter (same_name c.name) (successors_of b.term)) x edge) in
-    let set = set_all frame.registers frame.function c frame.block c.phis (subst (Contains (edges_into frame.function c.name)) (sym at) enters) fits.phis frame.registers in
-    record { block = c; named = found.found; registers = set.0; phis = set.1 }
+    let entries = have_entries frame.function c frame.block c.phis (subst (Contains (edges_into frame.function c.name)) (sym at) enters) fits.phis in
+    record { block = c; named = found.found; entries = entries }
 
 finds_each : (frame : Frame) (b : Block) → HasFunctionShape frame.function → Contains frame.function.blocks b → frame.block ≡ b.name → (xs : List Name)
     → ((x : Name) → Contains xs x → Contains (successors_of b.term) x) → AllByRecursion (Contains (map (λ (c : Block). c.name) frame.function.blocks)) xs → AllByRecursion (IsFound frame) xs

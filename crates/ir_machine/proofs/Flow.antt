@@ -1,6 +1,5 @@
 -- The examples of terminators.
-use Rattle.std.proofs.Common.{List, [], ◌∷◌, Some, refl, inr}
-use Rattle.ir_core.specs.declared.functions.Phi.{Phi}
+use Rattle.std.proofs.Common.{[], ◌∷◌, Some, refl, inr}
 use Rattle.ir_core.specs.declared.functions.Term.{Term}
 use Rattle.ir_core.specs.declared.functions.Term.TheVariants.{Br, Unreachable}
 use Rattle.ir_core.specs.declared.names.Name.TheVariants.{Number}
@@ -8,8 +7,8 @@ use Rattle.ir_core.specs.declared.operands.Ty.TheVariants.{Void}
 use Rattle.ir_machine.specs.declared.items.Item.TheVariants.{Turn, Returned, Wrong}
 use Rattle.ir_machine.specs.declared.items.Shown.TheVariants as shown
 use Rattle.ir_machine.specs.Examples.{number}
-use Rattle.ir_machine.specs.FlowExamples.{block, branching, ending, entry, function, phi, switching}
-use Rattle.ir_machine.specs.FlowLaws.{BranchesGo, EndsAreWrong, FirstEntriesAreTaken, JumpsAreTurns, PhisAreTakenAtOnce, SwitchesGo}
+use Rattle.ir_machine.specs.FlowExamples.{block, branching, ending, function, switching}
+use Rattle.ir_machine.specs.FlowLaws.{BranchesGo, EndsAreWrong, FirstEntriesAreTaken, JumpsAreTurns, PhisAreTakenAtOnce, PhisWithoutEntriesArePoison, SwitchesGo}
 use Rattle.ir_machine.specs.Machine.{at_block}
 use Rattle.ir_machine.specs.Registers.{no_registers}
 use Rattle.ir_machine.specs.State.{no_world, State, Over, Running}
@@ -30,6 +29,9 @@ phis_are_taken_at_once old = (_, refl, refl, refl)
 
 pub first_entries_are_taken : FirstEntriesAreTaken
 first_entries_are_taken old = refl
+
+pub phis_without_entries_are_poison : PhisWithoutEntriesArePoison
+phis_without_entries_are_poison old = refl
 
 pub branches_go : BranchesGo
 branches_go = record {
@@ -53,16 +55,13 @@ switches_go = record {
 }
 
 -- where a run of the only block starts
-abbrev starting : List Phi → Term → State
-starting phis term = Running (at_block (function Void (block 1 phis term ∷ [])) (block 1 phis term) no_registers) [] no_world
+abbrev starting : Term → State
+starting term = Running (at_block (function Void (block 1 [] term ∷ [])) (block 1 [] term) no_registers) [] no_world
 
 pub ends_are_wrong : EndsAreWrong
 ends_are_wrong = record {
-  unreachable = at_once (ending [] Unreachable) (Number 0) (starting [] Unreachable) (Wrong ∷ []) refl refl;
-  poison = at_once (ending [] (branching (number 2))) (Number 0) (starting [] (branching (number 2))) (Wrong ∷ []) refl refl;
-  poison_switch = at_once (ending [] (switching (number 256))) (Number 0) (starting [] (switching (number 256))) (Wrong ∷ []) refl refl;
-  no_block = at_once (ending [] (Br (Number 2))) (Number 0) (starting [] (Br (Number 2))) (Wrong ∷ []) refl refl;
-  no_entry =
-      let phis : List Phi = phi 3 (entry (number 7) 2 ∷ []) ∷ [] in
-      at_once (ending phis (Br (Number 1))) (Number 0) (starting phis (Br (Number 1))) (Wrong ∷ []) refl refl;
+  unreachable = at_once (ending [] Unreachable) (Number 0) (starting Unreachable) (Wrong ∷ []) refl refl;
+  poison = at_once (ending [] (branching (number 2))) (Number 0) (starting (branching (number 2))) (Wrong ∷ []) refl refl;
+  poison_switch = at_once (ending [] (switching (number 256))) (Number 0) (starting (switching (number 256))) (Wrong ∷ []) refl refl;
+  no_block = at_once (ending [] (Br (Number 2))) (Number 0) (starting (Br (Number 2))) (Wrong ∷ []) refl refl;
 }

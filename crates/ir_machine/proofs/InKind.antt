@@ -1,6 +1,6 @@
 -- Every state that a run comes to holds values of their kinds.
 use Rattle.std.proofs.Common.{◌≡◌, ℕ, ◌<◌, ◌^◌, Bool, true, false, cond, List, [], ◌∷◌, Option, None, Some, refl, sym, subst}
-use Rattle.std.specs.Prelude.{IfSome, nat_le, nat_lt, option_and_then, option_map}
+use Rattle.std.specs.Prelude.{nat_le, nat_lt, option_and_then}
 use Rattle.std.proofs.lemmas.Bool.{leb-true, ltb-true}
 use Rattle.ir_core.specs.declared.names.Name.{Name}
 use Rattle.ir_core.specs.declared.values.Value.{Value}
@@ -47,7 +47,7 @@ use Rattle.ir_core.specs.Types.{converts, is_width, kind_of}
 use Rattle.ir_core.specs.Expressions.{type_of}
 use Rattle.ir_machine.specs.Registers.{Registers, no_registers, read, set, AreInKind, constant_value, atom_at, atom_value, operand_value, binary_at, icmp_at, cast_at, selects, outcome}
 use Rattle.ir_machine.specs.State.{Frame, Pending, World, State, Running, Over}
-use Rattle.ir_machine.specs.Machine.{Made, Follows, asks, at_kind, entry_from, jump, phi_value, set_into, with_phis, frame_step, term_step, return_step, return_void, fits_kind, shown_value, entered, at_entry, started, start, function_named}
+use Rattle.ir_machine.specs.Machine.{Made, Follows, asks, at_kind, entry_from, entry_value, jump, phi_value, set_into, with_phis, frame_step, term_step, return_step, return_void, fits_kind, shown_value, entered, at_entry, started, start, function_named}
 use Rattle.ir_machine.proofs.Trees.{AllDo, all_do_branch, all_do_jump, all_do_made, all_do_show, all_do_set_to}
 use Rattle.ir_machine.proofs.Runs.{holding_in_kind, set_in_kind}
 
@@ -158,33 +158,22 @@ void_in_kind (q ∷ qs) world h = (set_into_in_kind q.frame.registers q.into Non
 
 -- ---- phis
 
-abbrev GivesOf : Option Kind → Option Value → Type 0
-GivesOf k o = IfSome o (IsInKindOf k)
-
-of_entry : (old : Registers) (k : Option Kind) → AreInKind old → (o : Option Entry) → GivesOf k (option_map (λ (e : Entry). atom_value (read old) k e.value) o)
+of_entry : (old : Registers) (k : Option Kind) → AreInKind old → (o : Option Entry) → IsInKindOf k (entry_value old k o)
 of_entry old k h (Some e) = atom_value_in_kind (read old) (λ j x. h x j) k e.value
-of_entry old k h None = tt
+of_entry old k h None = poison_of k
 
-pub phi_in_kind : (old : Registers) (from : Name) (p : Phi) → AreInKind old → GivesOf (kind_of p.ty) (phi_value old from p)
+pub phi_in_kind : (old : Registers) (from : Name) (p : Phi) → AreInKind old → IsInKindOf (kind_of p.ty) (phi_value old from p)
 phi_in_kind old from p h = of_entry old (kind_of p.ty) h (entry_from from p.entries)
 
-abbrev pub EntersInKind : Option Registers → Type 0
-EntersInKind None = Unit {0}
-EntersInKind (Some registers) = AreInKind registers
-
-set_each : (old : Registers) (from : Name) (p : Phi) (ps : List Phi) (registers : Registers) (o : Option Value)
-    → AreInKind registers → GivesOf (kind_of p.ty) o → ((next : Registers) → AreInKind next → EntersInKind (with_phis old from ps next))
-    → EntersInKind (option_and_then (λ v. with_phis old from ps (set registers p.name (kind_of p.ty) v)) o)
-set_each old from p ps registers (Some v) h is more = more (set registers p.name (kind_of p.ty) v) (set_in_kind registers p.name (kind_of p.ty) v h is)
-set_each old from p ps registers None h is more = tt
-
-pub phis_in_kind : (old : Registers) (from : Name) (ps : List Phi) (registers : Registers) → AreInKind old → AreInKind registers → EntersInKind (with_phis old from ps registers)
+pub phis_in_kind : (old : Registers) (from : Name) (ps : List Phi) (registers : Registers) → AreInKind old → AreInKind registers → AreInKind (with_phis old from ps registers)
 phis_in_kind old from [] registers o h = h
-phis_in_kind old from (p ∷ ps) registers o h = set_each old from p ps registers (phi_value old from p) h (phi_in_kind old from p o) (λ next kept. phis_in_kind old from ps next o kept)
+phis_in_kind old from (p ∷ ps) registers o h =
+    phis_in_kind old from ps (set registers p.name (kind_of p.ty) (phi_value old from p)) o
+    (set_in_kind registers p.name (kind_of p.ty) (phi_value old from p) h (phi_in_kind old from p o))
 
 jump_in_kind : (frame : Frame) (rest : List Pending) (world : World) → AreInKind frame.registers → AllInKind rest → (to : Name) → AllDo LeadsInKind (jump frame rest world to)
 jump_in_kind frame rest world h w to = all_do_jump LeadsInKind frame rest world to tt
-    (λ b registers named is. (subst EntersInKind is (phis_in_kind frame.registers frame.block b.phis frame.registers h h), w))
+    (λ b named. (phis_in_kind frame.registers frame.block b.phis frame.registers h h, w))
 
 term_in_kind : (t : Term) (frame : Frame) (rest : List Pending) (world : World) → AreInKind frame.registers → AllInKind rest → AllDo LeadsInKind (term_step t frame rest world)
 term_in_kind (Ret o) frame rest world h w =
@@ -220,6 +209,10 @@ no_registers_in_kind x k = poison_in_kind k
 pub argument_in_kind : (k : Option Kind) (a : Shown) → fits_kind k a ≡ true → IsInKindOf k (shown_value a)
 argument_in_kind None a h = tt
 argument_in_kind (Some (Int width)) (shown.Num n) h = ltb-true n (2 ^ width) h
+
+abbrev pub EntersInKind : Option Registers → Type 0
+EntersInKind None = Unit {0}
+EntersInKind (Some registers) = AreInKind registers
 
 fitting_in_kind : (fits : Bool) (entering : Option Registers) → (fits ≡ true → EntersInKind entering) → EntersInKind (cond fits entering None)
 fitting_in_kind true entering h = h refl

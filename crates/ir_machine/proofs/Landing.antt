@@ -1,6 +1,6 @@
--- Where a jump lands, and which phis are set on the way.
+-- Where a jump lands, and to what phis are set on the way.
 use Rattle.std.proofs.Common.{◌≡◌, ℕ, ◌<◌, ◌≤◌, ◌+◌, ◌*◌, ◌%◌, ◌^◌, arith, lit<, Bool, true, false, nat_eq, List, ◌∷◌, length, get_or, drop, map, Option, None, Some, refl, sym, ap, ◌∙◌}
-use Rattle.std.specs.Prelude.{find, slice_get, option_and_then}
+use Rattle.std.specs.Prelude.{find, slice_get}
 use Rattle.std.specs.List.{list_any}
 use Rattle.std.proofs.lemmas.Option.{slice_get-get_or}
 use Rattle.std.proofs.lemmas.Nat.{one_shl}
@@ -11,9 +11,13 @@ use Rattle.ir_core.specs.declared.functions.Entry.{Entry}
 use Rattle.ir_core.specs.declared.functions.Phi.{Phi}
 use Rattle.ir_core.specs.declared.names.Name.{Name}
 use Rattle.ir_core.specs.declared.operands.Ty.{Ty}
+use Rattle.ir_core.specs.declared.values.Kind.{Kind}
 use Rattle.ir_core.specs.declared.values.Value.{Value}
+use Rattle.ir_core.specs.declared.values.Value.TheVariants.{Poison}
 use Rattle.ir_core.specs.Same.{same_name}
 use Rattle.ir_core.specs.Types.{kind_of, number_at}
+use Rattle.ir_values.specs.Values.{IsInKindOf}
+use Rattle.ir_values.proofs.KindLaws.{poison_in_kind}
 use Rattle.ir_machine.specs.Machine.{block_named, case_of, entry_from, phi_value, with_phis}
 use Rattle.ir_machine.specs.Registers.{Registers, atom_value, read, set}
 use Rattle.ir_machine.proofs.Standing.{drop_at}
@@ -46,26 +50,21 @@ entry_later x es i e within is other = found_later (λ (e : Entry). same_name e.
 
 -- ---- phis
 
-pub phi_here : (old : Registers) (from : Name) (p : Phi) (e : Entry) → entry_from from p.entries ≡ Some e → phi_value old from p ≡ Some (atom_value (read old) (kind_of p.ty) e.value)
+pub phi_here : (old : Registers) (from : Name) (p : Phi) (e : Entry) → entry_from from p.entries ≡ Some e → phi_value old from p ≡ atom_value (read old) (kind_of p.ty) e.value
 phi_here old from p e is = rw is refl
 
-pub phi_nowhere : (old : Registers) (from : Name) (p : Phi) → entry_from from p.entries ≡ None → phi_value old from p ≡ None
+pub phi_nowhere : (old : Registers) (from : Name) (p : Phi) → entry_from from p.entries ≡ None → phi_value old from p ≡ Poison
 phi_nowhere old from p is = rw is refl
 
-first_phi : (old : Registers) (from : Name) (p : Phi) (ps : List Phi) (registers : Registers) (v : Value) → phi_value old from p ≡ Some v
-    → with_phis old from (p ∷ ps) registers ≡ with_phis old from ps (set registers p.name (kind_of p.ty) v)
-first_phi old from p ps registers v is = ap (λ (o : Option Value). option_and_then (λ v. with_phis old from ps (set registers p.name (kind_of p.ty) v)) o) is
+-- poison is of every kind
+pub poison_in_kind_of : (k : Option Kind) → IsInKindOf k Poison
+poison_in_kind_of None = tt
+poison_in_kind_of (Some k) = poison_in_kind k
 
-lost_phi : (old : Registers) (from : Name) (p : Phi) (ps : List Phi) (registers : Registers) → phi_value old from p ≡ None → with_phis old from (p ∷ ps) registers ≡ None
-lost_phi old from p ps registers is = ap (λ (o : Option Value). option_and_then (λ v. with_phis old from ps (set registers p.name (kind_of p.ty) v)) o) is
-
-pub next_phi : (old : Registers) (from : Name) (ps : List Phi) (i : ℕ) (p : Phi) (registers : Registers) (v : Value) → i < length ps → p ≡ get_or ps i p → phi_value old from p ≡ Some v
+pub next_phi : (old : Registers) (from : Name) (ps : List Phi) (i : ℕ) (p : Phi) (registers : Registers) (v : Value) → i < length ps → p ≡ get_or ps i p → v ≡ phi_value old from p
     → with_phis old from (drop i ps) registers ≡ with_phis old from (drop (i + 1) ps) (set registers p.name (kind_of p.ty) v)
-next_phi old from ps i p registers v within is gives = ap (λ (l : List Phi). with_phis old from l registers) (drop_at ps i p within is) ∙ first_phi old from p (drop (i + 1) ps) registers v gives
-
-pub no_phi : (old : Registers) (from : Name) (ps : List Phi) (i : ℕ) (p : Phi) (registers : Registers) → i < length ps → p ≡ get_or ps i p → phi_value old from p ≡ None
-    → with_phis old from (drop i ps) registers ≡ None
-no_phi old from ps i p registers within is none = ap (λ (l : List Phi). with_phis old from l registers) (drop_at ps i p within is) ∙ lost_phi old from p (drop (i + 1) ps) registers none
+next_phi old from ps i p registers v within is gives = ap (λ (l : List Phi). with_phis old from l registers) (drop_at ps i p within is)
+    ∙ ap (λ (v : Value). with_phis old from (drop (i + 1) ps) (set registers p.name (kind_of p.ty) v)) (sym gives)
 
 -- ---- cases
 

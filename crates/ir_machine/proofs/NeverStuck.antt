@@ -10,7 +10,6 @@ use Rattle.ir_core.specs.declared.values.Kind.{Kind}
 use Rattle.ir_core.specs.declared.values.Kind.TheVariants.{Int}
 use Rattle.ir_core.specs.declared.functions.Block.{Block}
 use Rattle.ir_core.specs.declared.functions.Case.{Case}
-use Rattle.ir_core.specs.declared.functions.Function.{Function}
 use Rattle.ir_core.specs.declared.functions.Instr.{Instr}
 use Rattle.ir_core.specs.declared.functions.Instr.TheVariants as line
 use Rattle.ir_core.specs.declared.functions.Term.{Term}
@@ -26,9 +25,9 @@ use Rattle.ir_machine.specs.declared.items.Choice.{Choice}
 use Rattle.ir_machine.specs.declared.items.Choice.TheVariants.{Go, Pick}
 use Rattle.ir_core.specs.Types.{kind_of}
 use Rattle.ir_core.specs.Expressions.{type_of}
-use Rattle.ir_machine.specs.Registers.{Registers, read, operand_value, outcome}
+use Rattle.ir_machine.specs.Registers.{read, operand_value, outcome}
 use Rattle.ir_machine.specs.State.{Frame, Pending, World, State, Running, Over}
-use Rattle.ir_machine.specs.Machine.{Asks, Does, Ask, Never, Made, Follows, asks, block_named, branch, entering, gone, is_label, is_pick, jump, landed, picked, show, set_to, frame_step, term_step, with_phis, return_step, return_void}
+use Rattle.ir_machine.specs.Machine.{Asks, Does, Ask, Never, Made, Follows, asks, block_named, branch, entering, gone, is_label, is_pick, jump, picked, show, set_to, frame_step, term_step, return_step, return_void}
 use Rattle.ir_machine.specs.Choices.{Lacks, NoStep, answer, RunsAnswer}
 use Rattle.ir_machine.specs.Refinement.{IsEnd, EndTheRun, NoneIsStuck, EndsAreShown}
 use Rattle.ir_core.proofs.SameLaws.{same_name_refl}
@@ -60,12 +59,8 @@ void_can_step : (rest : List Pending) (world : World) → CanStep (return_void r
 void_can_step [] world = does_step (Turn ∷ Returned None ∷ []) Over
 void_can_step (p ∷ ps) world = does_step (Turn ∷ []) _
 
-landed_can_step : (f : Function) (b : Block) (rest : List Pending) (world : World) (entered : Option Registers) → CanStep (landed f b rest world entered)
-landed_can_step f b rest world (Some registers) = does_step (Turn ∷ []) _
-landed_can_step f b rest world None = does_step (Wrong ∷ []) Over
-
 entering_can_step : (frame : Frame) (rest : List Pending) (world : World) (o : Option Block) → CanStep (entering frame rest world o)
-entering_can_step frame rest world (Some b) = landed_can_step frame.function b rest world (with_phis frame.registers frame.block b.phis frame.registers)
+entering_can_step frame rest world (Some b) = does_step (Turn ∷ []) _
 entering_can_step frame rest world None = does_step (Wrong ∷ []) Over
 
 jump_can_step : (frame : Frame) (rest : List Pending) (world : World) (to : Name) → CanStep (jump frame rest world to)
@@ -135,7 +130,7 @@ wrong_ends : ShowsItsEnd (Wrong ∷ []) Over
 wrong_ends = ends (Wrong ∷ []) [] Wrong refl tt
 
 jump_shows_end : (frame : Frame) (rest : List Pending) (world : World) (to : Name) → AllDo ShowsItsEnd (jump frame rest world to)
-jump_shows_end frame rest world to = all_do_jump ShowsItsEnd frame rest world to wrong_ends (λ b registers named is. goes_on (Turn ∷ []) _ rest world turn_is_no_end)
+jump_shows_end frame rest world to = all_do_jump ShowsItsEnd frame rest world to wrong_ends (λ b named. goes_on (Turn ∷ []) _ rest world turn_is_no_end)
 
 term_shows_end : (t : Term) (frame : Frame) (rest : List Pending) (world : World) → AllDo ShowsItsEnd (term_step t frame rest world)
 term_shows_end (Ret o) frame rest world = return_shows_end (kind_of o.ty) (operand_value (read frame.registers) o) rest world
@@ -182,12 +177,8 @@ void_always : (rest : List Pending) (world : World) → AlwaysSteps (return_void
 void_always [] world = tt
 void_always (p ∷ ps) world = tt
 
-landed_always : (f : Function) (b : Block) (rest : List Pending) (world : World) (entered : Option Registers) → AlwaysSteps (landed f b rest world entered)
-landed_always f b rest world (Some registers) = tt
-landed_always f b rest world None = tt
-
 entering_always : (frame : Frame) (rest : List Pending) (world : World) (o : Option Block) → AlwaysSteps (entering frame rest world o)
-entering_always frame rest world (Some b) = landed_always frame.function b rest world (with_phis frame.registers frame.block b.phis frame.registers)
+entering_always frame rest world (Some b) = tt
 entering_always frame rest world None = tt
 
 jump_always : (frame : Frame) (rest : List Pending) (world : World) (to : Name) → AlwaysSteps (jump frame rest world to)

@@ -117,22 +117,13 @@ pub sets_more : (registers : Registers) (names : List Name) (x : Name) (t : Ty) 
 sets_more registers names x t v kind sets =
     subst (λ (k : Option Kind). Sets (set registers x k v) (names ++ x ∷ [])) (sym kind.1) (sets_one registers names x kind.0 v sets)
 
--- the first of the phis is set, and then the others
-set_first : (old : Registers) (from : Name) (p : Phi) (ps : List Phi) (registers after : Registers) (names : List Name) (o : Option Value) → HasKind (p.name, p.ty) → Sets registers names
-    → ((next : Registers) → with_phis old from ps next ≡ Some after → Sets next (names ++ p.name ∷ []) → Sets after ((names ++ p.name ∷ []) ++ names_in (phi_registers ps)))
-    → option_and_then (λ v. with_phis old from ps (set registers p.name (kind_of p.ty) v)) o ≡ Some after → Sets after (names ++ p.name ∷ names_in (phi_registers ps))
-set_first old from p ps registers after names (Some v) kind sets more is =
-    subst (Sets after) (append_assoc names (p.name ∷ []) (names_in (phi_registers ps)))
-    (more (set registers p.name (kind_of p.ty) v) is (sets_more registers names p.name p.ty v kind sets))
-set_first old from p ps registers after names None kind sets more is = absurd (cc)
-
-pub phis_set : (old : Registers) (from : Name) (ps : List Phi) (registers after : Registers) (names : List Name) → with_phis old from ps registers ≡ Some after → AllByRecursion HasKind (phi_registers ps)
-    → Sets registers names → Sets after (names ++ names_in (phi_registers ps))
-phis_set old from [] registers after names is kinds sets =
-    let same : registers ≡ after = cc in
-    subst (Sets after) (sym (append-nil names)) (subst (λ (r : Registers). Sets r names) same sets)
-phis_set old from (p ∷ ps) registers after names is kinds sets =
-    set_first old from p ps registers after names (phi_value old from p) kinds.0 sets (λ next left known. phis_set old from ps next after (names ++ p.name ∷ []) left kinds.1 known) is
+pub phis_set : (old : Registers) (from : Name) (ps : List Phi) (registers : Registers) (names : List Name) → AllByRecursion HasKind (phi_registers ps) → Sets registers names
+    → Sets (with_phis old from ps registers) (names ++ names_in (phi_registers ps))
+phis_set old from [] registers names kinds sets = subst (Sets registers) (sym (append-nil names)) sets
+phis_set old from (p ∷ ps) registers names kinds sets =
+    subst (Sets (with_phis old from (p ∷ ps) registers)) (append_assoc names (p.name ∷ []) (names_in (phi_registers ps)))
+    (phis_set old from ps (set registers p.name (kind_of p.ty) (phi_value old from p)) (names ++ p.name ∷ []) kinds.1
+    (sets_more registers names p.name p.ty (phi_value old from p) kinds.0 sets))
 
 -- ---- kinds
 
@@ -264,15 +255,16 @@ edge_to m frame ready c x leads named =
 
 jump_ready : (m : Module) → IsWellFormed m → (frame : Frame) (world : World) → Ready m [] frame → (to : Name) → Contains (successors_of frame.term) to → AllDo (LeadsReady m) (jump frame [] world to)
 jump_ready m well frame world ready to leads = all_do_jump (LeadsReady m) frame [] world to tt
-    (λ b registers named is.
+    (λ b named.
     let edge = edge_to m frame ready b to leads named in
     let taken = ready.taken ++ names_in (registers_of ready.block) in
     let shape : HasFunctionShape frame.function = all_at HasFunctionShape m.functions frame.function well.shape.functions ready.function in
     let range : IsFunctionInRange frame.function = all_at IsFunctionInRange m.functions frame.function well.range ready.function in
     let kinds = kinds_of frame.function b shape range edge.0 in
     let before : Sets frame.registers taken = subst (Sets frame.registers) (at_its_end m frame ready) ready.sets in
+    let registers = with_phis frame.registers frame.block b.phis frame.registers in
     let after : Sets registers (taken ++ names_in (phi_registers b.phis)) =
-    phis_set frame.registers frame.block b.phis frame.registers registers taken is (all_left HasKind (phi_registers b.phis) (set_by b.body) kinds) before in
+    phis_set frame.registers frame.block b.phis frame.registers taken (all_left HasKind (phi_registers b.phis) (set_by b.body) kinds) before in
     (block_ready m well frame.function b taken registers ready.function edge.0 (λ path goes. (ready.ahead (b ∷ path) (edge.0, edge.1, goes)).2) after, refl))
 
 term_ready : (m : Module) → IsWellFormed m → (t : Term) (frame : Frame) (world : World) → frame.term ≡ t → Ready m [] frame → AllDo (LeadsReady m) (term_step t frame [] world)

@@ -13,9 +13,9 @@ use Rattle.ir_machine.specs.declared.items.Shown.{Shown}
 use Rattle.ir_machine.specs.declared.items.Shown.TheVariants as shown
 use Rattle.ir_machine.specs.declared.items.Choice.{Choice}
 use Rattle.ir_machine.specs.declared.items.Choice.TheVariants.{Go, Pick}
-use Rattle.ir_machine.specs.Registers.{Registers, set}
+use Rattle.ir_machine.specs.Registers.{set}
 use Rattle.ir_machine.specs.State.{Frame, Pending, World, State, Running, Over}
-use Rattle.ir_machine.specs.Machine.{Asks, Does, Ask, Never, Made, Follows, at_block, block_named, branch, entering, gone, jump, landed, picked, show, set_to, with_phis}
+use Rattle.ir_machine.specs.Machine.{Asks, Does, Ask, Never, Made, Follows, at_block, block_named, branch, entering, gone, jump, picked, show, set_to, with_phis}
 
 -- whatever is chosen, the items shown and the state after are related so
 abbrev pub AllDo : (List Item → State → Type 0) → Asks → Type 0
@@ -53,15 +53,10 @@ all_do_branch P value.Poison label labels next bad h = bad
 
 -- what holds of undefined behaviour and of the block that is entered holds of a jump
 module _ (P : List Item → State → Type 0) (frame : Frame) (rest : List Pending) (world : World) (to : Name) (bad : P (Wrong ∷ []) Over)
-    (h : (b : Block) (registers : Registers) → block_named to frame.function.blocks ≡ Some b → with_phis frame.registers frame.block b.phis frame.registers ≡ Some registers
-    → P (Turn ∷ []) (Running (at_block frame.function b registers) rest world)) where
-  all_do_landed : (b : Block) → block_named to frame.function.blocks ≡ Some b → (entered : Option Registers) → with_phis frame.registers frame.block b.phis frame.registers ≡ entered
-      → AllDo P (landed frame.function b rest world entered)
-  all_do_landed b named (Some registers) is = h b registers named is
-  all_do_landed b named None is = bad
-
+    (h : (b : Block) → block_named to frame.function.blocks ≡ Some b
+    → P (Turn ∷ []) (Running (at_block frame.function b (with_phis frame.registers frame.block b.phis frame.registers)) rest world)) where
   all_do_entering : (o : Option Block) → block_named to frame.function.blocks ≡ o → AllDo P (entering frame rest world o)
-  all_do_entering (Some b) named = all_do_landed b named (with_phis frame.registers frame.block b.phis frame.registers) refl
+  all_do_entering (Some b) named = h b named
   all_do_entering None named = bad
 
   pub all_do_jump : AllDo P (jump frame rest world to)

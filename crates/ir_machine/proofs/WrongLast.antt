@@ -78,7 +78,7 @@ at_once : WrongOnlyLast (Wrong ∷ []) Over
 at_once = inr (refl, ends_here)
 
 jump_ends : (frame : Frame) (rest : List Pending) (world : World) (to : Name) → AllDo WrongOnlyLast (jump frame rest world to)
-jump_ends frame rest world to = all_do_jump WrongOnlyLast frame rest world to at_once (λ b registers named is. inl (calm_more Turn [] turn_other calm_none))
+jump_ends frame rest world to = all_do_jump WrongOnlyLast frame rest world to at_once (λ b named. inl (calm_more Turn [] turn_other calm_none))
 
 term_ends : (t : Term) (frame : Frame) (rest : List Pending) (world : World) → AllDo WrongOnlyLast (term_step t frame rest world)
 term_ends (Ret o) frame rest world = return_ends (kind_of o.ty) (operand_value (read frame.registers) o) rest world

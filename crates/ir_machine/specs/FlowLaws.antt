@@ -5,7 +5,7 @@ use Rattle.ir_core.specs.declared.functions.Term.TheVariants.{Br, Unreachable}
 use Rattle.ir_core.specs.declared.names.Name.{Name}
 use Rattle.ir_core.specs.declared.names.Name.TheVariants.{Number}
 use Rattle.ir_core.specs.declared.values.Kind.TheVariants.{Int}
-use Rattle.ir_core.specs.declared.values.Value.TheVariants.{Num}
+use Rattle.ir_core.specs.declared.values.Value.TheVariants.{Num, Poison}
 use Rattle.ir_machine.specs.declared.items.Choice.TheVariants.{Go, Pick}
 use Rattle.ir_machine.specs.declared.items.Item.TheVariants.{Turn, Returned, Wrong}
 use Rattle.ir_machine.specs.declared.items.Shown.TheVariants as shown
@@ -33,7 +33,11 @@ PhisAreTakenAtOnce = (old : Registers) → (after : Registers)
 -- of several entries for one block the first is taken
 abbrev pub FirstEntriesAreTaken : Type 0
 FirstEntriesAreTaken = (old : Registers)
-    → phi_value old (Number 1) (phi 3 (entry (number 5) 2 ∷ entry (number 7) 1 ∷ entry (number 8) 1 ∷ [])) ≡ Some (Num 7)
+    → phi_value old (Number 1) (phi 3 (entry (number 5) 2 ∷ entry (number 7) 1 ∷ entry (number 8) 1 ∷ [])) ≡ Num 7
+
+-- without an entry for the block a phi is poison
+abbrev pub PhisWithoutEntriesArePoison : Type 0
+PhisWithoutEntriesArePoison = (old : Registers) → phi_value old (Number 1) (phi 3 (entry (number 7) 2 ∷ [])) ≡ Poison
 
 -- The terminator goes to the block of that name.
 abbrev pub Goes : Term → Name → Type 0
@@ -66,10 +70,9 @@ pub record SwitchesGo : Type 0 where
   pub undef_case : MayGo (switching undef) (Number 3)
   pub undef_other : MayNotGo (switching undef) (Number 4)
 
--- Undefined behaviour, and no turn: `unreachable`, a branch on poison, a jump to no block, and one into a phi without an entry for it.
+-- undefined behaviour, and no turn: `unreachable`, a branch on poison, and a jump to no block
 pub record EndsAreWrong : Type 0 where
   pub unreachable : AreShownAtOnce (ending [] Unreachable) (Number 0) (Wrong ∷ [])
   pub poison : AreShownAtOnce (ending [] (branching (number 2))) (Number 0) (Wrong ∷ [])
   pub poison_switch : AreShownAtOnce (ending [] (switching (number 256))) (Number 0) (Wrong ∷ [])
   pub no_block : AreShownAtOnce (ending [] (Br (Number 2))) (Number 0) (Wrong ∷ [])
-  pub no_entry : AreShownAtOnce (ending (phi 3 (entry (number 7) 2 ∷ []) ∷ []) (Br (Number 1))) (Number 0) (Wrong ∷ [])

@@ -1,6 +1,6 @@
--- The machine. A step is one body line, or one terminator. It is told as a tree of choices: from it are read which steps a
--- run may make, and what a step needs to be chosen.
-use Rattle.std.specs.Prelude.{◌≡◌, ◌⊎◌, ℕ, zero, suc, Bool, true, false, cond, nat_eq, List, [], ◌∷◌, ◌++◌, Option, None, Some, find, option_and_then, option_map}
+-- The machine. A step is one body line, or one terminator with all phis of the block that it enters. It is told as a tree of
+-- choices: from it are read which steps a run may make, and what a step needs to be chosen.
+use Rattle.std.specs.Prelude.{◌≡◌, ◌⊎◌, ℕ, zero, suc, Bool, true, false, cond, nat_eq, List, [], ◌∷◌, ◌++◌, Option, None, Some, find, option_and_then}
 use Rattle.std.specs.List.{list_any}
 use Rattle.ir_core.specs.declared.names.Name.{Name}
 use Rattle.ir_core.specs.declared.operands.Ty.{Ty}
@@ -118,23 +118,24 @@ block_named x bs = find (λ b. same_name b.name x) bs
 abbrev pub entry_from : Name → List Entry → Option Entry
 entry_from x es = find (λ e. same_name e.from x) es
 
--- what a phi gives on the edge from that block, over the registers before it
-abbrev pub phi_value : Registers → Name → Phi → Option Value
-phi_value old from p = option_map (λ (e : Entry). atom_value (read old) (kind_of p.ty) e.value) (entry_from from p.entries)
+abbrev pub entry_value : Registers → Option Kind → Option Entry → Value
+entry_value old k None = value.Poison
+entry_value old k (Some e) = atom_value (read old) k e.value
 
--- All phis at once: each reads the registers before the edge. None where one has no entry for the block that is left.
-abbrev pub with_phis : Registers → Name → List Phi → Registers → Option Registers
-with_phis old from [] registers = Some registers
-with_phis old from (p ∷ ps) registers =
-    option_and_then (λ v. with_phis old from ps (set registers p.name (kind_of p.ty) v)) (phi_value old from p)
+-- What a phi gives on the edge from that block, over the registers before it: poison, where it has no entry for the block. In a
+-- well-formed module it has one.
+abbrev pub phi_value : Registers → Name → Phi → Value
+phi_value old from p = entry_value old (kind_of p.ty) (entry_from from p.entries)
 
--- The turn is shown, and the run stands at the start of the block. Where there are no registers for it, it is undefined behaviour.
-abbrev pub landed : Function → Block → List Pending → World → Option Registers → Asks
-landed f b rest world (Some registers) = Does (Turn ∷ []) (Running (at_block f b registers) rest world)
-landed f b rest world None = wrong
+-- all phis at once: each reads the registers before the edge
+abbrev pub with_phis : Registers → Name → List Phi → Registers → Registers
+with_phis old from [] registers = registers
+with_phis old from (p ∷ ps) registers = with_phis old from ps (set registers p.name (kind_of p.ty) (phi_value old from p))
 
+-- The turn is shown, and the run stands at the start of the block, behind its phis. Where there is no block, it is undefined behaviour.
 abbrev pub entering : Frame → List Pending → World → Option Block → Asks
-entering frame rest world (Some b) = landed frame.function b rest world (with_phis frame.registers frame.block b.phis frame.registers)
+entering frame rest world (Some b) =
+    Does (Turn ∷ []) (Running (at_block frame.function b (with_phis frame.registers frame.block b.phis frame.registers)) rest world)
 entering frame rest world None = wrong
 
 -- The frame goes on in the block of that name, with its phis set. Where there is no such block, it is undefined behaviour.

@@ -1,16 +1,16 @@
 -- What shape is worth to the runs of a module: no jump is lost.
-use Rattle.std.specs.Prelude.{◌≡◌, ℕ, List, Some}
+use Rattle.std.specs.Prelude.{◌≡◌, ℕ, List, Some, IsSome}
 use Rattle.std.specs.List.{AllByRecursion}
 use Rattle.ir_core.specs.declared.functions.Block.{Block}
 use Rattle.ir_core.specs.declared.functions.Module.{Module}
+use Rattle.ir_core.specs.declared.functions.Phi.{Phi}
 use Rattle.ir_core.specs.declared.names.Name.{Name}
 use Rattle.ir_core.specs.Functions.{successors_of}
 use Rattle.ir_core.specs.WellFormed.{HasShape}
 use Rattle.ir_machine.specs.declared.items.Input.{Input}
 use Rattle.ir_machine.specs.declared.items.Item.{Item}
 use Rattle.ir_machine.specs.Laws.{Leads}
-use Rattle.ir_machine.specs.Machine.{block_named, start, with_phis}
-use Rattle.ir_machine.specs.Registers.{Registers}
+use Rattle.ir_machine.specs.Machine.{block_named, entry_from, start}
 use Rattle.ir_machine.specs.State.{Frame, State, Running, Over}
 
 -- some run of the module comes to the state
@@ -27,8 +27,7 @@ pub record IsReached (m : Module) (s : State) : Type 0 where
 pub record IsFound (frame : Frame) (to : Name) : Type 0 where
   pub block : Block
   pub named : block_named to frame.function.blocks ≡ Some block
-  pub registers : Registers
-  pub phis : with_phis frame.registers frame.block block.phis frame.registers ≡ Some registers
+  pub entries : AllByRecursion (λ (p : Phi). IsSome (entry_from frame.block p.entries)) block.phis
 
 -- wherever the terminator leads
 abbrev pub FindsItsLabels : State → Type 0

@@ -37,7 +37,7 @@ IsTransitive = (a b c : Module) → Refines a b → Refines b c → Refines a c
 abbrev pub WrongIsLast : Type 0
 WrongIsLast = (m : Module) (f : Name) (input : Input) (n : ℕ) (before after : List Item) → Shows m f input n (before ++ Wrong ∷ after) → after ≡ []
 
--- a run that isn't over can make a step
+-- A run that isn't over can make a step: also a jump to no block is one, to undefined behaviour.
 abbrev pub NoneIsStuck : Type 0
 NoneIsStuck = (m : Module) (s : State) → s ≢ Over → (made : Made) × Follows (asks m s) made
 

@@ -1,5 +1,5 @@
 -- Words of private functions. What a step of the code is to the tree that it answers, and where a jump lands.
-use Rattle.std.specs.Prelude.{◌≡◌, List, [], ◌∷◌, Option, None, Some, Result, IfOk, IsErrOf, option_map, slice_get}
+use Rattle.std.specs.Prelude.{◌≡◌, List, [], ◌∷◌, Option, None, Some, Result, IfOk, IsErrOf, slice_get}
 use Rattle.ir_core.specs.declared.functions.Function.{Function}
 use Rattle.ir_core.specs.declared.names.Name.{Name}
 use Rattle.ir_machine.specs.declared.items.Choice.{Choice}
@@ -9,11 +9,9 @@ use Rattle.ir_machine.specs.declared.machine.Place.{Place}
 use Rattle.ir_machine.specs.declared.machine.StepEnd.{StepEnd}
 use Rattle.ir_machine.specs.declared.machine.StepEnd.TheVariants as end
 use Rattle.ir_machine.specs.declared.machine.Stepped.{Stepped}
-use Rattle.ir_machine.specs.declared.registers.RegisterFile.{RegisterFile}
 use Rattle.ir_machine.specs.Choices.{Did, Lacks, answer, TakesAsked}
 use Rattle.ir_machine.specs.Machine.{Asks, Does, wrong}
 use Rattle.ir_machine.specs.Places.{in_block, progress_of, registers_in}
-use Rattle.ir_machine.specs.Registers.{Registers}
 use Rattle.ir_machine.specs.State.{State}
 
 -- What the step makes of the choices before and after it, in that state, is what the tree answers.
@@ -27,9 +25,6 @@ pub record Answers (tree : Asks) (before after : List Choice) (state : State) (r
 abbrev pub TellsLabel : Option Name → Asks → List Choice → (Name → Asks) → List Choice → Type 0
 TellsLabel (Some x) tree before next after = answer tree before ≡ answer (next x) after
 TellsLabel None tree before next after = answer tree before ≡ Lacks after
-
-abbrev pub file_of : Option RegisterFile → Option Registers
-file_of = option_map registers_in
 
 -- what a jump does that lands so in the function
 abbrev pub lands : Function → Option Landing → Asks

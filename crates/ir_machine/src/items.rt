@@ -10,7 +10,7 @@ pub enum Shown {
 /// What is chosen at a step that leaves a choice.
 #[derive(Drop)]
 pub enum Choice {
-    /// The block to which a branch on undef goes.
+    /// The block to which a branch or a switch on undef goes.
     Go(Name),
     /// What an undef that is shown is taken for.
     Pick(Shown),
@@ -19,7 +19,7 @@ pub enum Choice {
 /// What a run shows.
 #[derive(Drop)]
 pub enum Item {
-    /// A terminator was executed.
+    /// A terminator was executed, a jump or a return. One that is undefined behaviour shows none.
     Turn,
     /// The entry function returned this, or nothing where its result is `void`.
     Returned(Option<Shown>),

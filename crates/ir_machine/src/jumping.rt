@@ -1,5 +1,5 @@
 //! Where a terminator leads within its function: the block of a label, entered with its phis set at once.
-ghost use Rattle.std.specs.Prelude.{◌≡◌, ◌<◌, length, [], map, None, Some, slice_get, MatchOption, IfOk, IfSome};
+ghost use Rattle.std.specs.Prelude.{◌≡◌, ◌<◌, length, [], map, None, slice_get, MatchOption, IfOk, IfSome};
 ghost use Rattle.ir_core.specs.Functions.{successors_of};
 ghost use Rattle.ir_core.specs.Same as same;
 ghost use Rattle.ir_core.specs.declared.functions.Case.{Case};
@@ -11,7 +11,7 @@ ghost use Rattle.ir_machine.specs.Machine as machine;
 ghost use Rattle.ir_machine.specs.Machine.{Asks, Ask};
 ghost use Rattle.ir_machine.specs.State.{no_world};
 ghost use Rattle.ir_machine.specs.Places.{at_end, registers_in};
-ghost use Rattle.ir_machine.specs.Stepping.{TellsLabel, file_of, lands};
+ghost use Rattle.ir_machine.specs.Stepping.{TellsLabel, lands};
 
 use crate::operands::atom_value;
 use crate::registers::RegisterFile;
@@ -43,44 +43,41 @@ fn block_at(blocks: &[Block], name: &Name) -> Option<usize>
     None
 }
 
-/// What a phi gives on the edge from that block, if it has an entry for it.
-#[tactic(auto, using(crate::proofs::Landing::entry_here, crate::proofs::Landing::entry_later, crate::proofs::Landing::phi_here, crate::proofs::Landing::phi_nowhere))]
-fn phi_value(old: &RegisterFile, from: &Name, phi: &Phi) -> Option<Value>
+/// What a phi gives on the edge from that block: poison, where it has no entry for it.
+#[tactic(auto, using(crate::proofs::Landing::entry_here, crate::proofs::Landing::entry_later, crate::proofs::Landing::phi_here, crate::proofs::Landing::phi_nowhere, crate::proofs::Landing::poison_in_kind_of))]
+fn phi_value(old: &RegisterFile, from: &Name, phi: &Phi) -> Value
     ensures value { result ≡ machine.phi_value (registers_in old.now) from.now phi.now }
-    ensures in_kind { IfSome result (λ v. IsInKindOf (types.kind_of phi.now.ty) v) }
+    ensures in_kind { IsInKindOf (types.kind_of phi.now.ty) result }
 {
     let entries = phi.entries.as_slice();
     for i in 0..entries.len() {
         if same_name(&entries[i].from, from) {
-            return Some(atom_value(old, kind_of(&phi.ty), &entries[i].value));
+            return atom_value(old, kind_of(&phi.ty), &entries[i].value);
         }
     }
-    None
+    Value::Poison
 }
 
-/// The registers behind the phis, which are set in a copy, so that each reads the registers before the edge. None where one has
-/// no entry for the block that is left.
-#[tactic(auto, using(crate::proofs::Landing::next_phi, crate::proofs::Landing::no_phi))]
+/// The registers behind the phis, which are set in a copy, so that each reads the registers before the edge.
+#[tactic(auto, using(crate::proofs::Landing::next_phi))]
 fn with_phis(
     alloc: Global,
     old: &RegisterFile,
     from: &Name,
     phis: &[Phi],
-) -> Result<Option<RegisterFile>, AllocError>
-    ensures { IfOk result (λ after. file_of after
+) -> Result<RegisterFile, AllocError>
+    ensures { IfOk result (λ after. registers_in after
         ≡ machine.with_phis (registers_in old.now) from.now phis.now (registers_in old.now)) }
 {
     let mut after = old.copied(alloc)?;
     for i in 0..phis.len() {
-        let Some(value) = phi_value(old, from, &phis[i]) else {
-            return Ok(None);
-        };
+        let value = phi_value(old, from, &phis[i]);
         after.set(alloc, &phis[i].name, kind_of(&phis[i].ty), value)?;
     }
-    Ok(Some(after))
+    Ok(after)
 }
 
-/// Where a jump from the block to that label lands, if it finds the block and an entry for each of its phis.
+/// Where a jump from the block to that label lands, if there is such a block.
 pub(crate) fn jump(
     alloc: Global,
     function: &Function,
@@ -97,13 +94,11 @@ pub(crate) fn jump(
     let Some(at) = block_at(blocks, to) else {
         return Ok(None);
     };
-    match with_phis(alloc, registers, &block.name, blocks[at].phis.as_slice())? {
-        Some(after) => Ok(Some(Landing {
-            block: at,
-            registers: after,
-        })),
-        None => Ok(None),
-    }
+    let after = with_phis(alloc, registers, &block.name, blocks[at].phis.as_slice())?;
+    Ok(Some(Landing {
+        block: at,
+        registers: after,
+    }))
 }
 
 /// The label of a condition that is a number.

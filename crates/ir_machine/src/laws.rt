@@ -1,7 +1,7 @@
 ghost use Rattle.ir_machine.specs.Laws.{ConstantsRefineByValue, NumbersAreKept, NumbersStayDefined, UndefIsAnyNumber, PoisonIsNoNumber, WrongIsRefined, ArgumentsAreSeen, TrapsAreWrong, VoidReturnsAreShown, LinesGiveThese, StepsMakeRuns, RunsAreSteps, OneBlockRunsEnd, FirstsAreShown, StartsAreKept, RefinedRunsAreShown};
 ghost use Rattle.ir_machine.specs.Reached.{NothingIsLost};
 ghost use Rattle.ir_machine.specs.Reads.{ReadsAreSet};
-ghost use Rattle.ir_machine.specs.FlowLaws.{JumpsAreTurns, PhisAreTakenAtOnce, FirstEntriesAreTaken, BranchesGo, SwitchesGo, EndsAreWrong};
+ghost use Rattle.ir_machine.specs.FlowLaws.{JumpsAreTurns, PhisAreTakenAtOnce, FirstEntriesAreTaken, PhisWithoutEntriesArePoison, BranchesGo, SwitchesGo, EndsAreWrong};
 
 /// Empty on purpose: its contract is the law.
 ///
@@ -58,20 +58,22 @@ pub fn refined_runs_are_shown()
 
 /// Empty on purpose: its contract is the law.
 ///
-/// A function of one block ends some run on each input that fits it.
+/// A function of one block that has no phi and returns ends some run on each input that fits it.
 pub fn one_block_runs_end()
     ensures { OneBlockRunsEnd }
 {}
 
 /// Empty on purpose: its contract is the law.
 ///
-/// A jump shows a turn and sets all phis at once, numbers lead to their labels and undef to any that is told, and `unreachable` shows
-/// undefined behaviour and no turn, as does a branch on poison or a jump that finds nothing.
-#[tactic(auto, using(crate::proofs::Flow::jumps_are_turns, crate::proofs::Flow::phis_are_taken_at_once, crate::proofs::Flow::first_entries_are_taken, crate::proofs::Flow::branches_go, crate::proofs::Flow::switches_go, crate::proofs::Flow::ends_are_wrong))]
+/// A jump shows a turn and sets all phis at once, one without an entry for the block that is left to poison. Numbers lead to their
+/// labels and undef to any that is told. `unreachable` shows undefined behaviour and no turn, as does a branch on poison or a jump to
+/// no block.
+#[tactic(auto, using(crate::proofs::Flow::jumps_are_turns, crate::proofs::Flow::phis_are_taken_at_once, crate::proofs::Flow::first_entries_are_taken, crate::proofs::Flow::phis_without_entries_are_poison, crate::proofs::Flow::branches_go, crate::proofs::Flow::switches_go, crate::proofs::Flow::ends_are_wrong))]
 pub fn examples_of_control_flow()
     ensures turns { JumpsAreTurns }
     ensures at_once { PhisAreTakenAtOnce }
     ensures first_entry { FirstEntriesAreTaken }
+    ensures no_entry { PhisWithoutEntriesArePoison }
     ensures branches { BranchesGo }
     ensures switches { SwitchesGo }
     ensures wrong { EndsAreWrong }
@@ -79,8 +81,8 @@ pub fn examples_of_control_flow()
 
 /// Empty on purpose: its contract is the law.
 ///
-/// In a module that has shape no jump is lost: labels and the entries of phis are found. Where it is well-formed no register is
-/// read that isn't set.
+/// In a module that has shape each jump finds its block, and each phi there its entry. Where it is well-formed no register is read
+/// that isn't set.
 pub fn well_formed_runs_go_on()
     ensures found { NothingIsLost }
     ensures set { ReadsAreSet }

@@ -14,8 +14,8 @@ pub fn refinement_is_a_preorder()
 
 /// Empty on purpose: its contract is the law.
 ///
-/// A run that isn't over can make a step, and a run is over exactly once it has shown its result or undefined
-/// behaviour.
+/// A run that isn't over can make a step (a jump to no block is one, to undefined behaviour), and a run is over
+/// exactly once it has shown its result or undefined behaviour.
 pub fn no_run_is_stuck()
     ensures goes_on { NoneIsStuck }
     ensures ends { EndsAreShown }

@@ -110,7 +110,7 @@ fn go_wrong(alloc: Global, state: &mut RunState) -> Result<Stepped, AllocError>
     })
 }
 
-/// The run goes to the block of that label, or is wrong where the jump finds nothing.
+/// The run goes to the block of that label, or is wrong where there is none.
 fn go_to(
     alloc: Global,
     here: &Here,

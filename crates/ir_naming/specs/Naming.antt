@@ -107,11 +107,13 @@ abbrev pub int_claims : ℕ → IntText → List Claim
 int_claims width (int.Number n) = kept_claims n (kept width n.what)
 int_claims width (int.Truth b) = kept_claims b (truth width b.what)
 
--- A value of this width. `%x` is a register of the type; a number is one of the type; `undef` is of any.
+-- A value of this width. `%x` is a register of the type; a number is one of the type; `undef` is of any. A register with a tag is no value
+-- of a module, whose texts lack the tags.
 abbrev pub value_claims : ℕ → ValueText → List Claim
 value_claims width (text.Int i) = int_claims width i
 value_claims width text.Undef = []
 value_claims width (text.Local w) = at w (says.Register (record { name = w.what; ty = Int width })) ∷ []
+value_claims width (text.Tagged tag w) = at w says.Wrong ∷ []
 
 abbrev pub operand_claims : OperandText → List Claim
 operand_claims o = value_claims o.ty.what o.value

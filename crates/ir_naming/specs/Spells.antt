@@ -36,6 +36,7 @@ use Rattle.ir_grammar.specs.declared.trees.ParamText.{ParamText}
 use Rattle.ir_grammar.specs.declared.trees.PhiText.{PhiText}
 use Rattle.ir_grammar.specs.declared.trees.Placed.{Placed}
 use Rattle.ir_grammar.specs.declared.trees.SwitchText.{SwitchText}
+use Rattle.ir_grammar.specs.declared.trees.Tag.{Tag}
 use Rattle.ir_grammar.specs.declared.trees.TermText.{TermText}
 use Rattle.ir_grammar.specs.declared.trees.TermText.TheVariants as written
 use Rattle.ir_naming.specs.Naming.{blocks_in, entries_in}
@@ -47,9 +48,10 @@ IsNamed None (Number n) = IsNameInRange (Number n)
 IsNamed None (Text bytes) = ⊥
 IsNamed (Some written) name = name ≡ written.what
 
--- a register is one of this width that the function has
-abbrev pub MeansOne : List (Name × Ty) → ℕ → Name → Name → Type 0
-MeansOne registers width name register = Contains registers (name, Int width) × (register ≡ name)
+-- a register is one of this width that the function has, and no tag stands before it
+abbrev pub MeansOne : List (Name × Ty) → ℕ → Option Tag → Name → Name → Type 0
+MeansOne registers width None name register = Contains registers (name, Int width) × (register ≡ name)
+MeansOne registers width (Some tag) name register = ⊥
 
 -- what a written value of a width is, where the function has these registers
 abbrev pub IsValue : List (Name × Ty) → Names Name

@@ -31,6 +31,7 @@ use Rattle.ir_grammar.specs.declared.trees.OperatorText.{OperatorText}
 use Rattle.ir_grammar.specs.declared.trees.OperatorText.TheVariants as operators
 use Rattle.ir_grammar.specs.declared.trees.Placed.{Placed}
 use Rattle.ir_grammar.specs.declared.trees.SelectText.{SelectText}
+use Rattle.ir_grammar.specs.declared.trees.Tag.{Tag}
 use Rattle.ir_grammar.specs.declared.trees.ValueText.{ValueText}
 use Rattle.ir_grammar.specs.declared.trees.ValueText.TheVariants as text
 use Rattle.ir_grammar.specs.Operators.{operator_op}
@@ -88,50 +89,62 @@ flags_of (operators.Plain op) = record { nuw = false; nsw = false; exact = false
 abbrev pub built : Option ℕ → ℕ
 built n = unwrap_or n 0
 
--- What a written value of this width names. `-1` of i8 is the constant 255, `%x` the register `x`.
-abbrev pub atom_of : ℕ → ValueText → Atom Name
-atom_of width (text.Int i) = Constant (const.Number (built (int_of width i)))
-atom_of width text.Undef = Constant const.Undef
-atom_of width (text.Local name) = Register name.what
+-- what a written value of a width is built as, over registers R
+abbrev pub Builds : Type 0 → Type 0
+Builds R = ℕ → ValueText → Atom R
 
 -- the type `iN`, and the operand `iN V`
 abbrev pub type_at : Placed ℕ → Ty
 type_at ty = Int ty.what
 
-abbrev pub operand_of : OperandText → Operand Name
-operand_of o = record { ty = type_at o.ty; atom = atom_of o.ty.what o.value }
+abbrev pub operand_by : {R : Type 0} → Builds R → OperandText → Operand R
+operand_by atom o = record { ty = type_at o.ty; atom = atom o.ty.what o.value }
 
 -- A right value without a type of its own has that of the left operand.
 
-abbrev pub binary_of : BinaryText → Binary Name
-binary_of b = record {
+abbrev pub binary_by : {R : Type 0} → Builds R → BinaryText → Binary R
+binary_by atom b = record {
   op = operator_op b.operator;
   flags = flags_of b.operator;
   ty = type_at b.left.ty;
-  left = atom_of b.left.ty.what b.left.value;
-  right = atom_of b.left.ty.what b.right;
+  left = atom b.left.ty.what b.left.value;
+  right = atom b.left.ty.what b.right;
 }
 
-abbrev pub compare_of : CompareText → Icmp Name
-compare_of c = record {
+abbrev pub compare_by : {R : Type 0} → Builds R → CompareText → Icmp R
+compare_by atom c = record {
   pred = c.pred;
   ty = type_at c.left.ty;
-  left = atom_of c.left.ty.what c.left.value;
-  right = atom_of c.left.ty.what c.right;
+  left = atom c.left.ty.what c.left.value;
+  right = atom c.left.ty.what c.right;
 }
 
-abbrev pub cast_of : CastText → Cast Name
-cast_of c = record { op = c.op; operand = operand_of c.from; to = type_at c.to }
+abbrev pub cast_by : {R : Type 0} → Builds R → CastText → Cast R
+cast_by atom c = record { op = c.op; operand = operand_by atom c.from; to = type_at c.to }
 
-abbrev pub select_of : SelectText → Select Name
-select_of s = record { condition = operand_of s.condition; left = operand_of s.then; right = operand_of s.other }
+abbrev pub select_by : {R : Type 0} → Builds R → SelectText → Select R
+select_by atom s = record { condition = operand_by atom s.condition; left = operand_by atom s.then; right = operand_by atom s.other }
 
 -- `add nsw i8 %x, -1` is the operator, its flags, the type and what the values name: the register `x` and the number 255.
+abbrev pub expression_by : {R : Type 0} → Builds R → OperationText → Expr R
+expression_by atom (form.Binary b) = expr.Binary (binary_by atom b)
+expression_by atom (form.Compare c) = expr.Icmp (compare_by atom c)
+expression_by atom (form.Cast c) = expr.Cast (cast_by atom c)
+expression_by atom (form.Select s) = expr.Select (select_by atom s)
+
+-- What a written value of this width names in a module. `-1` of i8 is the constant 255, `%x` the register `x`. What has a tag is no value of
+-- a module, and is built as if it had none.
+abbrev pub atom_of : Builds Name
+atom_of width (text.Int i) = Constant (const.Number (built (int_of width i)))
+atom_of width text.Undef = Constant const.Undef
+atom_of width (text.Local name) = Register name.what
+atom_of width (text.Tagged tag name) = Register name.what
+
+abbrev pub operand_of : OperandText → Operand Name
+operand_of o = operand_by atom_of o
+
 abbrev pub expression_of : OperationText → Expr Name
-expression_of (form.Binary b) = expr.Binary (binary_of b)
-expression_of (form.Compare c) = expr.Icmp (compare_of c)
-expression_of (form.Cast c) = expr.Cast (cast_of c)
-expression_of (form.Select s) = expr.Select (select_of s)
+expression_of o = expression_by atom_of o
 
 -- ---- what is named
 
@@ -140,12 +153,13 @@ abbrev pub IsNumber : {R : Type 0} → Option ℕ → Atom R → Type 0
 IsNumber {R} None atom = ⊥
 IsNumber {R} (Some n) atom = atom ≡ Constant (const.Number n)
 
--- A written value of this width names a number of the type, `undef`, which is of any, or a register that the written name is said to
--- mean.
-abbrev pub IsAtom : {R : Type 0} → ℕ → (Name → R → Type 0) → ValueText → Atom R → Type 0
+-- A written value of this width names a number of the type, `undef`, which is of any, or a register that the written name, with the tag
+-- before it, is said to mean.
+abbrev pub IsAtom : {R : Type 0} → ℕ → (Option Tag → Name → R → Type 0) → ValueText → Atom R → Type 0
 IsAtom {R} width means (text.Int i) atom = IsNumber (int_of width i) atom
 IsAtom {R} width means text.Undef atom = atom ≡ Constant const.Undef
-IsAtom {R} width means (text.Local name) atom = (r : R) × means name.what r × (atom ≡ Register r)
+IsAtom {R} width means (text.Local name) atom = (r : R) × means None name.what r × (atom ≡ Register r)
+IsAtom {R} width means (text.Tagged tag name) atom = (r : R) × means (Some tag) name.what r × (atom ≡ Register r)
 
 -- what a written value of a width names
 abbrev pub Names : Type 0 → Type 1

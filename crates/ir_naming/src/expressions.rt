@@ -1,44 +1,55 @@
-//! Expressions of the logic, which are built as those of functions are; their registers are as they are now.
+//! Expressions of the logic, which are built as those of functions are, over the registers of the logic.
 ghost use Rattle.std.specs.Prelude.{◌≡◌, ◌++◌, [], ◌∷◌, IfOk, OnOk};
-ghost use Rattle.ir_core.specs.declared.expressions.Reg.TheVariants.{Now};
-ghost use Rattle.ir_core.specs.Expressions.{map_atom, map_operand, map_binary, map_icmp, map_cast, map_select, map_expr};
 ghost use Rattle.ir_naming.specs.Values as meaning;
-ghost use Rattle.ir_naming.specs.Expressions.{expression_claims, expression_now, number_range, operand_range, operation_ranges, pair_ranges, ranges_of, select_ranges};
+ghost use Rattle.ir_naming.specs.Expressions.{expression_claims, logic_atom, logic_expression, register_of, number_range, operand_range, operation_ranges, pair_ranges, ranges_of, select_ranges};
 
 use crate::constants::{built, int_of};
 use crate::operands::claim_int;
 use crate::values::{flags_of, name_of};
 use contents::Seq;
-use ir_core::{Atom, Binary, Cast, Const, Expr, Expr0, Icmp, Operand, Reg, Select, Ty};
+use ir_core::{Atom, Binary, Cast, Const, Expr, Expr0, Icmp, Name, Operand, Reg, Select, Ty};
 use ir_grammar::{
-    BinaryText, CastText, CompareText, ExprText, OperandText, OperationText, SelectText, ValueText,
+    BinaryText, CastText, CompareText, ExprText, OperandText, OperationText, SelectText, Tag,
+    ValueText,
 };
 use name_claims::{Claim, Item};
 use std::alloc::{AllocError, Global};
 
+/// The register of the name, with the tag before it.
+fn register_of(tag: Option<Tag>, name: Name) -> Reg
+    ensures { result ≡ register_of tag name }
+{
+    match tag {
+        None => Reg::Now(name),
+        Some(Tag::Old) => Reg::Old(name),
+        Some(Tag::Ghost) => Reg::Ghost(name),
+    }
+}
+
 /// What the value of this width is in an expression.
-fn atom_now(width: u32, value: ValueText) -> Atom<Reg>
-    ensures { result ≡ map_atom Now (meaning.atom_of width value) }
+fn logic_atom(width: u32, value: ValueText) -> Atom<Reg>
+    ensures { result ≡ logic_atom width value }
 {
     match value {
         ValueText::Int(int) => Atom::Constant(Const::Number(built(int_of(width, &int)))),
         ValueText::Undef => Atom::Constant(Const::Undef),
-        ValueText::Local(name) => Atom::Register(Reg::Now(name_of(name))),
+        ValueText::Local(name) => Atom::Register(register_of(None, name_of(name))),
+        ValueText::Tagged { tag, name } => Atom::Register(register_of(Some(tag), name_of(name))),
     }
 }
 
-fn operand_now(operand: OperandText) -> Operand<Reg>
-    ensures { result ≡ map_operand Now (meaning.operand_of operand) }
+fn logic_operand(operand: OperandText) -> Operand<Reg>
+    ensures { result ≡ meaning.operand_by logic_atom operand }
 {
     let OperandText { ty, value } = operand;
     Operand {
         ty: Ty::Int(ty.what),
-        atom: atom_now(ty.what, value),
+        atom: logic_atom(ty.what, value),
     }
 }
 
-fn binary_now(binary: BinaryText) -> Binary<Reg>
-    ensures { result ≡ map_binary Now (meaning.binary_of binary) }
+fn logic_binary(binary: BinaryText) -> Binary<Reg>
+    ensures { result ≡ meaning.binary_by logic_atom binary }
 {
     let BinaryText {
         operator,
@@ -50,37 +61,37 @@ fn binary_now(binary: BinaryText) -> Binary<Reg>
         op: operator.op(),
         flags: flags_of(operator),
         ty: Ty::Int(ty.what),
-        left: atom_now(ty.what, value),
-        right: atom_now(ty.what, right),
+        left: logic_atom(ty.what, value),
+        right: logic_atom(ty.what, right),
     }
 }
 
-fn compare_now(compare: CompareText) -> Icmp<Reg>
-    ensures { result ≡ map_icmp Now (meaning.compare_of compare) }
+fn logic_compare(compare: CompareText) -> Icmp<Reg>
+    ensures { result ≡ meaning.compare_by logic_atom compare }
 {
     let CompareText { pred, left, right } = compare;
     let OperandText { ty, value } = left;
     Icmp {
         pred,
         ty: Ty::Int(ty.what),
-        left: atom_now(ty.what, value),
-        right: atom_now(ty.what, right),
+        left: logic_atom(ty.what, value),
+        right: logic_atom(ty.what, right),
     }
 }
 
-fn cast_now(cast: CastText) -> Cast<Reg>
-    ensures { result ≡ map_cast Now (meaning.cast_of cast) }
+fn logic_cast(cast: CastText) -> Cast<Reg>
+    ensures { result ≡ meaning.cast_by logic_atom cast }
 {
     let CastText { op, from, to } = cast;
     Cast {
         op,
-        operand: operand_now(from),
+        operand: logic_operand(from),
         to: Ty::Int(to.what),
     }
 }
 
-fn select_now(select: SelectText) -> Select<Reg>
-    ensures { result ≡ map_select Now (meaning.select_of select) }
+fn logic_select(select: SelectText) -> Select<Reg>
+    ensures { result ≡ meaning.select_by logic_atom select }
 {
     let SelectText {
         condition,
@@ -88,30 +99,30 @@ fn select_now(select: SelectText) -> Select<Reg>
         other,
     } = select;
     Select {
-        condition: operand_now(condition),
-        left: operand_now(then),
-        right: operand_now(other),
+        condition: logic_operand(condition),
+        left: logic_operand(then),
+        right: logic_operand(other),
     }
 }
 
-fn operation_now(operation: OperationText) -> Expr0
-    ensures { result ≡ map_expr Now (meaning.expression_of operation) }
+fn logic_operation(operation: OperationText) -> Expr0
+    ensures { result ≡ meaning.expression_by logic_atom operation }
 {
     match operation {
-        OperationText::Binary(binary) => Expr::Binary(binary_now(binary)),
-        OperationText::Compare(compare) => Expr::Icmp(compare_now(compare)),
-        OperationText::Cast(cast) => Expr::Cast(cast_now(cast)),
-        OperationText::Select(select) => Expr::Select(select_now(select)),
+        OperationText::Binary(binary) => Expr::Binary(logic_binary(binary)),
+        OperationText::Compare(compare) => Expr::Icmp(logic_compare(compare)),
+        OperationText::Cast(cast) => Expr::Cast(logic_cast(cast)),
+        OperationText::Select(select) => Expr::Select(logic_select(select)),
     }
 }
 
 /// The expression that is built of the text.
-fn expression_now(text: ExprText) -> Expr0
-    ensures { result ≡ expression_now text }
+fn logic_expression(text: ExprText) -> Expr0
+    ensures { result ≡ logic_expression text }
 {
     match text {
-        ExprText::Plain(operand) => Expr::Plain(operand_now(operand)),
-        ExprText::Operation(operation) => operation_now(operation),
+        ExprText::Plain(operand) => Expr::Plain(logic_operand(operand)),
+        ExprText::Operation(operation) => logic_operation(operation),
     }
 }
 
@@ -123,6 +134,7 @@ fn claim_number(width: u32, value: &ValueText, claims: &mut Seq<Claim>) -> Resul
         ValueText::Int(int) => claim_int(width, int, claims),
         ValueText::Undef => Ok(()),
         ValueText::Local(_) => Ok(()),
+        ValueText::Tagged { tag: _, name: _ } => Ok(()),
     }
 }
 
@@ -205,9 +217,9 @@ fn items_from(alloc: Global, text: &ExprText) -> Result<Vec<Item>, AllocError>
 ///
 /// Where memory runs out.
 pub fn name_expression(alloc: Global, text: ExprText) -> Result<(Expr0, Vec<Item>), AllocError>
-    ensures expression { IfOk result (λ named. named.0 ≡ expression_now text) }
+    ensures expression { IfOk result (λ named. named.0 ≡ logic_expression text) }
     ensures claims { IfOk result (λ named. named.1.items ≡ expression_claims text) }
 {
     let items = items_from(alloc, &text)?;
-    Ok((expression_now(text), items))
+    Ok((logic_expression(text), items))
 }

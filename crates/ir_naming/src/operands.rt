@@ -86,6 +86,17 @@ fn claim_register(
     claim_use(name, used, claims)
 }
 
+/// Claims that what is written is no value.
+fn claim_wrong(name: &Placed<Name>, claims: &mut Seq<Claim>) -> Result<(), AllocError>
+    ensures { OnOk result (claims.new ≡ claims.old ++ at name.now Says.Wrong ∷ []) }
+{
+    claims.push(Claim {
+        start: name.start,
+        end: name.end,
+        says: Says::Wrong,
+    })
+}
+
 /// What the value of the width claims.
 pub fn claim_value(
     alloc: Global,
@@ -99,6 +110,7 @@ pub fn claim_value(
         ValueText::Int(int) => claim_int(width, int, claims),
         ValueText::Undef => Ok(()),
         ValueText::Local(name) => claim_register(alloc, width, name, claims),
+        ValueText::Tagged { tag: _, name } => claim_wrong(name, claims),
     }
 }
 

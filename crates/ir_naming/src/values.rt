@@ -88,6 +88,7 @@ pub fn atom_of(width: u32, value: ValueText) -> Atom<Name>
         ValueText::Int(int) => Atom::Constant(Const::Number(built(int_of(width, &int)))),
         ValueText::Undef => Atom::Constant(Const::Undef),
         ValueText::Local(name) => Atom::Register(name_of(name)),
+        ValueText::Tagged { tag: _, name } => Atom::Register(name_of(name)),
     }
 }
 
@@ -103,7 +104,7 @@ pub fn operand_of(operand: OperandText) -> Operand<Name>
 }
 
 fn binary_of(binary: BinaryText) -> Binary<Name>
-    ensures { result ≡ meaning.binary_of binary }
+    ensures { result ≡ meaning.binary_by meaning.atom_of binary }
 {
     let BinaryText {
         operator,
@@ -121,7 +122,7 @@ fn binary_of(binary: BinaryText) -> Binary<Name>
 }
 
 fn compare_of(compare: CompareText) -> Icmp<Name>
-    ensures { result ≡ meaning.compare_of compare }
+    ensures { result ≡ meaning.compare_by meaning.atom_of compare }
 {
     let CompareText { pred, left, right } = compare;
     let OperandText { ty, value } = left;
@@ -134,7 +135,7 @@ fn compare_of(compare: CompareText) -> Icmp<Name>
 }
 
 fn cast_of(cast: CastText) -> Cast<Name>
-    ensures { result ≡ meaning.cast_of cast }
+    ensures { result ≡ meaning.cast_by meaning.atom_of cast }
 {
     let CastText { op, from, to } = cast;
     Cast {
@@ -145,7 +146,7 @@ fn cast_of(cast: CastText) -> Cast<Name>
 }
 
 fn select_of(select: SelectText) -> Select<Name>
-    ensures { result ≡ meaning.select_of select }
+    ensures { result ≡ meaning.select_by meaning.atom_of select }
 {
     let SelectText {
         condition,

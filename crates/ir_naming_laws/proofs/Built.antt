@@ -83,6 +83,7 @@ value_is : (registers : List (Name × Ty)) → Determines (IsValue registers) at
 value_is registers width (text.Int i) a is = number_is (int_of width i) a is
 value_is registers width text.Undef a is = is
 value_is registers width (text.Local w) a is = is.2 ∙ ap Register is.1.1
+value_is registers width (text.Tagged t w) a is = absurd is.1
 
 operation_is : (registers : List (Name × Ty)) (o : OperationText) (e : Expr Name) → IsOperation (IsValue registers) o e → e ≡ expression_of o
 operation_is registers =

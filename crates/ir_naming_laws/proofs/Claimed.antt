@@ -203,6 +203,7 @@ value_right : (ds : List Definition) → AreNew [] (defined_names ds) → IsClai
 value_right ds new width (text.Int i) a is = int_right ds width i a is
 value_right ds new width text.Undef a is = tt
 value_right ds new width (text.Local w) a is = (found_known [] ds w.what (Int width) new is.1.0, tt)
+value_right ds new width (text.Tagged t w) a is = absurd is.1
 
 operation_right : (ds : List Definition) → AreNew [] (defined_names ds) → (o : OperationText) (e : Expr Name) → IsOperation (IsValue (registers_in ds)) o e → AreRight ds (operation_claims o)
 operation_right ds new =

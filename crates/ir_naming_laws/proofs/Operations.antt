@@ -24,7 +24,7 @@ use Rattle.ir_grammar.specs.declared.trees.ValueText.{ValueText}
 use Rattle.ir_grammar.specs.Operators.{operator_op}
 use Rattle.name_claims.specs.declared.claims.Claim.{Claim}
 use Rattle.name_claims.specs.declared.claims.Definition.{Definition}
-use Rattle.ir_naming.specs.Values.{IsBinary, IsCast, IsCompare, IsOperand, IsOperation, IsSelect, Names, flags_of, type_at}
+use Rattle.ir_naming.specs.Values.{Builds, IsBinary, IsCast, IsCompare, IsOperand, IsOperation, IsSelect, Names, binary_by, cast_by, compare_by, flags_of, operand_by, select_by, type_at}
 use Rattle.ir_naming_laws.proofs.Lists.{all_append, all_left, all_right}
 use Rattle.ir_naming_laws.proofs.Ordered.{AreRight, IsRight}
 
@@ -50,32 +50,6 @@ operation_cases names P f g h k (form.Select w) (expr.Binary b) is = absurd is
 operation_cases names P f g h k (form.Select w) (expr.Icmp c) is = absurd is
 operation_cases names P f g h k (form.Select w) (expr.Cast c) is = absurd is
 operation_cases names P f g h k (form.Select w) (expr.Select s) is = k w s is
-
--- ---- what is built of values that are built so
-
-abbrev pub Builds : Type 0 → Type 0
-Builds R = ℕ → ValueText → Atom R
-
-abbrev pub operand_by : {R : Type 0} → Builds R → OperandText → Operand R
-operand_by at w = record { ty = type_at w.ty; atom = at w.ty.what w.value }
-
-abbrev pub binary_by : {R : Type 0} → Builds R → BinaryText → Binary R
-binary_by at w = record {
-  op = operator_op w.operator;
-  flags = flags_of w.operator;
-  ty = type_at w.left.ty;
-  left = at w.left.ty.what w.left.value;
-  right = at w.left.ty.what w.right;
-}
-
-abbrev pub compare_by : {R : Type 0} → Builds R → CompareText → Icmp R
-compare_by at w = record { pred = w.pred; ty = type_at w.left.ty; left = at w.left.ty.what w.left.value; right = at w.left.ty.what w.right }
-
-abbrev pub cast_by : {R : Type 0} → Builds R → CastText → Cast R
-cast_by at w = record { op = w.op; operand = operand_by at w.from; to = type_at w.to }
-
-abbrev pub select_by : {R : Type 0} → Builds R → SelectText → Select R
-select_by at w = record { condition = operand_by at w.condition; left = operand_by at w.then; right = operand_by at w.other }
 
 -- ---- it is what is named
 

@@ -72,6 +72,7 @@ value_named : (ds : List Definition) → IsNamedSo ds value_claims (IsValue (reg
 value_named ds width (text.Int i) right = int_named Name ds width i right
 value_named ds width text.Undef right = refl
 value_named ds width (text.Local w) right = (w.what, (known w.what (Int width) ds right.0, refl), refl)
+value_named ds width (text.Tagged t w) right = let wrong = right.0 in cc
 
 operand_is_named : (ds : List Definition) (w : OperandText) → AreRight ds (operand_claims w) → IsOperand (IsValue (registers_in ds)) w (operand_of w)
 operand_is_named ds w right = operand_named ds value_claims (IsValue (registers_in ds)) atom_of (value_named ds) w right

@@ -1,7 +1,10 @@
 -- Texts as trees, what they claim, and the first fault of each.
 use Rattle.std.specs.Prelude.{◌≡◌, ℕ, ◌+◌, Bool, true, false, List, [], ◌∷◌, Some, None, codes}
+use Rattle.ir_core.specs.declared.expressions.Expr.TheVariants as expr
+use Rattle.ir_core.specs.declared.expressions.Reg.TheVariants.{Now, Old, Ghost}
 use Rattle.ir_core.specs.declared.names.Name.{Name}
 use Rattle.ir_core.specs.declared.names.Name.TheVariants.{Text, Number}
+use Rattle.ir_core.specs.declared.operands.Atom.TheVariants.{Register}
 use Rattle.ir_core.specs.declared.operands.CastOp.TheVariants.{ZExt}
 use Rattle.ir_core.specs.declared.operands.Pred.TheVariants.{Eq}
 use Rattle.ir_core.specs.declared.operands.Ty.TheVariants.{Int}
@@ -11,7 +14,7 @@ use Rattle.ir_grammar.specs.declared.trees.BlockText.{BlockText}
 use Rattle.ir_grammar.specs.declared.trees.BranchText.TheVariants.{Always}
 use Rattle.ir_grammar.specs.declared.trees.DefinitionText.{DefinitionText}
 use Rattle.ir_grammar.specs.declared.trees.ExprText.{ExprText}
-use Rattle.ir_grammar.specs.declared.trees.ExprText.TheVariants.{Operation}
+use Rattle.ir_grammar.specs.declared.trees.ExprText.TheVariants.{Operation, Plain}
 use Rattle.ir_grammar.specs.declared.trees.IntText.{IntText}
 use Rattle.ir_grammar.specs.declared.trees.IntText.TheVariants as int
 use Rattle.ir_grammar.specs.declared.trees.LineText.{LineText}
@@ -21,6 +24,8 @@ use Rattle.ir_grammar.specs.declared.trees.OperationText.{OperationText}
 use Rattle.ir_grammar.specs.declared.trees.OperationText.TheVariants.{Binary, Compare, Cast}
 use Rattle.ir_grammar.specs.declared.trees.OperatorText.TheVariants.{Overflow}
 use Rattle.ir_grammar.specs.declared.trees.Placed.{Placed}
+use Rattle.ir_grammar.specs.declared.trees.Tag.{Tag}
+use Rattle.ir_grammar.specs.declared.trees.Tag.TheVariants as tag
 use Rattle.ir_grammar.specs.declared.trees.TermText.{TermText}
 use Rattle.ir_grammar.specs.declared.trees.TermText.TheVariants as term
 use Rattle.ir_grammar.specs.declared.trees.ValueText.{ValueText}
@@ -33,7 +38,7 @@ use Rattle.name_claims.specs.declared.claims.Reason.TheVariants.{Twice, Unknown,
 use Rattle.name_claims.specs.declared.claims.Says.{Says}
 use Rattle.name_claims.specs.declared.claims.Says.TheVariants as says
 use Rattle.name_claims.specs.Faults.{IsFirst}
-use Rattle.ir_naming.specs.Expressions.{expression_claims}
+use Rattle.ir_naming.specs.Expressions.{expression_claims, logic_expression}
 use Rattle.ir_naming.specs.Naming.{claims_of}
 use Rattle.ir_naming.specs.Values.{kept}
 
@@ -244,6 +249,18 @@ LargeNumberIsWrongType = IsFirst (expression_claims large_number) (fault 12 22 W
 -- add i32 %x, %y
 abbrev pub RegistersClaimNothing : Type 0
 RegistersClaimNothing = expression_claims (to_x (local 12 14 y)) ≡ record { definitions = []; claims = [] } ∷ []
+
+-- add i32 %x, old %y and add i32 %x, ghost %y
+abbrev pub TaggedRegistersClaimNothing : Type 0
+TaggedRegistersClaimNothing =
+    (t : Tag) → expression_claims (to_x (text.Tagged t (name 16 18 y))) ≡ record { definitions = []; claims = [] } ∷ []
+
+-- i32 %x, i32 old %x and i32 ghost %x
+abbrev pub TagsMakeOtherRegisters : Type 0
+TagsMakeOtherRegisters =
+    (logic_expression (Plain (operand (i32 0) (local 4 6 x))) ≡ expr.Plain (record { ty = Int 32; atom = Register (Now x) }))
+    × (logic_expression (Plain (operand (i32 0) (text.Tagged tag.Old (name 8 10 x)))) ≡ expr.Plain (record { ty = Int 32; atom = Register (Old x) }))
+    × (logic_expression (Plain (operand (i32 0) (text.Tagged tag.Ghost (name 10 12 x)))) ≡ expr.Plain (record { ty = Int 32; atom = Register (Ghost x) }))
 
 -- add i8 %x, true
 abbrev pub word_of_another_type : ExprText

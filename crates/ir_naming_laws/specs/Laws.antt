@@ -11,7 +11,7 @@ use Rattle.ir_grammar.specs.declared.trees.ExprText.{ExprText}
 use Rattle.ir_grammar.specs.declared.trees.ModuleText.{ModuleText}
 use Rattle.name_claims.specs.declared.claims.Fault.{Fault}
 use Rattle.name_claims.specs.Faults.{HasFault}
-use Rattle.ir_naming.specs.Expressions.{NamesExpression, expression_claims, expression_now}
+use Rattle.ir_naming.specs.Expressions.{NamesExpression, expression_claims, logic_expression}
 use Rattle.ir_naming.specs.Modules.{module_of}
 use Rattle.ir_naming.specs.Naming.{blocks_in, claims_of}
 use Rattle.ir_naming.specs.Spells.{NamesModule}
@@ -41,7 +41,7 @@ abbrev pub IsFaultlessExpression : ExprText → Type 0
 IsFaultlessExpression w = (f : Fault) → HasFault (expression_claims w) f → ⊥
 
 abbrev pub FaultlessExpressionsNameWhatIsBuilt : Type 0
-FaultlessExpressionsNameWhatIsBuilt = (w : ExprText) → IsFaultlessExpression w → NamesExpression w (expression_now w)
+FaultlessExpressionsNameWhatIsBuilt = (w : ExprText) → IsFaultlessExpression w → NamesExpression w (logic_expression w)
 
 abbrev pub NamedExpressionsAreFaultless : Type 0
-NamedExpressionsAreFaultless = (w : ExprText) (e : Expr0) → NamesExpression w e → IsFaultlessExpression w × (e ≡ expression_now w)
+NamedExpressionsAreFaultless = (w : ExprText) (e : Expr0) → NamesExpression w e → IsFaultlessExpression w × (e ≡ logic_expression w)

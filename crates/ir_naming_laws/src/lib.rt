@@ -3,7 +3,7 @@
 #![tactic(auto)]
 
 ghost use Rattle.ir_naming_laws.specs.Laws.{FaultlessExpressionsNameWhatIsBuilt, FaultlessTextsNameWhatIsBuilt, NamedExpressionsAreFaultless, NamedTextsAreFaultless};
-ghost use Rattle.ir_naming_laws.specs.Examples.{CasesAreInRange, CountingGoesOnByOne, FirstOfThree, LabelsAreBlocks, LabelsMustBeKnown, LargeNumberIsWrongType, LinesHaveTypes, NegativeNumbersAreKept, NumbersHaveRanges, PhisHaveTypes, RegistersClaimNothing, SecondFunctionIsTwice, TrueIsOfOneBit};
+ghost use Rattle.ir_naming_laws.specs.Examples.{CasesAreInRange, CountingGoesOnByOne, FirstOfThree, LabelsAreBlocks, LabelsMustBeKnown, LargeNumberIsWrongType, LinesHaveTypes, NegativeNumbersAreKept, NumbersHaveRanges, PhisHaveTypes, RegistersClaimNothing, SecondFunctionIsTwice, TaggedRegistersClaimNothing, TagsMakeOtherRegisters, TrueIsOfOneBit};
 
 /// Empty on purpose: its contract is the law.
 ///
@@ -60,11 +60,13 @@ pub fn examples_of_blocks()
 /// Empty on purpose: its contract is the law.
 ///
 /// A number out of range is at fault where it stands, and so is `true` of another type than `i1`; a register of an expression claims
-/// nothing.
+/// nothing, also behind `old` or `ghost`, which make it another register.
 pub fn examples_of_expressions()
     ensures number { LargeNumberIsWrongType }
     ensures word { TrueIsOfOneBit }
     ensures register { RegistersClaimNothing }
+    ensures tagged { TaggedRegistersClaimNothing }
+    ensures tags { TagsMakeOtherRegisters }
 {}
 
 /// Empty on purpose: its contract is the law.

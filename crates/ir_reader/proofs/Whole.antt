@@ -9,6 +9,7 @@ use Rattle.ir_lexer.specs.declared.token.Token.{Token}
 use Rattle.ir_lexer.specs.Cut.{AreInOrder, Placed}
 use Rattle.ir_grammar.specs.declared.trees.ExprText.{ExprText}
 use Rattle.ir_grammar.specs.declared.trees.ModuleText.{ModuleText}
+use Rattle.ir_grammar.specs.declared.words.Language.TheVariants.{Ir}
 use Rattle.ir_grammar.specs.Symbols.{kind_in, kind_of, kind_of_token, placed_in, symbol_in}
 use Rattle.ir_grammar.specs.Written.{written}
 use Rattle.ir_grammar.proofs.Tokens.{kinds_in, symbols_in}
@@ -16,7 +17,7 @@ use Rattle.name_claims.specs.declared.claims.Fault.{Fault}
 use Rattle.name_claims.specs.declared.claims.Item.{Item}
 use Rattle.name_claims.specs.Faults.{HasFault}
 use Rattle.tree_reader.specs.Lines.{IsPastLimit}
-use Rattle.ir_naming.specs.Expressions.{NamesExpression, expression_now}
+use Rattle.ir_naming.specs.Expressions.{NamesExpression, logic_expression}
 use Rattle.ir_naming.specs.Modules.{module_of}
 use Rattle.ir_naming.specs.Spells.{NamesModule}
 use Rattle.ir_naming_laws.specs.Laws.{IsFaultless, IsFaultlessExpression}
@@ -40,14 +41,14 @@ module _ (form : Form) (bytes : List ℕ) (small slice : List Token) (is : slice
   tokens = map (placed_in bytes) small
 
   pub tree_by :
-      (answer : Result form.Tree TextFault) → IfOk answer (λ tree. form.written tree ≡ map (symbol_in bytes) slice)
-      → IfOk answer (λ tree. (k : ℕ) → form.is_past (map (kind_in bytes) slice) k → ⊥) → IfOk answer (λ tree. IsTreeOf form bytes tree)
+      (answer : Result form.Tree TextFault) → IfOk answer (λ tree. form.written tree ≡ map (symbol_in form.language bytes) slice)
+      → IfOk answer (λ tree. (k : ℕ) → form.is_past (map (kind_in form.language bytes) slice) k → ⊥) → IfOk answer (λ tree. IsTreeOf form bytes tree)
   tree_by (Ok tree) same within = record {
     tokens = tokens;
     has = has;
     have_bytes = have_bytes bytes 0 (length bytes) small order;
-    same = same ∙ ap (map (symbol_in bytes)) is ∙ symbols_in bytes small;
-    within = λ k past. within k (subst (λ ks. form.is_past ks k) (sym (ap (map (kind_in bytes)) is ∙ kinds_in bytes small)) past);
+    same = same ∙ ap (map (symbol_in form.language bytes)) is ∙ symbols_in form.language bytes small;
+    within = λ k past. within k (subst (λ ks. form.is_past ks k) (sym (ap (map (kind_in form.language bytes)) is ∙ kinds_in form.language bytes small)) past);
   }
   tree_by (Err f) same within = tt
 
@@ -67,7 +68,7 @@ none_past (Err f) = tt
 
 module _ (form : Form) {X : Type 0} (Names : form.Tree → X → Type 0) (bytes : List ℕ) (tree : form.Tree) (is : IsTreeOf form bytes tree) where
   pub spelled : (x : X) → ((f : Fault) → HasFault (form.claims tree) f → ⊥) → Names tree x → IsSpelled form Names bytes x
-  spelled x none names = record { tree = tree; symbols = ap symbols_cut is.has.1 ∙ ap Some (sym is.same); no_fault = none; names = names }
+  spelled x none names = record { tree = tree; symbols = ap (symbols_cut form.language) is.has.1 ∙ ap Some (sym is.same); no_fault = none; names = names }
 
   pub spelled_by :
       (answer : Result X TextFault) → IfOk answer (λ x. (f : Fault) → HasFault (form.claims tree) f → ⊥) → IfOk answer (λ x. Names tree x)
@@ -93,7 +94,7 @@ faultless claims items found same is none =
 
 named : (bytes : List ℕ) (tree : ModuleText) (m : Module) → IsTreeOf module_form bytes tree → IsFaultless tree → m ≡ module_of tree → NamesModule tree m
 named bytes tree m at none is =
-    let kinds : map kind_of (written tree) ≡ map kind_of_token at.tokens = ap (map kind_of) at.same ∙ sym (kinds_are at.tokens) in
+    let kinds : map kind_of (written tree) ≡ map (kind_of_token Ir) at.tokens = ap (map kind_of) at.same ∙ sym (kinds_are Ir at.tokens) in
     let few = all_few 0 tree.definitions (λ k past. at.within k (subst (λ ks. IsPastLimit ks k) kinds (is_past (written tree) k past))) in
     subst (NamesModule tree) (sym is) (module_named tree none few)
 
@@ -101,7 +102,7 @@ pub module_by : (bytes : List ℕ) (tree : ModuleText) → IsTreeOf module_form 
 module_by bytes tree at (Ok m) built none = named bytes tree m at none built
 module_by bytes tree at (Err f) built none = tt
 
-pub expression_by : (tree : ExprText) (answer : Result Expr0 TextFault) → IfOk answer (λ e. e ≡ expression_now tree) → IfOk answer (λ e. IsFaultlessExpression tree) → IfOk answer (λ e. NamesExpression tree e)
+pub expression_by : (tree : ExprText) (answer : Result Expr0 TextFault) → IfOk answer (λ e. e ≡ logic_expression tree) → IfOk answer (λ e. IsFaultlessExpression tree) → IfOk answer (λ e. NamesExpression tree e)
 expression_by tree (Ok e) built none = subst (NamesExpression tree) (sym built) (expression_built tree none)
 expression_by tree (Err f) built none = tt
 

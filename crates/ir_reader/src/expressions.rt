@@ -1,9 +1,10 @@
 ghost use Rattle.std.specs.Prelude.{◌≡◌, ◌≤◌, ◌<◌, length, map, IfOk, IfErr, Err};
 ghost use Rattle.ir_core.specs.Expressions.{Expr0};
 ghost use Rattle.ir_core.specs.Limits.{text_limit};
+ghost use Rattle.ir_grammar.specs.declared.words.Language.TheVariants.{Logic};
 ghost use Rattle.ir_grammar.specs.Symbols.{placed_in, symbol_in};
 ghost use Rattle.ir_grammar.specs.Written.{expression};
-ghost use Rattle.ir_naming.specs.Expressions.{expression_now};
+ghost use Rattle.ir_naming.specs.Expressions.{logic_expression};
 ghost use Rattle.ir_naming_laws.specs.Laws.{IsFaultlessExpression};
 ghost use Rattle.ir_spelling.specs.Faults.{IsTextFault};
 ghost use Rattle.ir_spelling.specs.Forms.{expression_form};
@@ -24,7 +25,7 @@ use tree_reader::read_expression;
 
 /// The tree of the tokens of a text, or the first of them that is not expected.
 fn read_tree(alloc: Global, text: &[u8], tokens: &[Token]) -> Result<ExprText, TextFault>
-    ensures tree { IfOk result (λ tree. expression tree ≡ map (symbol_in text.now) tokens.now) }
+    ensures tree { IfOk result (λ tree. expression tree ≡ map (symbol_in Logic text.now) tokens.now) }
     ensures fault { IfErr result (λ fault. IsTreeFault expression_form (map (placed_in text.now) tokens.now) (length text.now) fault) }
 {
     match read_expression(alloc, text, tokens)? {
@@ -45,7 +46,7 @@ fn tree_in(alloc: Global, text: &[u8]) -> Result<ExprText, TextFault>
 
 /// The expression that is built of a tree, or the first of its constants that is none of its type.
 fn name_tree(alloc: Global, tree: ExprText) -> Result<Expr0, TextFault>
-    ensures expression { IfOk result (λ e. e ≡ expression_now tree) }
+    ensures expression { IfOk result (λ e. e ≡ logic_expression tree) }
     ensures faultless { IfOk result (λ e. IsFaultlessExpression tree) }
     ensures fault { IfErr result (λ fault. IsTreeNameFault expression_form tree fault) }
 {
@@ -67,7 +68,7 @@ fn expression_in(alloc: Global, text: &[u8]) -> Result<Expr0, TextFault>
     name_tree(alloc, tree)
 }
 
-/// The expression of the logic that the text spells.
+/// The expression of the logic that the text spells: over registers as they are now, old ones (`old %x`) and ghosts (`ghost %x`).
 ///
 /// # Errors
 ///

@@ -2,6 +2,7 @@ ghost use Rattle.std.specs.Prelude.{◌≡◌, ◌≤◌, ◌<◌, length, map, 
 ghost use Rattle.ir_core.specs.declared.functions.Module.{Module};
 ghost use Rattle.ir_core.specs.Limits.{text_limit};
 ghost use Rattle.ir_core.specs.Order.{IsInOrder};
+ghost use Rattle.ir_grammar.specs.declared.words.Language.TheVariants.{Ir};
 ghost use Rattle.ir_grammar.specs.Symbols.{kind_in, placed_in, symbol_in};
 ghost use Rattle.ir_grammar.specs.Written.{written};
 ghost use Rattle.ir_naming.specs.Modules.{module_of};
@@ -15,7 +16,7 @@ ghost use Rattle.tree_reader.specs.Lines.{IsPastLimit};
 use crate::faults::{of_names, of_stuck};
 use crate::tokens::read_tokens;
 use ir_core::{Limit, Module};
-use ir_grammar::ModuleText;
+use ir_grammar::{Language, ModuleText};
 use ir_lexer::Token;
 use ir_naming::name_module;
 use ir_spelling::TextFault;
@@ -26,11 +27,11 @@ use tree_reader::{kinds_of, line_past_limit, read_definitions_of};
 
 /// The tree of the tokens of a text, or their first fault.
 fn read_tree(alloc: Global, text: &[u8], tokens: &[Token]) -> Result<ModuleText, TextFault>
-    ensures tree { IfOk result (λ tree. written tree ≡ map (symbol_in text.now) tokens.now) }
-    ensures lines { IfOk result (λ tree. (k : ℕ) → IsPastLimit (map (kind_in text.now) tokens.now) k → ⊥) }
+    ensures tree { IfOk result (λ tree. written tree ≡ map (symbol_in Ir text.now) tokens.now) }
+    ensures lines { IfOk result (λ tree. (k : ℕ) → IsPastLimit (map (kind_in Ir text.now) tokens.now) k → ⊥) }
     ensures fault { IfErr result (λ fault. IsTreeFault module_form (map (placed_in text.now) tokens.now) (length text.now) fault) }
 {
-    let told = kinds_of(alloc, text, tokens)?;
+    let told = kinds_of(alloc, Language::Ir, text, tokens)?;
     let kinds = told.as_slice();
     let past = line_past_limit(kinds);
     match read_definitions_of(alloc, text, tokens, kinds)? {

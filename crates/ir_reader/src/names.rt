@@ -1,6 +1,7 @@
 ghost use Rattle.std.specs.Prelude.{◌≡◌, ◌≤◌, ◌<◌, [], ◌∷◌, length, map, IfOk, IfErr, Err};
 ghost use Rattle.ir_core.specs.declared.names.Name.{Name};
 ghost use Rattle.ir_core.specs.Limits.{text_limit};
+ghost use Rattle.ir_grammar.specs.declared.words.Language.TheVariants.{Ir};
 ghost use Rattle.ir_grammar.specs.Symbols.{placed_in, symbol_in};
 ghost use Rattle.ir_grammar.specs.Written as write;
 ghost use Rattle.ir_spelling.specs.Faults.{IsTextFault};
@@ -24,7 +25,7 @@ fn read_tree(
     text: &[u8],
     tokens: &[Token],
 ) -> Result<Placed<Name>, TextFault>
-    ensures tree { IfOk result (λ name. write.name sigil name ∷ [] ≡ map (symbol_in text.now) tokens.now) }
+    ensures tree { IfOk result (λ name. write.name sigil name ∷ [] ≡ map (symbol_in Ir text.now) tokens.now) }
     ensures fault { IfErr result (λ fault. IsTreeFault (name_form sigil) (map (placed_in text.now) tokens.now) (length text.now) fault) }
 {
     match tree_reader::read_name(alloc, sigil, text, tokens)? {

@@ -7,5 +7,7 @@ pub mod Found
 pub mod Short
 pub mod Numbers
 pub mod Edges
+pub mod Rows
+pub mod Borrowed
 pub mod Entries
 pub mod Counted

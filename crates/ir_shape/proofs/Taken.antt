@@ -57,7 +57,7 @@ pub all_kept : (ns taken : List Name) → Among taken (with_names taken ns)
 all_kept [] taken n there = there
 all_kept (m ∷ ns) taken n there = all_kept ns (with_name taken m) n (kept m taken n there)
 
-all_put : (ns taken : List Name) → AllByRecursion (Contains (with_names taken ns)) ns
+pub all_put : (ns taken : List Name) → AllByRecursion (Contains (with_names taken ns)) ns
 all_put [] taken = tt
 all_put (m ∷ ns) taken = (all_kept ns (with_name taken m) m (put m taken), all_put ns (with_name taken m))
 

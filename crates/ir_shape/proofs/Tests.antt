@@ -1,5 +1,6 @@
 -- Tests that are joined, what holds of each of a list, and lists of kinds and faults.
-use Rattle.std.proofs.Common.{◌≡◌, ◌∙◌, ◌&&◌, ℕ, suc, zero, ◌+◌, ◌<◌, Bool, true, false, not, List, [], ◌∷◌, ◌++◌, length, get_or, Option, None, Some, refl, ap, subst, arith}
+use Rattle.std.proofs.Common.{sym, drop, map, ◌≡◌, ◌∙◌, ◌&&◌, ℕ, suc, zero, ◌+◌, ◌<◌, Bool, true, false, not, List, [], ◌∷◌, ◌++◌, length, get_or, Option, None, Some, refl, ap, subst, arith}
+use Rattle.std.proofs.lemmas.List.{drop_more}
 use Rattle.std.specs.List.{AllByRecursion, Contains, flat_map, list_all}
 use Rattle.ir_core.specs.declared.functions.Function.{Function}
 use Rattle.ir_core.specs.declared.names.Name.{Name}
@@ -161,3 +162,19 @@ one_there {A = A} P xs x all there = subst P there.2 (go xs there.0 there.1 all)
     go [] k within all = absurd (omega arith)
     go (y ∷ xs) zero within all = all.0
     go (y ∷ xs) (suc k) within all = go xs k (omega arith) all.1
+
+-- ---- a test of each of a list, one step on
+
+all_step : {A B : Type 0} (p : B → Bool) (g : A → B) (xs : List A) (k : ℕ) (x : A) → k < length xs → x ≡ get_or xs k x
+    → list_all p (map g (drop k xs)) ≡ (p (g x) && list_all p (map g (drop (k + 1) xs)))
+all_step {A = A} p g xs k x within at = ap (λ (ys : List A). list_all p (map g ys)) (drop_more xs k x within ∙ ap (λ (y : A). y ∷ drop (k + 1) xs) (sym at))
+
+pub all_more : {A B : Type 0} (p : B → Bool) (g : A → B) (xs : List A) (k : ℕ) (x : A) → k < length xs → x ≡ get_or xs k x → p (g x) ≡ true
+    → list_all p (map g (drop k xs)) ≡ list_all p (map g xs) → list_all p (map g (drop (k + 1) xs)) ≡ list_all p (map g xs)
+all_more p g xs k x within at here so_far =
+    sym (ap (λ b. b && list_all p (map g (drop (k + 1) xs))) here) ∙ sym (all_step p g xs k x within at) ∙ so_far
+
+pub all_stops : {A B : Type 0} (p : B → Bool) (g : A → B) (xs : List A) (k : ℕ) (x : A) → k < length xs → x ≡ get_or xs k x → p (g x) ≡ false
+    → list_all p (map g (drop k xs)) ≡ list_all p (map g xs) → false ≡ list_all p (map g xs)
+all_stops p g xs k x within at here so_far =
+    sym (ap (λ b. b && list_all p (map g (drop (k + 1) xs))) here) ∙ sym (all_step p g xs k x within at) ∙ so_far

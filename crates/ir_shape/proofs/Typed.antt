@@ -22,7 +22,7 @@ use Rattle.ir_core.proofs.SameLaws.{same_ty_refl, same_ty_true}
 use Rattle.ir_shape.specs.declared.types.Types.{Types as Kept}
 use Rattle.ir_shape.specs.Shape.{Types, are_known, are_typed, has_type, is_integer, is_known, is_type, none_typed, or_else, type_at, with_type, with_types}
 use Rattle.ir_shape.specs.Typed.{found_in, lent, type_in}
-use Rattle.ir_shape.proofs.Tests.{all_tested, each_tested, mapped_all}
+use Rattle.ir_shape.proofs.Tests.{all_tested, both_hold, both_left, both_right, each_tested, mapped_all}
 
 -- ---- a register more
 
@@ -210,3 +210,18 @@ operands_are rs new os all =
     all_tested (λ (o : Operand Name). has_type (with_types none_typed rs) o.ty o.atom) os
     (mapped_all (λ (o : Operand Name). HasType rs o.ty o.atom) (λ (o : Operand Name). has_type (with_types none_typed rs) o.ty o.atom ≡ true)
     (λ (o : Operand Name) has. operand_is rs new o.ty o.atom has) os all)
+
+-- what is of a stated type is known
+one_known : (types : Types) (t : Ty) (a : Atom Name) → has_type types t a ≡ true → is_known types a ≡ true
+one_known types t (Constant c) e = refl
+one_known types t (Register n) e = go (types n) e
+  where
+    go : (o : Option Ty) → is_type o t ≡ true → is_some o ≡ true
+    go None e = cc
+    go (Some own) e = refl
+
+pub typed_known : (types : Types) (os : List (Operand Name)) → are_typed types os ≡ true → are_known types os ≡ true
+typed_known types [] e = refl
+typed_known types (o ∷ os) e =
+    both_hold (is_known types o.atom) (are_known types os) (one_known types o.ty o.atom (both_left (has_type types o.ty o.atom) (are_typed types os) e))
+    (typed_known types os (both_right (has_type types o.ty o.atom) (are_typed types os) e))

@@ -22,7 +22,7 @@ impl<'a> Drop for Counts<'a> {
 impl<'a> Counts<'a> {
     ghost use Rattle.ir_shape.specs.Counted.{none_counted, with_count};
 
-    fn new(alloc: Global) -> Counts<'a>
+    pub(crate) fn new(alloc: Global) -> Counts<'a>
         ensures { count_in result ≡ none_counted }
     {
         Counts {

@@ -9,11 +9,11 @@ ghost use Rattle.ir_shape.specs.Typed.{type_in};
 
 use crate::ShapeKind;
 use crate::kinds::{BIT, fault_unless, is_integer};
+use crate::lent::LentNames;
 use crate::names::leads_to_labels;
-use crate::types::{Types, end_is_known, end_is_typed};
+use crate::types::{Types, end_is_typed, is_end_known};
 use indexmap::IndexSet;
 use ir_core::{Case, Name, Switch, Term, Ty, same_name, same_ty};
-use name_index::NameIndex;
 use std::alloc::{AllocError, Global};
 
 fn is_case_label(cases: &[Case], name: &Name) -> bool
@@ -125,7 +125,7 @@ fn cases_fit(alloc: Global, end: &Term) -> Result<bool, AllocError>
 /// What is wrong with a terminator of a function with those labels and registers, that entry and that result, if anything is.
 pub(crate) fn end_kind(
     alloc: Global,
-    labels: &NameIndex,
+    labels: &LentNames,
     types: &Types,
     entry: &Name,
     due: &Ty,
@@ -133,7 +133,8 @@ pub(crate) fn end_kind(
 ) -> Result<Option<ShapeKind>, AllocError>
     ensures { IfOk result (λ kind. kind ≡ meaning.end_kind labels.now (type_in types.now) entry.now due.now end.now) }
 {
-    if !end_is_known(types, end) {
+    let typed = end_is_typed(types, end);
+    if !is_end_known(types, typed, end) {
         return Ok(Some(ShapeKind::Name));
     }
     if !leads_to_labels(labels, end) {
@@ -142,7 +143,7 @@ pub(crate) fn end_kind(
     if leads_to(entry, end) {
         return Ok(Some(ShapeKind::EntryEntered));
     }
-    if !end_is_typed(types, end) || !branch_fits(end) {
+    if !typed || !branch_fits(end) {
         return Ok(Some(ShapeKind::OperandType));
     }
     if !return_fits(due, end) {

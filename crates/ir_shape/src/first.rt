@@ -1,28 +1,31 @@
 ghost use Rattle.std.specs.Prelude.{◌≡◌, ◌++◌, [], ◌∷◌, false, None, Some, IfOk, IfErr, OnOk};
 ghost use Rattle.std.specs.List.{AllByRecursion};
+ghost use Rattle.std.specs.Option.{option_copied};
 ghost use Rattle.ir_core.specs.Functions as functions;
-ghost use Rattle.ir_shape.specs.Edges.{named};
+ghost use Rattle.ir_shape.specs.Edges.{HasEdges, named, row_kept, rows_of};
 ghost use Rattle.ir_shape.specs.Shape as meaning;
 ghost use Rattle.ir_shape.specs.Shape.{IsEndOf, IsFirstOf};
 ghost use Rattle.ir_shape.specs.Typed.{type_in};
 
-use crate::counts::count_edges;
 use crate::ends::end_kind;
+use crate::incoming::{edges_of, row_of};
 use crate::kinds::{block_kind, header_kind, least, line_kind, name_kind};
+use crate::lent::LentNames;
 use crate::lines::{are_short, is_short};
-use crate::names::{labels_of, take, take_params};
-use crate::phis::{edges_into, phi_kind};
+use crate::names::{labels_of, take_params};
+use crate::phis::{counts_of, phi_kind};
 use crate::types::{Types, types_of};
 use crate::{LinePlace, ShapeEnd, ShapeFault, ShapeKind};
 use contents::Exact;
 use ir_core::{Block, Function, Instr, Limit, Module, Name, Phi};
-use name_index::NameIndex;
 use std::alloc::{AllocError, Global};
 
-/// What is known of a function before its blocks are read: their names, and the types of its registers.
+/// What is known of a function before its blocks are read: their names, the types of its registers, and the edges that enter the blocks
+/// that have phis, at the places of their names.
 pub(crate) struct Scope<'a> {
-    pub(crate) labels: NameIndex,
+    pub(crate) labels: LentNames<'a>,
     pub(crate) types: Types<'a>,
+    pub(crate) edges: Vec<Vec<&'a Name>>,
 }
 
 impl<'a> Drop for Scope<'a> {
@@ -30,6 +33,7 @@ impl<'a> Drop for Scope<'a> {
         let Scope {
             labels: _,
             types: _,
+            edges: _,
         } = self;
     }
 }
@@ -110,12 +114,12 @@ fn kinds_fit(
     line_fits(alloc, function, block, line, least(pending, end))
 }
 
-fn push_phis(
+fn push_phis<'a>(
     alloc: Global,
     scope: &Scope,
     edges: &[&Name],
-    names: &mut NameIndex,
-    phis: &[Phi],
+    names: &mut LentNames<'a>,
+    phis: &'a [Phi],
     kinds: &mut Vec<Option<ShapeKind>>,
 ) -> Result<(), AllocError>
     ensures kinds { OnOk result
@@ -123,42 +127,64 @@ fn push_phis(
         ≡ kinds.old.items ++ meaning.phi_kinds scope.now.labels (type_in scope.now.types) (named edges.now) names.old phis.now) }
     ensures names { OnOk result (names.new ≡ meaning.with_phis names.old phis.now) }
 {
-    let counts = count_edges(alloc, edges)?;
+    let counts = counts_of(alloc, edges)?;
     for phi in phis {
-        let taken = take(alloc, names, &phi.name)?;
+        let taken = names.take(&phi.name)?;
         kinds.push(phi_kind(alloc, scope, edges, &counts, taken, phi)?)?;
     }
     Ok(())
 }
 
-/// Puts the kinds of a block's phis behind the others, and takes their names.
-fn push_block_phis(
+/// The same, where the edges are those that are kept, or none.
+fn push_with<'a>(
     alloc: Global,
-    function: &Function,
     scope: &Scope,
-    names: &mut NameIndex,
-    block: &Block,
+    row: Option<&Vec<&Name>>,
+    names: &mut LentNames<'a>,
+    phis: &'a [Phi],
     kinds: &mut Vec<Option<ShapeKind>>,
 ) -> Result<(), AllocError>
     ensures kinds { OnOk result
         (kinds.new.items
         ≡ kinds.old.items
-        ++ meaning.phi_kinds scope.now.labels (type_in scope.now.types) (functions.edges_into «function».now block.now.name) names.old block.now.phis) }
+        ++ meaning.phi_kinds scope.now.labels (type_in scope.now.types) (row_kept (option_copied row.entry)) names.old phis.now) }
+    ensures names { OnOk result (names.new ≡ meaning.with_phis names.old phis.now) }
+{
+    match row {
+        None => push_phis(alloc, scope, &[], names, phis, kinds),
+        Some(edges) => push_phis(alloc, scope, edges.as_slice(), names, phis, kinds),
+    }
+}
+
+/// Puts the kinds of a block's phis behind the others, and takes their names.
+fn push_block_phis<'a>(
+    alloc: Global,
+    _function: &Function,
+    scope: &Scope,
+    names: &mut LentNames<'a>,
+    block: &'a Block,
+    kinds: &mut Vec<Option<ShapeKind>>,
+) -> Result<(), AllocError>
+    requires edges { HasEdges scope.now.labels (rows_of scope.now.edges.items) _function.now.blocks block.now }
+    ensures kinds { OnOk result
+        (kinds.new.items
+        ≡ kinds.old.items
+        ++ meaning.phi_kinds scope.now.labels (type_in scope.now.types) (functions.edges_into _function.now block.now.name) names.old block.now.phis) }
     ensures names { OnOk result (names.new ≡ meaning.with_phis names.old block.now.phis) }
 {
     if block.phis.is_empty() {
         return Ok(());
     }
-    let edges = edges_into(alloc, function.blocks.as_slice(), &block.name)?;
-    push_phis(alloc, scope, &edges, names, block.phis.as_slice(), kinds)
+    let row = row_of(&scope.labels, scope.edges.as_slice(), &block.name);
+    push_with(alloc, scope, row, names, block.phis.as_slice(), kinds)
 }
 
 /// Puts the kinds of lines behind the others, and takes their names.
-fn push_lines(
+fn push_lines<'a>(
     alloc: Global,
     scope: &Scope,
-    names: &mut NameIndex,
-    lines: &[Instr],
+    names: &mut LentNames<'a>,
+    lines: &'a [Instr],
     kinds: &mut Vec<Option<ShapeKind>>,
 ) -> Result<(), AllocError>
     ensures kinds { OnOk result
@@ -167,22 +193,23 @@ fn push_lines(
 {
     for line in lines {
         let Instr::Calm(calm) = line;
-        let taken = take(alloc, names, &calm.name)?;
+        let taken = names.take(&calm.name)?;
         kinds.push(line_kind(&scope.types, taken, line))?;
     }
     Ok(())
 }
 
 /// Whether a block has no fault, behind blocks whose names are given.
-fn block_fits(
+fn block_fits<'a>(
     alloc: Global,
     function: &Function,
     entry: &Name,
     scope: &Scope,
-    earlier: &mut NameIndex,
-    names: &mut NameIndex,
-    block: &Block,
+    earlier: &mut LentNames<'a>,
+    names: &mut LentNames<'a>,
+    block: &'a Block,
 ) -> Result<(), ShapeEnd>
+    requires edges { HasEdges scope.now.labels (rows_of scope.now.edges.items) «function».now.blocks block.now }
     ensures fits { IfOk result
         (λ _. meaning.in_block «function».now scope.now.labels (type_in scope.now.types) entry.now earlier.old names.old block.now ≡ []) }
     ensures earlier { IfOk result (λ _. earlier.new ≡ meaning.with_name earlier.old block.now.name) }
@@ -190,8 +217,8 @@ fn block_fits(
     ensures fault { IfErr result
         (IsFirstOf (meaning.in_block «function».now scope.now.labels (type_in scope.now.types) entry.now earlier.old names.old block.now)) }
 {
-    let doubled = take(alloc, earlier, &block.name)?;
-    let own = block_kind(doubled, take(alloc, names, &block.name)?);
+    let doubled = earlier.take(&block.name)?;
+    let own = block_kind(doubled, names.take(&block.name)?);
     let mut kinds = Vec::new(alloc);
     push_block_phis(alloc, function, scope, names, block, &mut kinds)?;
     push_lines(alloc, scope, names, block.body.as_slice(), &mut kinds)?;
@@ -206,21 +233,22 @@ fn block_fits(
     kinds_fit(alloc, &function.name, &block.name, own, &kinds, end)
 }
 
-fn blocks_fit(
+fn blocks_fit<'a>(
     alloc: Global,
     function: &Function,
     entry: &Name,
     scope: &Scope,
-    params: NameIndex,
-    blocks: &[Block],
+    params: LentNames<'a>,
+    blocks: &'a [Block],
 ) -> Result<(), ShapeEnd>
+    requires edges { AllByRecursion (HasEdges scope.now.labels (rows_of scope.now.edges.items) «function».now.blocks) blocks.now }
     ensures fits { IfOk result
-        (λ _. meaning.in_blocks «function».now scope.now.labels (type_in scope.now.types) entry.now [] params blocks.now ≡ []) }
+        (λ _. meaning.in_blocks «function».now scope.now.labels (type_in scope.now.types) entry.now [] params.entry blocks.now ≡ []) }
     ensures fault { IfErr result
-        (IsFirstOf (meaning.in_blocks «function».now scope.now.labels (type_in scope.now.types) entry.now [] params blocks.now)) }
+        (IsFirstOf (meaning.in_blocks «function».now scope.now.labels (type_in scope.now.types) entry.now [] params.entry blocks.now)) }
 {
     let mut names = params;
-    let mut earlier = NameIndex::new(alloc);
+    let mut earlier = LentNames::new(alloc);
     for block in blocks {
         block_fits(
             alloc,
@@ -235,17 +263,18 @@ fn blocks_fit(
     Ok(())
 }
 
-fn body_fits(
+fn body_fits<'a>(
     alloc: Global,
-    function: &Function,
+    function: &'a Function,
     scope: &Scope,
-    params: NameIndex,
-    blocks: &[Block],
+    params: LentNames<'a>,
+    blocks: &'a [Block],
 ) -> Result<(), ShapeEnd>
+    requires edges { AllByRecursion (HasEdges scope.now.labels (rows_of scope.now.edges.items) «function».now.blocks) blocks.now }
     ensures fits { IfOk result
-        (λ _. meaning.in_body «function».now scope.now.labels (type_in scope.now.types) params blocks.now ≡ []) }
+        (λ _. meaning.in_body «function».now scope.now.labels (type_in scope.now.types) params.entry blocks.now ≡ []) }
     ensures fault { IfErr result
-        (IsFirstOf (meaning.in_body «function».now scope.now.labels (type_in scope.now.types) params blocks.now)) }
+        (IsFirstOf (meaning.in_body «function».now scope.now.labels (type_in scope.now.types) params.entry blocks.now)) }
 {
     match blocks {
         [] => Ok(()),
@@ -255,7 +284,7 @@ fn body_fits(
 
 /// Whether a function's parameters have no fault, and it has a block; gives the parameters' names.
 #[tactic(auto, using(crate::proofs::Tests::new_where_fits))]
-fn params_fit(alloc: Global, function: &Function) -> Result<NameIndex, ShapeEnd>
+fn params_fit<'a>(alloc: Global, function: &'a Function) -> Result<LentNames<'a>, ShapeEnd>
     ensures names { IfOk result
         (λ names. names ≡ meaning.with_names [] (functions.names_in (functions.params_of «function».now))) }
     ensures fits { IfOk result
@@ -267,8 +296,8 @@ fn params_fit(alloc: Global, function: &Function) -> Result<NameIndex, ShapeEnd>
         (meaning.fault_at «function».now.name None
         (meaning.header_kind (meaning.are_new [] (functions.names_in (functions.params_of «function».now))) «function».now))) }
 {
-    let mut names = NameIndex::new(alloc);
-    let new = take_params(alloc, &mut names, function.params.as_slice())?;
+    let mut names = LentNames::new(alloc);
+    let new = take_params(&mut names, function.params.as_slice())?;
     header_fits(alloc, &function.name, header_kind(new, function))?;
     Ok(names)
 }
@@ -276,20 +305,30 @@ fn params_fit(alloc: Global, function: &Function) -> Result<NameIndex, ShapeEnd>
 fn scope_of<'a>(alloc: Global, function: &'a Function) -> Result<Scope<'a>, AllocError>
     ensures labels { IfOk result (λ scope. scope.labels ≡ meaning.labels_of «function».now) }
     ensures types { IfOk result (λ scope. type_in scope.types ≡ meaning.types_of «function».now) }
+    ensures edges { IfOk result
+        (λ scope. AllByRecursion (HasEdges scope.labels (rows_of scope.edges.items) «function».now.blocks) «function».now.blocks) }
 {
+    let labels = labels_of(alloc, function.blocks.as_slice())?;
+    let edges = edges_of(alloc, &labels, function.blocks.as_slice())?;
+    let types = types_of(alloc, function)?;
     Ok(Scope {
-        labels: labels_of(alloc, function.blocks.as_slice())?,
-        types: types_of(alloc, function)?,
+        labels,
+        types,
+        edges,
     })
 }
 
 /// Whether the blocks of a function have no fault, behind its parameters of these names.
-fn all_blocks_fit(alloc: Global, function: &Function, params: NameIndex) -> Result<(), ShapeEnd>
+fn all_blocks_fit<'a>(
+    alloc: Global,
+    function: &'a Function,
+    params: LentNames<'a>,
+) -> Result<(), ShapeEnd>
     ensures fits { IfOk result
-        (λ _. meaning.in_body «function».now (meaning.labels_of «function».now) (meaning.types_of «function».now) params «function».now.blocks ≡ []) }
+        (λ _. meaning.in_body «function».now (meaning.labels_of «function».now) (meaning.types_of «function».now) params.entry «function».now.blocks ≡ []) }
     ensures fault { IfErr result
         (IsFirstOf
-        (meaning.in_body «function».now (meaning.labels_of «function».now) (meaning.types_of «function».now) params «function».now.blocks)) }
+        (meaning.in_body «function».now (meaning.labels_of «function».now) (meaning.types_of «function».now) params.entry «function».now.blocks)) }
 {
     let scope = scope_of(alloc, function)?;
     body_fits(alloc, function, &scope, params, function.blocks.as_slice())
@@ -309,9 +348,9 @@ fn functions_fit(alloc: Global, functions: &[Function]) -> Result<(), ShapeEnd>
     ensures fits { IfOk result (λ _. meaning.in_functions [] functions.now ≡ []) }
     ensures fault { IfErr result (IsFirstOf (meaning.in_functions [] functions.now)) }
 {
-    let mut names = NameIndex::new(alloc);
+    let mut names = LentNames::new(alloc);
     for function in functions {
-        let taken = take(alloc, &mut names, &function.name)?;
+        let taken = names.take(&function.name)?;
         function_fits(alloc, taken, function)?;
     }
     Ok(())

@@ -7,7 +7,7 @@ ghost use Rattle.ir_shape.specs.Shape as meaning;
 ghost use Rattle.ir_shape.specs.Typed.{type_in};
 
 use crate::ShapeKind;
-use crate::types::{Types, operands_are_known, operands_are_typed};
+use crate::types::{Types, are_operands_known, operands_are_typed};
 use ir_core::{Cast, Expr, Function, Instr, Name, Param, Select, Ty, converts, same_ty};
 
 /// `i1`, the type of conditions.
@@ -72,10 +72,11 @@ fn right_kind(right: &Expr<Name>) -> Option<ShapeKind>
 fn set_kind(types: &Types, taken: bool, right: &Expr<Name>) -> Option<ShapeKind>
     ensures { result ≡ meaning.set_kind (type_in types.now) taken right.now }
 {
-    if taken || !operands_are_known(types, right) {
+    let typed = operands_are_typed(types, right);
+    if taken || !are_operands_known(types, typed, right) {
         return Some(ShapeKind::Name);
     }
-    if !is_integer(right.ty()) || !operands_are_typed(types, right) {
+    if !is_integer(right.ty()) || !typed {
         return Some(ShapeKind::OperandType);
     }
     right_kind(right)

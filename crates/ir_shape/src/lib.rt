@@ -5,9 +5,12 @@
 mod counts;
 mod ends;
 mod fault;
+mod few;
 mod first;
+mod incoming;
 mod kinds;
 mod laws;
+mod lent;
 mod lines;
 mod names;
 mod phis;

@@ -1,37 +1,27 @@
 //! Names that are taken, and the labels of a function.
-ghost use Rattle.std.specs.Prelude.{◌≡◌, [], map, true, IfOk, OnOk};
+ghost use Rattle.std.specs.Prelude.{◌≡◌, [], map, true, IfOk};
 ghost use Rattle.ir_core.specs.declared.functions.Block.{Block};
 ghost use Rattle.ir_core.specs.declared.functions.Case.{Case};
 ghost use Rattle.ir_core.specs.Functions as functions;
 ghost use Rattle.ir_shape.specs.Shape as meaning;
-ghost use Rattle.ir_shape.specs.Shape.{with_name, with_names};
+ghost use Rattle.ir_shape.specs.Shape.{with_names};
 ghost use Rattle.ir_shape.specs.Typed.{param_names};
-ghost use Rattle.name_index.specs.Among.{is_among};
 
+use crate::lent::LentNames;
 use ir_core::{Block, Case, Entry, Name, Param, Term};
-use name_index::NameIndex;
 use std::alloc::{AllocError, Global};
 
-/// Puts the name behind the others where it is new, and says whether it was taken.
-pub(crate) fn take(alloc: Global, names: &mut NameIndex, name: &Name) -> Result<bool, AllocError>
-    ensures taken { IfOk result (λ taken. taken ≡ is_among name.now names.old) }
-    ensures names { OnOk result (names.new ≡ with_name names.old name.now) }
-{
-    Ok(!names.add(alloc, name)?)
-}
-
 /// Takes the names of parameters, and says whether none was taken. The others are left where one was.
-pub(crate) fn take_params(
-    alloc: Global,
-    names: &mut NameIndex,
-    params: &[Param],
+pub(crate) fn take_params<'a>(
+    names: &mut LentNames<'a>,
+    params: &'a [Param],
 ) -> Result<bool, AllocError>
     ensures new { IfOk result (λ new. new ≡ meaning.are_new names.old (param_names params.now)) }
     ensures names { IfOk result
         (λ new. new ≡ true → names.new ≡ with_names names.old (param_names params.now)) }
 {
     for param in params {
-        if take(alloc, names, &param.name)? {
+        if names.take(&param.name)? {
             return Ok(false);
         }
     }
@@ -39,18 +29,18 @@ pub(crate) fn take_params(
 }
 
 /// The names of blocks, each once.
-pub(crate) fn labels_of(alloc: Global, blocks: &[Block]) -> Result<NameIndex, AllocError>
+pub(crate) fn labels_of<'a>(alloc: Global, blocks: &'a [Block]) -> Result<LentNames<'a>, AllocError>
     ensures { IfOk result (λ labels. labels ≡ with_names [] (map (λ (b : Block). b.name) blocks.now)) }
 {
-    let mut labels = NameIndex::with_room(alloc, blocks.len())?;
+    let mut labels = LentNames::with_room(alloc, blocks.len())?;
     for block in blocks {
-        take(alloc, &mut labels, &block.name)?;
+        labels.take(&block.name)?;
     }
     Ok(labels)
 }
 
 /// Whether the entries of a phi are of blocks with these labels.
-pub(crate) fn entries_are_labels(labels: &NameIndex, entries: &[Entry]) -> bool
+pub(crate) fn entries_are_labels(labels: &LentNames, entries: &[Entry]) -> bool
     ensures { result ≡ meaning.are_labels labels.now (meaning.froms_of entries.now) }
 {
     for entry in entries {
@@ -61,7 +51,7 @@ pub(crate) fn entries_are_labels(labels: &NameIndex, entries: &[Entry]) -> bool
     true
 }
 
-fn cases_are_labels(labels: &NameIndex, cases: &[Case]) -> bool
+fn cases_are_labels(labels: &LentNames, cases: &[Case]) -> bool
     ensures { result ≡ meaning.are_labels labels.now (map (λ (c : Case). c.label) cases.now) }
 {
     for case in cases {
@@ -74,7 +64,7 @@ fn cases_are_labels(labels: &NameIndex, cases: &[Case]) -> bool
 
 /// Whether a terminator leads to these labels alone.
 #[tactic(auto, using(crate::proofs::Tests::with_true))]
-pub(crate) fn leads_to_labels(labels: &NameIndex, end: &Term) -> bool
+pub(crate) fn leads_to_labels(labels: &LentNames, end: &Term) -> bool
     ensures { result ≡ meaning.are_labels labels.now (functions.successors_of end.now) }
 {
     match end {

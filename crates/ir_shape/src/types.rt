@@ -146,7 +146,7 @@ pub(crate) fn types_of<'a>(alloc: Global, function: &'a Function) -> Result<Type
 
 /// Whether the registers that a line's right side names are such.
 #[tactic(auto, using(crate::proofs::Tests::with_true))]
-pub(crate) fn operands_are_known(types: &Types, right: &Expr<Name>) -> bool
+fn operands_are_known(types: &Types, right: &Expr<Name>) -> bool
     ensures { result ≡ meaning.are_known (type_in types.now) (expressions.operands_in right.now) }
 {
     match right {
@@ -184,9 +184,18 @@ pub(crate) fn operands_are_typed(types: &Types, right: &Expr<Name>) -> bool
     }
 }
 
+/// Whether they are such, where it is told whether they are of the types stated for them, which says more.
+#[tactic(auto, using(crate::proofs::Typed::typed_known))]
+pub(crate) fn are_operands_known(types: &Types, typed: bool, right: &Expr<Name>) -> bool
+    requires { typed ≡ meaning.are_typed (type_in types.now) (expressions.operands_in right.now) }
+    ensures { result ≡ meaning.are_known (type_in types.now) (expressions.operands_in right.now) }
+{
+    typed || operands_are_known(types, right)
+}
+
 /// The same of a terminator.
 #[tactic(auto, using(crate::proofs::Tests::with_true))]
-pub(crate) fn end_is_known(types: &Types, end: &Term) -> bool
+fn end_is_known(types: &Types, end: &Term) -> bool
     ensures { result ≡ meaning.are_known (type_in types.now) (functions.operands_at_end end.now) }
 {
     match end {
@@ -209,8 +218,16 @@ pub(crate) fn end_is_typed(types: &Types, end: &Term) -> bool
     }
 }
 
+#[tactic(auto, using(crate::proofs::Typed::typed_known))]
+pub(crate) fn is_end_known(types: &Types, typed: bool, end: &Term) -> bool
+    requires { typed ≡ meaning.are_typed (type_in types.now) (functions.operands_at_end end.now) }
+    ensures { result ≡ meaning.are_known (type_in types.now) (functions.operands_at_end end.now) }
+{
+    typed || end_is_known(types, end)
+}
+
 /// The same of the entries of a phi.
-pub(crate) fn entries_are_known(types: &Types, ty: &Ty, entries: &[Entry]) -> bool
+fn entries_are_known(types: &Types, ty: &Ty, entries: &[Entry]) -> bool
     ensures { result ≡ meaning.are_known (type_in types.now) (operands_at ty.now entries.now) }
 {
     for entry in entries {
@@ -230,4 +247,12 @@ pub(crate) fn entries_are_typed(types: &Types, ty: &Ty, entries: &[Entry]) -> bo
         }
     }
     true
+}
+
+#[tactic(auto, using(crate::proofs::Typed::typed_known))]
+pub(crate) fn are_entries_known(types: &Types, typed: bool, ty: &Ty, entries: &[Entry]) -> bool
+    requires { typed ≡ meaning.are_typed (type_in types.now) (operands_at ty.now entries.now) }
+    ensures { result ≡ meaning.are_known (type_in types.now) (operands_at ty.now entries.now) }
+{
+    typed || entries_are_known(types, ty, entries)
 }

@@ -39,16 +39,16 @@ place_at end (t ∷ tokens) (suc k) = place_at end tokens k
 
 -- the first token that the grammar doesn't expect, by its index
 abbrev pub IsStuck : Form → List Placed → ℕ → Type 0
-IsStuck form tokens k = IsUnexpected kind_of form.written (map kind_of_token tokens) k
+IsStuck form tokens k = IsUnexpected kind_of form.written (map (kind_of_token form.language) tokens) k
 
 -- the token of this index begins a line that is one too many
 abbrev pub IsPastLines : Form → List Placed → ℕ → Type 0
-IsPastLines form tokens k = form.is_past (map kind_of_token tokens) k
+IsPastLines form tokens k = form.is_past (map (kind_of_token form.language) tokens) k
 
 -- the token of this index is a line past the limit on a function's lines, the first one of the text, and up to it all is expected
 abbrev pub PassesLines : Form → List Placed → ℕ → Type 0
 PassesLines form tokens k =
-    IsPastLines form tokens k × ((j : ℕ) → IsPastLines form tokens j → k ≤ j) × Begins kind_of form.written (map kind_of_token (take (k + 1) tokens))
+    IsPastLines form tokens k × ((j : ℕ) → IsPastLines form tokens j → k ≤ j) × Begins kind_of form.written (map (kind_of_token form.language) (take (k + 1) tokens))
 
 -- no line before the token of this index is past the limit
 abbrev pub IsWithinLines : Form → List Placed → ℕ → Type 0
@@ -70,7 +70,7 @@ IsGrammarFault form tokens k = IsStuck form tokens k × IsWithinLines form token
 abbrev pub HasNameFault : Form → List ℕ → Fault → Type 0
 HasNameFault form bytes f =
     (tokens : List Placed) × HasTokens bytes tokens × IsWithinLines form tokens (length tokens)
-    × ((tree : form.Tree) × (map symbol tokens ≡ form.written tree) × IsFirst (form.claims tree) f)
+    × ((tree : form.Tree) × (map (symbol form.language) tokens ≡ form.written tree) × IsFirst (form.claims tree) f)
 
 abbrev pub name_fault : ℕ → ℕ → Reason → Fault
 name_fault place size why = record { start = place; end = place + size; reason = why }

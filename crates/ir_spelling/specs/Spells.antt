@@ -6,6 +6,7 @@ use Rattle.ir_core.specs.declared.names.Sigil.{Sigil}
 use Rattle.ir_core.specs.Expressions.{Expr0}
 use Rattle.ir_core.specs.WellFormed.{IsWellFormed}
 use Rattle.ir_lexer.specs.Cut.{Cut, cut}
+use Rattle.ir_grammar.specs.declared.words.Language.{Language}
 use Rattle.ir_grammar.specs.Symbols.{Symbol, symbol}
 use Rattle.name_claims.specs.declared.claims.Fault.{Fault}
 use Rattle.name_claims.specs.Faults.{HasFault}
@@ -13,19 +14,19 @@ use Rattle.ir_naming.specs.Expressions.{IsNameOf, NamesExpression}
 use Rattle.ir_naming.specs.Spells.{NamesModule}
 use Rattle.ir_spelling.specs.Forms.{Form, expression_form, module_form, name_form}
 
-abbrev pub symbols_cut : Cut → Option (List Symbol)
-symbols_cut (Ok tokens) = Some (map symbol tokens)
-symbols_cut (Err fault) = None
+abbrev pub symbols_cut : Language → Cut → Option (List Symbol)
+symbols_cut language (Ok tokens) = Some (map (symbol language) tokens)
+symbols_cut language (Err fault) = None
 
--- the symbols of a text of any length, each with its place; a text with a fault among its tokens has none
-abbrev pub symbols_of : List ℕ → Option (List Symbol)
-symbols_of text = symbols_cut (cut 0 0 text)
+-- the symbols of a text of any length in the language, each with its place; a text with a fault among its tokens has none
+abbrev pub symbols_of : Language → List ℕ → Option (List Symbol)
+symbols_of language text = symbols_cut language (cut 0 0 text)
 
 -- The symbols of the text are those of a tree, nothing that the tree claims of its names and numbers is at fault, and the tree names
 -- this.
 pub record IsSpelled (form : Form) {X : Type 0} (Names : form.Tree → X → Type 0) (bytes : List ℕ) (x : X) : Type 0 where
   pub tree : form.Tree
-  pub symbols : symbols_of bytes ≡ Some (form.written tree)
+  pub symbols : symbols_of form.language bytes ≡ Some (form.written tree)
   pub no_fault : (f : Fault) → HasFault (form.claims tree) f → ⊥
   pub names : Names tree x
 
@@ -38,7 +39,8 @@ Spells = IsSpelled module_form NamesModule
 abbrev pub SpellsWellFormed : List ℕ → Module → Type 0
 SpellsWellFormed bytes m = Spells bytes m × IsWellFormed m
 
--- `sub nsw i32 %x, -1` spells `sub nsw` of i32, of the register `x` as it is now and the number 2^32 - 1; `i32 4294967296` spells none.
+-- `sub nsw i32 %x, -1` spells `sub nsw` of i32, of the register `x` as it is now and the number 2^32 - 1, `i32 ghost %x` the ghost register
+-- `x`; `i32 4294967296` spells none.
 abbrev pub SpellsExpression : List ℕ → Expr0 → Type 0
 SpellsExpression = IsSpelled expression_form NamesExpression
 

@@ -11,6 +11,7 @@ use Rattle.ir_core.specs.Same.{same_name}
 use Rattle.ir_machine.proofs.Standing.{drop_at}
 use Rattle.erhl_assert.specs.declared.hints.Letter.{Letter}
 use Rattle.erhl_assert.specs.declared.hints.Hint.{Hint}
+use Rattle.erhl_assert.specs.declared.hints.HintBlock.{HintBlock}
 use Rattle.erhl_assert.specs.Alignment.{Line, AlignedBlock, Alignment, Aligned, Differs, aligned, letters_or_both, block_hint, block_aligned, with_block, blocks_aligned}
 use Rattle.line_align.specs.declared.alignment.AlignedBlock.{AlignedBlock as LentBlock}
 use Rattle.line_align.specs.Cursor.{is_aligned}
@@ -21,9 +22,12 @@ none_where_unaligned : (o : Option (List Line)) → is_aligned o ≡ false → o
 none_where_unaligned None h = refl
 none_where_unaligned (Some ls) h = absurd (cc)
 
-module _ (hint : Hint) (b c : Block) where
+module _ (hints : List HintBlock) (b c : Block) where
+  abbrev hint : Hint
+  hint = record { blocks = hints }
+
   abbrev block_of : List Line → AlignedBlock
-  block_of ls = record { name = b.name; lines = ls; source = b.term; target = c.term }
+  block_of ls = record { lines = ls; source = b; target = c }
 
   abbrev lines : List Letter → Option (List Line)
   lines letters = aligned letters b.body c.body
@@ -36,7 +40,7 @@ module _ (hint : Hint) (b c : Block) where
     lines_theirs = cond-true (same_name b.name c.name) (lines (letters_or_both (block_hint hint b.name).lines (length b.body))) None name ∙ ap lines (sym theirs)
 
     pub block_lent : is_aligned (aligned letters b.body c.body) ≡ true
-        → Some (record { name = b.name; lines = lines_under letters b.body c.body; source = b.term; target = c.term }) ≡ block_aligned hint b c
+        → Some (record { lines = lines_under letters b.body c.body; source = b; target = c }) ≡ block_aligned hint b c
     block_lent fits = sym (ap (option_map block_of) (lines_theirs ∙ aligned_under letters b.body c.body fits))
 
     pub block_unaligned : is_aligned (aligned letters b.body c.body) ≡ false → None ≡ block_aligned hint b c
@@ -45,21 +49,21 @@ module _ (hint : Hint) (b c : Block) where
 -- aligned blocks before what is left
 abbrev pub before : List AlignedBlock → Alignment → Alignment
 before [] rest = rest
-before (b ∷ bs) rest = with_block b.name (Some b) (before bs rest)
+before (b ∷ bs) rest = with_block b.source.name (Some b) (before bs rest)
 
 before_one_more : (bs : List LentBlock) (b : LentBlock) (x : Name) (rest : Alignment)
     → before (map lent_block bs) (with_block x (Some (lent_block b)) rest) ≡ before (map lent_block (bs ++ b ∷ [])) rest
 before_one_more [] b x (Aligned cs) = refl
 before_one_more [] b x (Differs y) = refl
-before_one_more (a ∷ bs) b x rest = ap (with_block (lent_block a).name (Some (lent_block a))) (before_one_more bs b x rest)
+before_one_more (a ∷ bs) b x rest = ap (with_block (lent_block a).source.name (Some (lent_block a))) (before_one_more bs b x rest)
 
 before_differs : (bs : List AlignedBlock) (x : Name) → before bs (Differs x) ≡ Differs x
 before_differs [] x = refl
-before_differs (b ∷ bs) x = ap (with_block b.name (Some b)) (before_differs bs x)
+before_differs (b ∷ bs) x = ap (with_block b.source.name (Some b)) (before_differs bs x)
 
 before_none : (bs : List AlignedBlock) → before bs (Aligned []) ≡ Aligned bs
 before_none [] = refl
-before_none (b ∷ bs) = ap (with_block b.name (Some b)) (before_none bs)
+before_none (b ∷ bs) = ap (with_block b.source.name (Some b)) (before_none bs)
 
 zip_none : (bs cs : List Block) → length cs ≡ 0 → zip bs cs ≡ []
 zip_none [] cs none = refl

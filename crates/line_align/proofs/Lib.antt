@@ -1,3 +1,4 @@
 pub mod Alignments
+pub mod Grouping
 pub mod Keeping
 pub mod Lending

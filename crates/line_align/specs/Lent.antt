@@ -16,10 +16,9 @@ lines_under (l ∷ ls) xs ys = aligned_line l xs ys ∷ lines_under ls (left (on
 
 abbrev pub lent_block : AlignedBlock → alignment.AlignedBlock
 lent_block b = record {
-  name = b.source.now.name;
   lines = lines_under b.letters b.source.now.body b.target.now.body;
-  source = b.source.now.term;
-  target = b.target.now.term;
+  source = b.source.now;
+  target = b.target.now;
 }
 
 -- what aligning two functions answers: their blocks, or the block at fault, unless memory is lacking

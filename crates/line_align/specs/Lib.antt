@@ -1,4 +1,5 @@
 pub mod Cursor
+pub mod Grouped
 pub mod Lent
 pub mod Places
 pub mod Placed

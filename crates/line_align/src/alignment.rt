@@ -1,18 +1,17 @@
 //! The alignment of two functions: their headers, and each block's lines under its hint's letters.
-ghost use Rattle.std.specs.Prelude.{◌≡◌, IfOk, length, find, replicate};
+ghost use Rattle.std.specs.Prelude.{◌≡◌, IfOk, length, replicate};
 ghost use Rattle.std.specs.List.{zip};
-ghost use Rattle.std.specs.Option.{option_copied, option_map};
-ghost use Rattle.ir_core.specs.Same.{same_name};
+ghost use Rattle.std.specs.Option.{option_map};
 ghost use Rattle.erhl_assert.specs.declared.hints.Letter.TheVariants.{Both};
 ghost use Rattle.erhl_assert.specs.Alignment as alignment;
 ghost use Rattle.line_align.specs.Cursor.{is_aligned};
 ghost use Rattle.line_align.specs.Lent.{Answers, lent_block};
 
 use crate::alike::{Likeness, all_alike};
+use crate::by_name::ByName;
 use crate::cursor::{is_end, left, on_source, on_target, stands};
-use crate::named::first_named;
 use contents::{Exact, Seq};
-use erhl_assert::{Hint, HintBlock, Letter};
+use erhl_assert::{HintBlock, Letter};
 use ir_core::{Block, Function, Instr, Name, Param, same_name, same_ty};
 use std::alloc::{AllocError, Global};
 
@@ -52,13 +51,6 @@ impl From<AllocError> for AlignEnd {
     }
 }
 
-/// The block's hint: the first entry of its name.
-pub fn hint_of<'a>(hint: &'a Hint, block: &Name) -> Option<&'a HintBlock>
-    ensures { option_copied result ≡ find (λ h. same_name h.at block.now) hint.now.blocks }
-{
-    first_named(hint.blocks.as_slice(), block)
-}
-
 fn copy_of(alloc: Global, letters: &Seq<Letter>) -> Result<Seq<Letter>, AllocError>
     ensures { IfOk result (λ copy. copy ≡ letters.now) }
 {
@@ -87,12 +79,16 @@ fn letters_or_both(
 }
 
 /// The letters of a block: those of its hint, or that all of its lines stand on both sides.
-fn letters_of(alloc: Global, hint: &Hint, block: &Block) -> Result<Seq<Letter>, AllocError>
+fn letters_of(
+    alloc: Global,
+    hints: &ByName<'_, HintBlock>,
+    block: &Block,
+) -> Result<Seq<Letter>, AllocError>
     ensures { IfOk result
         (λ letters. letters
-        ≡ alignment.letters_or_both (alignment.block_hint hint.now block.now.name).lines (length block.now.body)) }
+        ≡ alignment.letters_or_both (alignment.block_hint (record { blocks = hints.now }) block.now.name).lines (length block.now.body)) }
 {
-    match hint_of(hint, &block.name) {
+    match hints.first(&block.name) {
         Some(entry) => letters_or_both(alloc, &entry.lines, block.body.len()),
         None => all_both(alloc, block.body.len()),
     }
@@ -143,16 +139,16 @@ fn same_header(source: &Function, target: &Function) -> bool
 #[tactic(auto, using(crate::proofs::Lending::block_lent, crate::proofs::Lending::block_unaligned, crate::proofs::Lending::block_misnamed))]
 fn align_block<'a>(
     alloc: Global,
-    hint: &Hint,
+    hints: &ByName<'_, HintBlock>,
     source: &'a Block,
     target: &'a Block,
 ) -> Result<Option<AlignedBlock<'a>>, AllocError>
-    ensures { IfOk result (λ block. option_map lent_block block ≡ alignment.block_aligned hint.now source.now target.now) }
+    ensures { IfOk result (λ block. option_map lent_block block ≡ alignment.block_aligned (record { blocks = hints.now }) source.now target.now) }
 {
     if !same_name(&source.name, &target.name) {
         return Ok(None);
     }
-    let letters = letters_of(alloc, hint, source)?;
+    let letters = letters_of(alloc, hints, source)?;
     if !is_aligned(
         letters.as_slice(),
         source.body.as_slice(),
@@ -171,11 +167,11 @@ fn align_block<'a>(
 #[tactic(auto, using(crate::proofs::Lending::blocks_end, crate::proofs::Lending::blocks_short))]
 fn align_blocks<'a>(
     alloc: Global,
-    hint: &Hint,
+    hints: &ByName<'_, HintBlock>,
     source: &'a [Block],
     target: &'a [Block],
 ) -> Result<Seq<AlignedBlock<'a>>, AlignEnd>
-    ensures { Answers result (alignment.blocks_aligned hint.now (zip source.now target.now)) }
+    ensures { Answers result (alignment.blocks_aligned (record { blocks = hints.now }) (zip source.now target.now)) }
 {
     let mut rest = target;
     let mut found = Seq::new(alloc);
@@ -183,7 +179,7 @@ fn align_blocks<'a>(
         let Some((c, after)) = rest.split_first() else {
             return Ok(found);
         };
-        match align_block(alloc, hint, b, c)? {
+        match align_block(alloc, hints, b, c)? {
             Some(block) => found.push(block)?,
             None => return Err(AlignEnd::Differs(b.name.copy(alloc)?)),
         }
@@ -201,20 +197,20 @@ fn first_block(alloc: Global, blocks: &[Block]) -> Result<Name, AllocError>
     }
 }
 
-/// The blocks of two functions aligned under a hint, or the block at fault: the first of the source where headers or the
+/// The blocks of two functions aligned under the blocks of a hint, or the block at fault: the first of the source where headers or the
 /// numbers of blocks differ, else its first that isn't aligned with the target's.
 pub fn align<'a>(
     alloc: Global,
     source: &'a Function,
     target: &'a Function,
-    hint: &Hint,
+    hints: &ByName<'_, HintBlock>,
 ) -> Result<Seq<AlignedBlock<'a>>, AlignEnd>
-    ensures { Answers result (alignment.alignment hint.now source.now target.now) }
+    ensures { Answers result (alignment.alignment (record { blocks = hints.now }) source.now target.now) }
 {
     if same_header(source, target) && source.blocks.len() == target.blocks.len() {
         align_blocks(
             alloc,
-            hint,
+            hints,
             source.blocks.as_slice(),
             target.blocks.as_slice(),
         )

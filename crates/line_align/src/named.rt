@@ -1,10 +1,8 @@
-//! What is found by its name.
-ghost use Rattle.std.specs.Prelude.{◌≡◌, find};
-ghost use Rattle.std.specs.Option.{option_copied};
-ghost use Rattle.ir_core.specs.Same.{same_name};
+//! What has a name.
+ghost use Rattle.std.specs.Prelude.{◌≡◌};
 
-use erhl_assert::{FunctionHint, HintBlock};
-use ir_core::{Name, same_name};
+use erhl_assert::{FunctionHint, HintBlock, HintEdge};
+use ir_core::{Block, Name};
 
 /// What has a name.
 pub trait Named {
@@ -16,11 +14,28 @@ pub trait Named {
         ensures { result.now ≡ named self.now };
 }
 
+impl Named for Block {
+    ghost named = { λ block. block.name };
+
+    fn name(&self) -> &Name {
+        &self.name
+    }
+}
+
 impl Named for HintBlock {
     ghost named = { λ hint. hint.at };
 
     fn name(&self) -> &Name {
         &self.at
+    }
+}
+
+/// An entry of a hint for an edge is named after the block that the edge enters.
+impl Named for HintEdge {
+    ghost named = { λ edge. edge.to };
+
+    fn name(&self) -> &Name {
+        &self.to
     }
 }
 
@@ -30,16 +45,4 @@ impl Named for FunctionHint {
     fn name(&self) -> &Name {
         &self.function
     }
-}
-
-/// The first of that name.
-pub fn first_named<'a, T: Named>(items: &'a [T], name: &Name) -> Option<&'a T>
-    ensures { option_copied result ≡ find (λ item. same_name (T.named item) name.now) items.now }
-{
-    for item in items {
-        if same_name(item.name(), name) {
-            return Some(item);
-        }
-    }
-    None
 }

@@ -4,11 +4,11 @@ ghost use Rattle.erhl_assert.specs.Steps.{steps_at};
 ghost use Rattle.line_align.specs.Placed.{kept_at, AreKept};
 
 use contents::Seq;
-use erhl_assert::PlacedStep;
+use erhl_assert::{HintStep, PlacedStep};
 use std::alloc::{AllocError, Global};
 
 /// Makes room for one line more.
-fn push_none(alloc: Global, kept: &mut Vec<Seq<&PlacedStep>>) -> Result<(), AllocError>
+fn push_none(alloc: Global, kept: &mut Vec<Seq<&HintStep>>) -> Result<(), AllocError>
     ensures { OnOk result (kept.new.items ≡ kept.old.items ++ [] ∷ []) }
 {
     kept.push(Seq::new(alloc))?;
@@ -17,7 +17,7 @@ fn push_none(alloc: Global, kept: &mut Vec<Seq<&PlacedStep>>) -> Result<(), Allo
 
 /// Makes room for line k.
 #[tactic(auto, using(crate::proofs::Keeping::reached_more))]
-fn reach(alloc: Global, kept: &mut Vec<Seq<&PlacedStep>>, k: usize) -> Result<(), AllocError>
+fn reach(alloc: Global, kept: &mut Vec<Seq<&HintStep>>, k: usize) -> Result<(), AllocError>
     ensures { OnOk result ((k < length kept.new.items) × ((n : ℕ) → kept_at kept.new.items n ≡ kept_at kept.old.items n)) }
 {
     while kept.len() <= k {
@@ -27,11 +27,7 @@ fn reach(alloc: Global, kept: &mut Vec<Seq<&PlacedStep>>, k: usize) -> Result<()
 }
 
 /// Keeps a step behind those that stand before the same line.
-fn keep<'a>(
-    kept: &mut [Seq<&'a PlacedStep>],
-    k: usize,
-    step: &'a PlacedStep,
-) -> Result<(), AllocError>
+fn keep<'a>(kept: &mut [Seq<&'a HintStep>], k: usize, step: &'a HintStep) -> Result<(), AllocError>
     requires { k < length kept.old }
     ensures { OnOk result (kept.new ≡ slice_set kept.old k (get_or kept.old k [] ++ step.entry ∷ [])) }
 {
@@ -43,13 +39,13 @@ fn keep<'a>(
 #[tactic(auto, using(crate::proofs::Keeping::kept_more))]
 fn place<'a>(
     alloc: Global,
-    kept: &mut Vec<Seq<&'a PlacedStep>>,
+    kept: &mut Vec<Seq<&'a HintStep>>,
     step: &'a PlacedStep,
 ) -> Result<(), AllocError>
     ensures { OnOk result ((n : ℕ) → kept_at kept.new.items n ≡ kept_at kept.old.items n ++ steps_at n (step.now ∷ [])) }
 {
     reach(alloc, kept, step.at as usize)?;
-    keep(kept, step.at as usize, step)
+    keep(kept, step.at as usize, &step.step)
 }
 
 /// Steps up to the last line, kept in their order by the line that they stand before.
@@ -58,7 +54,7 @@ fn by_line<'a>(
     alloc: Global,
     steps: &'a [PlacedStep],
     last: usize,
-) -> Result<Vec<Seq<&'a PlacedStep>>, AllocError>
+) -> Result<Vec<Seq<&'a HintStep>>, AllocError>
     ensures { IfOk result (λ kept. AreKept kept.items last steps.now) }
 {
     let mut kept = Vec::new(alloc);
@@ -72,8 +68,8 @@ fn by_line<'a>(
 
 /// The steps of a block by the line that each stands before.
 pub struct StepsByLine<'a> {
-    kept: Vec<Seq<&'a PlacedStep>>,
-    none: Seq<&'a PlacedStep>,
+    kept: Vec<Seq<&'a HintStep>>,
+    none: Seq<&'a HintStep>,
     ghost is_none: { none ≡ [] },
 }
 
@@ -100,7 +96,7 @@ impl<'a> StepsByLine<'a> {
     }
 
     /// Those that stand before line k.
-    pub fn before(&self, k: usize) -> &Seq<&'a PlacedStep>
+    pub fn before(&self, k: usize) -> &Seq<&'a HintStep>
         ensures { map (λ s. s.now) result.now ≡ before self.now k }
     {
         if let Some(steps) = self.kept.get(k) {

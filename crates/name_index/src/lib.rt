@@ -2,5 +2,7 @@
 #![tactic(auto)]
 
 mod index;
+mod places;
 
 pub use index::NameIndex;
+pub use places::PlaceIndex;

@@ -43,7 +43,7 @@ fn number_divides_all(op: BinOp, width: u32, number: u64) -> bool
     fits(number, width) && number != 0 && !(is_signed_division(op) && is_minus_one(number, width))
 }
 
-fn divides_all(op: BinOp, ty: &Ty, divisor: &Atom<Name>) -> bool
+fn divides_all<R>(op: BinOp, ty: &Ty, divisor: &Atom<R>) -> bool
     ensures { result ≡ divides_all op ty.now divisor.now }
 {
     match (ty, divisor) {
@@ -56,10 +56,20 @@ fn divides_all(op: BinOp, ty: &Ty, divisor: &Atom<Name>) -> bool
     }
 }
 
-fn division_can_trap(binary: &Binary<Name>) -> bool
+fn division_can_trap<R>(binary: &Binary<R>) -> bool
     ensures { result ≡ can_trap (expr.Binary binary.now) }
 {
     is_division(binary.op) && !divides_all(binary.op, &binary.ty, &binary.right)
+}
+
+/// Whether the expression may have undefined behaviour.
+pub fn can_trap<R>(expr: &Expr<R>) -> bool
+    ensures { result ≡ can_trap expr.now }
+{
+    match expr {
+        Expr::Binary(binary) => division_can_trap(binary),
+        _ => false,
+    }
 }
 
 /// Of a target's line, beside which stands none of its operator.

@@ -38,7 +38,7 @@ fn add<S: FactSet>(side: Side, fact: Fact, sides: &mut Sides<S>) -> Result<(), A
 
 /// Adds that the two expressions are less defined than each other.
 #[tactic(auto, using(erhl_assert::proofs::Courses::within_more, erhl_assert::proofs::Courses::within_none))]
-fn add_equal<S: FactSet>(
+pub(crate) fn add_equal<S: FactSet>(
     alloc: Global,
     side: Side,
     a: Expr0,

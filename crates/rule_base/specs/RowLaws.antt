@@ -1,5 +1,5 @@
 -- Whatever the shipped rules take is sound.
-use Rattle.std.proofs.Common.{◌≡◌, ◌||◌, ℕ, ◌<◌, ◌^◌, true, ◌&&◌, cond, List, [], ◌∷◌, sym, ap, subst}
+use Rattle.std.proofs.Common.{◌≡◌, ◌||◌, ℕ, ◌<◌, ◌^◌, true, ◌&&◌, cond, List, [], ◌∷◌, refl, sym, ap, subst}
 use Rattle.std.specs.List.{AllByRecursion}
 use Rattle.std.proofs.lemmas.Bool.{cond_both, eqb-true, ltb-true}
 use Rattle.ir_core.specs.declared.values.Value.{Value}
@@ -18,16 +18,17 @@ use Rattle.ir_core.specs.declared.expressions.Reg.{Reg}
 use Rattle.ir_core.specs.declared.expressions.Reg.TheVariants as reg
 use Rattle.ir_core.specs.declared.expressions.Expr.TheVariants.{Plain, Binary}
 use Rattle.ir_core.specs.Types.{kind_of}
-use Rattle.ir_core.specs.Expressions.{Expr0, type_of}
+use Rattle.ir_core.specs.Expressions.{Expr0}
 use Rattle.ir_core.specs.Modules.{Scope}
-use Rattle.ir_core.specs.Same.{same_ty, same_atom, same_reg, same_expr}
-use Rattle.ir_core.proofs.SameLaws.{left_true, right_true, same_ty_true, same_reg_atom_true, same_reg_expr_true}
+use Rattle.ir_core.specs.Same.{same_atom, same_reg, same_expr}
+use Rattle.ir_core.proofs.SameLaws.{left_true, right_true, same_reg_atom_true, same_reg_expr_true}
+use Rattle.ir_values.specs.declared.operations.Outcome.{Outcome}
 use Rattle.ir_values.specs.declared.operations.Outcome.TheVariants.{Gives, Trap}
 use Rattle.ir_values.specs.Values.{IsInKind, IsLessDefined}
 use Rattle.ir_core.specs.Ranges.{may_have}
 use Rattle.ir_values.specs.Results.{breaks_flag, is_past_width, result}
 use Rattle.ir_values.specs.Operations.{IsOutcomeLessDefined, traps, undef_under, binary_value, binary_outcome}
-use Rattle.ir_values.proofs.OperationLaws.{outcome_less_defined_trans}
+use Rattle.ir_values.proofs.OperationLaws.{less_defined_refl, outcome_less_defined_trans}
 use Rattle.value_laws.proofs.Zero.{add_zero, sub_zero, or_zero, xor_zero, shl_zero, lshr_zero, ashr_zero}
 use Rattle.ir_machine.specs.Registers.{atom_value, atom_at}
 use Rattle.erhl_assert.specs.declared.facts.Fact.{Fact}
@@ -35,10 +36,23 @@ use Rattle.erhl_assert.specs.declared.facts.Fact.TheVariants.{LessDef}
 use Rattle.erhl_assert.specs.declared.facts.Schema.{Schema}
 use Rattle.erhl_assert.specs.Sides.{SideState, IsSideInKind, read_reg, worth}
 use Rattle.erhl_assert.specs.Facts.{IsSound, Holds, kind_of_expr}
-use Rattle.erhl_assert.specs.Typed.{has_values, has_type, atom_fits, fits_constants}
+use Rattle.erhl_assert.specs.Typed.{has_values, atom_fits}
 use Rattle.rule_base.specs.declared.shipped.Rule.{Rule}
-use Rattle.rule_base.specs.declared.shipped.Rule.TheVariants.{Trans, UndefConst, ZeroRight}
-use Rattle.rule_base.specs.Rows.{keeps_beside_zero, has_zero_right, takes_row, is_typed, have_one_type, is_trans, is_undef, is_constant, is_zero, is_undef_const, is_zero_right}
+use Rattle.rule_base.specs.declared.shipped.Rule.TheVariants.{Refl, Trans, UndefConst, Subst, DropFlags, Fold, ZeroRight}
+use Rattle.rule_base.specs.Rows.{keeps_beside_zero, has_zero_right, takes_row, have_one_type, is_refl, is_trans, is_undef, is_constant, is_zero, is_undef_const, is_zero_right}
+use Rattle.rule_base.specs.OneType.{one_type}
+use Rattle.rule_base.specs.OperandLaws.{subst_is_sound, drop_flags_is_sound}
+use Rattle.rule_base.specs.FoldLaws.{fold_is_sound}
+
+less_itself : (o : Outcome) → IsOutcomeLessDefined o o
+less_itself Trap = tt
+less_itself (Gives v) = less_defined_refl v
+
+refl_is_sound : (side : SideState) (from : List Fact) (to : Fact) → is_refl from to ≡ true → Holds side to
+refl_is_sound side [] (LessDef a b) h =
+    let e : a ≡ b = same_reg_expr_true a b (right_true (have_one_type a b) (same_expr same_reg a b) h) in
+    rw (← e) (refl, less_itself (worth side a))
+refl_is_sound side (x ∷ more) to h = absurd (cc)
 
 trans_holds : (side : SideState) (a b c d e f : Expr0) → b ≡ c → e ≡ a → f ≡ d → Holds side (LessDef a b) → Holds side (LessDef c d) → Holds side (LessDef e f)
 trans_holds side a b c d e f p q r first second =
@@ -70,24 +84,6 @@ module _ (side : SideState) (fine : IsSideInKind side) where
   undef_less (ty.Int w) (atom.Constant constant.Undef) (atom.Register s) p q v r = cc
   undef_less (ty.Int w) (atom.Constant (constant.Number n)) y p q v r = cc
   undef_less (ty.Int w) (atom.Register s) y p q v r = cc
-
-  -- what two expressions of one type are
-  record OneType (a b : Expr0) : Type 0 where
-    left : fits_constants a ≡ true
-    right : fits_constants b ≡ true
-    values : has_type a ≡ true
-    type : type_of a ≡ type_of b
-
-  one_type : (a b : Expr0) → have_one_type a b ≡ true → OneType a b
-  one_type a b h =
-      let both : (is_typed a && is_typed b) ≡ true = left_true _ (same_ty (type_of a) (type_of b)) h in
-      let first : is_typed a ≡ true = left_true (is_typed a) (is_typed b) both in
-      record {
-        left = right_true (has_type a) (fits_constants a) first;
-        right = right_true (has_type b) (fits_constants b) (right_true (is_typed a) (is_typed b) both);
-        values = left_true (has_type a) (fits_constants a) first;
-        type = same_ty_true (type_of a) (type_of b) (right_true (is_typed a && is_typed b) (same_ty (type_of a) (type_of b)) h);
-      }
 
   undef_const_is_sound : (from : List Fact) (to : Fact) → is_undef_const from to ≡ true → Holds side to
   undef_const_is_sound [] (LessDef (Plain a) (Plain b)) h =
@@ -173,6 +169,10 @@ module _ (side : SideState) (fine : IsSideInKind side) where
   zero_right_is_sound from to h = absurd (cc)
 
 pub row_is_sound : (rule : Rule) (scope : Scope) (schema : Schema) → takes_row rule scope schema ≡ true → IsSound scope schema
+row_is_sound Refl scope schema h side same fine all = refl_is_sound side schema.from schema.to h
 row_is_sound Trans scope schema h side same fine all = trans_is_sound side fine schema.from schema.to h all
 row_is_sound UndefConst scope schema h side same fine all = undef_const_is_sound side fine schema.from schema.to h
+row_is_sound Subst scope schema h side same fine all = subst_is_sound side schema.from schema.to h all
+row_is_sound DropFlags scope schema h side same fine all = drop_flags_is_sound side schema.from schema.to h
+row_is_sound Fold scope schema h side same fine all = fold_is_sound side schema.from schema.to h
 row_is_sound ZeroRight scope schema h side same fine all = zero_right_is_sound side fine schema.from schema.to h

@@ -1,24 +1,30 @@
 -- What the shipped rules take, as tests that compute. A fact `a >= b` says that a is less defined than b.
-use Rattle.std.specs.Prelude.{ℕ, Bool, true, false, ◌&&◌, not, nat_eq, List, [], ◌∷◌, map, codes}
-use Rattle.std.specs.List.{list_any}
+use Rattle.std.specs.Prelude.{ℕ, Bool, true, false, ◌&&◌, ◌||◌, not, nat_eq, List, [], ◌∷◌, map, codes}
+use Rattle.std.specs.List.{list_any, list_all}
+use Rattle.ir_core.specs.declared.values.Value.TheVariants.{Num, Undef, Poison}
 use Rattle.ir_core.specs.declared.operands.Const.TheVariants as constant
 use Rattle.ir_core.specs.declared.operands.Atom.{Atom}
 use Rattle.ir_core.specs.declared.operands.Atom.TheVariants as atom
+use Rattle.ir_core.specs.declared.operands.Operand.{Operand}
 use Rattle.ir_core.specs.declared.operands.BinOp.{BinOp}
 use Rattle.ir_core.specs.declared.operands.BinOp.TheVariants.{Add, Sub, Or, Xor, Shl, LShr, AShr}
 use Rattle.ir_core.specs.declared.expressions.Reg.{Reg}
 use Rattle.ir_core.specs.declared.expressions.Binary.{Binary}
 use Rattle.ir_core.specs.declared.expressions.Expr.TheVariants as expr
-use Rattle.ir_core.specs.Expressions.{Expr0, type_of}
+use Rattle.ir_core.specs.Expressions.{Expr0, type_of, operands_in}
 use Rattle.ir_core.specs.Modules.{Scope}
-use Rattle.ir_core.specs.Same.{same_list, same_ty, same_atom, same_reg, same_expr}
+use Rattle.ir_core.specs.Same.{same_list, same_ty, same_atom, same_operand, same_op, same_flags, same_cast, same_pred, same_reg, same_expr}
+use Rattle.ir_values.specs.declared.operations.Outcome.{Outcome}
+use Rattle.ir_values.specs.declared.operations.Outcome.TheVariants.{Gives, Trap}
+use Rattle.ir_values.specs.Laws.{flags_among}
+use Rattle.ir_machine.specs.Registers.{outcome}
 use Rattle.erhl_assert.specs.declared.facts.Fact.{Fact}
 use Rattle.erhl_assert.specs.declared.facts.Fact.TheVariants.{LessDef}
 use Rattle.erhl_assert.specs.declared.facts.Schema.{Schema}
 use Rattle.erhl_assert.specs.Typed.{has_type, fits_constants}
 use Rattle.erhl_assert.specs.Steps.{Meaning, Rules}
 use Rattle.rule_base.specs.declared.shipped.Rule.{Rule}
-use Rattle.rule_base.specs.declared.shipped.Rule.TheVariants.{Trans, UndefConst, ZeroRight}
+use Rattle.rule_base.specs.declared.shipped.Rule.TheVariants.{Refl, Trans, UndefConst, Subst, DropFlags, Fold, ZeroRight}
 
 -- the expression has a type, and its constants fit their stated types
 abbrev pub is_typed : Expr0 → Bool
@@ -27,6 +33,11 @@ is_typed e = has_type e && fits_constants e
 -- both expressions are so, and have one type
 abbrev pub have_one_type : Expr0 → Expr0 → Bool
 have_one_type a b = is_typed a && is_typed b && same_ty (type_of a) (type_of b)
+
+-- `e >= e`
+abbrev pub is_refl : List Fact → Fact → Bool
+is_refl [] (LessDef a b) = have_one_type a b && same_expr same_reg a b
+is_refl (x ∷ more) to = false
 
 -- `a >= b, b >= c` to `a >= c`
 abbrev pub is_trans : List Fact → Fact → Bool
@@ -55,6 +66,70 @@ abbrev pub is_undef_const : List Fact → Fact → Bool
 is_undef_const [] (LessDef (expr.Plain a) (expr.Plain b)) = have_one_type (expr.Plain a) (expr.Plain b) && is_undef a.atom && is_constant b.atom
 is_undef_const from to = false
 
+-- the two differ at most in operands: `add nuw i8 %x, 1` and `add nuw i8 2, %y`
+abbrev pub are_alike : Expr0 → Expr0 → Bool
+are_alike (expr.Plain x) (expr.Plain y) = true
+are_alike (expr.Binary x) (expr.Binary y) = same_op x.op y.op && same_flags x.flags y.flags
+are_alike (expr.Icmp x) (expr.Icmp y) = same_pred x.pred y.pred
+are_alike (expr.Cast x) (expr.Cast y) = same_cast x.op y.op && same_ty x.to y.to
+are_alike (expr.Select x) (expr.Select y) = true
+are_alike x y = false
+
+-- The second list is the first with one operand, which is a, made b: with `%x` made 5, of `%x, %x` come `5, %x` and `%x, 5`, and not `5, 5`.
+abbrev pub one_made : Operand Reg → Operand Reg → List (Operand Reg) → List (Operand Reg) → Bool
+one_made a b (x ∷ xs) (y ∷ ys) =
+    (same_operand same_reg x a && same_operand same_reg y b && same_list (same_operand same_reg) xs ys)
+    || (same_operand same_reg x y && one_made a b xs ys)
+one_made a b [] ys = false
+one_made a b (x ∷ xs) [] = false
+
+-- the second is the first with one operand that is a made b
+abbrev pub makes_one : Operand Reg → Operand Reg → Expr0 → Expr0 → Bool
+makes_one a b e f = are_alike e f && one_made a b (operands_in e) (operands_in f)
+
+-- `a >= b` to `e >= e'`: a and b are operands, and e' is e with one that is a made b
+abbrev pub is_subst : List Fact → Fact → Bool
+is_subst (LessDef (expr.Plain a) (expr.Plain b) ∷ []) (LessDef e f) =
+    have_one_type (expr.Plain a) (expr.Plain b) && have_one_type e f && makes_one a b e f
+is_subst from to = false
+
+-- one operator over the same operands, the flags of the second among those of the first
+abbrev pub drops_flags : Binary Reg → Binary Reg → Bool
+drops_flags a b = same_op a.op b.op && same_atom same_reg a.left b.left && same_atom same_reg a.right b.right && flags_among b.flags a.flags
+
+-- `op F x y >= op G x y`, the flags G among F: `add nuw i8 %x, 1 >= add i8 %x, 1`, and `and i8 %x, 1` to itself
+abbrev pub is_drop_flags : List Fact → Fact → Bool
+is_drop_flags [] (LessDef (expr.Binary a) (expr.Binary b)) = have_one_type (expr.Binary a) (expr.Binary b) && drops_flags a b
+is_drop_flags from to = false
+
+-- a number, as which neither undef nor a register counts
+abbrev pub is_number : Atom Reg → Bool
+is_number (atom.Constant (constant.Number n)) = true
+is_number (atom.Constant constant.Undef) = false
+is_number (atom.Register r) = false
+
+-- all of its operands are numbers, a selection's condition too
+abbrev pub is_over_numbers : Expr0 → Bool
+is_over_numbers e = list_all (λ o. is_number o.atom) (operands_in e)
+
+-- what an expression over numbers comes to, which reads no register
+abbrev pub folded : Expr0 → Outcome
+folded e = outcome (λ k r. Poison) e
+
+-- The constants that an outcome may be made: undefined behaviour, poison and undef each of them, a number itself alone.
+abbrev pub may_become : Outcome → Atom Reg → Bool
+may_become Trap c = is_constant c
+may_become (Gives Poison) c = is_constant c
+may_become (Gives Undef) c = is_constant c
+may_become (Gives (Num m)) (atom.Constant (constant.Number n)) = nat_eq m n
+may_become (Gives (Num m)) (atom.Constant constant.Undef) = false
+may_become (Gives (Num m)) (atom.Register r) = false
+
+-- `e >= C`, e over numbers: `add i8 200, 100 >= i8 44`, `udiv i8 5, 0 >= i8 3`
+abbrev pub is_fold : List Fact → Fact → Bool
+is_fold [] (LessDef e (expr.Plain c)) = have_one_type e (expr.Plain c) && is_over_numbers e && may_become (folded e) c.atom
+is_fold from to = false
+
 -- the operators that leave x as it is where the right operand is 0: `sub x 0` is x, and `mul x 0` isn't
 abbrev pub keeps_beside_zero : BinOp → Bool
 keeps_beside_zero Add = true
@@ -77,8 +152,12 @@ is_zero_right [] (LessDef (expr.Binary e) (expr.Plain x)) =
 is_zero_right from to = false
 
 abbrev pub rule_name : Rule → List ℕ
+rule_name Refl = codes "refl"
 rule_name Trans = codes "trans"
 rule_name UndefConst = codes "undef_const"
+rule_name Subst = codes "subst"
+rule_name DropFlags = codes "drop_flags"
+rule_name Fold = codes "fold"
 rule_name ZeroRight = codes "zero_right"
 
 -- no name stands twice
@@ -88,8 +167,12 @@ stand_apart (x ∷ xs) = not (list_any (same_list nat_eq x) xs) && stand_apart x
 
 -- no row asks anything of types and globals, as none can be written yet
 abbrev pub takes_row : Rule → Scope → Schema → Bool
+takes_row Refl scope schema = is_refl schema.from schema.to
 takes_row Trans scope schema = is_trans schema.from schema.to
 takes_row UndefConst scope schema = is_undef_const schema.from schema.to
+takes_row Subst scope schema = is_subst schema.from schema.to
+takes_row DropFlags scope schema = is_drop_flags schema.from schema.to
+takes_row Fold scope schema = is_fold schema.from schema.to
 takes_row ZeroRight scope schema = is_zero_right schema.from schema.to
 
 -- a shipped rule: its name, and what it takes
@@ -98,4 +181,4 @@ meaning_of rule = record { name = rule_name rule; takes = takes_row rule }
 
 -- the rules that are shipped, in the order of the table
 abbrev pub shipped_rules : Rules
-shipped_rules = map meaning_of (Trans ∷ UndefConst ∷ ZeroRight ∷ [])
+shipped_rules = map meaning_of (Refl ∷ Trans ∷ UndefConst ∷ Subst ∷ DropFlags ∷ Fold ∷ ZeroRight ∷ [])

@@ -2,15 +2,20 @@
 //! what a pass is.
 #![tactic(auto)]
 
+mod folding;
 mod infer;
+mod laws;
 mod passes;
 mod rule_book;
 mod rule_set;
 mod shipped;
+mod substitution;
 mod typed;
 
 pub use infer::InferRule;
+pub use laws::examples_of_rules;
 pub use passes::Pass;
 pub use rule_book::{Fitness, RuleBook, book_is_sound};
 pub use rule_set::{LentBook, RuleSet, ShippedRules};
 pub use shipped::{Rule, rules_stand_in_the_table};
+pub use typed::has_type;

@@ -97,11 +97,23 @@ fn is_called(rule: Rule, name: &[u8]) -> bool
 fn named(name: &[u8]) -> Option<Rule>
     ensures { option_map meaning_of result ≡ rule_named shipped_rules name.now }
 {
+    if is_called(Rule::Refl, name) {
+        return Some(Rule::Refl);
+    }
     if is_called(Rule::Trans, name) {
         return Some(Rule::Trans);
     }
     if is_called(Rule::UndefConst, name) {
         return Some(Rule::UndefConst);
+    }
+    if is_called(Rule::Subst, name) {
+        return Some(Rule::Subst);
+    }
+    if is_called(Rule::DropFlags, name) {
+        return Some(Rule::DropFlags);
+    }
+    if is_called(Rule::Fold, name) {
+        return Some(Rule::Fold);
     }
     if is_called(Rule::ZeroRight, name) {
         return Some(Rule::ZeroRight);

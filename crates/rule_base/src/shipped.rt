@@ -1,25 +1,46 @@
 ghost use Rattle.std.specs.Prelude.{◌≡◌, true, [], ◌∷◌, map, Contains};
 ghost use Rattle.rule_base.specs.declared.shipped.Rule.{Rule};
-ghost use Rattle.rule_base.specs.Rows.{rule_name, stand_apart, keeps_beside_zero, has_zero_right, is_trans, is_undef_const, is_zero_right, is_undef, is_constant, is_zero};
+ghost use Rattle.ir_values.specs.Laws.{flags_among};
+ghost use Rattle.rule_base.specs.Rows.{rule_name, stand_apart, keeps_beside_zero, has_zero_right, is_refl, is_trans, is_undef_const, drops_flags, is_drop_flags, is_zero_right, is_undef, is_constant, is_zero};
 
 use crate::InferRule;
+use crate::folding::is_fold;
+use crate::substitution::is_subst;
 use crate::typed::have_one_type;
 use erhl_assert::{Fact, Schema};
-use ir_core::{Atom, BinOp, Binary, Const, Expr, Module, Reg, same_expr, same_reg_atom};
+use ir_core::{
+    Atom, BinOp, Binary, Const, Expr, Flags, Module, Reg, same_expr, same_op, same_reg_atom,
+};
 
 /// The rules that are shipped.
 #[derive(Drop, Clone, Copy)]
 pub enum Rule {
+    /// `e >= e`.
+    Refl,
     /// `a >= b, b >= c` to `a >= c`.
     Trans,
     /// `undef >= C`, C a number or undef.
     UndefConst,
+    /// `a >= b` to `e >= e'`, a and b operands, e' being e with one operand that is a made b.
+    Subst,
+    /// `op F x y >= op G x y`, the flags G among F.
+    DropFlags,
+    /// `e >= C`, e over numbers, C a constant that its outcome may become.
+    Fold,
     /// `op F x 0 >= x`, for add, sub, or, xor, shl, lshr and ashr with any flags.
     ZeroRight,
 }
 
 impl Rule {
-    pub const ALL: [Rule; 3] = [Rule::Trans, Rule::UndefConst, Rule::ZeroRight];
+    pub const ALL: [Rule; 7] = [
+        Rule::Refl,
+        Rule::Trans,
+        Rule::UndefConst,
+        Rule::Subst,
+        Rule::DropFlags,
+        Rule::Fold,
+        Rule::ZeroRight,
+    ];
 }
 
 impl InferRule for Rule {
@@ -34,17 +55,26 @@ impl InferRule for Rule {
 
     fn name(&self) -> &str {
         match self {
+            Rule::Refl => "refl",
             Rule::Trans => "trans",
             Rule::UndefConst => "undef_const",
+            Rule::Subst => "subst",
+            Rule::DropFlags => "drop_flags",
+            Rule::Fold => "fold",
             Rule::ZeroRight => "zero_right",
         }
     }
 
     fn fits(&self, _module: &Module, schema: &Schema) -> bool {
+        let (from, to) = (schema.from.as_slice(), &schema.to);
         match self {
-            Rule::Trans => is_trans(schema.from.as_slice(), &schema.to),
-            Rule::UndefConst => is_undef_const(schema.from.as_slice(), &schema.to),
-            Rule::ZeroRight => is_zero_right(schema.from.as_slice(), &schema.to),
+            Rule::Refl => is_refl(from, to),
+            Rule::Trans => is_trans(from, to),
+            Rule::UndefConst => is_undef_const(from, to),
+            Rule::Subst => is_subst(from, to),
+            Rule::DropFlags => is_drop_flags(from, to),
+            Rule::Fold => is_fold(from, to),
+            Rule::ZeroRight => is_zero_right(from, to),
         }
     }
 }
@@ -53,10 +83,20 @@ impl InferRule for Rule {
 ///
 /// The table: each rule stands there once, in this order, and no two of them have one name.
 pub fn rules_stand_in_the_table()
-    ensures table { Rule.ALL ≡ Rule.Trans ∷ Rule.UndefConst ∷ Rule.ZeroRight ∷ [] }
+    ensures table { Rule.ALL ≡ Rule.Refl ∷ Rule.Trans ∷ Rule.UndefConst ∷ Rule.Subst ∷ Rule.DropFlags ∷ Rule.Fold ∷ Rule.ZeroRight ∷ [] }
     ensures whole { (rule : Rule) → Contains Rule.ALL rule }
     ensures named_apart { stand_apart (map rule_name Rule.ALL) ≡ true }
 {}
+
+fn is_refl(from: &[Fact], to: &Fact) -> bool
+    ensures { result ≡ is_refl from.now to.now }
+{
+    if !from.is_empty() {
+        return false;
+    }
+    let Fact::LessDef(a, b) = to;
+    have_one_type(a, b) && same_expr(a, b)
+}
 
 fn is_trans(from: &[Fact], to: &Fact) -> bool
     ensures { result ≡ is_trans from.now to.now }
@@ -78,7 +118,7 @@ fn is_undef(atom: &Atom<Reg>) -> bool
     matches!(atom, Atom::Constant(Const::Undef))
 }
 
-fn is_constant(atom: &Atom<Reg>) -> bool
+pub(crate) fn is_constant(atom: &Atom<Reg>) -> bool
     ensures { result ≡ is_constant atom.now }
 {
     matches!(atom, Atom::Constant(_))
@@ -104,6 +144,36 @@ fn is_undef_const(from: &[Fact], to: &Fact) -> bool
         (Expr::Plain(undef), Expr::Plain(other)) => {
             have_one_type(a, b) && is_undef(&undef.atom) && is_constant(&other.atom)
         }
+        _ => false,
+    }
+}
+
+/// Whether each flag of the first is one of the second's.
+fn flags_among(few: Flags, many: Flags) -> bool
+    ensures { result ≡ flags_among few many }
+{
+    (!few.nuw || many.nuw) && (!few.nsw || many.nsw) && (!few.exact || many.exact)
+}
+
+/// Whether the second is the first with some of its flags, or all.
+fn drops_flags(a: &Binary<Reg>, b: &Binary<Reg>) -> bool
+    ensures { result ≡ drops_flags a.now b.now }
+{
+    same_op(&a.op, &b.op)
+        && same_reg_atom(&a.left, &b.left)
+        && same_reg_atom(&a.right, &b.right)
+        && flags_among(b.flags, a.flags)
+}
+
+fn is_drop_flags(from: &[Fact], to: &Fact) -> bool
+    ensures { result ≡ is_drop_flags from.now to.now }
+{
+    if !from.is_empty() {
+        return false;
+    }
+    let Fact::LessDef(a, b) = to;
+    match (a, b) {
+        (Expr::Binary(many), Expr::Binary(few)) => have_one_type(a, b) && drops_flags(many, few),
         _ => false,
     }
 }

@@ -37,13 +37,14 @@ fn may_have(op: BinOp, flags: Flags) -> bool
 }
 
 /// Whether a selection by a condition of the one type may have arms of the others.
-fn selects(condition: &Ty, left: &Ty, right: &Ty) -> bool
+pub(crate) fn selects(condition: &Ty, left: &Ty, right: &Ty) -> bool
     ensures { result ≡ selects condition.now left.now right.now }
 {
     same_ty(condition, &Ty::Int(1)) && same_ty(left, right)
 }
 
-fn has_type(expr: &Expr0) -> bool
+/// Whether the expression has a type.
+pub fn has_type(expr: &Expr0) -> bool
     ensures { result ≡ has_type expr.now }
 {
     match expr {

@@ -26,6 +26,7 @@ use Rattle.ir_grammar.specs.declared.trees.ParamText.{ParamText}
 use Rattle.ir_grammar.specs.declared.trees.PhiText.{PhiText}
 use Rattle.ir_grammar.specs.declared.trees.Placed.{Placed}
 use Rattle.ir_grammar.specs.declared.trees.SwitchText.{SwitchText}
+use Rattle.ir_grammar.specs.declared.trees.Tag.TheVariants as tags
 use Rattle.ir_grammar.specs.declared.trees.TermText.{TermText}
 use Rattle.ir_grammar.specs.declared.trees.TermText.TheVariants as terms
 use Rattle.ir_grammar.specs.declared.trees.ValueText.{ValueText}
@@ -181,14 +182,19 @@ int_quiet : (i : IntText) → IsQuiet (write.int i)
 int_quiet (integer.Number n) = (refl, refl)
 int_quiet (integer.Truth b) = (refl, refl)
 
-value_quiet : (v : ValueText) → IsQuiet (write.value v)
-value_quiet (text.Int i) = int_quiet i
-value_quiet text.Undef = (refl, refl)
-value_quiet (text.Local w) = (refl, refl)
+both_quiet : (xs ys : List Symbol) → AllByRecursion IsQuiet xs → AllByRecursion IsQuiet ys → AllByRecursion IsQuiet (xs ++ ys)
+both_quiet = all_append IsQuiet
+
+value_quiet : (v : ValueText) → AllByRecursion IsQuiet (write.value v)
+value_quiet (text.Int i) = (int_quiet i, tt)
+value_quiet text.Undef = ((refl, refl), tt)
+value_quiet (text.Local w) = ((refl, refl), tt)
+value_quiet (text.Tagged tags.Old w) = ((refl, refl), ((refl, refl), tt))
+value_quiet (text.Tagged tags.Ghost w) = ((refl, refl), ((refl, refl), tt))
 
 -- an operand, and then what is quiet
 operand_quiet : (o : OperandText) (ss : List Symbol) → AllByRecursion IsQuiet ss → AllByRecursion IsQuiet (write.operand o ++ ss)
-operand_quiet o ss quiet = ((refl, refl), (value_quiet o.value, quiet))
+operand_quiet o ss quiet = ((refl, refl), both_quiet (write.value o.value) ss (value_quiet o.value) quiet)
 
 -- flags, and then what is quiet
 flags_quiet : (fs : List FlagWord) (ss : List Symbol) → AllByRecursion IsQuiet ss → AllByRecursion IsQuiet (map symbols.Flag fs ++ ss)
@@ -211,9 +217,6 @@ register_quiet : (name : Option (Placed Name)) → AllByRecursion IsQuiet (write
 register_quiet None = tt
 register_quiet (Some w) = ((refl, refl), ((refl, refl), tt))
 
-both_quiet : (xs ys : List Symbol) → AllByRecursion IsQuiet xs → AllByRecursion IsQuiet ys → AllByRecursion IsQuiet (xs ++ ys)
-both_quiet = all_append IsQuiet
-
 param_quiet : (p : ParamText) → AllByRecursion IsQuiet (write.param p)
 param_quiet p = ((refl, refl), local_quiet p.name)
 
@@ -232,20 +235,20 @@ operator_run n (operators.Exact op is_exact) ss quiet = line_run n (symbols.Exac
 operator_run n (operators.Plain op) ss quiet = line_run n (symbols.Plain op) ss refl refl quiet
 
 -- `iN left, right`
-pair_quiet : (left : OperandText) (right : ValueText) → AllByRecursion IsQuiet (write.operand left ++ (comma ∷ write.value right ∷ []))
-pair_quiet left right = operand_quiet left (comma ∷ write.value right ∷ []) ((refl, refl), (value_quiet right, tt))
+pair_quiet : (left : OperandText) (right : ValueText) → AllByRecursion IsQuiet (write.operand left ++ (comma ∷ write.value right))
+pair_quiet left right = operand_quiet left (comma ∷ write.value right) ((refl, refl), value_quiet right)
 
 operation_run : (n : ℕ) (o : OperationText) → Run n (write.operation o) 1
-operation_run n (form.Binary b) = operator_run n b.operator (write.operand b.left ++ (comma ∷ write.value b.right ∷ [])) (pair_quiet b.left b.right)
+operation_run n (form.Binary b) = operator_run n b.operator (write.operand b.left ++ (comma ∷ write.value b.right)) (pair_quiet b.left b.right)
 operation_run n (form.Compare c) =
-    line_run n icmp (symbols.Pred c.pred ∷ (write.operand c.left ++ (comma ∷ write.value c.right ∷ []))) refl refl ((refl, refl), pair_quiet c.left c.right)
+    line_run n icmp (symbols.Pred c.pred ∷ (write.operand c.left ++ (comma ∷ write.value c.right))) refl refl ((refl, refl), pair_quiet c.left c.right)
 operation_run n (form.Cast c) =
     line_run n (symbols.Cast c.op) (write.operand c.from ++ (to ∷ symbols.Width c.to ∷ [])) refl refl
     (operand_quiet c.from (to ∷ symbols.Width c.to ∷ []) ((refl, refl), ((refl, refl), tt)))
 operation_run n (form.Select s) =
     line_run n select (write.operand s.condition ++ (comma ∷ (write.operand s.then ++ (comma ∷ write.operand s.other)))) refl refl
     (operand_quiet s.condition (comma ∷ (write.operand s.then ++ (comma ∷ write.operand s.other)))
-    ((refl, refl), operand_quiet s.then (comma ∷ write.operand s.other) ((refl, refl), ((refl, refl), (value_quiet s.other.value, tt)))))
+    ((refl, refl), operand_quiet s.then (comma ∷ write.operand s.other) ((refl, refl), ((refl, refl), value_quiet s.other.value))))
 
 -- quiet symbols, and then others
 after_quiet : (n more : ℕ) (xs ys : List Symbol) → AllByRecursion IsQuiet xs → Run n ys more → Run n (xs ++ ys) more
@@ -261,11 +264,13 @@ lines_run n (l ∷ ls) =
 
 returned_quiet : (o : Option OperandText) → AllByRecursion IsQuiet (write.returned o)
 returned_quiet None = ((refl, refl), tt)
-returned_quiet (Some o) = ((refl, refl), (value_quiet o.value, tt))
+returned_quiet (Some o) = ((refl, refl), value_quiet o.value)
 
 -- an entry, and then what is quiet
 entry_quiet : (e : EntryText) (ss : List Symbol) → AllByRecursion IsQuiet ss → AllByRecursion IsQuiet (write.entry e ++ ss)
-entry_quiet e ss quiet = ((refl, refl), (value_quiet e.value, ((refl, refl), ((refl, refl), ((refl, refl), quiet)))))
+entry_quiet e ss quiet =
+    let from = comma ∷ symbols.Local e.from ∷ close_bracket ∷ [] in
+    both_quiet (write.entry e) ss ((refl, refl), both_quiet (write.value e.value) from (value_quiet e.value) ((refl, refl), ((refl, refl), ((refl, refl), tt)))) quiet
 
 entries_quiet : (es : List EntryText) → AllByRecursion IsQuiet (flat_map write.next_entry es)
 entries_quiet [] = tt

@@ -8,6 +8,7 @@ use Rattle.ir_core.specs.Limits.{text_limit}
 use Rattle.ir_lexer.specs.declared.token.LexFault.{LexFault}
 use Rattle.ir_lexer.specs.declared.token.LexFault.TheVariants as lexer
 use Rattle.ir_lexer.specs.Cut.{Placed, cut}
+use Rattle.ir_grammar.specs.declared.words.Language.{Language}
 use Rattle.ir_grammar.specs.Symbols.{kind_of, kind_of_token, symbol}
 use Rattle.name_claims.specs.declared.claims.Fault.{Fault}
 use Rattle.name_claims.specs.declared.claims.Item.{Item}
@@ -121,11 +122,11 @@ found form bytes fault.Memory is some = absurd (some refl)
 
 -- ---- a text that is spelled has no fault
 
-symbols_are : (bytes : List ℕ) (tokens : List Placed) (form : Form) (tree : form.Tree) → cut 0 0 bytes ≡ Ok tokens → symbols_of bytes ≡ Some (form.written tree) → map symbol tokens ≡ form.written tree
-symbols_are bytes tokens form tree e s = some_is (map symbol tokens) (form.written tree) (sym (ap symbols_cut e) ∙ s)
+symbols_are : (bytes : List ℕ) (tokens : List Placed) (form : Form) (tree : form.Tree) → cut 0 0 bytes ≡ Ok tokens → symbols_of form.language bytes ≡ Some (form.written tree) → map (symbol form.language) tokens ≡ form.written tree
+symbols_are bytes tokens form tree e s = some_is (map (symbol form.language) tokens) (form.written tree) (sym (ap (symbols_cut form.language) e) ∙ s)
 
-no_lex_fault : (bytes : List ℕ) (f : LexFault) (form : Form) (tree : form.Tree) → cut 0 0 bytes ≡ Err f → symbols_of bytes ≡ Some (form.written tree) → ⊥
-no_lex_fault bytes f form tree e s = let none = sym (ap symbols_cut e) ∙ s in cc
+no_lex_fault : (bytes : List ℕ) (f : LexFault) (form : Form) (tree : form.Tree) → cut 0 0 bytes ≡ Err f → symbols_of form.language bytes ≡ Some (form.written tree) → ⊥
+no_lex_fault bytes f form tree e s = let none = sym (ap (symbols_cut form.language) e) ∙ s in cc
 
 module _ (form : Form) {X : Type 0} (Names : form.Tree → X → Type 0) (once : IsWrittenOnce form) (named : AreNamed form Names) where
   pub spell_one : (bytes : List ℕ) (a b : X) → IsSpelled form Names bytes a → IsSpelled form Names bytes b → a ≡ b
@@ -137,10 +138,10 @@ module _ (form : Form) {X : Type 0} (Names : form.Tree → X → Type 0) (once :
   excluded bytes f x short (Long long e) s = absurd (omega (arith, long, short))
   excluded bytes f x short (Lexed l has e) s = no_lex_fault bytes l form s.tree has.1 s.symbols
   excluded bytes f x short (Stuck tokens has k is e) s =
-      let same : map kind_of_token tokens ≡ map kind_of (form.written s.tree) = kinds_are tokens ∙ ap (map kind_of) (symbols_are bytes tokens form s.tree has.1 s.symbols) in
+      let same : map (kind_of_token form.language) tokens ≡ map kind_of (form.written s.tree) = kinds_are form.language tokens ∙ ap (map kind_of) (symbols_are bytes tokens form s.tree has.1 s.symbols) in
       none_where_written kind_of form.written s.tree k (subst (λ ks. IsUnexpected kind_of form.written ks k) same is.0)
   excluded bytes f x short (Lines tokens has k is e) s =
-      let same : map kind_of_token tokens ≡ map kind_of (form.written s.tree) = kinds_are tokens ∙ ap (map kind_of) (symbols_are bytes tokens form s.tree has.1 s.symbols) in
+      let same : map (kind_of_token form.language) tokens ≡ map kind_of (form.written s.tree) = kinds_are form.language tokens ∙ ap (map kind_of) (symbols_are bytes tokens form s.tree has.1 s.symbols) in
       named.within s.tree x s.names k (subst (λ ks. form.is_past ks k) same is.0)
   excluded bytes f x short (Named g (tokens, has, within, (tree, w, first)) e) s =
       let same : tree ≡ s.tree = once tree s.tree (sym w ∙ symbols_are bytes tokens form s.tree has.1 s.symbols) in
@@ -163,8 +164,8 @@ one_lexed bytes l m first second = let same = sym first.1 ∙ second.1 in cc
 too_long : (bytes : List ℕ) → text_limit < length bytes → IsShort bytes → ⊥
 too_long bytes long short = omega (arith, long, short)
 
-length_kinds : (tokens : List Placed) → length (map kind_of_token tokens) ≡ length tokens
-length_kinds tokens = length-map tokens kind_of_token
+length_kinds : (language : Language) (tokens : List Placed) → length (map (kind_of_token language) tokens) ≡ length tokens
+length_kinds language tokens = length-map tokens (kind_of_token language)
 
 level : (p a q b : ℕ) → (nat_lt p q || ((p == q) && nat_lt a b)) ≡ false → (nat_lt q p || ((q == p) && nat_lt b a)) ≡ false → (p ≡ q) × (a ≡ b)
 level p a q b e f = (grind (arith, e, f), grind (arith, e, f))
@@ -178,34 +179,34 @@ module _ (form : Form) (once : IsWrittenOnce form) (lawful : IsLawfulForm form) 
   -- the grammar's fault and a line past the limit
   stuck_lines : (tokens : List Placed) (k j : ℕ) → IsGrammarFault form tokens k → PassesLines form tokens j → ⊥
   stuck_lines tokens k j stuck past =
-      let kinds = map kind_of_token tokens in
+      let kinds = map (kind_of_token form.language) tokens in
       let inside : j < length kinds = lawful.inside kinds j past.0 in
       ⊎_elim
       (λ yes. none_longer kind_of form.written kinds k (j + 1) (omega (arith, yes.1)) (omega (arith, inside)) stuck.0
-      (subst (Begins kind_of form.written) (sym (take-map kind_of_token (j + 1) tokens)) past.2))
+      (subst (Begins kind_of form.written) (sym (take-map (kind_of_token form.language) (j + 1) tokens)) past.2))
       (λ no. stuck.1 j past.0 no.1) (leb_tells k j)
 
   -- the grammar's fault in a text that is written as a tree
   stuck_named : (tokens : List Placed) (k : ℕ) (g : Fault) → HasTokens bytes tokens → IsGrammarFault form tokens k → HasNameFault form bytes g → ⊥
   stuck_named tokens k g has stuck (others, other, within, (tree, written, first)) =
-      let same : map kind_of_token tokens ≡ map kind_of (form.written tree) = ap (map kind_of_token) (one_tokens bytes tokens others has other) ∙ kinds_are others ∙ ap (map kind_of) written in
+      let same : map (kind_of_token form.language) tokens ≡ map kind_of (form.written tree) = ap (map (kind_of_token form.language)) (one_tokens bytes tokens others has other) ∙ kinds_are form.language others ∙ ap (map kind_of) written in
       none_where_written kind_of form.written tree k (subst (λ ks. IsUnexpected kind_of form.written ks k) same stuck.0)
 
   -- a line past the limit, and none
   lines_named : (tokens : List Placed) (j : ℕ) (g : Fault) → HasTokens bytes tokens → PassesLines form tokens j → HasNameFault form bytes g → ⊥
   lines_named tokens j g has past (others, other, within, rest) =
-      let there : form.is_past (map kind_of_token others) j = subst (λ ts. form.is_past (map kind_of_token ts) j) (one_tokens bytes tokens others has other) past.0 in
-      within j there (subst (λ n. j < n) (length_kinds others) (lawful.inside (map kind_of_token others) j there))
+      let there : form.is_past (map (kind_of_token form.language) others) j = subst (λ ts. form.is_past (map (kind_of_token form.language) ts) j) (one_tokens bytes tokens others has other) past.0 in
+      within j there (subst (λ n. j < n) (length_kinds form.language others) (lawful.inside (map (kind_of_token form.language) others) j there))
 
   stuck_stuck : (a b : List Placed) (j k : ℕ) → HasTokens bytes a → HasTokens bytes b → IsGrammarFault form a j → IsGrammarFault form b k → unexpected_at a (length bytes) j ≡ unexpected_at b (length bytes) k
   stuck_stuck a b j k first second at other =
       let same : a ≡ b = one_tokens bytes a b first second in
-      let place : j ≡ k = one_place kind_of form.written (map kind_of_token b) j k (subst (λ ts. IsUnexpected kind_of form.written (map kind_of_token ts) j) same at.0) other.0 in
+      let place : j ≡ k = one_place kind_of form.written (map (kind_of_token form.language) b) j k (subst (λ ts. IsUnexpected kind_of form.written (map (kind_of_token form.language) ts) j) same at.0) other.0 in
       ap (λ ts. unexpected_at ts (length bytes) j) same ∙ ap (λ n. unexpected_at b (length bytes) n) place
 
   named_named : (f g : Fault) → HasNameFault form bytes f → HasNameFault form bytes g → at_rank f.start (rank f.reason) ≡ at_rank g.start (rank g.reason)
   named_named f g (a, first, within, (v, w, is)) (b, second, below, (u, x, other)) =
-      let same : v ≡ u = once v u (sym w ∙ ap (map symbol) (one_tokens bytes a b first second) ∙ x) in
+      let same : v ≡ u = once v u (sym w ∙ ap (map (symbol form.language)) (one_tokens bytes a b first second) ∙ x) in
       one_first (form.claims u) f g (subst (λ tree. IsFirst (form.claims tree) f) same is) other
 
   one_step : (f g : TextFault) → Found form bytes f → Found form bytes g → bare f ≡ bare g

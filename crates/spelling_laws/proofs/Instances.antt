@@ -18,7 +18,7 @@ use Rattle.tree_reader.specs.Lawful as tables
 use Rattle.tree_reader.specs.Tables.{sets}
 use Rattle.tree_reader.proofs.Whole.{expression_ends, global_ends, local_ends, module_ends}
 use Rattle.grammar_decides.specs.Decision.{decided}
-use Rattle.ir_naming.specs.Expressions.{IsNameOf, NamesExpression, expression_now}
+use Rattle.ir_naming.specs.Expressions.{IsNameOf, NamesExpression, logic_expression}
 use Rattle.ir_naming.specs.Modules.{module_of}
 use Rattle.ir_naming.specs.Spells.{NamesModule}
 use Rattle.ir_naming_laws.proofs.Expressions.{expression_built, expression_right}
@@ -79,7 +79,7 @@ pub expressions_named : AreNamed expression_form NamesExpression
 expressions_named = record {
   alone = λ tree x y first second. (expression_right tree x first).1 ∙ sym (expression_right tree y second).1;
   within = λ tree x names k past. past;
-  built = λ tree faultless within. (expression_now tree, expression_built tree faultless);
+  built = λ tree faultless within. (logic_expression tree, expression_built tree faultless);
 }
 
 -- ---- names

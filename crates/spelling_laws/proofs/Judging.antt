@@ -64,43 +64,43 @@ module _ (form : Form) {X : Type 0} (Names : form.Tree → X → Type 0) (lawful
         inr (of_grammar tokens (length bytes) k, (grammar_told form bytes tokens has order k is, place_is (length bytes) (slice_get tokens k)))
 
     -- the kinds of the symbols are those of the tokens
-    first_of_tokens : (k : ℕ) → IsFirstPastOf form (map kind_of (map symbol tokens)) k → IsFirstPastOf form (map kind_of_token tokens) k
-    first_of_tokens k first = subst (λ ks. IsFirstPastOf form ks k) (sym (kinds_are tokens)) first
+    first_of_tokens : (k : ℕ) → IsFirstPastOf form (map kind_of (map (symbol form.language) tokens)) k → IsFirstPastOf form (map (kind_of_token form.language) tokens) k
+    first_of_tokens k first = subst (λ ks. IsFirstPastOf form ks k) (sym (kinds_are form.language tokens)) first
 
-    none_of_tokens : IsWithinAll form (map symbol tokens) → (k : ℕ) → form.is_past (map kind_of_token tokens) k → ⊥
-    none_of_tokens none = subst (λ ks. (k : ℕ) → form.is_past ks k → ⊥) (sym (kinds_are tokens)) none
+    none_of_tokens : IsWithinAll form (map (symbol form.language) tokens) → (k : ℕ) → form.is_past (map (kind_of_token form.language) tokens) k → ⊥
+    none_of_tokens none = subst (λ ks. (k : ℕ) → form.is_past ks k → ⊥) (sym (kinds_are form.language tokens)) none
 
-    whichever : (k j : ℕ) → IsStuck form tokens k → IsFirstPastOf form (map kind_of_token tokens) j → (b : Bool) → nat_lt j k ≡ b → IsJudged
+    whichever : (k j : ℕ) → IsStuck form tokens k → IsFirstPastOf form (map (kind_of_token form.language) tokens) j → (b : Bool) → nat_lt j k ≡ b → IsJudged
     whichever k j stuck first true e = too_many j (passed_before form tokens k j stuck (ltb-true j k e) first)
     whichever k j stuck first false e =
         let after = ltb-false j k e in
         not_expected k (stuck, λ i past before. first.1 i (omega (arith, after, before)) past)
 
-    stuck_at : (k : ℕ) → IsStuck form tokens k → ((j : ℕ) × IsFirstPastOf form (map kind_of (map symbol tokens)) j) ⊎ IsWithinAll form (map symbol tokens) → IsJudged
+    stuck_at : (k : ℕ) → IsStuck form tokens k → ((j : ℕ) × IsFirstPastOf form (map kind_of (map (symbol form.language) tokens)) j) ⊎ IsWithinAll form (map (symbol form.language) tokens) → IsJudged
     stuck_at k stuck (inl past) = whichever k past.0 stuck (first_of_tokens past.0 past.1) (nat_lt past.0 k) refl
     stuck_at k stuck (inr none) = not_expected k (stuck, λ j past before. none_of_tokens none j past)
 
-    module _ (tree : form.Tree) (same : form.written tree ≡ map symbol tokens) where
-      claimed : IsWithinAll form (map symbol tokens) → (found : Option Fault) → found ≡ first_of None (form.claims tree) → IsJudged
+    module _ (tree : form.Tree) (same : form.written tree ≡ map (symbol form.language) tokens) where
+      claimed : IsWithinAll form (map (symbol form.language) tokens) → (found : Option Fault) → found ≡ first_of None (form.claims tree) → IsJudged
       claimed none (Some f) e =
           let is : IsTreeOf form bytes tree = record { tokens = tokens; has = has; have_bytes = order; same = same; within = none_of_tokens none } in
           inr (of_names f, (first_told form bytes lawful.spans tree is f (some_if (form.claims tree) (Some f) e), reason_is f.start f.end f.reason))
       claimed none None e =
           let faultless = none_if (form.claims tree) None e in
           let built = named.built tree faultless (subst (IsWithinAll form) (sym same) none) in
-          inl (built.0, (has.0, record { tree = tree; symbols = ap symbols_cut has.1 ∙ ap Some (sym same); no_fault = faultless; names = built.1 }))
+          inl (built.0, (has.0, record { tree = tree; symbols = ap (symbols_cut form.language) has.1 ∙ ap Some (sym same); no_fault = faultless; names = built.1 }))
 
-      whole : ((k : ℕ) × IsFirstPastOf form (map kind_of (map symbol tokens)) k) ⊎ IsWithinAll form (map symbol tokens) → IsJudged
+      whole : ((k : ℕ) × IsFirstPastOf form (map kind_of (map (symbol form.language) tokens)) k) ⊎ IsWithinAll form (map (symbol form.language) tokens) → IsJudged
       whole (inl past) = too_many past.0 (passed_whole form tokens tree past.0 same (first_of_tokens past.0 past.1))
       whole (inr none) = claimed none (first_of None (form.claims tree)) refl
 
-    read : ((tree : form.Tree) × (form.written tree ≡ map symbol tokens)) ⊎ ((k : ℕ) × IsUnexpected kind_of form.written (map kind_of (map symbol tokens)) k) → IsJudged
-    read (inl tree) = whole tree.0 tree.1 (lawful.past (map symbol tokens))
+    read : ((tree : form.Tree) × (form.written tree ≡ map (symbol form.language) tokens)) ⊎ ((k : ℕ) × IsUnexpected kind_of form.written (map kind_of (map (symbol form.language) tokens)) k) → IsJudged
+    read (inl tree) = whole tree.0 tree.1 (lawful.past (map (symbol form.language) tokens))
     read (inr stuck) =
-        stuck_at stuck.0 (subst (λ ks. IsUnexpected kind_of form.written ks stuck.0) (sym (kinds_are tokens)) stuck.1) (lawful.past (map symbol tokens))
+        stuck_at stuck.0 (subst (λ ks. IsUnexpected kind_of form.written ks stuck.0) (sym (kinds_are form.language tokens)) stuck.1) (lawful.past (map (symbol form.language) tokens))
 
   of_cut : (c : Cut) → IsShort bytes → cut 0 0 bytes ≡ c → IsCutWell c → IsJudged
-  of_cut (Ok tokens) short e well = read tokens (short, e) well (lawful.read (map symbol tokens))
+  of_cut (Ok tokens) short e well = read tokens (short, e) well (lawful.read (map (symbol form.language) tokens))
   of_cut (Err f) short e well = of_fault f short e well
 
   by_length : (long : Bool) → nat_lt text_limit (length bytes) ≡ long → IsJudged

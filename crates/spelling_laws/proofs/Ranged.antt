@@ -152,6 +152,7 @@ value_in_range : (registers : List (Name × Ty)) (width : ℕ) (v : ValueText) (
 value_in_range registers width (text.Int i) atom is = number_in_range width (int_of width i) atom (int_fits width i) is
 value_in_range registers width text.Undef atom is = subst (IsAtomInRange (Int width)) (sym is) refl
 value_in_range registers width (text.Local name) atom is = subst (IsAtomInRange (Int width)) (sym is.2) tt
+value_in_range registers width (text.Tagged t name) atom is = absurd is.1
 
 -- ---- cases
 

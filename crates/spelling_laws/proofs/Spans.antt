@@ -32,11 +32,13 @@ use Rattle.ir_grammar.specs.declared.trees.TermText.{TermText}
 use Rattle.ir_grammar.specs.declared.trees.TermText.TheVariants as terms
 use Rattle.ir_grammar.specs.declared.trees.ValueText.{ValueText}
 use Rattle.ir_grammar.specs.declared.trees.ValueText.TheVariants as text
+use Rattle.ir_grammar.specs.declared.words.Language.{Language}
+use Rattle.ir_grammar.specs.declared.words.Language.TheVariants.{Ir, Logic}
 use Rattle.ir_grammar.specs.declared.words.Word.{Word}
 use Rattle.ir_grammar.specs.declared.words.Word.TheVariants as word
 use Rattle.ir_grammar.specs.Symbols.{Symbol, mark_symbol, symbol, symbol_at, word_symbol}
 use Rattle.ir_grammar.specs.Symbols as symbols
-use Rattle.ir_grammar.specs.Words.{word_said}
+use Rattle.ir_grammar.specs.Words.{word_of}
 use Rattle.ir_grammar.specs.Written as write
 use Rattle.name_claims.specs.declared.claims.Claim.{Claim}
 use Rattle.name_claims.specs.declared.claims.Fault.{Fault}
@@ -96,22 +98,22 @@ mark_spans b =
     (either (b == 91) _ _ tt
     (either (b == 93) _ _ tt tt)))))))
 
-token_spans : (k : TokenKind) (start end : ℕ) → start < end → SymbolSpans (symbol_at k start end)
-token_spans (kind.Local name) start end less = less
-token_spans (kind.Global name) start end less = less
-token_spans (kind.Label name) start end less = less
-token_spans (kind.Number number) start end less = less
-token_spans (kind.Word w) start end less = word_spans (word_said w) start end less
-token_spans (kind.Mark b) start end less = mark_spans b
-token_spans (kind.Attribute digits) start end less = tt
-token_spans kind.Bang start end less = tt
-token_spans (kind.Metadata run) start end less = tt
-token_spans kind.Dots start end less = tt
-token_spans (kind.Text bytes) start end less = tt
+token_spans : (language : Language) (k : TokenKind) (start end : ℕ) → start < end → SymbolSpans (symbol_at language k start end)
+token_spans language (kind.Local name) start end less = less
+token_spans language (kind.Global name) start end less = less
+token_spans language (kind.Label name) start end less = less
+token_spans language (kind.Number number) start end less = less
+token_spans language (kind.Word w) start end less = word_spans (word_of language w) start end less
+token_spans language (kind.Mark b) start end less = mark_spans b
+token_spans language (kind.Attribute digits) start end less = tt
+token_spans language kind.Bang start end less = tt
+token_spans language (kind.Metadata run) start end less = tt
+token_spans language kind.Dots start end less = tt
+token_spans language (kind.Text bytes) start end less = tt
 
-tokens_span : (tokens : List PlacedToken) → HaveBytes tokens → AllSpan (map symbol tokens)
-tokens_span [] each = tt
-tokens_span (t ∷ tokens) each = (token_spans t.kind t.start t.end each.0, tokens_span tokens each.1)
+tokens_span : (language : Language) (tokens : List PlacedToken) → HaveBytes tokens → AllSpan (map (symbol language) tokens)
+tokens_span language [] each = tt
+tokens_span language (t ∷ tokens) each = (token_spans language t.kind t.start t.end each.0, tokens_span language tokens each.1)
 
 -- ---- claims of values
 
@@ -129,20 +131,22 @@ int_spans : (width : ℕ) (i : IntText) → SymbolSpans (write.int i) → Claims
 int_spans width (integer.Number w) spans = kept_spans w (kept width w.what) spans
 int_spans width (integer.Truth w) spans = kept_spans w (truth width w.what) spans
 
-value_spans : (width : ℕ) (v : ValueText) → SymbolSpans (write.value v) → Claims (value_claims width v)
-value_spans width (text.Int i) spans = int_spans width i spans
+value_spans : (width : ℕ) (v : ValueText) → AllSpan (write.value v) → Claims (value_claims width v)
+value_spans width (text.Int i) spans = int_spans width i spans.0
 value_spans width text.Undef spans = tt
-value_spans width (text.Local w) spans = (omega (arith, spans), tt)
+value_spans width (text.Local w) spans = let less : w.start < w.end = spans.0 in (omega (arith, less), tt)
+value_spans width (text.Tagged t w) spans = let less : w.start < w.end = spans.1.0 in (omega (arith, less), tt)
 
-number_in_range : (width : ℕ) (v : ValueText) → SymbolSpans (write.value v) → Claims (number_range width v)
-number_in_range width (text.Int i) spans = int_spans width i spans
+number_in_range : (width : ℕ) (v : ValueText) → AllSpan (write.value v) → Claims (number_range width v)
+number_in_range width (text.Int i) spans = int_spans width i spans.0
 number_in_range width text.Undef spans = tt
 number_in_range width (text.Local w) spans = tt
+number_in_range width (text.Tagged t w) spans = tt
 
 -- what is claimed of values is claimed of operands
-module _ (claims : ℕ → ValueText → List Claim) (each : (width : ℕ) (v : ValueText) → SymbolSpans (write.value v) → Claims (claims width v)) where
+module _ (claims : ℕ → ValueText → List Claim) (each : (width : ℕ) (v : ValueText) → AllSpan (write.value v) → Claims (claims width v)) where
   operand_spans : (o : OperandText) → AllSpan (write.operand o) → Claims (claims o.ty.what o.value)
-  operand_spans o spans = each o.ty.what o.value spans.1.0
+  operand_spans o spans = each o.ty.what o.value spans.1
 
   pair_spans : (left : OperandText) (right : ValueText) → PairHas SymbolSpans left right → Claims (claims left.ty.what left.value ++ claims left.ty.what right)
   pair_spans left right spans =
@@ -325,7 +329,7 @@ spans_of items each f (item, there, (claim, inside, is)) =
 
 pub module_spans : HasSpans module_form
 module_spans tokens m f order same has =
-    let symbols_span = subst AllSpan (sym same) (tokens_span tokens order) in
+    let symbols_span = subst AllSpan (sym same) (tokens_span Ir tokens order) in
     let definitions = all_lists SymbolSpans DefinitionSpans write.definition m.definitions (definition_has SymbolSpans) symbols_span in
     spans_of (claims_of m) (claims_span m definitions) f has
 
@@ -343,7 +347,7 @@ ranges_span (Operation o) spans = operation_in_range o (operation_has SymbolSpan
 
 pub expression_spans : HasSpans expression_form
 expression_spans tokens e f order same has =
-    spans_of (expression_claims e) (ranges_span e (subst AllSpan (sym same) (tokens_span tokens order)), tt) f has
+    spans_of (expression_claims e) (ranges_span e (subst AllSpan (sym same) (tokens_span Logic tokens order)), tt) f has
 
 pub no_spans : (sigil : Sigil) → HasSpans (name_form sigil)
 no_spans sigil tokens name f order same has = spans_of [] tt f has

@@ -31,7 +31,7 @@ module _ (P : Symbol → Type 0) where
 
   -- an operand, and a value of its type
   abbrev pub PairHas : OperandText → ValueText → Type 0
-  PairHas left right = All (write.operand left) × P (write.value right)
+  PairHas left right = All (write.operand left) × All (write.value right)
 
   -- the operands of an operation, and the type behind `to`
   abbrev pub OperationHas : OperationText → Type 0
@@ -48,7 +48,7 @@ module _ (P : Symbol → Type 0) where
 
   -- a value, and the block from which control comes
   abbrev pub EntryHas : EntryText → Type 0
-  EntryHas e = P (write.value e.value) × P (symbols.Local e.from)
+  EntryHas e = All (write.value e.value) × P (symbols.Local e.from)
 
   abbrev pub NodeHas : NodeText → Type 0
   NodeHas n = P (symbols.Width n.ty) × AllByRecursion EntryHas (entries_in n)
@@ -84,17 +84,23 @@ module _ (P : Symbol → Type 0) where
     pub params : AllByRecursion ParamHas d.params
     pub blocks : AllByRecursion BlockHas (blocks_in d)
 
-  pair_has : (left : OperandText) (right : ValueText) → All (write.operand left ++ (symbols.comma ∷ write.value right ∷ [])) → PairHas left right
-  pair_has left right all = ((all.0, (all.1.0, tt)), all.1.1.1.0)
+  pair_has : (left : OperandText) (right : ValueText) → All (write.operand left ++ (symbols.comma ∷ write.value right)) → PairHas left right
+  pair_has left right all =
+      let behind = symbols.comma ∷ write.value right in
+      (all_left P (write.operand left) behind all, (all_right P (write.operand left) behind all).1)
 
   pub operation_has : (o : OperationText) → All (write.operation o) → OperationHas o
   operation_has (form.Binary b) all =
-      pair_has b.left b.right (all_right P (write.operator b.operator) (write.operand b.left ++ (symbols.comma ∷ write.value b.right ∷ [])) all)
+      pair_has b.left b.right (all_right P (write.operator b.operator) (write.operand b.left ++ (symbols.comma ∷ write.value b.right)) all)
   operation_has (form.Compare c) all = pair_has c.left c.right all.1.1
-  operation_has (form.Cast c) all = ((all.1.0, (all.1.1.0, tt)), all.1.1.1.1.0)
+  operation_has (form.Cast c) all =
+      let to = symbols.to ∷ symbols.Width c.to ∷ [] in
+      (all_left P (write.operand c.from) to all.1, (all_right P (write.operand c.from) to all.1).1.0)
   operation_has (form.Select s) all =
-      let then = all.1.1.1.1 in
-      ((all.1.0, (all.1.1.0, tt)), (then.0, (then.1.0, tt)), then.1.1.1)
+      let other = symbols.comma ∷ write.operand s.other in
+      let then = symbols.comma ∷ (write.operand s.then ++ other) in
+      let rest = (all_right P (write.operand s.condition) then all.1).1 in
+      (all_left P (write.operand s.condition) then all.1, all_left P (write.operand s.then) other rest, (all_right P (write.operand s.then) other rest).1)
 
   line_has : (l : LineText) → All (write.line l) → LineHas l
   line_has l all = (
@@ -110,7 +116,9 @@ module _ (P : Symbol → Type 0) where
   )
 
   entry_has : (e : EntryText) → All (write.entry e) → EntryHas e
-  entry_has e all = (all.1.0, all.1.1.1.0)
+  entry_has e all =
+      let from = symbols.comma ∷ symbols.Local e.from ∷ symbols.close_bracket ∷ [] in
+      (all_left P (write.value e.value) from all.1, (all_right P (write.value e.value) from all.1).1.0)
 
   next_entry_has : (e : EntryText) → All (write.next_entry e) → EntryHas e
   next_entry_has e all = entry_has e all.1
@@ -129,16 +137,21 @@ module _ (P : Symbol → Type 0) where
 
   branch_has : (b : BranchText) → All (write.branch b) → BranchHas b
   branch_has (branches.Always w) all = all.1.0
-  branch_has (branches.Condition c) all = ((all.0, (all.1.0, tt)), all.1.1.1.1.0, all.1.1.1.1.1.1.1.0)
+  branch_has (branches.Condition c) all =
+      let labels = symbols.comma ∷ (write.target c.on_true ++ (symbols.comma ∷ write.target c.on_false)) in
+      let behind = all_right P (write.operand c.condition) labels all in
+      (all_left P (write.operand c.condition) labels all, behind.1.1.0, behind.1.1.1.1.1.0)
 
   case_has : (c : CaseText) → All (write.case c) → CaseHas c
   case_has c all = (all.0, all.1.0, all.1.1.1.1.0)
 
   switch_has : (s : SwitchText) → All (write.switch s) → SwitchHas s
   switch_has s all =
-      let rest = all.1.1.1.1.1 in
-      let cases = all_left P (flat_map write.case s.cases) (symbols.close_bracket ∷ []) rest.1.1 in
-      ((all.1.0, (all.1.1.0, tt)), rest.0, all_lists P CaseHas write.case s.cases case_has cases)
+      let ends = symbols.close_bracket ∷ [] in
+      let labels = symbols.comma ∷ (write.target s.default ++ (symbols.open_bracket ∷ (flat_map write.case s.cases ++ ends))) in
+      let rest = (all_right P (write.operand s.value) labels all.1).1.1 in
+      let cases = all_left P (flat_map write.case s.cases) ends rest.1.1 in
+      (all_left P (write.operand s.value) labels all.1, rest.0, all_lists P CaseHas write.case s.cases case_has cases)
 
   term_has : (t : TermText) → All (write.term t) → TermHas t
   term_has (terms.Ret returned) all = all.1

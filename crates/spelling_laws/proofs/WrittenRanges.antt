@@ -12,6 +12,7 @@ use Rattle.ir_lexer.specs.Cut.{Cut, Placed as PlacedToken, cut}
 use Rattle.ir_lexer.specs.Numbers.{value_of}
 use Rattle.ir_grammar.specs.declared.trees.DefinitionText.{DefinitionText}
 use Rattle.ir_grammar.specs.declared.trees.ModuleText.{ModuleText}
+use Rattle.ir_grammar.specs.declared.words.Language.TheVariants.{Ir}
 use Rattle.ir_grammar.specs.declared.words.Word.{Word}
 use Rattle.ir_grammar.specs.declared.words.Word.TheVariants as word
 use Rattle.ir_grammar.specs.Symbols.{Symbol, mark_symbol, symbol, symbol_at, word_symbol}
@@ -114,7 +115,7 @@ marks_range b =
     (mark_in (b == 91) _ _ tt
     (mark_in (b == 93) _ _ tt tt)))))))
 
-symbol_range : (k : TokenKind) (start end : ℕ) → IsKindInRange k → IsSymbolInRange (symbol_at k start end)
+symbol_range : (k : TokenKind) (start end : ℕ) → IsKindInRange k → IsSymbolInRange (symbol_at Ir k start end)
 symbol_range (kind.Local name) start end range = range
 symbol_range (kind.Global name) start end range = range
 symbol_range (kind.Label name) start end range = range
@@ -127,11 +128,11 @@ symbol_range (kind.Metadata run) start end range = tt
 symbol_range kind.Dots start end range = tt
 symbol_range (kind.Text bytes) start end range = tt
 
-each : (tokens : List PlacedToken) → AllByRecursion (λ (t : PlacedToken). IsKindInRange t.kind) tokens → AllInRange (map symbol tokens)
+each : (tokens : List PlacedToken) → AllByRecursion (λ (t : PlacedToken). IsKindInRange t.kind) tokens → AllInRange (map (symbol Ir) tokens)
 each [] range = tt
 each (t ∷ tokens) range = (symbol_range t.kind t.start t.end range.0, each tokens range.1)
 
-symbols_range : (text : Cut) (symbols : List Symbol) → IsCutInRange text → symbols_cut text ≡ Some symbols → AllInRange symbols
+symbols_range : (text : Cut) (symbols : List Symbol) → IsCutInRange text → symbols_cut Ir text ≡ Some symbols → AllInRange symbols
 symbols_range (Ok tokens) symbols range e = subst AllInRange (some_is _ symbols e) (each tokens range)
 symbols_range (Err fault) symbols range e = cc
 
@@ -139,7 +140,7 @@ symbols_range (Err fault) symbols range e = cc
 abbrev pub AreWrittenInRange : DefinitionText → Type 0
 AreWrittenInRange = DefinitionHas IsSymbolInRange
 
-pub spelled_range : (bytes : List ℕ) (m : ModuleText) → AreBytes bytes → symbols_of bytes ≡ Some (write.written m) → AllByRecursion AreWrittenInRange m.definitions
+pub spelled_range : (bytes : List ℕ) (m : ModuleText) → AreBytes bytes → symbols_of Ir bytes ≡ Some (write.written m) → AllByRecursion AreWrittenInRange m.definitions
 spelled_range bytes m small e =
     all_lists IsSymbolInRange AreWrittenInRange write.definition m.definitions (definition_has IsSymbolInRange)
     (symbols_range (cut 0 0 bytes) (write.written m) (cut_range 0 0 bytes small) e)

@@ -75,7 +75,7 @@ pub record IsTreeOf (form : Form) (bytes : List ℕ) (tree : form.Tree) : Type 0
   pub tokens : List Placed
   pub has : HasTokens bytes tokens
   pub have_bytes : HaveBytes tokens
-  pub same : form.written tree ≡ map symbol tokens
+  pub same : form.written tree ≡ map (symbol form.language) tokens
   pub within : (k : ℕ) → IsPastLines form tokens k → ⊥
 
 -- what is told where a claim of the tree is at fault
@@ -85,5 +85,5 @@ IsTreeNameFault form tree f = (f ≡ fault.Memory) ⊎ ((g : Fault) × IsFirst (
 -- a fault of a tree that is written in tokens of a text ends where it begins, or behind
 abbrev pub HasSpans : Form → Type 0
 HasSpans form =
-    (tokens : List Placed) (tree : form.Tree) (f : Fault) → HaveBytes tokens → form.written tree ≡ map symbol tokens
+    (tokens : List Placed) (tree : form.Tree) (f : Fault) → HaveBytes tokens → form.written tree ≡ map (symbol form.language) tokens
     → HasFault (form.claims tree) f → f.start ≤ f.end

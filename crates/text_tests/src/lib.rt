@@ -6,4 +6,6 @@ mod copies;
 #[cfg(test)]
 mod printing;
 #[cfg(test)]
+mod reading;
+#[cfg(test)]
 mod tokens;

@@ -4,6 +4,7 @@ use Rattle.std.proofs.lemmas.Bool.{ltb-true}
 use Rattle.std.proofs.lemmas.Simd.{map-map}
 use Rattle.ir_grammar.proofs.Reading.{back_at, lawful}
 use Rattle.ir_grammar.specs.declared.parts.Part.{Part}
+use Rattle.ir_grammar.specs.declared.words.Language.{Language}
 use Rattle.ir_grammar.specs.Rules.{grammar, meaning, written_at}
 use Rattle.ir_grammar.specs.Sorts.{vocabulary}
 use Rattle.ir_grammar.specs.Symbols.{Symbol, kind_in, kind_of, symbol_in}
@@ -18,8 +19,8 @@ use Rattle.typed_grammars.specs.Made.{Made}
 use Rattle.typed_grammars.specs.Meaning.{State, shifted, reduced}
 use Rattle.typed_grammars.specs.Typed.{top}
 
-pub kinds_are : (text : List ℕ) (tokens : List Token) → map (kind_in text) tokens ≡ map kind_of (map (symbol_in text) tokens)
-kinds_are text tokens = sym (map-map kind_of (symbol_in text) tokens)
+pub kinds_are : (language : Language) (text : List ℕ) (tokens : List Token) → map (kind_in language text) tokens ≡ map kind_of (map (symbol_in language text) tokens)
+kinds_are language text tokens = sym (map-map kind_of (symbol_in language text) tokens)
 
 -- what is left on the stack where there is no fault
 pub left :

@@ -14,15 +14,15 @@ facts =
     -- Result
     ∷ record { nullable = false; first = 32800; follow = 4; cost = 2; shortest = 3; rank = 0 }
     -- Params
-    ∷ record { nullable = true; first = 32; follow = 1073741824; cost = 4; shortest = 5; rank = 0 }
+    ∷ record { nullable = true; first = 32; follow = 4294967296; cost = 4; shortest = 5; rank = 0 }
     -- More
-    ∷ record { nullable = true; first = 134217728; follow = 1073741824; cost = 2; shortest = 7; rank = 0 }
+    ∷ record { nullable = true; first = 536870912; follow = 4294967296; cost = 2; shortest = 7; rank = 0 }
     -- Param
-    ∷ record { nullable = false; first = 32; follow = 1207959552; cost = 2; shortest = 9; rank = 1 }
+    ∷ record { nullable = false; first = 32; follow = 4831838208; cost = 2; shortest = 9; rank = 1 }
     -- ParamName
-    ∷ record { nullable = true; first = 2; follow = 1207959552; cost = 2; shortest = 10; rank = 0 }
+    ∷ record { nullable = true; first = 2; follow = 4831838208; cost = 2; shortest = 10; rank = 0 }
     -- Block
-    ∷ record { nullable = false; first = 114100106; follow = 4409067402; cost = 16; shortest = 12; rank = 1 }
+    ∷ record { nullable = false; first = 114100106; follow = 17293969290; cost = 16; shortest = 12; rank = 1 }
     -- BlockLabel
     ∷ record { nullable = true; first = 8; follow = 114100098; cost = 2; shortest = 13; rank = 0 }
     -- Lines
@@ -32,7 +32,7 @@ facts =
     -- Register
     ∷ record { nullable = true; first = 2; follow = 4982656; cost = 2; shortest = 18; rank = 0 }
     -- Returned
-    ∷ record { nullable = false; first = 32800; follow = 4409067402; cost = 4; shortest = 20; rank = 0 }
+    ∷ record { nullable = false; first = 32800; follow = 17293969290; cost = 4; shortest = 20; rank = 0 }
     -- Operation
     ∷ record { nullable = false; first = 788352; follow = 109905795; cost = 4; shortest = 22; rank = 2 }
     -- Operator
@@ -42,9 +42,9 @@ facts =
     -- Exactness
     ∷ record { nullable = true; first = 131072; follow = 32; cost = 2; shortest = 31; rank = 0 }
     -- Operand
-    ∷ record { nullable = false; first = 32; follow = 4544333707; cost = 2; shortest = 33; rank = 1 }
+    ∷ record { nullable = false; first = 32; follow = 17831888779; cost = 2; shortest = 33; rank = 1 }
     -- Value
-    ∷ record { nullable = false; first = 2097234; follow = 4544333707; cost = 4; shortest = 35; rank = 0 }
+    ∷ record { nullable = false; first = 404750418; follow = 17831888779; cost = 4; shortest = 35; rank = 0 }
     -- Expr
     ∷ record { nullable = false; first = 788384; follow = 1; cost = 6; shortest = 37; rank = 2 }
     -- LocalName
@@ -52,7 +52,7 @@ facts =
     -- GlobalName
     ∷ record { nullable = false; first = 4; follow = 1; cost = 2; shortest = 40; rank = 0 }
     -- Blocks
-    ∷ record { nullable = true; first = 114100106; follow = 4294967296; cost = 18; shortest = 41; rank = 0 }
+    ∷ record { nullable = true; first = 114100106; follow = 17179869184; cost = 18; shortest = 41; rank = 0 }
     -- Body
     ∷ record { nullable = true; first = 4982658; follow = 109117440; cost = 10; shortest = 43; rank = 0 }
     -- Behind
@@ -60,19 +60,19 @@ facts =
     -- Node
     ∷ record { nullable = false; first = 4194304; follow = 114100098; cost = 2; shortest = 47; rank = 2 }
     -- Entries
-    ∷ record { nullable = true; first = 134217728; follow = 114100098; cost = 2; shortest = 48; rank = 0 }
+    ∷ record { nullable = true; first = 536870912; follow = 114100098; cost = 2; shortest = 48; rank = 0 }
     -- Entry
-    ∷ record { nullable = false; first = 8589934592; follow = 248317826; cost = 2; shortest = 50; rank = 1 }
+    ∷ record { nullable = false; first = 34359738368; follow = 650971010; cost = 2; shortest = 50; rank = 1 }
     -- Term
-    ∷ record { nullable = false; first = 109117440; follow = 4409067402; cost = 2; shortest = 54; rank = 0 }
+    ∷ record { nullable = false; first = 109117440; follow = 17293969290; cost = 2; shortest = 54; rank = 0 }
     -- Branch
-    ∷ record { nullable = false; first = 16777248; follow = 4409067402; cost = 4; shortest = 55; rank = 0 }
+    ∷ record { nullable = false; first = 16777248; follow = 17293969290; cost = 4; shortest = 55; rank = 0 }
     -- Cases
-    ∷ record { nullable = true; first = 32; follow = 17179869184; cost = 4; shortest = 57; rank = 0 }
+    ∷ record { nullable = true; first = 32; follow = 68719476736; cost = 4; shortest = 57; rank = 0 }
     -- Case
-    ∷ record { nullable = false; first = 32; follow = 17179869216; cost = 2; shortest = 59; rank = 1 }
+    ∷ record { nullable = false; first = 32; follow = 68719476768; cost = 2; shortest = 59; rank = 1 }
     -- Int
-    ∷ record { nullable = false; first = 80; follow = 4544333707; cost = 2; shortest = 60; rank = 0 }
+    ∷ record { nullable = false; first = 80; follow = 17831888779; cost = 2; shortest = 60; rank = 0 }
     ∷ []
 
 abbrev pub listing : Listed

@@ -4,8 +4,9 @@ ghost use Rattle.ir_core.specs.declared.names.Sigil.{Sigil};
 ghost use Rattle.ir_grammar.specs.declared.trees.ExprText.{ExprText as Expression};
 ghost use Rattle.ir_grammar.specs.declared.trees.ModuleText.{ModuleText as Module};
 ghost use Rattle.ir_grammar.specs.declared.trees.Placed.{Placed as PlacedName};
+ghost use Rattle.ir_grammar.specs.declared.words.Language.TheVariants.{Ir, Logic};
 ghost use Rattle.ir_grammar.specs.Symbols.{Symbol, foreign, kind_of_token, ret, symbol, symbol_in, word_symbol};
-ghost use Rattle.ir_grammar.specs.Words.{word_said};
+ghost use Rattle.ir_grammar.specs.Words.{word_of};
 ghost use Rattle.ir_grammar.specs.Written.{expression, name, written};
 ghost use Rattle.tree_reader.specs.Examples.{i32_x, small_tokens_of_i32_x, tokens_of_i32_x};
 ghost use Rattle.tree_reader.specs.Lines.{lines_back};
@@ -33,9 +34,9 @@ pub fn one_answer()
 /// expression, whose type stands from byte 0 up to byte 3 and its name from byte 4 up to byte 6.
 #[tactic(auto, unfolding(ir_grammar::specs::Words::word_said, ir_lexer::specs::Said::name_said))]
 pub fn examples()
-    ensures word { word_symbol (word_said (codes "ret")) 0 3 ≡ ret }
-    ensures other { word_symbol (word_said (codes "load")) 0 4 ≡ foreign }
-    ensures text { expression i32_x ≡ map symbol tokens_of_i32_x }
-    ensures said { map (symbol_in (codes "i32 %x")) small_tokens_of_i32_x ≡ map symbol tokens_of_i32_x }
-    ensures lines { lines_back (map kind_of_token tokens_of_i32_x) ≡ 0 }
+    ensures word { word_symbol (word_of Ir (codes "ret")) 0 3 ≡ ret }
+    ensures other { word_symbol (word_of Ir (codes "load")) 0 4 ≡ foreign }
+    ensures text { expression i32_x ≡ map (symbol Logic) tokens_of_i32_x }
+    ensures said { map (symbol_in Logic (codes "i32 %x")) small_tokens_of_i32_x ≡ map (symbol Logic) tokens_of_i32_x }
+    ensures lines { lines_back (map (kind_of_token Logic) tokens_of_i32_x) ≡ 0 }
 {}

@@ -1,5 +1,6 @@
 ghost use Rattle.std.specs.Prelude.{◌≡◌, [], ◌∷◌, IfOk, map};
 ghost use Rattle.ir_core.specs.declared.names.Sigil.TheVariants.{Local, Global as GlobalSigil};
+ghost use Rattle.ir_grammar.specs.declared.words.Language.TheVariants.{Ir, Logic};
 ghost use Rattle.ir_grammar.specs.Symbols.{kind_in, symbol_in};
 ghost use Rattle.ir_grammar.specs.Written as write;
 ghost use Rattle.predictive.specs.Predictive.{MayEnd};
@@ -10,16 +11,17 @@ use crate::tables::Grammar;
 use crate::tokens::{kinds_of, leaf};
 use grammar_acts::{reduce, take_expr, take_global, take_local, take_module};
 use ir_core::{Name, Sigil};
-use ir_grammar::{ExprText, ModuleText, Part, Placed};
+use ir_grammar::{ExprText, Language, ModuleText, Part, Placed};
 use ir_lexer::Token;
 use predictive::{Action, is_unambiguous, parse};
 use std::alloc::{AllocError, Global};
 use std::marker::Model;
 use typed_grammars::Stack;
 
-/// What a parser's acts work on: the text, its tokens that are left, and the stack.
+/// What a parser's acts work on: the text, the language that it is in, its tokens that are left, and the stack.
 #[derive(Drop)]
 struct Reading<'a> {
+    language: Language,
     text: &'a [u8],
     tokens: &'a [Token],
     parts: Stack<Part>,
@@ -33,14 +35,15 @@ impl<'a> Model for Reading<'a> {
 
     ghost Value = { State meaning };
 
-    ghost view = { λ it. record { tokens = map (symbol_in it.text.now) it.tokens.now; parts = it.parts } };
+    ghost view = { λ it. record { tokens = map (symbol_in it.language it.text.now) it.tokens.now; parts = it.parts } };
 }
 
 impl<'a> Reading<'a> {
-    fn new(alloc: Global, text: &'a [u8], tokens: &'a [Token]) -> Reading<'a>
-        ensures { result ≡ record { tokens = map (symbol_in text.now) tokens.now; parts = [] } }
+    fn new(alloc: Global, language: Language, text: &'a [u8], tokens: &'a [Token]) -> Reading<'a>
+        ensures { result ≡ record { tokens = map (symbol_in language text.now) tokens.now; parts = [] } }
     {
         Reading {
+            language,
             text,
             tokens,
             parts: Stack::new(alloc),
@@ -51,6 +54,7 @@ impl<'a> Reading<'a> {
         ensures { result ≡ self.entry.parts }
     {
         let Reading {
+            language: _,
             text: _,
             tokens: _,
             parts,
@@ -76,7 +80,7 @@ impl<'a> Action for Reading<'a> {
             return Ok(());
         };
         self.tokens = rest;
-        match leaf(alloc, self.text, token)? {
+        match leaf(alloc, self.language, self.text, token)? {
             None => Ok(()),
             Some(leaf) => self.parts.push(Part::Leaf(leaf)),
         }
@@ -90,16 +94,17 @@ impl<'a> Action for Reading<'a> {
 /// What is on the stack after the tokens, of these kinds, are read as a nonterminal, or the place of the first unexpected token.
 fn run_of(
     alloc: Global,
+    language: Language,
     text: &[u8],
     tokens: &[Token],
     kinds: &[u8],
     start: u8,
 ) -> Result<Result<Stack<Part>, usize>, AllocError>
     requires ends { MayEnd sets start }
-    requires kinds { kinds.now ≡ map (kind_in text.now) tokens.now }
-    ensures { IfOk result (λ run. IsRun start (map (symbol_in text.now) tokens.now) run) }
+    requires kinds { kinds.now ≡ map (kind_in language text.now) tokens.now }
+    ensures { IfOk result (λ run. IsRun start (map (symbol_in language text.now) tokens.now) run) }
 {
-    let mut reading = Reading::new(alloc, text, tokens);
+    let mut reading = Reading::new(alloc, language, text, tokens);
     match parse(alloc, &Grammar, &mut reading, start, kinds)? {
         Some(place) => Ok(Err(place)),
         None => {
@@ -112,15 +117,16 @@ fn run_of(
 /// What is on the stack after the tokens are read as a nonterminal, or the place of the first unexpected token.
 fn run(
     alloc: Global,
+    language: Language,
     text: &[u8],
     tokens: &[Token],
     start: u8,
 ) -> Result<Result<Stack<Part>, usize>, AllocError>
     requires { MayEnd sets start }
-    ensures { IfOk result (λ run. IsRun start (map (symbol_in text.now) tokens.now) run) }
+    ensures { IfOk result (λ run. IsRun start (map (symbol_in language text.now) tokens.now) run) }
 {
-    let kinds = kinds_of(alloc, text, tokens)?;
-    run_of(alloc, text, tokens, kinds.as_slice(), start)
+    let kinds = kinds_of(alloc, language, text, tokens)?;
+    run_of(alloc, language, text, tokens, kinds.as_slice(), start)
 }
 
 /// The definitions of a module, from the tokens of the text and what `kinds_of` tells of them, or the place of the first unexpected
@@ -131,10 +137,10 @@ pub fn read_definitions_of(
     tokens: &[Token],
     kinds: &[u8],
 ) -> Result<Result<ModuleText, usize>, AllocError>
-    requires { kinds.now ≡ map (kind_in text.now) tokens.now }
-    ensures { IfOk result (λ read. IsReading write.written (map (symbol_in text.now) tokens.now) read) }
+    requires { kinds.now ≡ map (kind_in Ir text.now) tokens.now }
+    ensures { IfOk result (λ read. IsReading write.written (map (symbol_in Ir text.now) tokens.now) read) }
 {
-    match run_of(alloc, text, tokens, kinds, 0)? {
+    match run_of(alloc, Language::Ir, text, tokens, kinds, 0)? {
         Err(place) => Ok(Err(place)),
         Ok(mut parts) => match take_module(&mut parts) {
             Some(module) => Ok(Ok(module)),
@@ -149,9 +155,9 @@ pub fn read_expression(
     text: &[u8],
     tokens: &[Token],
 ) -> Result<Result<ExprText, usize>, AllocError>
-    ensures { IfOk result (λ read. IsReading write.expression (map (symbol_in text.now) tokens.now) read) }
+    ensures { IfOk result (λ read. IsReading write.expression (map (symbol_in Logic text.now) tokens.now) read) }
 {
-    match run(alloc, text, tokens, 19)? {
+    match run(alloc, Language::Logic, text, tokens, 19)? {
         Err(place) => Ok(Err(place)),
         Ok(mut parts) => match take_expr(&mut parts) {
             Some(expression) => Ok(Ok(expression)),
@@ -165,9 +171,9 @@ fn read_local(
     text: &[u8],
     tokens: &[Token],
 ) -> Result<Result<Placed<Name>, usize>, AllocError>
-    ensures { IfOk result (λ read. IsReading (λ name. write.name Local name ∷ []) (map (symbol_in text.now) tokens.now) read) }
+    ensures { IfOk result (λ read. IsReading (λ name. write.name Local name ∷ []) (map (symbol_in Ir text.now) tokens.now) read) }
 {
-    match run(alloc, text, tokens, 20)? {
+    match run(alloc, Language::Ir, text, tokens, 20)? {
         Err(place) => Ok(Err(place)),
         Ok(mut parts) => match take_local(&mut parts) {
             Some(name) => Ok(Ok(name)),
@@ -181,9 +187,9 @@ fn read_global(
     text: &[u8],
     tokens: &[Token],
 ) -> Result<Result<Placed<Name>, usize>, AllocError>
-    ensures { IfOk result (λ read. IsReading (λ name. write.name GlobalSigil name ∷ []) (map (symbol_in text.now) tokens.now) read) }
+    ensures { IfOk result (λ read. IsReading (λ name. write.name GlobalSigil name ∷ []) (map (symbol_in Ir text.now) tokens.now) read) }
 {
-    match run(alloc, text, tokens, 21)? {
+    match run(alloc, Language::Ir, text, tokens, 21)? {
         Err(place) => Ok(Err(place)),
         Ok(mut parts) => match take_global(&mut parts) {
             Some(name) => Ok(Ok(name)),
@@ -199,7 +205,7 @@ pub fn read_name(
     text: &[u8],
     tokens: &[Token],
 ) -> Result<Result<Placed<Name>, usize>, AllocError>
-    ensures { IfOk result (λ read. IsReading (λ name. write.name sigil name ∷ []) (map (symbol_in text.now) tokens.now) read) }
+    ensures { IfOk result (λ read. IsReading (λ name. write.name sigil name ∷ []) (map (symbol_in Ir text.now) tokens.now) read) }
 {
     match sigil {
         Sigil::Local => read_local(alloc, text, tokens),

@@ -2,8 +2,8 @@ ghost use Rattle.std.specs.Prelude.{◌≡◌, ℕ, IfOk, map};
 ghost use Rattle.ir_grammar.specs.Kinds.{leaf_of};
 ghost use Rattle.ir_grammar.specs.Symbols.{behind_others, key_number, kind_in, kind_of, mark_symbol, symbol_at, symbol_in, word_symbol};
 
-use crate::words::word_said;
-use ir_grammar::{KeyWord, Leaf, Placed, Word};
+use crate::words::word_of;
+use ir_grammar::{KeyWord, Language, Leaf, Placed, Word};
 use ir_lexer::{Kind, Token, TokenKind, bytes_of, mark_of, says};
 use std::alloc::{AllocError, Global};
 
@@ -25,6 +25,8 @@ fn kind_of_key(key: KeyWord) -> u8
         KeyWord::Label => 23,
         KeyWord::Switch => 24,
         KeyWord::Unreachable => 25,
+        KeyWord::Old => 26,
+        KeyWord::Ghost => 27,
     }
 }
 
@@ -52,40 +54,45 @@ fn kind_of_mark(mark: u8) -> u8
     ensures { result ≡ kind_of (mark_symbol mark) }
 {
     match mark {
-        b',' => 26,
-        b'=' => 27,
-        b'(' => 28,
-        b')' => 29,
-        b'{' => 30,
-        b'}' => 31,
-        b'[' => 32,
-        b']' => 33,
+        b',' => 28,
+        b'=' => 29,
+        b'(' => 30,
+        b')' => 31,
+        b'{' => 32,
+        b'}' => 33,
+        b'[' => 34,
+        b']' => 35,
         _ => 12,
     }
 }
 
 /// What a parser sees of a token of the text.
-fn kind_of(text: &[u8], token: &Token) -> u8
-    ensures { result ≡ kind_in text.now token.now }
+fn kind_of(language: Language, text: &[u8], token: &Token) -> u8
+    ensures { result ≡ kind_in language text.now token.now }
 {
     match token.kind {
         Kind::Local => 0,
         Kind::Global => 1,
         Kind::Label => 2,
         Kind::Number => 3,
-        Kind::Word => kind_of_said(word_said(bytes_of(text, token))),
+        Kind::Word => kind_of_said(word_of(language, bytes_of(text, token))),
         Kind::Mark => kind_of_mark(mark_of(text, token).unwrap_or(0)),
         _ => 12,
     }
 }
 
-/// What a parser sees of the tokens of the text.
-pub fn kinds_of(alloc: Global, text: &[u8], tokens: &[Token]) -> Result<Vec<u8>, AllocError>
-    ensures { IfOk result (λ kinds. kinds.items ≡ map (kind_in text.now) tokens.now) }
+/// What a parser sees of the tokens of a text in the language.
+pub fn kinds_of(
+    alloc: Global,
+    language: Language,
+    text: &[u8],
+    tokens: &[Token],
+) -> Result<Vec<u8>, AllocError>
+    ensures { IfOk result (λ kinds. kinds.items ≡ map (kind_in language text.now) tokens.now) }
 {
     let mut kinds = Vec::with_capacity(alloc, tokens.len())?;
     for token in tokens {
-        kinds.push(kind_of(text, token))?;
+        kinds.push(kind_of(language, text, token))?;
     }
     Ok(kinds)
 }
@@ -119,29 +126,34 @@ fn word_leaf(said: Word, token: &Token) -> Option<Leaf>
 
 /// What is said at the token's place, where it is more than a kind.
 #[tactic(auto, unfolding(ir_grammar::specs::Symbols::mark_symbol))]
-fn leaf_of(said: TokenKind, token: &Token) -> Option<Leaf>
-    ensures { result ≡ leaf_of (symbol_at said token.now.start token.now.end) }
+fn leaf_of(language: Language, said: TokenKind, token: &Token) -> Option<Leaf>
+    ensures { result ≡ leaf_of (symbol_at language said token.now.start token.now.end) }
 {
     match said {
         TokenKind::Local(name) => Some(Leaf::Local(placed(name, token))),
         TokenKind::Global(name) => Some(Leaf::Global(placed(name, token))),
         TokenKind::Label(name) => Some(Leaf::Label(placed(name, token))),
         TokenKind::Number(number) => Some(Leaf::Number(placed(number, token))),
-        TokenKind::Word(word) => word_leaf(word_said(word.as_slice()), token),
+        TokenKind::Word(word) => word_leaf(word_of(language, word.as_slice()), token),
         _ => None,
     }
 }
 
 /// What the token of the text says with its place, where it says more than its kind.
 #[tactic(auto, unfolding(ir_grammar::specs::Symbols::mark_symbol))]
-pub fn leaf(alloc: Global, text: &[u8], token: &Token) -> Result<Option<Leaf>, AllocError>
-    ensures { IfOk result (λ leaf. leaf ≡ leaf_of (symbol_in text.now token.now)) }
+pub fn leaf(
+    alloc: Global,
+    language: Language,
+    text: &[u8],
+    token: &Token,
+) -> Result<Option<Leaf>, AllocError>
+    ensures { IfOk result (λ leaf. leaf ≡ leaf_of (symbol_in language text.now token.now)) }
 {
     match token.kind {
         Kind::Local | Kind::Global | Kind::Label | Kind::Number => {
-            Ok(leaf_of(says(alloc, text, token)?, token))
+            Ok(leaf_of(language, says(alloc, text, token)?, token))
         }
-        Kind::Word => Ok(word_leaf(word_said(bytes_of(text, token)), token)),
+        Kind::Word => Ok(word_leaf(word_of(language, bytes_of(text, token)), token)),
         _ => Ok(None),
     }
 }

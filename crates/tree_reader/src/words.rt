@@ -1,10 +1,11 @@
 //! What words are, as `ir_grammar/specs/Words.antt` has it.
 ghost use Rattle.std.specs.Prelude.{◌≡◌};
+ghost use Rattle.ir_grammar.specs.declared.words.Language.TheVariants.{Logic};
 ghost use Rattle.ir_grammar.specs.Words as said;
 
 use crate::widths::width_of;
 use ir_core::{BinOp, CastOp, Pred, cast_word, op_word, pred_word};
-use ir_grammar::{ExactOp, FlagWord, KeyWord, OverflowOp, PlainOp, Word};
+use ir_grammar::{ExactOp, FlagWord, KeyWord, Language, OverflowOp, PlainOp, Word};
 
 /// Whether the word is `true` or `false`, if it is one of them.
 fn truth_of(word: &[u8]) -> Option<bool>
@@ -131,7 +132,7 @@ fn flag_of(word: &[u8]) -> Option<FlagWord>
     }
 }
 
-/// The word that stands alone that it is, if it is one.
+/// The word of textual IR that stands alone that it is, if it is one.
 fn key_of(word: &[u8]) -> Option<KeyWord>
     ensures { result ≡ said.key_of word.now }
 {
@@ -204,13 +205,46 @@ fn named_word(word: &[u8]) -> Word
     other_word(word)
 }
 
-/// What a word is.
+/// What a word is in textual IR.
 #[tactic(auto, unfolding(ir_grammar::specs::Words::word_said))]
-pub fn word_said(word: &[u8]) -> Word
+fn word_said(word: &[u8]) -> Word
     ensures { result ≡ said.word_said word.now }
 {
     if let Some(said) = width_of(word) {
         return Word::Width(said);
     }
     named_word(word)
+}
+
+/// The word that the logic's expressions have besides, if it is one.
+fn logic_key_of(word: &[u8]) -> Option<KeyWord>
+    ensures { result ≡ said.logic_key_of word.now }
+{
+    if word == b"old".as_slice() {
+        Some(KeyWord::Old)
+    } else if word == b"ghost".as_slice() {
+        Some(KeyWord::Ghost)
+    } else {
+        None
+    }
+}
+
+/// What a word is in the logic's expressions.
+fn logic_word(word: &[u8]) -> Word
+    ensures { result ≡ said.word_of Logic word.now }
+{
+    match logic_key_of(word) {
+        Some(key) => Word::Key(key),
+        None => word_said(word),
+    }
+}
+
+/// What a word is in a text of the language.
+pub fn word_of(language: Language, word: &[u8]) -> Word
+    ensures { result ≡ said.word_of language word.now }
+{
+    match language {
+        Language::Ir => word_said(word),
+        Language::Logic => logic_word(word),
+    }
 }

@@ -14,3 +14,9 @@ returns-clause-register c = refl
 
 pub returns-clause-word : goal.returns-clause-word
 returns-clause-word c = first_is (expression_claims word_of_another_type) (record { start = 11; end = 15; reason = WrongType }) refl
+
+pub returns-clause-tagged : goal.returns-clause-tagged
+returns-clause-tagged c = λ t. refl
+
+pub returns-clause-tags : goal.returns-clause-tags
+returns-clause-tags c = (refl, refl, refl)

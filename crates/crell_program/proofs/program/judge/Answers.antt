@@ -4,7 +4,9 @@ use Rattle.crell_program.proofs.program.judge.Goals as goal
 
 pub returns-in-Ok-clause-refines : goal.returns-in-Ok-clause-refines
 returns-in-Ok-clause-refines g c =
-    judged_refined c.args.source.now c.args.target.now c.in-Ok.verdict c.in-Ok.ensures.refines _ c.verdict_answer.ensures
+    judged_refined c.args.source.now c.args.target.now c.in-Ok.verdict
+    (c.in-Ok.ensures.refines (c.shapes_keep_phis_apart.ensures c.args.source.now c.requires.source) (c.shapes_keep_phis_apart.ensures c.args.target.now c.requires.target))
+    _ c.verdict_answer.ensures
 
 pub returns-in-Ok-clause-verdict : goal.returns-in-Ok-clause-verdict
 returns-in-Ok-clause-verdict g c = verdict_is_checked _ c.args.file.now c.in-Ok.verdict c.in-Ok.ensures.verdict _ c.verdict_answer.ensures

@@ -1,7 +1,13 @@
-use Rattle.std.proofs.Common.{◌≡◌, [], drop}
-use Rattle.definedness.specs.Along.{with_names}
-use Rattle.definedness.specs.Flow.{labels_in}
+use Rattle.std.proofs.Common.{◌≡◌, ◌≤◌, length}
+use Rattle.ir_core.specs.declared.names.Name.{Name}
+use Rattle.name_index.specs.Places.{place_in}
+use Rattle.name_index.proofs.FirstPlaces.{place_behind}
+use Rattle.definedness.specs.Graph.{labels_in}
 use Rattle.definedness.proofs.flow.labels_of.Given as goal
 
-abbrev pub invariant-loop-block : goal.invariant-loop-block
-invariant-loop-block l = with_names l.labels (labels_in (drop l.block-index l.blocks)) ≡ with_names [] (labels_in l.blocks)
+-- the names from that place on are put
+abbrev pub invariant-loop-at : goal.invariant-loop-at
+invariant-loop-at l = (l.at ≤ length l.blocks) × ((name : Name) → place_in l.labels name ≡ place_behind name l.at (labels_in l.blocks))
+
+abbrev pub decreases-loop-at : goal.decreases-loop-at
+decreases-loop-at l = l.at

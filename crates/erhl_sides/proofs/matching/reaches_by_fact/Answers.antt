@@ -1,4 +1,4 @@
-use Rattle.std.proofs.Common.{◌≡◌, ◌∙◌, Bool, false, sym, ap, rules}
+use Rattle.std.proofs.Common.{◌∙◌, Bool, sym, ap, rules}
 use Rattle.std.specs.List.{list_any}
 use Rattle.ir_core.specs.declared.operands.Operand.{Operand}
 use Rattle.ir_core.specs.declared.expressions.Reg.{Reg}

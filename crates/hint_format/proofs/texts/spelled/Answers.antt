@@ -1,20 +1,14 @@
 -- What is read is what is judged, since a text that has a fault spells nothing.
-use Rattle.std.proofs.Common.{◌≡◌, ℕ, List, Ok, rules, subst}
 use Rattle.json_forms.specs.Answers.{Fails}
 use Rattle.hint_format.specs.Reading.{failure_of, name_reading}
 use Rattle.hint_format.proofs.Readings.{name_due, name_fails}
 use Rattle.hint_format.proofs.texts.spelled.Goals as goal
 
 pub returns-in-Ok : goal.returns-in-Ok
-returns-in-Ok c =
-    let same : c.as_bytes.result.now ≡ c.args.text.now = search rules in
-    subst (λ (bytes : List ℕ). name_reading c.args.sigil bytes ≡ Ok c.in-Ok.name) same
-    (name_due c.args.sigil c.as_bytes.result.now c.in-Ok.name c.in-Ok.ensures.short c.in-Ok.ensures.spelled c.in-Ok.ensures.only)
+returns-in-Ok c = name_due c.args.sigil c.args.text.now c.in-Ok.name c.in-Ok.ensures.short c.in-Ok.ensures.spelled c.in-Ok.ensures.only
 
 pub returns-in-Err : goal.returns-in-Err
 returns-in-Err c =
-    let same : c.as_bytes.result.now ≡ c.args.text.now = search rules in
     let fails : Fails (failure_of c.in-Err.fault) (name_reading c.args.sigil c.args.text.now) =
-    subst (λ (bytes : List ℕ). Fails (failure_of c.in-Err.fault) (name_reading c.args.sigil bytes)) same
-    (name_fails c.args.sigil c.as_bytes.result.now c.in-Err.fault c.in-Err.ensures.fault) in
+    name_fails c.args.sigil c.args.text.now c.in-Err.fault c.in-Err.ensures.fault in
     rw c.failure_of.ensures fails

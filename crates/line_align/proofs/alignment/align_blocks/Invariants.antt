@@ -7,4 +7,4 @@ use Rattle.line_align.proofs.alignment.align_blocks.Given as goal
 
 -- the blocks that have aligned and what is left make up the whole
 abbrev pub invariant-loop-b : goal.invariant-loop-b
-invariant-loop-b l = before (map lent_block l.found) (blocks_aligned l.hint (zip (drop l.b-index l.source) l.rest)) ≡ blocks_aligned l.hint (zip l.source l.target)
+invariant-loop-b l = before (map lent_block l.found) (blocks_aligned (record { blocks = l.hints }) (zip (drop l.b-index l.source) l.rest)) ≡ blocks_aligned (record { blocks = l.hints }) (zip l.source l.target)

@@ -4,4 +4,4 @@ use Rattle.tree_reader.proofs.tokens.kinds_of.Given as goal
 
 -- the kinds of the tokens so far
 abbrev pub invariant-loop-token : goal.invariant-loop-token
-invariant-loop-token l = l.kinds.items ≡ map (kind_in l.text) (take l.token-index l.tokens)
+invariant-loop-token l = l.kinds.items ≡ map (kind_in l.language l.text) (take l.token-index l.tokens)

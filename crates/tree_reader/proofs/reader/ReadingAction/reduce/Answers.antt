@@ -9,6 +9,6 @@ pub returns : goal.returns
 returns c =
     where_ok c.reduce.result
     (λ (e : c.reduce.new.parts ≡ acts c.args.rule c.self.inside.parts).
-    ap (λ ps. record { tokens = map (symbol_in c.self.inside.text.now) c.self.inside.tokens.now; parts = ps }) e
+    ap (λ ps. record { tokens = map (symbol_in c.self.inside.language c.self.inside.text.now) c.self.inside.tokens.now; parts = ps }) e
     ∙ ap (λ s. reduced meaning s c.args.rule) c.self.view_is)
     c.reduce.ensures

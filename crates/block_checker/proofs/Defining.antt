@@ -1,0 +1,21 @@
+-- A register's definitions, found by its name.
+use Rattle.std.proofs.Common.{◌≡◌, ◌∙◌, ◌&&◌, ◌||◌, Bool, true, false, not, cond, List, [], ◌∷◌, map, filter, refl, sym, ap}
+use Rattle.std.specs.List.{list_any}
+use Rattle.ir_core.specs.declared.names.Name.{Name}
+use Rattle.ir_core.specs.declared.operands.Ty.{Ty}
+use Rattle.ir_core.specs.Expressions.{Expr0}
+use Rattle.ir_core.specs.Same.{same_name}
+use Rattle.erhl_assert.specs.Steps.{is_other}
+use Rattle.block_checker.specs.declared.definitions.Definition.{Definition}
+use Rattle.block_checker.specs.Defining.{definition_of, is_other_kind, some_other_kind}
+
+pub found_among : (x : Name) (e : Expr0) (ds : List Definition)
+    → some_other_kind e (filter (λ d. same_name d.name.now x) ds) ≡ list_any (is_other x e) (map definition_of ds)
+found_among x e [] = refl
+found_among x e (d ∷ ds) =
+    elim (same_name d.name.now x) as (λ b.
+    some_other_kind e (cond b (d ∷ filter (λ (d : Definition). same_name d.name.now x) ds) (filter (λ (d : Definition). same_name d.name.now x) ds))
+    ≡ ((b && is_other_kind e d) || list_any (is_other x e) (map definition_of ds))) [
+      | true ↦ ap (λ b. is_other_kind e d || b) (found_among x e ds)
+      | false ↦ found_among x e ds
+    ]

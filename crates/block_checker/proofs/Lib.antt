@@ -1,0 +1,4 @@
+pub mod Agreements
+pub mod Defining
+pub mod Labelled
+pub mod Progressing

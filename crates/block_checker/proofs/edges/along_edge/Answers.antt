@@ -1,0 +1,11 @@
+use Rattle.std.proofs.Common.{map, rules}
+use Rattle.std.specs.Borrow.{Bor}
+use Rattle.erhl_assert.specs.declared.hints.HintStep.{HintStep}
+use Rattle.block_checker.specs.Asked.{asked}
+use Rattle.block_checker.proofs.Progressing.{answers_so, edge_crossed}
+use Rattle.block_checker.proofs.edges.along_edge.Goals as goal
+
+pub returns : goal.returns
+returns g c =
+    answers_so (edge_crossed (asked g.B.RuleSet.rules c.args.pair.now) c.args.from.now c.args.to.now c.args.known.now (map (λ (s : Bor HintStep). s.now) c.as_slice.result.now)
+    c.in_ok-crossed.crossed (search rules) c.in_ok-crossed.ensures) c.arrive.result c.arrive.ensures

@@ -1,0 +1,5 @@
+pub mod Agreeing
+pub mod Asked
+pub mod Defining
+pub mod Empty
+pub mod Progress

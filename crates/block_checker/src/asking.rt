@@ -1,0 +1,127 @@
+//! What is looked up of two functions and of their hint.
+ghost use Rattle.std.specs.Prelude.{◌≡◌, IfOk};
+ghost use Rattle.ir_core.specs.Modules.{scope_of};
+ghost use Rattle.ir_machine.specs.Machine.{block_named};
+ghost use Rattle.erhl_assert.specs.Alignment.{block_hint, no_facts};
+ghost use Rattle.erhl_assert.specs.Edges as edges;
+ghost use Rattle.erhl_assert.specs.Edges.{phis_at};
+ghost use Rattle.erhl_assert.specs.Steps.{beside, rule_named};
+ghost use Rattle.rule_base.specs.Book.{answer_of};
+ghost use Rattle.block_checker.specs.Asked.{asked};
+ghost use Rattle.block_checker.specs.Empty.{AreParts};
+
+use crate::definitions::Definitions;
+use crate::pair::{Empty, Pair};
+use contents::Seq;
+use erhl_assert::{HintBlock, Schema};
+use erhl_sides::Sides;
+use fact_sets::IndexedSet;
+use ir_core::{Block, Function, Module, Name, Phi};
+use line_align::ByName;
+use rule_base::{Fitness, RuleSet};
+use std::alloc::{AllocError, Global};
+
+/// The phis of the first block of that name.
+fn phis_of<'a>(blocks: &ByName<'a, Block>, name: &Name) -> &'a [Phi]
+    ensures { result.now ≡ edges.phis_of (block_named name.now blocks.now) }
+{
+    match blocks.first(name) {
+        Some(block) => block.phis.as_slice(),
+        None => &[],
+    }
+}
+
+impl<'a, 's, 't, B: RuleSet> Pair<'a, 's, 't, B> {
+    #[tactic(auto, unfolding(crate::specs::Asked::asked))]
+    pub fn new(
+        alloc: Global,
+        module: &'a Module,
+        book: &'a B,
+        source: Definitions<'s, 'a>,
+        target: Definitions<'t, 'a>,
+        hints: ByName<'a, HintBlock>,
+    ) -> Result<Pair<'a, 's, 't, B>, AllocError>
+        ensures { IfOk result
+            (λ pair. asked B.rules pair
+            ≡ beside (B.rules book.now) (scope_of «module».now) source.entry target.entry (record { blocks = hints.entry })) }
+    {
+        let empty = Empty::new(alloc)?;
+        let source_blocks = ByName::new(alloc, source.function().blocks.as_slice())?;
+        let target_blocks = ByName::new(alloc, target.function().blocks.as_slice())?;
+        Ok(Pair {
+            module,
+            book,
+            source,
+            target,
+            hints,
+            empty,
+            source_blocks,
+            target_blocks,
+        })
+    }
+
+    /// The source.
+    #[tactic(auto, unfolding(crate::specs::Asked::asked))]
+    pub fn source_function(&self) -> &'a Function
+        ensures { result.now ≡ (asked B.rules self.now).source }
+    {
+        self.source.function()
+    }
+
+    /// The hint of the block: the first of its name, or an empty one.
+    #[tactic(auto, unfolding(crate::specs::Asked::asked))]
+    pub fn hint_of(&self, block: &Name) -> &HintBlock
+        ensures { AreParts result.now (block_hint (asked B.rules self.now).hint block.now) }
+    {
+        match self.hints.first(block) {
+            Some(hint) => hint,
+            None => &self.empty.hint,
+        }
+    }
+
+    /// Nothing is known.
+    pub(crate) fn nothing(&self) -> &Sides<IndexedSet>
+        ensures { result.now ≡ no_facts }
+    {
+        &self.empty.nothing
+    }
+
+    /// The phis of the source's block of that name.
+    #[tactic(auto, unfolding(crate::specs::Asked::asked))]
+    pub(crate) fn source_phis(&self, block: &Name) -> &'a [Phi]
+        ensures { result.now ≡ phis_at block.now (asked B.rules self.now).source }
+    {
+        phis_of(&self.source_blocks, block)
+    }
+
+    /// The phis of the target's block of that name.
+    #[tactic(auto, unfolding(crate::specs::Asked::asked))]
+    pub(crate) fn target_phis(&self, block: &Name) -> &'a [Phi]
+        ensures { result.now ≡ phis_at block.now (asked B.rules self.now).target }
+    {
+        phis_of(&self.target_blocks, block)
+    }
+    /// The source with its definitions.
+    #[tactic(auto, unfolding(crate::specs::Asked::asked))]
+    pub(crate) fn source(&self) -> &Definitions<'s, 'a>
+        ensures { result.now ≡ (asked B.rules self.now).source }
+    {
+        &self.source
+    }
+
+    /// The target with its definitions.
+    #[tactic(auto, unfolding(crate::specs::Asked::asked))]
+    pub(crate) fn target(&self) -> &Definitions<'t, 'a>
+        ensures { result.now ≡ (asked B.rules self.now).target }
+    {
+        &self.target
+    }
+
+    /// Whether the rule of that name takes the schema.
+    #[tactic(auto, unfolding(crate::specs::Asked::asked))]
+    pub(crate) fn ask(&self, rule: &Seq<u8>, schema: &Schema) -> Fitness
+        ensures { result ≡ answer_of (rule_named (asked B.rules self.now).rules rule.now) (asked B.rules self.now).scope schema.now }
+    {
+        self.book.ask(rule, self.module, schema)
+    }
+}

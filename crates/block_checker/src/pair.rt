@@ -1,0 +1,77 @@
+//! Two functions beside a module, with what is looked up of them by its name.
+ghost use Rattle.std.specs.Prelude.{◌≡◌};
+ghost use Rattle.erhl_assert.specs.Alignment.{no_facts};
+ghost use Rattle.block_checker.specs.Empty.{IsEmpty};
+
+use crate::definitions::Definitions;
+use contents::Seq;
+use erhl_assert::{Assertion, HintBlock};
+use erhl_sides::Sides;
+use fact_sets::IndexedSet;
+use ir_core::{Block, Module, Name};
+use line_align::ByName;
+use std::alloc::{AllocError, Global};
+
+/// A hint of a block that says nothing, and that nothing is known.
+pub struct Empty {
+    pub(crate) hint: HintBlock,
+    pub(crate) nothing: Sides<IndexedSet>,
+    ghost empty: { IsEmpty hint },
+    ghost none: { nothing ≡ no_facts },
+}
+
+impl Drop for Empty {
+    fn drop(self) {
+        let Empty {
+            hint: _,
+            nothing: _,
+        } = self;
+    }
+}
+
+impl Empty {
+    pub fn new(alloc: Global) -> Result<Empty, AllocError> {
+        let hint = HintBlock {
+            at: Name::Number(0),
+            lines: None,
+            entry: Assertion {
+                src: Seq::new(alloc),
+                tgt: Seq::new(alloc),
+                diff: Seq::new(alloc),
+            },
+            steps: Seq::new(alloc),
+            edges: Seq::new(alloc),
+        };
+        let nothing = Sides::empty(alloc)?;
+        Ok(Empty { hint, nothing })
+    }
+}
+
+/// What a check of two functions is asked of: rules, a module, the functions and the blocks of their hint.
+pub struct Pair<'a, 's, 't, B> {
+    pub module: &'a Module,
+    pub book: &'a B,
+    pub source: Definitions<'s, 'a>,
+    pub target: Definitions<'t, 'a>,
+    pub hints: ByName<'a, HintBlock>,
+    pub empty: Empty,
+    pub source_blocks: ByName<'a, Block>,
+    pub target_blocks: ByName<'a, Block>,
+    ghost of_source: { source_blocks ≡ source.blocks },
+    ghost of_target: { target_blocks ≡ target.blocks },
+}
+
+impl<'a, 's, 't, B> Drop for Pair<'a, 's, 't, B> {
+    fn drop(self) {
+        let Pair {
+            module: _,
+            book: _,
+            source: _,
+            target: _,
+            hints: _,
+            empty: _,
+            source_blocks: _,
+            target_blocks: _,
+        } = self;
+    }
+}

@@ -1,0 +1,11 @@
+use Rattle.std.proofs.Common.{◌≡◌, map, drop}
+use Rattle.erhl_assert.specs.Course.{judged_answer}
+use Rattle.erhl_assert.specs.Acceptance.{blocks_judged}
+use Rattle.line_align.specs.Lent.{lent_block}
+use Rattle.block_checker.specs.Asked.{asked}
+use Rattle.erhl_checker.proofs.functions.blocks_answer.Given as goal
+
+-- the blocks that are left answer what all answer
+abbrev pub invariant-loop-block : goal.invariant-loop-block
+invariant-loop-block g l =
+    judged_answer (blocks_judged (asked g.B.RuleSet.rules l.pair) l.rest (map lent_block (drop l.block-index l.blocks))) ≡ judged_answer (blocks_judged (asked g.B.RuleSet.rules l.pair) l.marks (map lent_block l.blocks))

@@ -1,0 +1,11 @@
+use Rattle.std.proofs.Common.{◌∙◌, ap, sym, rules}
+use Rattle.std.specs.Prelude.{Some}
+use Rattle.line_align.specs.Lent.{lent_block}
+use Rattle.block_checker.proofs.Progressing.{answers_so}
+use Rattle.block_checker.specs.Asked.{asked}
+use Rattle.erhl_checker.proofs.Reaching.{entry_passed}
+use Rattle.erhl_checker.proofs.functions.from_entry.Goals as goal
+
+pub returns-in_ok-marks-in-None : goal.returns-in_ok-marks-in-None
+returns-in_ok-marks-in-None g c =
+    answers_so (entry_passed (asked g.B.RuleSet.rules c.args.pair.now) (lent_block c.args.entry.now) _ _ (search rules) (search rules)) c.blocks_answer.result c.blocks_answer.ensures

@@ -1,0 +1,350 @@
+-- An edge: old registers are those before it, and phis are set at once from them; then old registers are forgotten where a block begins.
+use Rattle.std.proofs.Common.{◌≡◌, true, false, not, List, [], ◌∷◌, ◌++◌, map, Option, None, Some, refl, sym, ap, subst, subst₂, ◌∙◌, ⊎_elim}
+use Rattle.std.specs.Prelude.{filter}
+use Rattle.std.specs.List.{AllByRecursion, Contains, list_any}
+use Rattle.std.proofs.lemmas.Bool.{or_parts, or_from, false≢true, false_from_ne_true, cases_Bool, not_from_false, cond-true, cond-false}
+use Rattle.std.proofs.lemmas.List.Elements.{Contains-append_left, Contains-push}
+use Rattle.std.proofs.lemmas.List.Folds.{list_any-append}
+use Rattle.ir_core.specs.declared.names.Name.{Name}
+use Rattle.ir_core.specs.declared.operands.Ty.{Ty}
+use Rattle.ir_core.specs.declared.operands.Atom.{Atom}
+use Rattle.ir_core.specs.declared.values.Value.TheVariants.{Poison}
+use Rattle.ir_core.specs.declared.values.Kind.{Kind}
+use Rattle.ir_core.specs.declared.expressions.Reg.{Reg}
+use Rattle.ir_core.specs.declared.expressions.Reg.TheVariants.{Now, Old, Ghost}
+use Rattle.ir_core.specs.declared.expressions.Expr.TheVariants.{Plain}
+use Rattle.ir_core.specs.declared.functions.Entry.{Entry}
+use Rattle.ir_core.specs.declared.functions.Phi.{Phi}
+use Rattle.ir_core.specs.Expressions.{Expr0, map_atom, map_expr, expr_has}
+use Rattle.ir_core.specs.Modules.{Scope}
+use Rattle.ir_core.specs.Order.{AreNew}
+use Rattle.ir_core.specs.Same.{same_name, same_ty, same_reg}
+use Rattle.ir_core.specs.Types.{kind_of}
+use Rattle.ir_core.proofs.SameLaws.{left_true, right_true, same_name_true, same_name_refl, same_ty_true}
+use Rattle.ir_values.specs.declared.operations.Outcome.TheVariants.{Gives}
+use Rattle.ir_values.specs.Operations.{IsOutcomeLessDefined}
+use Rattle.ir_machine.specs.Registers.{Held, Registers, no_registers, read, set, holding, held_at, atom_value}
+use Rattle.ir_machine.specs.Machine.{with_phis, phi_value, entry_value, entry_from}
+use Rattle.ir_machine.proofs.InKind.{phis_in_kind, no_registers_in_kind}
+use Rattle.erhl_assert.specs.declared.facts.Fact.{Fact}
+use Rattle.erhl_assert.specs.declared.facts.Fact.TheVariants.{LessDef}
+use Rattle.erhl_assert.specs.declared.facts.Assertion.{Assertion}
+use Rattle.erhl_assert.specs.Sides.{SideState, IsSideInKind, IsRelated, read_reg, worth, has_reg, AreRelated}
+use Rattle.erhl_assert.specs.Facts.{Holds, AssertionHolds, with_facts, fact_has, without, each_once}
+use Rattle.erhl_assert.specs.Edges.{Edge, is_old, old_of, as_old, without_old, sets, is_of_phi, register_at, phi_fact, phi_facts, facts_over, phi_setting, entries_match, phis_match, is_alike, phi_registers, old_too, diff_over, after_edge}
+use Rattle.erhl_assert.specs.Steps.{Beside, first_missing}
+use Rattle.erhl_soundness.specs.Laws.{AreApart, crossed, AnEdgeKeepsWhatHolds}
+use Rattle.erhl_soundness.proofs.Readings.{outcome_same, outcome_mapped, renamed, atom_mapped, type_mapped}
+use Rattle.erhl_soundness.proofs.Facts.{premises_hold, both_ways_hold, with_facts_hold, without_holds, without_names_none}
+use Rattle.erhl_soundness.proofs.Matched.{atoms_matched_related}
+use Rattle.erhl_soundness.proofs.Related.{held_related}
+use Rattle.erhl_soundness.proofs.Outside.{outside_filter}
+use Rattle.erhl_soundness.proofs.Definitions.{ArePhisDefined, phis_defined, none_defined}
+use Rattle.erhl_soundness.proofs.Standing.{Files, side, Stand, register_worth}
+
+-- the state whose old registers are those that it has now
+abbrev renewed : SideState → SideState
+renewed here = record here { old = here.now }
+
+-- ---- facts and their copies
+module _ (here : SideState) where
+  abbrev there : SideState
+  there = renewed here
+
+  not_old : (k : Kind) (r : Reg) → is_old r ≡ false → read_reg there k r ≡ read_reg here k r
+  not_old k (Now x) h = refl
+  not_old k (Old x) h = absurd (false≢true (sym h))
+  not_old k (Ghost x) h = refl
+
+  made_old : (k : Kind) (r : Reg) → is_old r ≡ false → renamed old_of (read_reg there) k r ≡ read_reg here k r
+  made_old k (Now x) h = refl
+  made_old k (Old x) h = absurd (false≢true (sym h))
+  made_old k (Ghost x) h = refl
+
+  -- what was known of an expression is known of its copy
+  copy_worth : (e : Expr0) → expr_has is_old e ≡ false → worth there (map_expr old_of e) ≡ worth here e
+  copy_worth e h = outcome_mapped old_of (read_reg there) e ∙ outcome_same (read_reg here) (renamed old_of (read_reg there)) is_old made_old e h
+
+  copy_holds : (f : Fact) → fact_has is_old f ≡ false → Holds here f → Holds there (as_old f)
+  copy_holds (LessDef d e) h known =
+      let parts = or_parts (expr_has is_old d) (expr_has is_old e) h in (
+        ap kind_of (type_mapped old_of d) ∙ known.0 ∙ sym (ap kind_of (type_mapped old_of e)),
+        subst₂ IsOutcomeLessDefined (sym (copy_worth d parts.0)) (sym (copy_worth e parts.1)) known.1,
+      )
+
+  copies_hold : (more : List Fact) → AllByRecursion (λ f. fact_has is_old f ≡ false) more → AllByRecursion (Holds here) more
+      → AllByRecursion (Holds there) (map as_old more)
+  copies_hold [] apart known = tt
+  copies_hold (f ∷ more) apart known = (copy_holds f apart.0 known.0, copies_hold more apart.1 known.1)
+
+  copied_hold : (fs : List Fact) → AllByRecursion (Holds here) fs
+      → AllByRecursion (Holds there) (with_facts (map as_old (without is_old fs)) (without is_old fs))
+  copied_hold fs all =
+      with_facts_hold there (map as_old (without is_old fs)) (without is_old fs)
+      (copies_hold (without is_old fs) (without_names_none is_old fs) (without_holds is_old here here (λ k r h. refl) fs all))
+      (without_holds is_old here there not_old fs all)
+
+-- ---- phis that are apart
+
+-- no later phi sets the register of an earlier one
+abbrev pub NoneAgain : List Phi → Type 0
+NoneAgain [] = Unit {0}
+NoneAgain (p ∷ ps) = (list_any (sets p.name) ps ≡ false) × NoneAgain ps
+
+none_sets : (taken : List Name) (ps : List Phi) → AreNew taken (map (λ (p : Phi). p.name) ps) → (x : Name) → Contains taken x → list_any (sets x) ps ≡ false
+none_sets taken [] new x stands = refl
+none_sets taken (p ∷ ps) new x stands =
+    or_from (same_name p.name x) (list_any (sets x) ps)
+    (false_from_ne_true (same_name p.name x) (λ e. new.0 (subst (Contains taken) (sym (same_name_true p.name x e)) stands)))
+    (none_sets (taken ++ p.name ∷ []) ps new.1 x (Contains-append_left taken (p.name ∷ []) x stands))
+
+none_again : (taken : List Name) (ps : List Phi) → AreNew taken (map (λ (p : Phi). p.name) ps) → NoneAgain ps
+none_again taken [] new = tt
+none_again taken (p ∷ ps) new =
+    (none_sets (taken ++ p.name ∷ []) ps new.1 p.name (Contains-push taken p.name), none_again (taken ++ p.name ∷ []) ps new.1)
+
+pub apart_once : (ps : List Phi) → AreApart ps → NoneAgain ps
+apart_once ps apart = none_again [] ps apart
+
+-- A register that no phi sets is as before; that of a phi, whose name stands once, holds what its entry says of the old registers.
+module _ (from : Name) (old : Registers) where
+  abbrev phi_holds : Phi → Option Held
+  phi_holds p = holding (kind_of p.ty) (phi_value old from p)
+
+  abbrev phi_sets : Phi → Registers → Registers
+  phi_sets p registers = set registers p.name (kind_of p.ty) (phi_value old from p)
+
+  set_at : (p : Phi) (registers : Registers) (x : Name) → same_name p.name x ≡ true → phi_sets p registers x ≡ phi_holds p
+  set_at p registers x h = rw h refl
+
+  set_other : (p : Phi) (registers : Registers) (x : Name) → same_name p.name x ≡ false → phi_sets p registers x ≡ registers x
+  set_other p registers x h = rw h refl
+
+  unset_by_phis : (x : Name) (ps : List Phi) (registers : Registers) → list_any (sets x) ps ≡ false → with_phis old from ps registers x ≡ registers x
+  unset_by_phis x [] registers h = refl
+  unset_by_phis x (p ∷ ps) registers h =
+      let parts = or_parts (same_name p.name x) (list_any (sets x) ps) h in
+      unset_by_phis x ps (phi_sets p registers) parts.1 ∙ set_other p registers x parts.0
+
+  set_by_first : (x : Name) (p : Phi) (ps : List Phi) (registers : Registers) → same_name p.name x ≡ true → NoneAgain (p ∷ ps)
+      → with_phis old from (p ∷ ps) registers x ≡ phi_holds p
+  set_by_first x p ps registers named apart =
+      let once : list_any (sets x) ps ≡ false = subst (λ y. list_any (sets y) ps ≡ false) (same_name_true p.name x named) apart.0 in
+      unset_by_phis x ps (phi_sets p registers) once ∙ set_at p registers x named
+
+  all_set : (ps : List Phi) (registers : Registers) → NoneAgain ps → AllByRecursion (λ (p : Phi). with_phis old from ps registers p.name ≡ phi_holds p) ps
+  all_set [] registers apart = tt
+  all_set (p ∷ ps) registers apart = (
+    set_by_first p.name p ps registers (same_name_refl p.name) apart,
+    all_set ps (phi_sets p registers) apart.1,
+  )
+
+  set_by_found : (x : Name) (p : Phi) (ps : List Phi) (registers : Registers) → NoneAgain ps → phi_setting x ps ≡ Some p
+      → with_phis old from ps registers x ≡ phi_holds p
+  set_by_found x p [] registers apart found = absurd (cc)
+  set_by_found x p (q ∷ ps) registers apart found = ⊎_elim
+      (λ e.
+      let same : Some q ≡ Some p = sym (cond-true (same_name q.name x) (Some q) (phi_setting x ps) e) ∙ found in
+      let is : q ≡ p = cc in
+      set_by_first x q ps registers e apart ∙ ap phi_holds is)
+      (λ e.
+      set_by_found x p ps (phi_sets q registers) apart.1
+      (sym (cond-false (same_name q.name x) (Some q) (phi_setting x ps) e) ∙ found))
+      (cases_Bool (same_name q.name x))
+
+all_joined : {A : Type 0} (P : A → Type 0) (xs ys : List A) → AllByRecursion P xs → AllByRecursion P ys → AllByRecursion P (xs ++ ys)
+all_joined P [] ys p q = q
+all_joined P (x ∷ xs) ys p q = (p.0, all_joined P xs ys p.1 q)
+
+-- ---- facts of phis, on one side
+module _ (from : Name) (before : SideState) where
+  not_of_phi : (ps : List Phi) (k : Kind) (r : Reg) → is_of_phi ps r ≡ false → read_reg (crossed from ps before) k r ≡ read_reg (renewed before) k r
+  not_of_phi ps k (Now x) h = ap (held_at k) (unset_by_phis from before.now x ps before.now h)
+  not_of_phi ps k (Old x) h = refl
+  not_of_phi ps k (Ghost x) h = refl
+
+  atom_of_none : (o : Option Kind) (x : Atom Name) → o ≡ None → atom_value (read before.now) o x ≡ Poison
+  atom_of_none o x none = ap (λ k. atom_value (read before.now) k x) none
+
+  phi_fact_holds : (ps : List Phi) (p : Phi) (o : Option Entry)
+      → with_phis before.now from ps before.now p.name ≡ holding (kind_of p.ty) (entry_value before.now (kind_of p.ty) o)
+      → AllByRecursion (Holds (crossed from ps before)) (phi_fact p o)
+  phi_fact_holds ps p None is = tt
+  phi_fact_holds ps p (Some e) is =
+      let s = crossed from ps before in
+      let v = atom_value (read before.now) (kind_of p.ty) e.value in
+      both_ways_hold s (register_at p.ty (Now p.name)) (Plain (record { ty = p.ty; atom = map_atom Old e.value })) v refl
+      (register_worth (read_reg s) (Now p.name) v p.ty (λ k. ap (held_at k) is) (atom_of_none (kind_of p.ty) e.value))
+      (ap Gives (atom_mapped Old (read_reg s) (kind_of p.ty) e.value))
+
+  phi_facts_hold : (ps qs : List Phi) → AllByRecursion (λ (p : Phi). with_phis before.now from ps before.now p.name ≡ phi_holds from before.now p) qs
+      → AllByRecursion (Holds (crossed from ps before)) (phi_facts from qs)
+  phi_facts_hold ps [] set = tt
+  phi_facts_hold ps (p ∷ qs) set =
+      all_joined (Holds (crossed from ps before)) (phi_fact p (entry_from from p.entries)) (phi_facts from qs)
+      (phi_fact_holds ps p (entry_from from p.entries) set.0) (phi_facts_hold ps qs set.1)
+
+  facts_over_hold : (ps : List Phi) (fs : List Fact) → NoneAgain ps → AllByRecursion (Holds before) fs
+      → AllByRecursion (Holds (crossed from ps before)) (facts_over from ps fs)
+  facts_over_hold ps fs apart all =
+      let kept = without is_old fs in
+      let copied = with_facts (map as_old kept) kept in
+      with_facts_hold (crossed from ps before) (phi_facts from ps) (without (is_of_phi ps) copied)
+      (phi_facts_hold ps ps (all_set from before.now ps before.now apart))
+      (without_holds (is_of_phi ps) (renewed before) (crossed from ps before) (not_of_phi ps) copied (copied_hold before fs all))
+
+-- ---- registers that may differ
+
+old_mapped : (x : Name) (rs : List Reg) → has_reg (Old x) (map old_of rs) ≡ false → has_reg (Now x) rs ≡ false
+old_mapped x [] h = refl
+old_mapped x (Now y ∷ rs) h =
+    let parts = or_parts (same_name x y) (has_reg (Old x) (map old_of rs)) h in or_from (same_name x y) (has_reg (Now x) rs) parts.0 (old_mapped x rs parts.1)
+old_mapped x (Old y ∷ rs) h = let parts = or_parts (same_name x y) (has_reg (Old x) (map old_of rs)) h in old_mapped x rs parts.1
+old_mapped x (Ghost y ∷ rs) h = old_mapped x rs h
+
+same_name_apart : (x y : Name) → same_name x y ≡ false → same_name y x ≡ false
+same_name_apart x y h =
+    false_from_ne_true (same_name y x)
+    (λ e. let same = same_name_true y x e in false≢true (sym h ∙ ap (same_name x) same ∙ same_name_refl x))
+
+unnamed : (x : Name) (ps : List Phi) → has_reg (Now x) (phi_registers ps) ≡ false → list_any (sets x) ps ≡ false
+unnamed x [] h = refl
+unnamed x (p ∷ ps) h =
+    let parts = or_parts (same_name x p.name) (has_reg (Now x) (phi_registers ps)) h in
+    or_from (same_name p.name x) (list_any (sets x) ps) (same_name_apart x p.name parts.0) (unnamed x ps parts.1)
+
+module _ (known : Assertion) (e : Edge) (source target : SideState) (holds : AssertionHolds known source target)
+    (source_apart : NoneAgain e.source) (target_apart : NoneAgain e.target) where
+  abbrev kept : List Reg
+  kept = filter (λ r. not (is_old r)) known.diff
+
+  abbrev of_phis : List Reg
+  of_phis = phi_registers e.source ++ phi_registers e.target
+
+  abbrev all_of : List Reg
+  all_of = old_too known.diff ++ of_phis
+
+  parts_of : (r : Reg) → has_reg r all_of ≡ false
+      → (has_reg r kept ≡ false) × (has_reg r (map old_of kept) ≡ false) × (has_reg r (phi_registers e.source) ≡ false) × (has_reg r (phi_registers e.target) ≡ false)
+  parts_of r h =
+      let two = or_parts (has_reg r (old_too known.diff)) (has_reg r of_phis) (sym (list_any-append (same_reg r) (old_too known.diff) of_phis) ∙ h) in
+      let first = or_parts (has_reg r kept) (has_reg r (map old_of kept)) (sym (list_any-append (same_reg r) kept (map old_of kept)) ∙ two.0) in
+      let second = or_parts (has_reg r (phi_registers e.source)) (has_reg r (phi_registers e.target))
+      (sym (list_any-append (same_reg r) (phi_registers e.source) (phi_registers e.target)) ∙ two.1) in
+      (first.0, first.1, second.0, second.1)
+
+  -- a register that was outside before the edge
+  was_outside : (x : Name) → has_reg (Now x) kept ≡ false → has_reg (Now x) known.diff ≡ false
+  was_outside x h = outside_filter (λ r. not (is_old r)) (Now x) known.diff refl h
+
+  entries_related : (t : Ty) (o p : Option Entry) → entries_match known t o p ≡ true
+      → IsRelated (entry_value source.now (kind_of t) o) (entry_value target.now (kind_of t) p)
+  entries_related t None p h = absurd (false≢true h)
+  entries_related t (Some d) None h = absurd (false≢true h)
+  entries_related t (Some d) (Some f) h = atoms_matched_related known source target holds t d.value t f.value h
+
+  phis_related : (k : Kind) (x : Name) (o u : Option Phi) → phi_setting x e.source ≡ o → phi_setting x e.target ≡ u
+      → phis_match known e.from o u ≡ true
+      → IsRelated (read (with_phis source.now e.from e.source source.now) k x) (read (with_phis target.now e.from e.target target.now) k x)
+  phis_related k x None u is_p is_q h = absurd (false≢true h)
+  phis_related k x (Some p) None is_p is_q h = absurd (false≢true h)
+  phis_related k x (Some p) (Some q) is_p is_q h =
+      let of_p = entry_from e.from p.entries in
+      let of_q = entry_from e.from q.entries in
+      let types : p.ty ≡ q.ty = same_ty_true p.ty q.ty (left_true (same_ty p.ty q.ty) (entries_match known p.ty of_p of_q) h) in
+      let related = entries_related p.ty of_p of_q (right_true (same_ty p.ty q.ty) (entries_match known p.ty of_p of_q) h) in
+      let both : IsRelated (held_at k (phi_holds e.from source.now p)) (held_at k (phi_holds e.from target.now q)) =
+      subst (λ t. IsRelated (held_at k (phi_holds e.from source.now p)) (held_at k (holding (kind_of t) (entry_value target.now (kind_of t) of_q)))) types
+      (held_related (kind_of p.ty) k (entry_value source.now (kind_of p.ty) of_p) (entry_value target.now (kind_of p.ty) of_q) related) in
+      subst₂ IsRelated (sym (ap (held_at k) (set_by_found e.from source.now x p e.source source.now source_apart is_p)))
+      (sym (ap (held_at k) (set_by_found e.from target.now x q e.target target.now target_apart is_q))) both
+
+  related_over : AreRelated (diff_over e known) (crossed e.from e.source source) (crossed e.from e.target target)
+  related_over = record { outside = outside; ghosts = holds.related.ghosts }
+    where
+      outside : (r : Reg) (k : Kind) → has_reg r (diff_over e known) ≡ false
+          → IsRelated (read_reg (crossed e.from e.source source) k r) (read_reg (crossed e.from e.target target) k r)
+      outside (Ghost g) k out = holds.related.ghosts g k
+      outside (Old x) k out =
+          let parts = parts_of (Old x) (outside_filter (λ r. not (is_alike known e r)) (Old x) all_of refl out) in
+          holds.related.outside (Now x) k (was_outside x (old_mapped x kept parts.1))
+      outside (Now x) k out = ⊎_elim
+          (λ h. phis_related k x (phi_setting x e.source) (phi_setting x e.target) refl refl h)
+          (λ h.
+          let parts = parts_of (Now x) (outside_filter (λ r. not (is_alike known e r)) (Now x) all_of (not_from_false (is_alike known e (Now x)) h) out) in
+          subst₂ IsRelated
+          (sym (ap (held_at k) (unset_by_phis e.from source.now x e.source source.now (unnamed x e.source parts.2))))
+          (sym (ap (held_at k) (unset_by_phis e.from target.now x e.target target.now (unnamed x e.target parts.3))))
+          (holds.related.outside (Now x) k (was_outside x parts.0)))
+          (cases_Bool (is_alike known e (Now x)))
+
+  pub edge_holds : AssertionHolds (after_edge known e) (crossed e.from e.source source) (crossed e.from e.target target)
+  edge_holds = record {
+    source_facts = facts_over_hold e.from source e.source known.src source_apart holds.source_facts;
+    target_facts = facts_over_hold e.from target e.target known.tgt target_apart holds.target_facts;
+    related = related_over;
+  }
+
+-- the law of edges
+pub edge_keeps : AnEdgeKeepsWhatHolds
+edge_keeps known e source target source_apart target_apart holds =
+    edge_holds known e source target holds (apart_once e.source source_apart) (apart_once e.target target_apart)
+
+-- ---- the invariant over an edge
+
+-- the registers of a side behind phis
+abbrev pub jumped : Name → List Phi → Files → Files
+jumped from ps a = record { now = with_phis a.now from ps a.now; old = a.now; ghost = a.ghost }
+
+jumped_in_kind : (scope : Scope) (from : Name) (ps : List Phi) (a : Files) → IsSideInKind (side scope a) → IsSideInKind (side scope (jumped from ps a))
+jumped_in_kind scope from ps a h = record { now = phis_in_kind a.now from ps a.now h.now h.now; old = h.now; ghost = h.ghost }
+
+pub edge_stands : (w : Beside) (known : Assertion) (e : Edge) (a b : Files) → Stand w known a b → NoneAgain e.source → NoneAgain e.target → ArePhisDefined w.source e.source
+    → Stand w (after_edge known e) (jumped e.from e.source a) (jumped e.from e.target b)
+edge_stands w known e a b stand source_apart target_apart defined = record {
+  source_in_kind = jumped_in_kind w.scope e.from e.source a stand.source_in_kind;
+  target_in_kind = jumped_in_kind w.scope e.from e.target b stand.target_in_kind;
+  now_defined = phis_defined w.source e.from e.source a.now a.now defined stand.now_defined;
+  old_defined = stand.now_defined;
+  holds = edge_holds known e (side w.scope a) (side w.scope b) stand.holds source_apart target_apart;
+}
+
+-- where a block begins old registers are forgotten
+abbrev pub forgotten : Files → Files
+forgotten a = record a { old = no_registers }
+
+module _ (scope : Scope) (a : Files) where
+  forgets : (k : Kind) (r : Reg) → is_old r ≡ false → read_reg (side scope (forgotten a)) k r ≡ read_reg (side scope a) k r
+  forgets k (Now x) h = refl
+  forgets k (Old x) h = absurd (false≢true (sym h))
+  forgets k (Ghost x) h = refl
+
+  forgotten_facts : (fs : List Fact) → AllByRecursion (Holds (side scope a)) fs → AllByRecursion (Holds (side scope (forgotten a))) (without is_old fs)
+  forgotten_facts fs all = without_holds is_old (side scope a) (side scope (forgotten a)) forgets fs all
+
+  forgotten_in_kind : IsSideInKind (side scope a) → IsSideInKind (side scope (forgotten a))
+  forgotten_in_kind h = record { now = h.now; old = no_registers_in_kind; ghost = h.ghost }
+
+-- What the hint claims at a block's start, where it is known on the edge, and no other registers than it says may differ, but for old ones.
+pub arrives : (w : Beside) (known wanted : Assertion) (a b : Files) → Stand w known a b
+    → first_missing (without_old known).src wanted.src ≡ None → first_missing (without_old known).tgt wanted.tgt ≡ None
+    → ((r : Reg) → is_old r ≡ false → has_reg r wanted.diff ≡ false → has_reg r known.diff ≡ false)
+    → Stand w (each_once wanted) (forgotten a) (forgotten b)
+arrives w known wanted a b stand in_src in_tgt inside = record {
+  source_in_kind = forgotten_in_kind w.scope a stand.source_in_kind;
+  target_in_kind = forgotten_in_kind w.scope b stand.target_in_kind;
+  now_defined = stand.now_defined;
+  old_defined = none_defined w.source;
+  holds = record {
+    source_facts = with_facts_hold (side w.scope (forgotten a)) wanted.src []
+        (premises_hold (side w.scope (forgotten a)) (without is_old known.src) wanted.src (forgotten_facts w.scope a known.src stand.holds.source_facts) in_src) tt;
+    target_facts = with_facts_hold (side w.scope (forgotten b)) wanted.tgt []
+        (premises_hold (side w.scope (forgotten b)) (without is_old known.tgt) wanted.tgt (forgotten_facts w.scope b known.tgt stand.holds.target_facts) in_tgt) tt;
+    related = record { outside = outside; ghosts = stand.holds.related.ghosts };
+  };
+}
+  where
+    outside : (r : Reg) (k : Kind) → has_reg r wanted.diff ≡ false → IsRelated (read_reg (side w.scope (forgotten a)) k r) (read_reg (side w.scope (forgotten b)) k r)
+    outside (Now x) k out = stand.holds.related.outside (Now x) k (inside (Now x) refl out)
+    outside (Old x) k out = tt
+    outside (Ghost x) k out = stand.holds.related.ghosts x k

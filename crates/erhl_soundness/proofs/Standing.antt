@@ -1,0 +1,98 @@
+-- THE INVARIANT of two sides, and what changes of ghost registers do to what is read.
+use Rattle.std.proofs.Common.{◌≡◌, false, Option, None, Some, refl, ap, ◌∙◌}
+use Rattle.ir_core.specs.declared.names.Name.{Name}
+use Rattle.ir_core.specs.declared.operands.Ty.{Ty}
+use Rattle.ir_core.specs.declared.operands.Atom.TheVariants.{Register}
+use Rattle.ir_core.specs.declared.values.Value.{Value}
+use Rattle.ir_core.specs.declared.values.Value.TheVariants.{Poison}
+use Rattle.ir_core.specs.declared.values.Kind.{Kind}
+use Rattle.ir_core.specs.declared.expressions.Reg.{Reg}
+use Rattle.ir_core.specs.declared.expressions.Reg.TheVariants.{Now, Old, Ghost}
+use Rattle.ir_core.specs.declared.expressions.Expr.{Expr}
+use Rattle.ir_core.specs.Expressions.{type_of}
+use Rattle.ir_core.specs.Modules.{Scope}
+use Rattle.ir_core.specs.Same.{same_reg}
+use Rattle.ir_core.specs.Types.{kind_of}
+use Rattle.ir_core.proofs.SameLaws.{same_name_refl}
+use Rattle.ir_values.specs.declared.operations.Outcome.TheVariants.{Gives}
+use Rattle.ir_values.specs.Values.{IsInKind}
+use Rattle.ir_values.proofs.KindLaws.{same_kind_refl}
+use Rattle.ir_machine.specs.Registers.{Registers, held_at, holding, set, atom_value, outcome}
+use Rattle.ir_machine.proofs.Runs.{read_set_at, read_set_other}
+use Rattle.erhl_assert.specs.declared.facts.Assertion.{Assertion}
+use Rattle.erhl_assert.specs.Sides.{SideState, IsSideInKind, read_reg}
+use Rattle.erhl_assert.specs.Facts.{AssertionHolds}
+use Rattle.erhl_assert.specs.Edges.{register_at}
+use Rattle.erhl_assert.specs.Steps.{Beside}
+use Rattle.erhl_soundness.proofs.Readings.{poison_without_kind}
+use Rattle.erhl_soundness.proofs.Definitions.{AreDefined}
+
+-- the registers of one side
+pub record Files : Type 0 where
+  pub now : Registers
+  pub old : Registers
+  pub ghost : Registers
+
+abbrev pub side : Scope → Files → SideState
+side scope a = record { scope = scope; now = a.now; old = a.old; ghost = a.ghost }
+
+-- Each value lies in its kind; a register of the source that is set, or was before the edge, holds a kind of one of its definitions; and
+-- what is known holds.
+pub record Stand (w : Beside) (known : Assertion) (a b : Files) : Type 0 where
+  pub source_in_kind : IsSideInKind (side w.scope a)
+  pub target_in_kind : IsSideInKind (side w.scope b)
+  pub now_defined : AreDefined w.source a.now
+  pub old_defined : AreDefined w.source a.old
+  pub holds : AssertionHolds known (side w.scope a) (side w.scope b)
+
+-- of the same registers something else is known
+pub knowing : (w : Beside) (known known' : Assertion) (a b : Files) → Stand w known a b → AssertionHolds known' (side w.scope a) (side w.scope b) → Stand w known' a b
+knowing w known known' a b stand holds = record {
+  source_in_kind = stand.source_in_kind;
+  target_in_kind = stand.target_in_kind;
+  now_defined = stand.now_defined;
+  old_defined = stand.old_defined;
+  holds = holds;
+}
+
+abbrev pub with_now : Files → Registers → Files
+with_now a now = record a { now = now }
+
+abbrev pub with_ghost : Files → Registers → Files
+with_ghost a ghost = record a { ghost = ghost }
+
+-- a reading of every register in kind
+pub reads_in_kind : (s : SideState) → IsSideInKind s → (k : Kind) (r : Reg) → IsInKind k (read_reg s k r)
+reads_in_kind s h k (Now x) = h.now x k
+reads_in_kind s h k (Old x) = h.old x k
+reads_in_kind s h k (Ghost x) = h.ghost x k
+
+-- a register that holds a value at the kind of a type is worth it at that type
+module _ (reading : Kind → Reg → Value) (r : Reg) (v : Value) where
+  read_holding : (k : Kind) → held_at k (holding (Some k) v) ≡ v
+  read_holding k = rw (same_kind_refl k) refl
+
+  at_kind : (o : Option Kind) → ((k : Kind) → reading k r ≡ held_at k (holding o v)) → (o ≡ None → v ≡ Poison) → atom_value reading o (Register r) ≡ v
+  at_kind None reads none = rw (none refl) refl
+  at_kind (Some k) reads none = reads k ∙ read_holding k
+
+  pub register_worth : (t : Ty) → ((k : Kind) → reading k r ≡ held_at k (holding (kind_of t) v)) → (kind_of t ≡ None → v ≡ Poison)
+      → outcome reading (register_at t r) ≡ Gives v
+  register_worth t reads none = ap Gives (at_kind (kind_of t) reads none)
+
+-- at a type without values all is poison
+pub none_is_poison : {R : Type 0} (reading : Kind → R → Value) (e : Expr R) (v : Value) → outcome reading e ≡ Gives v → kind_of (type_of e) ≡ None → v ≡ Poison
+none_is_poison reading e v h none = let p : outcome reading e ≡ Gives Poison = poison_without_kind reading e none in cc
+
+-- what setting a ghost register does to what is read
+abbrev pub set_ghost : Files → Name → Option Kind → Value → Files
+set_ghost a x o v = record a { ghost = set a.ghost x o v }
+
+module _ (scope : Scope) (a : Files) (x : Name) (o : Option Kind) (v : Value) where
+  pub ghost_other : (k : Kind) (r : Reg) → same_reg (Ghost x) r ≡ false → read_reg (side scope (set_ghost a x o v)) k r ≡ read_reg (side scope a) k r
+  ghost_other k (Now y) h = refl
+  ghost_other k (Old y) h = refl
+  ghost_other k (Ghost y) h = read_set_other a.ghost x y o k v h
+
+  pub ghost_at : (k : Kind) → read_reg (side scope (set_ghost a x o v)) k (Ghost x) ≡ held_at k (holding o v)
+  ghost_at k = read_set_at a.ghost x x o k v (same_name_refl x)

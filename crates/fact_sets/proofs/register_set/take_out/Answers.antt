@@ -1,0 +1,10 @@
+use Rattle.std.proofs.Common.{not, rules}
+use Rattle.std.proofs.lemmas.Fn.{filter_same}
+use Rattle.ir_core.specs.declared.names.Name.{Name}
+use Rattle.ir_core.specs.Same.{same_name}
+use Rattle.fact_sets.proofs.register_set.take_out.Goals as goal
+
+pub returns : goal.returns
+returns c =
+    let test = λ (n : Name). not (same_name c.args.name.now n) in
+    filter_same _ test _ (λ x b f k. search rules) _ _ c.retain.ensures.filtered

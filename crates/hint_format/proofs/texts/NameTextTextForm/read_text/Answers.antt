@@ -1,0 +1,9 @@
+use Rattle.std.proofs.Common.{◌≡◌, ℕ, List, rules, subst}
+use Rattle.json_forms.specs.Answers.{Answers}
+use Rattle.hint_format.specs.Reading.{read_leaves}
+use Rattle.hint_format.proofs.texts.NameTextTextForm.read_text.Goals as goal
+
+pub returns : goal.returns
+returns c =
+    let same : c.as_bytes.result.now ≡ c.args.text.now = search rules in
+    subst (λ (bytes : List ℕ). Answers c.printed.result (read_leaves.name c.args.self.now.sigil bytes)) same c.printed.ensures

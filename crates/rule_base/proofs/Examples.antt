@@ -1,0 +1,75 @@
+-- The examples of specs/Examples compute.
+use Rattle.std.proofs.Common.{refl}
+use Rattle.rule_base.specs.Examples.{DropFlagsTakesThese, FoldTakesThese, ReflTakesThese, SubstTakesThese}
+
+pub refl_takes_these : ReflTakesThese
+refl_takes_these = record {
+  operand_itself = refl;
+  sum_itself = refl;
+  without_its_flag = refl;
+  exact_sum_has_no_type = refl;
+  number_past_its_type = refl;
+}
+
+pub subst_takes_these : SubstTakesThese
+subst_takes_these = record {
+  left = refl;
+  right = refl;
+  never_both = refl;
+  never_neither = refl;
+  never_back = refl;
+  never_another = refl;
+  flags_stay = refl;
+  old_is_another = refl;
+  of_its_type_alone = refl;
+  operand_alone = refl;
+  divisor = refl;
+  comparison = refl;
+  conversion = refl;
+  conversion_stays = refl;
+  arm = refl;
+  condition_is_of_i1 = refl;
+  never_both_arms = refl;
+}
+
+pub drop_flags_takes_these : DropFlagsTakesThese
+drop_flags_takes_these = record {
+  one_of_two = refl;
+  all = refl;
+  none_of_none = refl;
+  never_more = refl;
+  never_another_flag = refl;
+  never_another_operator = refl;
+  never_another_operand = refl;
+  never_turned_round = refl;
+  comparisons_have_none = refl;
+}
+
+pub fold_takes_these : FoldTakesThese
+fold_takes_these = record {
+  sum = refl;
+  another_sum = refl;
+  sum_is_no_undef = refl;
+  sum_of_another_type = refl;
+  broken_flag_to_undef = refl;
+  broken_flag_to_any = refl;
+  broken_flag_to_none_past_its_type = refl;
+  broken_flag_to_no_register = refl;
+  division_by_zero = refl;
+  least_by_minus_one_of_i1 = refl;
+  shift_by_the_width = refl;
+  shift_by_the_width_to_undef = refl;
+  no_register = refl;
+  no_undef = refl;
+  comparison = refl;
+  comparison_that_fails = refl;
+  sign_extended = refl;
+  truncated = refl;
+  first_arm = refl;
+  other_arm = refl;
+  undef_condition = refl;
+  undef_arm = refl;
+  number_itself = refl;
+  another_number = refl;
+  undef_alone = refl;
+}

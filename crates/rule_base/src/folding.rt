@@ -1,0 +1,159 @@
+//! The rule `fold`: an expression over numbers is a constant.
+ghost use Rattle.std.specs.Prelude.{◌≡◌};
+ghost use Rattle.ir_core.specs.declared.expressions.Expr.TheVariants as expr;
+ghost use Rattle.ir_core.specs.declared.values.Value.TheVariants.{Poison};
+ghost use Rattle.ir_core.specs.Types.{kind_of};
+ghost use Rattle.ir_machine.specs.Registers.{atom_at};
+ghost use Rattle.ir_machine.specs.Registers as meaning;
+ghost use Rattle.ir_values.specs.Values.{IsInKind};
+ghost use Rattle.rule_base.specs.Rows.{is_fold, is_number, is_over_numbers, folded, may_become};
+
+use crate::shipped::is_constant;
+use crate::typed::{have_one_type, selects};
+use erhl_assert::Fact;
+use ir_core::{
+    Atom, Binary, Cast, Const, Expr, Expr0, Icmp, Kind, Operand, Reg, Select, Value, converts,
+    fits, kind_of,
+};
+use ir_values::{Outcome, eval_binary, eval_cast, eval_icmp, eval_select};
+
+pub(crate) fn is_fold(from: &[Fact], to: &Fact) -> bool
+    ensures { result ≡ is_fold from.now to.now }
+{
+    if !from.is_empty() {
+        return false;
+    }
+    let Fact::LessDef(e, f) = to;
+    match f {
+        Expr::Plain(constant) => {
+            have_one_type(e, f) && is_over_numbers(e) && may_become(&folded(e), &constant.atom)
+        }
+        _ => false,
+    }
+}
+
+fn is_number(atom: &Atom<Reg>) -> bool
+    ensures { result ≡ is_number atom.now }
+{
+    matches!(atom, Atom::Constant(Const::Number(_)))
+}
+
+fn is_over_numbers(expr: &Expr0) -> bool
+    ensures { result ≡ is_over_numbers expr.now }
+{
+    match expr {
+        Expr::Plain(operand) => is_number(&operand.atom),
+        Expr::Binary(binary) => is_number(&binary.left) && is_number(&binary.right),
+        Expr::Icmp(icmp) => is_number(&icmp.left) && is_number(&icmp.right),
+        Expr::Cast(cast) => is_number(&cast.operand.atom),
+        Expr::Select(select) => {
+            is_number(&select.condition.atom)
+                && is_number(&select.left.atom)
+                && is_number(&select.right.atom)
+        }
+    }
+}
+
+/// Whether the outcome may be made that constant.
+fn may_become(outcome: &Outcome, atom: &Atom<Reg>) -> bool
+    ensures { result ≡ may_become outcome.now atom.now }
+{
+    match (outcome, atom) {
+        (Outcome::Gives(Value::Num(given)), Atom::Constant(Const::Number(number))) => {
+            *given == number.get()
+        }
+        (Outcome::Gives(Value::Num(_)), _) => false,
+        _ => is_constant(atom),
+    }
+}
+
+/// What an atom is worth at a kind where no register is read.
+fn value_at(kind: Kind, atom: &Atom<Reg>) -> Value
+    ensures value { result ≡ atom_at (λ k r. Poison) kind atom.now }
+    ensures in_kind { IsInKind kind result }
+{
+    let Kind::Int(width) = kind;
+    match atom {
+        Atom::Constant(Const::Number(number)) => {
+            let number = number.get();
+            if fits(number, width) {
+                Value::Num(number)
+            } else {
+                Value::Poison
+            }
+        }
+        Atom::Constant(Const::Undef) => Value::Undef,
+        Atom::Register(_) => Value::Poison,
+    }
+}
+
+/// What an operand is worth where no register is read.
+fn operand_value(operand: &Operand<Reg>) -> Value
+    ensures { result ≡ meaning.operand_value (λ k r. Poison) operand.now }
+{
+    match kind_of(&operand.ty) {
+        Some(kind) => value_at(kind, &operand.atom),
+        None => Value::Poison,
+    }
+}
+
+/// What an expression over numbers comes to.
+fn folded(expr: &Expr0) -> Outcome
+    ensures { result ≡ folded expr.now }
+{
+    match expr {
+        Expr::Plain(operand) => Outcome::Gives(operand_value(operand)),
+        Expr::Binary(binary) => folded_binary(binary),
+        Expr::Icmp(icmp) => folded_icmp(icmp),
+        Expr::Cast(cast) => folded_cast(cast),
+        Expr::Select(select) => folded_select(select),
+    }
+}
+
+fn folded_binary(binary: &Binary<Reg>) -> Outcome
+    ensures { result ≡ folded (expr.Binary binary.now) }
+{
+    let Some(kind) = kind_of(&binary.ty) else {
+        return Outcome::Gives(Value::Poison);
+    };
+    let left = value_at(kind, &binary.left);
+    let right = value_at(kind, &binary.right);
+    let Kind::Int(width) = kind;
+    eval_binary(binary.op, binary.flags, width, &left, &right)
+}
+
+fn folded_icmp(icmp: &Icmp<Reg>) -> Outcome
+    ensures { result ≡ folded (expr.Icmp icmp.now) }
+{
+    let Some(kind) = kind_of(&icmp.ty) else {
+        return Outcome::Gives(Value::Poison);
+    };
+    let left = value_at(kind, &icmp.left);
+    let right = value_at(kind, &icmp.right);
+    eval_icmp(icmp.pred, kind, &left, &right)
+}
+
+fn folded_cast(cast: &Cast<Reg>) -> Outcome
+    ensures { result ≡ folded (expr.Cast cast.now) }
+{
+    if !converts(cast.op, &cast.operand.ty, &cast.to) {
+        return Outcome::Gives(Value::Poison);
+    }
+    match (kind_of(&cast.operand.ty), kind_of(&cast.to)) {
+        (Some(from), Some(to)) => {
+            eval_cast(cast.op, from, to, &value_at(from, &cast.operand.atom))
+        }
+        _ => Outcome::Gives(Value::Poison),
+    }
+}
+
+fn folded_select(select: &Select<Reg>) -> Outcome
+    ensures { result ≡ folded (expr.Select select.now) }
+{
+    let (condition, left, right) = (&select.condition, &select.left, &select.right);
+    if !selects(&condition.ty, &left.ty, &right.ty) {
+        return Outcome::Gives(Value::Poison);
+    }
+    let (a, b) = (operand_value(left), operand_value(right));
+    eval_select(&operand_value(condition), &a, &b)
+}

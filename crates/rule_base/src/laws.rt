@@ -1,0 +1,12 @@
+ghost use Rattle.rule_base.specs.Examples as example;
+
+/// Empty on purpose: its contract is the law.
+///
+/// What rules take and what they don't: an example of each case.
+#[tactic(auto, using(crate::proofs::Examples::refl_takes_these, crate::proofs::Examples::subst_takes_these, crate::proofs::Examples::drop_flags_takes_these, crate::proofs::Examples::fold_takes_these))]
+pub fn examples_of_rules()
+    ensures refl { example.ReflTakesThese }
+    ensures subst { example.SubstTakesThese }
+    ensures drop_flags { example.DropFlagsTakesThese }
+    ensures fold { example.FoldTakesThese }
+{}
