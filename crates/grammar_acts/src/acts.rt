@@ -45,6 +45,7 @@ fn push_expr(parts: &mut Stack<Part>, alloc: Global, expr: ExprText) -> Result<(
 }
 
 /// No more definitions.
+#[inline(never)]
 fn definitions_end(parts: &mut Stack<Part>, alloc: Global) -> Result<(), AllocError>
     ensures { OnOk result (parts.new ≡ action vocabulary rule.definitions_end parts.old) }
 {
@@ -54,6 +55,7 @@ fn definitions_end(parts: &mut Stack<Part>, alloc: Global) -> Result<(), AllocEr
 }
 
 /// A definition before the others.
+#[inline(never)]
 fn definitions(parts: &mut Stack<Part>) -> Result<(), AllocError>
     ensures { OnOk result (parts.new ≡ action vocabulary rule.definitions parts.old) }
 {
@@ -68,6 +70,7 @@ fn definitions(parts: &mut Stack<Part>) -> Result<(), AllocError>
 }
 
 /// `define result GLOBAL ( params ) { block blocks }`
+#[inline(never)]
 fn definition(parts: &mut Stack<Part>, alloc: Global) -> Result<(), AllocError>
     ensures { OnOk result (parts.new ≡ action vocabulary rule.definition parts.old) }
 {
@@ -97,6 +100,7 @@ fn definition(parts: &mut Stack<Part>, alloc: Global) -> Result<(), AllocError>
 }
 
 /// `void`
+#[inline(never)]
 fn void_result(parts: &mut Stack<Part>) -> Result<(), AllocError>
     ensures { OnOk result (parts.new ≡ action vocabulary rule.void_result parts.old) }
 {
@@ -104,6 +108,7 @@ fn void_result(parts: &mut Stack<Part>) -> Result<(), AllocError>
 }
 
 /// TYPE
+#[inline(never)]
 fn typed_result(parts: &mut Stack<Part>) -> Result<(), AllocError>
     ensures { OnOk result (parts.new ≡ action vocabulary rule.typed_result parts.old) }
 {
@@ -114,6 +119,7 @@ fn typed_result(parts: &mut Stack<Part>) -> Result<(), AllocError>
 }
 
 /// No parameters, or no more of them.
+#[inline(never)]
 fn params_end(parts: &mut Stack<Part>, alloc: Global) -> Result<(), AllocError>
     ensures { OnOk result (parts.new ≡ action vocabulary rule.params_end parts.old) }
 {
@@ -121,6 +127,7 @@ fn params_end(parts: &mut Stack<Part>, alloc: Global) -> Result<(), AllocError>
 }
 
 /// A parameter before the others.
+#[inline(never)]
 fn params(parts: &mut Stack<Part>) -> Result<(), AllocError>
     ensures { OnOk result (parts.new ≡ action vocabulary rule.params parts.old) }
 {
@@ -135,6 +142,7 @@ fn params(parts: &mut Stack<Part>) -> Result<(), AllocError>
 }
 
 /// `TYPE [LOCAL]`
+#[inline(never)]
 fn param(parts: &mut Stack<Part>) -> Result<(), AllocError>
     ensures { OnOk result (parts.new ≡ action vocabulary rule.param parts.old) }
 {
@@ -148,6 +156,7 @@ fn param(parts: &mut Stack<Part>) -> Result<(), AllocError>
 }
 
 /// No LOCAL, no LABEL or no `LOCAL =`.
+#[inline(never)]
 fn unnamed(parts: &mut Stack<Part>) -> Result<(), AllocError>
     ensures { OnOk result (parts.new ≡ action vocabulary rule.unnamed parts.old) }
 {
@@ -155,6 +164,7 @@ fn unnamed(parts: &mut Stack<Part>) -> Result<(), AllocError>
 }
 
 /// LOCAL, or `LOCAL =`
+#[inline(never)]
 fn named(parts: &mut Stack<Part>) -> Result<(), AllocError>
     ensures { OnOk result (parts.new ≡ action vocabulary rule.named parts.old) }
 {
@@ -165,6 +175,7 @@ fn named(parts: &mut Stack<Part>) -> Result<(), AllocError>
 }
 
 /// `[LABEL] body term`
+#[inline(never)]
 fn block(parts: &mut Stack<Part>, alloc: Global) -> Result<(), AllocError>
     ensures { OnOk result (parts.new ≡ action vocabulary rule.block parts.old) }
 {
@@ -182,6 +193,7 @@ fn block(parts: &mut Stack<Part>, alloc: Global) -> Result<(), AllocError>
 }
 
 /// LABEL
+#[inline(never)]
 fn label(parts: &mut Stack<Part>) -> Result<(), AllocError>
     ensures { OnOk result (parts.new ≡ action vocabulary rule.label parts.old) }
 {
@@ -192,6 +204,7 @@ fn label(parts: &mut Stack<Part>) -> Result<(), AllocError>
 }
 
 /// No more lines.
+#[inline(never)]
 fn lines_end(parts: &mut Stack<Part>, alloc: Global) -> Result<(), AllocError>
     ensures { OnOk result (parts.new ≡ action vocabulary rule.lines_end parts.old) }
 {
@@ -199,6 +212,7 @@ fn lines_end(parts: &mut Stack<Part>, alloc: Global) -> Result<(), AllocError>
 }
 
 /// A line before the others.
+#[inline(never)]
 fn lines(parts: &mut Stack<Part>) -> Result<(), AllocError>
     ensures { OnOk result (parts.new ≡ action vocabulary rule.lines parts.old) }
 {
@@ -213,7 +227,8 @@ fn lines(parts: &mut Stack<Part>) -> Result<(), AllocError>
 }
 
 /// `[LOCAL =] operation`
-fn line(parts: &mut Stack<Part>, alloc: Global) -> Result<(), AllocError>
+#[inline(never)]
+fn line(parts: &mut Stack<Part>) -> Result<(), AllocError>
     ensures { OnOk result (parts.new ≡ action vocabulary rule.line parts.old) }
 {
     let Some(operation) = take::<OperationPart>(parts) else {
@@ -226,10 +241,11 @@ fn line(parts: &mut Stack<Part>, alloc: Global) -> Result<(), AllocError>
         register,
         operation,
     };
-    parts.push(Part::Tree(Tree::Line(Boxed::new(alloc, line)?)))
+    parts.push(Part::Tree(Tree::Line(line)))
 }
 
 /// `void` behind `ret`
+#[inline(never)]
 fn returned_void(parts: &mut Stack<Part>) -> Result<(), AllocError>
     ensures { OnOk result (parts.new ≡ action vocabulary rule.returned_void parts.old) }
 {
@@ -237,6 +253,7 @@ fn returned_void(parts: &mut Stack<Part>) -> Result<(), AllocError>
 }
 
 /// `TYPE value` behind `ret`
+#[inline(never)]
 fn returned(parts: &mut Stack<Part>) -> Result<(), AllocError>
     ensures { OnOk result (parts.new ≡ action vocabulary rule.returned parts.old) }
 {
@@ -247,6 +264,7 @@ fn returned(parts: &mut Stack<Part>) -> Result<(), AllocError>
 }
 
 /// `operator TYPE value, value`
+#[inline(never)]
 fn binary(parts: &mut Stack<Part>, alloc: Global) -> Result<(), AllocError>
     ensures { OnOk result (parts.new ≡ action vocabulary rule.binary parts.old) }
 {
@@ -268,6 +286,7 @@ fn binary(parts: &mut Stack<Part>, alloc: Global) -> Result<(), AllocError>
 }
 
 /// `icmp PRED TYPE value, value`
+#[inline(never)]
 fn compare(parts: &mut Stack<Part>, alloc: Global) -> Result<(), AllocError>
     ensures { OnOk result (parts.new ≡ action vocabulary rule.compare parts.old) }
 {
@@ -285,6 +304,7 @@ fn compare(parts: &mut Stack<Part>, alloc: Global) -> Result<(), AllocError>
 }
 
 /// `CAST TYPE value to TYPE`
+#[inline(never)]
 fn cast(parts: &mut Stack<Part>, alloc: Global) -> Result<(), AllocError>
     ensures { OnOk result (parts.new ≡ action vocabulary rule.cast parts.old) }
 {
@@ -302,6 +322,7 @@ fn cast(parts: &mut Stack<Part>, alloc: Global) -> Result<(), AllocError>
 }
 
 /// `select TYPE value, TYPE value, TYPE value`
+#[inline(never)]
 fn select(parts: &mut Stack<Part>, alloc: Global) -> Result<(), AllocError>
     ensures { OnOk result (parts.new ≡ action vocabulary rule.select parts.old) }
 {
@@ -323,6 +344,7 @@ fn select(parts: &mut Stack<Part>, alloc: Global) -> Result<(), AllocError>
 }
 
 /// OVERFLOW and flags
+#[inline(never)]
 fn overflow(parts: &mut Stack<Part>) -> Result<(), AllocError>
     ensures { OnOk result (parts.new ≡ action vocabulary rule.overflow parts.old) }
 {
@@ -336,6 +358,7 @@ fn overflow(parts: &mut Stack<Part>) -> Result<(), AllocError>
 }
 
 /// EXACT, and `exact` or not
+#[inline(never)]
 fn exact(parts: &mut Stack<Part>) -> Result<(), AllocError>
     ensures { OnOk result (parts.new ≡ action vocabulary rule.exact parts.old) }
 {
@@ -349,6 +372,7 @@ fn exact(parts: &mut Stack<Part>) -> Result<(), AllocError>
 }
 
 /// PLAIN
+#[inline(never)]
 fn plain(parts: &mut Stack<Part>) -> Result<(), AllocError>
     ensures { OnOk result (parts.new ≡ action vocabulary rule.plain parts.old) }
 {
@@ -359,6 +383,7 @@ fn plain(parts: &mut Stack<Part>) -> Result<(), AllocError>
 }
 
 /// No more flags.
+#[inline(never)]
 fn flags_end(parts: &mut Stack<Part>, alloc: Global) -> Result<(), AllocError>
     ensures { OnOk result (parts.new ≡ action vocabulary rule.flags_end parts.old) }
 {
@@ -366,6 +391,7 @@ fn flags_end(parts: &mut Stack<Part>, alloc: Global) -> Result<(), AllocError>
 }
 
 /// A flag before the others.
+#[inline(never)]
 fn flags(parts: &mut Stack<Part>) -> Result<(), AllocError>
     ensures { OnOk result (parts.new ≡ action vocabulary rule.flags parts.old) }
 {
@@ -380,6 +406,7 @@ fn flags(parts: &mut Stack<Part>) -> Result<(), AllocError>
 }
 
 /// No `exact`.
+#[inline(never)]
 fn inexact(parts: &mut Stack<Part>) -> Result<(), AllocError>
     ensures { OnOk result (parts.new ≡ action vocabulary rule.inexact parts.old) }
 {
@@ -387,6 +414,7 @@ fn inexact(parts: &mut Stack<Part>) -> Result<(), AllocError>
 }
 
 /// `exact`
+#[inline(never)]
 fn exactly(parts: &mut Stack<Part>) -> Result<(), AllocError>
     ensures { OnOk result (parts.new ≡ action vocabulary rule.exactly parts.old) }
 {
@@ -394,6 +422,7 @@ fn exactly(parts: &mut Stack<Part>) -> Result<(), AllocError>
 }
 
 /// `TYPE value`
+#[inline(never)]
 fn operand(parts: &mut Stack<Part>) -> Result<(), AllocError>
     ensures { OnOk result (parts.new ≡ action vocabulary rule.operand parts.old) }
 {
@@ -407,6 +436,7 @@ fn operand(parts: &mut Stack<Part>) -> Result<(), AllocError>
 }
 
 /// An integer as a value.
+#[inline(never)]
 fn int(parts: &mut Stack<Part>) -> Result<(), AllocError>
     ensures { OnOk result (parts.new ≡ action vocabulary rule.int parts.old) }
 {
@@ -417,6 +447,7 @@ fn int(parts: &mut Stack<Part>) -> Result<(), AllocError>
 }
 
 /// `undef`
+#[inline(never)]
 fn undef(parts: &mut Stack<Part>) -> Result<(), AllocError>
     ensures { OnOk result (parts.new ≡ action vocabulary rule.undef parts.old) }
 {
@@ -424,6 +455,7 @@ fn undef(parts: &mut Stack<Part>) -> Result<(), AllocError>
 }
 
 /// LOCAL as a value
+#[inline(never)]
 fn local(parts: &mut Stack<Part>) -> Result<(), AllocError>
     ensures { OnOk result (parts.new ≡ action vocabulary rule.local parts.old) }
 {
@@ -434,6 +466,7 @@ fn local(parts: &mut Stack<Part>) -> Result<(), AllocError>
 }
 
 /// `old LOCAL` as a value
+#[inline(never)]
 fn old_register(parts: &mut Stack<Part>) -> Result<(), AllocError>
     ensures { OnOk result (parts.new ≡ action vocabulary rule.old_register parts.old) }
 {
@@ -445,6 +478,7 @@ fn old_register(parts: &mut Stack<Part>) -> Result<(), AllocError>
 }
 
 /// `ghost LOCAL` as a value
+#[inline(never)]
 fn ghost_register(parts: &mut Stack<Part>) -> Result<(), AllocError>
     ensures { OnOk result (parts.new ≡ action vocabulary rule.ghost_register parts.old) }
 {
@@ -456,6 +490,7 @@ fn ghost_register(parts: &mut Stack<Part>) -> Result<(), AllocError>
 }
 
 /// `TYPE value` as an expression.
+#[inline(never)]
 fn expression_operand(parts: &mut Stack<Part>, alloc: Global) -> Result<(), AllocError>
     ensures { OnOk result (parts.new ≡ action vocabulary rule.expression_operand parts.old) }
 {
@@ -466,6 +501,7 @@ fn expression_operand(parts: &mut Stack<Part>, alloc: Global) -> Result<(), Allo
 }
 
 /// An operation as an expression.
+#[inline(never)]
 fn expression_operation(parts: &mut Stack<Part>, alloc: Global) -> Result<(), AllocError>
     ensures { OnOk result (parts.new ≡ action vocabulary rule.expression_operation parts.old) }
 {
@@ -476,6 +512,7 @@ fn expression_operation(parts: &mut Stack<Part>, alloc: Global) -> Result<(), Al
 }
 
 /// A LOCAL alone.
+#[inline(never)]
 fn local_name(parts: &mut Stack<Part>) -> Result<(), AllocError>
     ensures { OnOk result (parts.new ≡ action vocabulary rule.local_name parts.old) }
 {
@@ -486,6 +523,7 @@ fn local_name(parts: &mut Stack<Part>) -> Result<(), AllocError>
 }
 
 /// A GLOBAL alone.
+#[inline(never)]
 fn global_name(parts: &mut Stack<Part>) -> Result<(), AllocError>
     ensures { OnOk result (parts.new ≡ action vocabulary rule.global_name parts.old) }
 {
@@ -496,6 +534,7 @@ fn global_name(parts: &mut Stack<Part>) -> Result<(), AllocError>
 }
 
 /// What the rule of this number does.
+#[inline(never)]
 pub fn reduce(parts: &mut Stack<Part>, alloc: Global, p: u16) -> Result<(), AllocError>
     ensures { OnOk result (parts.new ≡ rule.acts p parts.old) }
 {
@@ -517,7 +556,7 @@ pub fn reduce(parts: &mut Stack<Part>, alloc: Global, p: u16) -> Result<(), Allo
         14 => label(parts),
         15 => lines_end(parts, alloc),
         16 => lines(parts),
-        17 => line(parts, alloc),
+        17 => line(parts),
         18 => unnamed(parts),
         19 => named(parts),
         20 => returned_void(parts),

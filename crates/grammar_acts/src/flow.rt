@@ -45,6 +45,7 @@ fn push_behind(parts: &mut Stack<Part>, alloc: Global, behind: BehindText) -> Re
 }
 
 /// No more blocks.
+#[inline(never)]
 pub fn blocks_end(parts: &mut Stack<Part>, alloc: Global) -> Result<(), AllocError>
     ensures { OnOk result (parts.new ≡ action vocabulary rule.blocks_end parts.old) }
 {
@@ -52,6 +53,7 @@ pub fn blocks_end(parts: &mut Stack<Part>, alloc: Global) -> Result<(), AllocErr
 }
 
 /// A block before the others.
+#[inline(never)]
 pub fn blocks(parts: &mut Stack<Part>) -> Result<(), AllocError>
     ensures { OnOk result (parts.new ≡ action vocabulary rule.blocks parts.old) }
 {
@@ -66,6 +68,7 @@ pub fn blocks(parts: &mut Stack<Part>) -> Result<(), AllocError>
 }
 
 /// Nothing before a terminator.
+#[inline(never)]
 pub fn body_end(parts: &mut Stack<Part>, alloc: Global) -> Result<(), AllocError>
     ensures { OnOk result (parts.new ≡ action vocabulary rule.body_end parts.old) }
 {
@@ -105,6 +108,7 @@ fn with_register(
 }
 
 /// `[LOCAL =]` and what stands behind it
+#[inline(never)]
 pub fn body(parts: &mut Stack<Part>, alloc: Global) -> Result<(), AllocError>
     ensures { OnOk result (parts.new ≡ action vocabulary rule.body parts.old) }
 {
@@ -119,6 +123,7 @@ pub fn body(parts: &mut Stack<Part>, alloc: Global) -> Result<(), AllocError>
 }
 
 /// A phi node without its register, and what stands behind it
+#[inline(never)]
 pub fn behind_phi(parts: &mut Stack<Part>, alloc: Global) -> Result<(), AllocError>
     ensures { OnOk result (parts.new ≡ action vocabulary rule.behind_phi parts.old) }
 {
@@ -132,6 +137,7 @@ pub fn behind_phi(parts: &mut Stack<Part>, alloc: Global) -> Result<(), AllocErr
 }
 
 /// An operation without its register, and the lines behind it
+#[inline(never)]
 pub fn behind_line(parts: &mut Stack<Part>, alloc: Global) -> Result<(), AllocError>
     ensures { OnOk result (parts.new ≡ action vocabulary rule.behind_line parts.old) }
 {
@@ -145,6 +151,7 @@ pub fn behind_line(parts: &mut Stack<Part>, alloc: Global) -> Result<(), AllocEr
 }
 
 /// `phi TYPE entry entries`
+#[inline(never)]
 pub fn node(parts: &mut Stack<Part>, alloc: Global) -> Result<(), AllocError>
     ensures { OnOk result (parts.new ≡ action vocabulary rule.node parts.old) }
 {
@@ -162,6 +169,7 @@ pub fn node(parts: &mut Stack<Part>, alloc: Global) -> Result<(), AllocError>
 }
 
 /// No more entries.
+#[inline(never)]
 pub fn entries_end(parts: &mut Stack<Part>, alloc: Global) -> Result<(), AllocError>
     ensures { OnOk result (parts.new ≡ action vocabulary rule.entries_end parts.old) }
 {
@@ -169,6 +177,7 @@ pub fn entries_end(parts: &mut Stack<Part>, alloc: Global) -> Result<(), AllocEr
 }
 
 /// An entry before the others.
+#[inline(never)]
 pub fn entries(parts: &mut Stack<Part>) -> Result<(), AllocError>
     ensures { OnOk result (parts.new ≡ action vocabulary rule.entries parts.old) }
 {
@@ -183,6 +192,7 @@ pub fn entries(parts: &mut Stack<Part>) -> Result<(), AllocError>
 }
 
 /// `[ value, LOCAL ]`
+#[inline(never)]
 pub fn entry(parts: &mut Stack<Part>, alloc: Global) -> Result<(), AllocError>
     ensures { OnOk result (parts.new ≡ action vocabulary rule.entry parts.old) }
 {
@@ -197,6 +207,7 @@ pub fn entry(parts: &mut Stack<Part>, alloc: Global) -> Result<(), AllocError>
 }
 
 /// `ret (void | TYPE value)`
+#[inline(never)]
 pub fn ret(parts: &mut Stack<Part>, alloc: Global) -> Result<(), AllocError>
     ensures { OnOk result (parts.new ≡ action vocabulary rule.ret parts.old) }
 {
@@ -207,6 +218,7 @@ pub fn ret(parts: &mut Stack<Part>, alloc: Global) -> Result<(), AllocError>
 }
 
 /// `br` and where it leads
+#[inline(never)]
 pub fn br(parts: &mut Stack<Part>, alloc: Global) -> Result<(), AllocError>
     ensures { OnOk result (parts.new ≡ action vocabulary rule.br parts.old) }
 {
@@ -217,6 +229,7 @@ pub fn br(parts: &mut Stack<Part>, alloc: Global) -> Result<(), AllocError>
 }
 
 /// `switch TYPE value, label LOCAL [ cases ]`
+#[inline(never)]
 pub fn switch(parts: &mut Stack<Part>, alloc: Global) -> Result<(), AllocError>
     ensures { OnOk result (parts.new ≡ action vocabulary rule.switch parts.old) }
 {
@@ -238,6 +251,7 @@ pub fn switch(parts: &mut Stack<Part>, alloc: Global) -> Result<(), AllocError>
 }
 
 /// `unreachable`
+#[inline(never)]
 pub fn unreachable(parts: &mut Stack<Part>, alloc: Global) -> Result<(), AllocError>
     ensures { OnOk result (parts.new ≡ action vocabulary rule.unreachable parts.old) }
 {
@@ -245,6 +259,7 @@ pub fn unreachable(parts: &mut Stack<Part>, alloc: Global) -> Result<(), AllocEr
 }
 
 /// `label LOCAL`
+#[inline(never)]
 pub fn always(parts: &mut Stack<Part>, alloc: Global) -> Result<(), AllocError>
     ensures { OnOk result (parts.new ≡ action vocabulary rule.always parts.old) }
 {
@@ -255,6 +270,7 @@ pub fn always(parts: &mut Stack<Part>, alloc: Global) -> Result<(), AllocError>
 }
 
 /// `TYPE value, label LOCAL, label LOCAL`
+#[inline(never)]
 pub fn condition(parts: &mut Stack<Part>, alloc: Global) -> Result<(), AllocError>
     ensures { OnOk result (parts.new ≡ action vocabulary rule.condition parts.old) }
 {
@@ -276,6 +292,7 @@ pub fn condition(parts: &mut Stack<Part>, alloc: Global) -> Result<(), AllocErro
 }
 
 /// No more cases.
+#[inline(never)]
 pub fn cases_end(parts: &mut Stack<Part>, alloc: Global) -> Result<(), AllocError>
     ensures { OnOk result (parts.new ≡ action vocabulary rule.cases_end parts.old) }
 {
@@ -283,6 +300,7 @@ pub fn cases_end(parts: &mut Stack<Part>, alloc: Global) -> Result<(), AllocErro
 }
 
 /// A case before the others.
+#[inline(never)]
 pub fn cases(parts: &mut Stack<Part>) -> Result<(), AllocError>
     ensures { OnOk result (parts.new ≡ action vocabulary rule.cases parts.old) }
 {
@@ -297,6 +315,7 @@ pub fn cases(parts: &mut Stack<Part>) -> Result<(), AllocError>
 }
 
 /// `TYPE integer, label LOCAL`
+#[inline(never)]
 pub fn case(parts: &mut Stack<Part>, alloc: Global) -> Result<(), AllocError>
     ensures { OnOk result (parts.new ≡ action vocabulary rule.case parts.old) }
 {
@@ -314,6 +333,7 @@ pub fn case(parts: &mut Stack<Part>, alloc: Global) -> Result<(), AllocError>
 }
 
 /// NUMBER
+#[inline(never)]
 pub fn number(parts: &mut Stack<Part>) -> Result<(), AllocError>
     ensures { OnOk result (parts.new ≡ action vocabulary rule.number parts.old) }
 {
@@ -324,6 +344,7 @@ pub fn number(parts: &mut Stack<Part>) -> Result<(), AllocError>
 }
 
 /// `true` or `false`
+#[inline(never)]
 pub fn truth(parts: &mut Stack<Part>) -> Result<(), AllocError>
     ensures { OnOk result (parts.new ≡ action vocabulary rule.truth parts.old) }
 {

@@ -2,6 +2,7 @@
 ghost use Rattle.std.specs.Prelude.{◌≡◌};
 
 use crate::forms::{Form, tree_of};
+use contents::Boxed;
 use ir_grammar::{
     BehindText, BlockText, BodyText, BranchText, CaseText, DefinitionText, EntryText, ExprText,
     LineText, ModuleText, NodeText, OperandText, OperationText, OperatorText, ParamText, Part,
@@ -133,13 +134,13 @@ pub struct NodePart;
 impl Form for NodePart {
     ghost use Rattle.ir_grammar.specs.Parts.{a_node};
 
-    type Value = NodeText;
+    type Value = Boxed<NodeText>;
 
     ghost held_by = { a_node };
 
-    fn of(part: Part) -> Option<NodeText> {
+    fn of(part: Part) -> Option<Boxed<NodeText>> {
         match tree_of(part)? {
-            Tree::Node(x) => Some(x.into_inner()),
+            Tree::Node(x) => Some(x),
             other => {
                 drop(other);
                 None
@@ -259,7 +260,7 @@ impl Form for LinePart {
 
     fn of(part: Part) -> Option<LineText> {
         match tree_of(part)? {
-            Tree::Line(x) => Some(x.into_inner()),
+            Tree::Line(x) => Some(x),
             other => {
                 drop(other);
                 None
@@ -273,13 +274,13 @@ pub struct OperationPart;
 impl Form for OperationPart {
     ghost use Rattle.ir_grammar.specs.Parts.{a_operation};
 
-    type Value = OperationText;
+    type Value = Boxed<OperationText>;
 
     ghost held_by = { a_operation };
 
-    fn of(part: Part) -> Option<OperationText> {
+    fn of(part: Part) -> Option<Boxed<OperationText>> {
         match tree_of(part)? {
-            Tree::Operation(x) => Some(x.into_inner()),
+            Tree::Operation(x) => Some(x),
             other => {
                 drop(other);
                 None

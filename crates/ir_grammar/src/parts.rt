@@ -62,7 +62,7 @@ pub enum Tree {
     Branch(Boxed<BranchText>),
     Case(Boxed<CaseText>),
     Returned(Option<OperandText>),
-    Line(Boxed<LineText>),
+    Line(LineText),
     Operation(Boxed<OperationText>),
     Operator(OperatorText),
     Operand(OperandText),

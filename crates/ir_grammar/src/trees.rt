@@ -1,4 +1,5 @@
 use crate::operators::{ExactOp, FlagWord, OverflowOp, PlainOp};
+use contents::Boxed;
 use ir_core::{CastOp, Name, Pred};
 use ir_lexer::Number;
 use typed_grammars::Stack;
@@ -7,8 +8,8 @@ use typed_grammars::Stack;
 #[derive(Drop)]
 pub struct Placed<T> {
     pub what: T,
-    pub start: usize,
-    pub end: usize,
+    pub start: u32,
+    pub end: u32,
 }
 
 /// A number as it is written: by its digits, or as `true` or `false`.
@@ -102,14 +103,14 @@ pub enum OperationText {
 #[derive(Drop)]
 pub enum ExprText {
     Plain(OperandText),
-    Operation(OperationText),
+    Operation(Boxed<OperationText>),
 }
 
 /// `register = operation` as it is written; the register may be left out.
 #[derive(Drop)]
 pub struct LineText {
     pub register: Option<Placed<Name>>,
-    pub operation: OperationText,
+    pub operation: Boxed<OperationText>,
 }
 
 /// A parameter of type `iN` as it is written; its name may be left out.
@@ -138,7 +139,7 @@ pub struct NodeText {
 #[derive(Drop)]
 pub struct PhiText {
     pub register: Option<Placed<Name>>,
-    pub node: NodeText,
+    pub node: Boxed<NodeText>,
 }
 
 /// What stands in a block before its terminator, as it is written: its phi nodes, and behind them its lines.
@@ -152,11 +153,11 @@ pub struct BodyText {
 #[derive(Drop)]
 pub enum BehindText {
     Phi {
-        node: NodeText,
+        node: Boxed<NodeText>,
         body: BodyText,
     },
     Line {
-        operation: OperationText,
+        operation: Boxed<OperationText>,
         lines: Stack<LineText>,
     },
 }

@@ -1,3 +1,4 @@
+mod ByNumber
 pub mod Agrees
 pub mod Cuts
 pub mod Escapes

@@ -13,7 +13,9 @@ mod runs;
 mod saying;
 mod strings;
 mod token;
+mod wide;
 
 pub use cut::lex;
 pub use saying::{bytes_of, is_word, mark_of, says};
 pub use token::{Kind, LexFault, Number, Token, TokenKind};
+pub use wide::Wide;

@@ -4,7 +4,7 @@ ghost use Rattle.ir_lexer.specs.Numbers.{value_of, if_below};
 ghost use Rattle.ir_lexer.specs.Said.{between, bytes_of, is_word, mark_of, mark_said, name_said, number_said, or_zero, said, said_in, signed};
 ghost use Rattle.ir_lexer.specs.Strings.{unescaped};
 
-use crate::{Kind, Number, Token, TokenKind, bytes, numbers, runs, strings};
+use crate::{Kind, Number, Token, TokenKind, Wide, bytes, numbers, runs, strings};
 use contents::{Seq, Text};
 use ir_core::Name;
 use std::alloc::{AllocError, Global};
@@ -92,7 +92,7 @@ fn signed(negative: bool, digits: &[u8]) -> Number
     let magnitude = numbers::value_of(digits).unwrap_or(0);
     Number {
         negative,
-        magnitude,
+        magnitude: Wide::new(magnitude),
     }
 }
 

@@ -1,6 +1,7 @@
 ghost use Rattle.std.specs.Prelude.{◌≡◌};
 ghost use Rattle.ir_lexer.specs.declared.token.LexFault.TheVariants.{Memory};
 
+use crate::wide::Wide;
 use contents::Seq;
 use ir_core::{Limit, Name};
 use std::alloc::{AllocError, AllocFailed};
@@ -60,10 +61,10 @@ pub enum TokenKind {
 }
 
 /// A number as it is written: its sign and its absolute value.
-#[derive(Drop, Clone, Copy)]
+#[derive(Drop)]
 pub struct Number {
     pub negative: bool,
-    pub magnitude: u128,
+    pub magnitude: Wide,
 }
 
 /// Why a text has no tokens. A place counts bytes from 0.

@@ -51,21 +51,21 @@ fn kept_positive(width: u32, magnitude: u128) -> Option<u64>
     }
 }
 
-fn kept_by_sign(width: u32, number: Number) -> Option<u64>
+fn kept_by_sign(width: u32, number: &Number) -> Option<u64>
     requires narrow { width ≤ 64 }
     requires wide { 1 ≤ width }
-    ensures { result ≡ meaning.kept_by_sign width number }
+    ensures { result ≡ meaning.kept_by_sign width number.now }
 {
     if number.negative {
-        kept_negative(width, number.magnitude)
+        kept_negative(width, number.magnitude.get())
     } else {
-        kept_positive(width, number.magnitude)
+        kept_positive(width, number.magnitude.get())
     }
 }
 
 /// The number modulo 2 to the width, if it is one of the type.
-pub fn kept(width: u32, number: Number) -> Option<u64>
-    ensures { result ≡ meaning.kept width number }
+pub fn kept(width: u32, number: &Number) -> Option<u64>
+    ensures { result ≡ meaning.kept width number.now }
 {
     if is_width(width) {
         kept_by_sign(width, number)
@@ -93,7 +93,7 @@ pub fn int_of(width: u32, int: &IntText) -> Option<u64>
     ensures { result ≡ meaning.int_of width int.now }
 {
     match int {
-        IntText::Number(number) => kept(width, number.what),
+        IntText::Number(number) => kept(width, &number.what),
         IntText::Truth(word) => truth(width, word.what),
     }
 }

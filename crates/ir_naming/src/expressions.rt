@@ -122,7 +122,7 @@ fn logic_expression(text: ExprText) -> Expr0
 {
     match text {
         ExprText::Plain(operand) => Expr::Plain(logic_operand(operand)),
-        ExprText::Operation(operation) => logic_operation(operation),
+        ExprText::Operation(operation) => logic_operation(operation.into_inner()),
     }
 }
 
@@ -186,7 +186,7 @@ fn claim_ranges(text: &ExprText, claims: &mut Seq<Claim>) -> Result<(), AllocErr
 {
     match text {
         ExprText::Plain(operand) => claim_operand_range(operand, claims),
-        ExprText::Operation(operation) => claim_operation_ranges(operation, claims),
+        ExprText::Operation(operation) => claim_operation_ranges(operation.get(), claims),
     }
 }
 

@@ -96,6 +96,7 @@ fn name_phi(
     ensures claims { OnOk result (claims.new ≡ claims.old ++ phi_claims phi) }
 {
     let PhiText { register, node } = phi;
+    let node = node.into_inner();
     let width = node.ty.what;
     let entries = name_node(alloc, node, claims)?;
     let name = define(
@@ -151,8 +152,8 @@ fn name_line(
         register,
         operation,
     } = line;
-    claim_operation(alloc, &operation, claims)?;
-    let right = expression_of(operation);
+    claim_operation(alloc, operation.get(), claims)?;
+    let right = expression_of(operation.into_inner());
     let ty = right.ty().copy(alloc)?;
     let name = define(alloc, tally, function, register, Meaning::Register(ty))?;
     Ok(Instr::Calm(Calm { name, right }))

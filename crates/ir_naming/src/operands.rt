@@ -19,8 +19,8 @@ fn claim_kept<T>(
 {
     match number {
         None => claims.push(Claim {
-            start: written.start,
-            end: written.end,
+            start: written.start as usize,
+            end: written.end as usize,
             says: Says::Wrong,
         }),
         Some(_) => Ok(()),
@@ -32,7 +32,7 @@ pub fn claim_int(width: u32, int: &IntText, claims: &mut Seq<Claim>) -> Result<(
     ensures { OnOk result (claims.new ≡ claims.old ++ int_claims width int.now) }
 {
     match int {
-        IntText::Number(number) => claim_kept(number, kept(width, number.what), claims),
+        IntText::Number(number) => claim_kept(number, kept(width, &number.what), claims),
         IntText::Truth(word) => claim_kept(word, truth(width, word.what), claims),
     }
 }
@@ -47,8 +47,8 @@ pub fn claim_label(
 {
     let label = name.what.copy(alloc)?;
     claims.push(Claim {
-        start: name.start,
-        end: name.end,
+        start: name.start as usize,
+        end: name.end as usize,
         says: Says::Label(label),
     })
 }
@@ -67,8 +67,8 @@ fn claim_use(name: &Placed<Name>, used: Use, claims: &mut Seq<Claim>) -> Result<
     ensures { OnOk result (claims.new ≡ claims.old ++ at name.now (Says.Register used) ∷ []) }
 {
     claims.push(Claim {
-        start: name.start,
-        end: name.end,
+        start: name.start as usize,
+        end: name.end as usize,
         says: Says::Register(used),
     })
 }
@@ -91,8 +91,8 @@ fn claim_wrong(name: &Placed<Name>, claims: &mut Seq<Claim>) -> Result<(), Alloc
     ensures { OnOk result (claims.new ≡ claims.old ++ at name.now Says.Wrong ∷ []) }
 {
     claims.push(Claim {
-        start: name.start,
-        end: name.end,
+        start: name.start as usize,
+        end: name.end as usize,
         says: Says::Wrong,
     })
 }

@@ -91,8 +91,8 @@ fn claim_number(due: u64, placed: &Placed<Name>, claims: &mut Seq<Claim>) -> Res
     match &placed.what {
         Name::Text(_) => Ok(()),
         Name::Number(number) => claims.push(Claim {
-            start: placed.start,
-            end: placed.end,
+            start: placed.start as usize,
+            end: placed.end as usize,
             says: Says::Counted(Count {
                 written: *number,
                 due,
@@ -113,8 +113,8 @@ fn claim_unnamed(
         Ok(())
     } else {
         claims.push(Claim {
-            start: function.start,
-            end: function.end,
+            start: function.start as usize,
+            end: function.end as usize,
             says: Says::Wrong,
         })
     }
@@ -130,8 +130,8 @@ fn claim_written(
     ensures { OnOk result (claims.new ≡ claims.old ++ at placed.now (Says.New index) ∷ number_claims due placed.now placed.now.what) }
 {
     claims.push(Claim {
-        start: placed.start,
-        end: placed.end,
+        start: placed.start as usize,
+        end: placed.end as usize,
         says: Says::New(index),
     })?;
     claim_number(due, placed, claims)

@@ -36,6 +36,7 @@ fn open<G: Table>(table: &G, items: &mut Stack<Item>, rule: u16) -> Result<(), A
 }
 
 /// Reduces and opens rules until a token is wanted, and takes that off; whether it is what is ahead.
+#[inline(always)]
 fn advance<G: Table, A: Action>(
     alloc: Global,
     table: &G,

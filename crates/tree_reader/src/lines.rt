@@ -1,28 +1,14 @@
 ghost use Rattle.std.specs.Prelude.{◌≡◌, ◌≤◌, ◌&&◌, MatchOption, nat_eq};
 ghost use Rattle.ir_core.specs.Limits.{line_limit};
-ghost use Rattle.tree_reader.specs.Lines.{IsFirstPast, IsPastLimit, heads_line, is_operator, is_terminator, lines_after};
+ghost use Rattle.tree_reader.specs.Lines.{IsFirstPast, IsPastLimit, heads_line, lines_after};
 
 use ir_core::Limit;
-
-/// Whether a token of this kind is a binary operator or a conversion.
-fn is_operator(kind: u8) -> bool
-    ensures { result ≡ is_operator kind }
-{
-    kind == 6 || kind == 7 || kind == 8 || kind == 9
-}
-
-/// Whether a token of this kind is the word of a terminator: `ret`, `br`, `switch` or `unreachable`.
-fn is_terminator(kind: u8) -> bool
-    ensures { result ≡ is_terminator kind }
-{
-    kind == 15 || kind == 22 || kind == 24 || kind == 25
-}
 
 /// Whether a token of this kind is the first word of a line: an operator, a conversion, `icmp`, `select`, `phi`, or a terminator's.
 fn heads_line(kind: u8) -> bool
     ensures { result ≡ heads_line kind }
 {
-    is_operator(kind) || is_terminator(kind) || kind == 17 || kind == 18 || kind == 21
+    matches!(kind, 6 | 7 | 8 | 9 | 15 | 17 | 18 | 21 | 22 | 24 | 25)
 }
 
 /// Whether one more line is one too many.

@@ -102,8 +102,8 @@ fn placed<T>(what: T, token: &Token) -> Placed<T>
 {
     Placed {
         what,
-        start: token.start as usize,
-        end: token.end as usize,
+        start: token.start,
+        end: token.end,
     }
 }
 

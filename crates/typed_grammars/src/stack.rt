@@ -61,6 +61,7 @@ impl<T> Stack<T> {
 }
 
 impl<T: Drop> Stack<T> {
+    #[inline(always)]
     pub fn push(&mut self, item: T) -> Result<(), AllocError>
         ensures ok { OnOk result (self.new ≡ item ∷ self.old) }
         ensures err { OnErr result (self.new ≡ self.old) }
