@@ -160,3 +160,13 @@ repeated_none ds d k e = sym (ap (λ at. is_below at k) e) ∙ defined_below d.n
 
 pub repeated_some : (ds : List Definition) (d : Definition) (j k : ℕ) → first_at d.name ds ≡ Some j → nat_lt j k ≡ is_defined d.name (take k ds)
 repeated_some ds d j k e = sym (ap (λ at. is_below at k) e) ∙ defined_below d.name ds k
+
+-- ---- by a walk
+
+pub not_here : (name : Name) (ds : List Definition) (at : ℕ) (d : Definition) → at < length ds → same_name name (get_or ds at d).name ≡ false → first_behind name (at + 1) ds ≡ first_behind name at ds
+not_here name ds at d inside other =
+    sym (ap (λ here. or_else (cond here (Some at) None) (first_behind name (at + 1) ds)) other) ∙ behind_more name ds at d inside
+
+pub here : (name : Name) (ds : List Definition) (at : ℕ) (d : Definition) → at < length ds → same_name name (get_or ds at d).name ≡ true → Some at ≡ first_behind name at ds
+here name ds at d inside same =
+    sym (ap (λ here. or_else (cond here (Some at) None) (first_behind name (at + 1) ds)) same) ∙ behind_more name ds at d inside

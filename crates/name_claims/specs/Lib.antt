@@ -1,3 +1,4 @@
 pub mod Faults
 pub mod Indexes
 pub mod Laws
+pub mod Places

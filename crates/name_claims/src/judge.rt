@@ -2,34 +2,39 @@ ghost use Rattle.std.specs.Prelude.{◌≡◌, IfOk, IfNone, IfSome, None, slice
 ghost use Rattle.std.specs.Option.{option_copied};
 ghost use Rattle.name_claims.specs.declared.claims.Fault.{Fault};
 ghost use Rattle.name_claims.specs.Faults.{find, twice, counted, repeats, typed, suits, register, leads, label, says_wrong, fault_at, rank, before, HasFault, IsFirst};
-ghost use Rattle.name_claims.specs.Indexes.{Indexes, fault_of, sooner, first_in, first_of};
+ghost use Rattle.name_claims.specs.Indexes.{fault_of, sooner, first_in, first_of};
+ghost use Rattle.name_claims.specs.Places.{Tells};
 
 use crate::claims::{Claim, Count, Definition, Fault, Item, Meaning, Reason, Says};
-use crate::index::{Index, index_of};
+use crate::places::{Places, are_all_new, places_of, position};
 use contents::Seq;
 use ir_core::{Name, Ty, same_ty};
 use std::alloc::{AllocError, Global};
 
 /// The first definition of the name.
 #[tactic(auto, using(crate::proofs::Found::found_some, crate::proofs::Found::found_none))]
-fn find<'a>(definitions: &'a Seq<Definition>, index: &Index, name: &Name) -> Option<&'a Definition>
-    requires { Indexes index.now definitions.now }
+fn find<'a>(
+    definitions: &'a Seq<Definition>,
+    places: &Places,
+    name: &Name,
+) -> Option<&'a Definition>
+    requires { Tells places.now definitions.now }
     ensures { option_copied result ≡ find name.now definitions.now }
 {
-    match index.position(name) {
+    match position(definitions.as_slice(), places, name) {
         Some(at) => definitions.get(at),
         None => None,
     }
 }
 
 #[tactic(auto, using(crate::proofs::Found::repeated_none, crate::proofs::Found::repeated_some))]
-fn is_behind(definitions: &Seq<Definition>, index: &Index, at: usize) -> bool
-    requires { Indexes index.now definitions.now }
+fn is_behind(definitions: &Seq<Definition>, places: &Places, at: usize) -> bool
+    requires { Tells places.now definitions.now }
     ensures { result ≡ repeats (slice_get definitions.now at) (take at definitions.now) }
 {
     match definitions.get(at) {
         None => false,
-        Some(definition) => match index.position(&definition.name) {
+        Some(definition) => match position(definitions.as_slice(), places, &definition.name) {
             None => false,
             Some(first) => first < at,
         },
@@ -38,19 +43,19 @@ fn is_behind(definitions: &Seq<Definition>, index: &Index, at: usize) -> bool
 
 /// Whether a definition before it has the name of the definition of this index. Most often no name is defined again.
 #[tactic(auto, using(crate::proofs::Found::new_repeats_none))]
-fn is_repeated(definitions: &Seq<Definition>, index: &Index, at: usize) -> bool
-    requires { Indexes index.now definitions.now }
+fn is_repeated(definitions: &Seq<Definition>, places: &Places, at: usize) -> bool
+    requires { Tells places.now definitions.now }
     ensures { result ≡ repeats (slice_get definitions.now at) (take at definitions.now) }
 {
-    !index.is_all_new() && is_behind(definitions, index, at)
+    !are_all_new(definitions.as_slice(), places) && is_behind(definitions, places, at)
 }
 
 /// Why the definition of this index is at fault, if it is.
-fn twice(definitions: &Seq<Definition>, index: &Index, at: usize) -> Option<Reason>
-    requires { Indexes index.now definitions.now }
+fn twice(definitions: &Seq<Definition>, places: &Places, at: usize) -> Option<Reason>
+    requires { Tells places.now definitions.now }
     ensures { result ≡ twice definitions.now at }
 {
-    if is_repeated(definitions, index, at) {
+    if is_repeated(definitions, places, at) {
         Some(Reason::Twice)
     } else {
         None
@@ -116,15 +121,15 @@ fn label(definition: Option<&Definition>) -> Option<Reason>
 }
 
 /// Why what is said is at fault, if it is.
-fn says_wrong(definitions: &Seq<Definition>, index: &Index, says: &Says) -> Option<Reason>
-    requires { Indexes index.now definitions.now }
+fn says_wrong(definitions: &Seq<Definition>, places: &Places, says: &Says) -> Option<Reason>
+    requires { Tells places.now definitions.now }
     ensures { result ≡ says_wrong definitions.now says.now }
 {
     match says {
-        Says::New(at) => twice(definitions, index, *at),
+        Says::New(at) => twice(definitions, places, *at),
         Says::Counted(count) => counted(*count),
-        Says::Register(used) => register(&used.ty, find(definitions, index, &used.name)),
-        Says::Label(name) => label(find(definitions, index, name)),
+        Says::Register(used) => register(&used.ty, find(definitions, places, &used.name)),
+        Says::Label(name) => label(find(definitions, places, name)),
         Says::Wrong => Some(Reason::WrongType),
     }
 }
@@ -173,13 +178,13 @@ fn sooner(first: Option<Fault>, second: Option<Fault>) -> Option<Fault>
 }
 
 /// The first of this fault and the item's.
-fn first_in(item: &Item, index: &Index, best: Option<Fault>) -> Option<Fault>
-    requires { Indexes index.now item.now.definitions }
+fn first_in(item: &Item, places: &Places, best: Option<Fault>) -> Option<Fault>
+    requires { Tells places.now item.now.definitions }
     ensures { result ≡ first_in item.now best item.now.claims }
 {
     let mut best = best;
     for claim in item.claims.as_slice() {
-        let reason = says_wrong(&item.definitions, index, &claim.says);
+        let reason = says_wrong(&item.definitions, places, &claim.says);
         best = sooner(best, fault_of(claim, reason));
     }
     best
@@ -190,8 +195,8 @@ fn first_from_left(alloc: Global, items: &[Item]) -> Result<Option<Fault>, Alloc
 {
     let mut best = None;
     for item in items {
-        let index = index_of(alloc, item.definitions.as_slice())?;
-        best = first_in(item, &index, best);
+        let places = places_of(alloc, item.definitions.as_slice())?;
+        best = first_in(item, &places, best);
     }
     Ok(best)
 }

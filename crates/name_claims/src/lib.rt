@@ -9,6 +9,7 @@ mod claims;
 mod index;
 mod judge;
 mod laws;
+mod places;
 
 pub use claims::{Claim, Count, Definition, Fault, Item, Meaning, Reason, Says, Use};
 pub use judge::first_fault;
