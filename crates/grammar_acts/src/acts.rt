@@ -5,23 +5,18 @@ ghost use Rattle.ir_grammar.specs.Rules as rule;
 ghost use Rattle.ir_grammar.specs.Sorts.{vocabulary};
 ghost use Rattle.typed_grammars.specs.Typed.{action};
 
-use crate::atoms::{ExactnessPart, IntPart, NamePart, ResultPart, ValuePart};
 use crate::flow;
-use crate::forms::take;
-use crate::leaves::{
-    CastPart, ExactPart, FlagPart, GlobalPart, LabelPart, LocalPart, OverflowPart, PlainPart,
-    PredPart, WidthPart,
-};
-use crate::lists::{BlocksPart, FlagsPart, LinesPart, ParamsPart};
-use crate::trees::{
-    BlockPart, BodyPart, DefinitionPart, LinePart, ModulePart, OperandPart, OperationPart,
-    OperatorPart, ParamPart, ReturnedPart, TermPart,
-};
 use contents::Boxed;
 use ir_grammar::{
     Atom, BinaryText, BlockText, CastText, CompareText, DefinitionText, ExprText, Leaf, LineText,
     List, ModuleText, OperandText, OperationText, OperatorText, ParamText, Part, SelectText, Tag,
     Tree, ValueText,
+};
+use part_forms::{
+    BlockPart, BlocksPart, BodyPart, CastPart, DefinitionPart, ExactPart, ExactnessPart, FlagPart,
+    FlagsPart, GlobalPart, IntPart, LabelPart, LinePart, LinesPart, LocalPart, ModulePart,
+    NamePart, OperandPart, OperationPart, OperatorPart, OverflowPart, ParamPart, ParamsPart,
+    PlainPart, PredPart, ResultPart, ReturnedPart, TermPart, ValuePart, WidthPart, take,
 };
 use std::alloc::{AllocError, Global};
 use typed_grammars::Stack;
@@ -584,8 +579,8 @@ pub fn reduce(parts: &mut Stack<Part>, alloc: Global, p: u16) -> Result<(), Allo
         42 => flow::blocks(parts),
         43 => flow::body_end(parts, alloc),
         44 => flow::body(parts, alloc),
-        45 => flow::behind_phi(parts, alloc),
-        46 => flow::behind_line(parts, alloc),
+        45 => flow::behind_phi(parts),
+        46 => flow::behind_line(parts),
         47 => flow::node(parts, alloc),
         48 => flow::entries_end(parts, alloc),
         49 => flow::entries(parts),

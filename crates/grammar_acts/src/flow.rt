@@ -6,19 +6,16 @@ ghost use Rattle.ir_grammar.specs.Rules as rule;
 ghost use Rattle.ir_grammar.specs.Sorts.{vocabulary};
 ghost use Rattle.typed_grammars.specs.Typed.{action};
 
-use crate::atoms::{IntPart, NamePart, ValuePart};
-use crate::forms::take;
-use crate::leaves::{LocalPart, NumberPart, TruthPart, WidthPart};
-use crate::lists::{BlocksPart, CasesPart, EntriesPart, LinesPart};
-use crate::trees::{
-    BehindPart, BlockPart, BodyPart, BranchPart, CasePart, EntryPart, NodePart, OperandPart,
-    OperationPart, ReturnedPart,
-};
 use contents::Boxed;
 use ir_core::Name;
 use ir_grammar::{
     Atom, BehindText, BodyText, BranchText, CaseText, ConditionText, EntryText, IntText, LineText,
     List, NodeText, Part, PhiText, Placed, SwitchText, TermText, Tree,
+};
+use part_forms::{
+    BehindPart, BlockPart, BlocksPart, BodyPart, BranchPart, CasePart, CasesPart, EntriesPart,
+    EntryPart, IntPart, LinesPart, LocalPart, NamePart, NodePart, NumberPart, OperandPart,
+    OperationPart, ReturnedPart, TruthPart, ValuePart, WidthPart, take,
 };
 use std::alloc::{AllocError, Global};
 use typed_grammars::Stack;
@@ -35,13 +32,6 @@ fn push_branch(parts: &mut Stack<Part>, alloc: Global, branch: BranchText) -> Re
     ensures { OnOk result (parts.new ≡ part.Tree (tree.Branch branch) ∷ parts.old) }
 {
     parts.push(Part::Tree(Tree::Branch(Boxed::new(alloc, branch)?)))
-}
-
-/// What stands behind a register on top.
-fn push_behind(parts: &mut Stack<Part>, alloc: Global, behind: BehindText) -> Result<(), AllocError>
-    ensures { OnOk result (parts.new ≡ part.Tree (tree.Behind behind) ∷ parts.old) }
-{
-    parts.push(Part::Tree(Tree::Behind(Boxed::new(alloc, behind)?)))
 }
 
 /// No more blocks.
@@ -124,7 +114,7 @@ pub fn body(parts: &mut Stack<Part>, alloc: Global) -> Result<(), AllocError>
 
 /// A phi node without its register, and what stands behind it
 #[inline(never)]
-pub fn behind_phi(parts: &mut Stack<Part>, alloc: Global) -> Result<(), AllocError>
+pub fn behind_phi(parts: &mut Stack<Part>) -> Result<(), AllocError>
     ensures { OnOk result (parts.new ≡ action vocabulary rule.behind_phi parts.old) }
 {
     let Some(body) = take::<BodyPart>(parts) else {
@@ -133,12 +123,12 @@ pub fn behind_phi(parts: &mut Stack<Part>, alloc: Global) -> Result<(), AllocErr
     let Some(node) = take::<NodePart>(parts) else {
         return Ok(());
     };
-    push_behind(parts, alloc, BehindText::Phi { node, body })
+    parts.push(Part::Tree(Tree::Behind(BehindText::Phi { node, body })))
 }
 
 /// An operation without its register, and the lines behind it
 #[inline(never)]
-pub fn behind_line(parts: &mut Stack<Part>, alloc: Global) -> Result<(), AllocError>
+pub fn behind_line(parts: &mut Stack<Part>) -> Result<(), AllocError>
     ensures { OnOk result (parts.new ≡ action vocabulary rule.behind_line parts.old) }
 {
     let Some(lines) = take::<LinesPart>(parts) else {
@@ -147,7 +137,7 @@ pub fn behind_line(parts: &mut Stack<Part>, alloc: Global) -> Result<(), AllocEr
     let Some(operation) = take::<OperationPart>(parts) else {
         return Ok(());
     };
-    push_behind(parts, alloc, BehindText::Line { operation, lines })
+    parts.push(Part::Tree(Tree::Behind(BehindText::Line { operation, lines })))
 }
 
 /// `phi TYPE entry entries`

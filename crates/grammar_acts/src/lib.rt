@@ -2,13 +2,8 @@
 #![tactic(auto)]
 
 mod acts;
-mod atoms;
 mod flow;
-mod forms;
-mod leaves;
-mod lists;
 mod taking;
-mod trees;
 
 pub use acts::reduce;
 pub use taking::{take_expr, take_global, take_local, take_module};

@@ -2,11 +2,9 @@ ghost use Rattle.std.specs.Prelude.{◌≡◌};
 ghost use Rattle.ir_grammar.specs.Parts as part;
 ghost use Rattle.typed_grammars.specs.Typed as stack;
 
-use crate::forms::take;
-use crate::leaves::{GlobalPart, LocalPart};
-use crate::trees::{ExprPart, ModulePart};
 use ir_core::Name;
 use ir_grammar::{ExprText, ModuleText, Part, Placed};
+use part_forms::{ExprPart, GlobalPart, LocalPart, ModulePart, take};
 use typed_grammars::Stack;
 
 /// The module on top of the stack, if it is one; else it is dropped.

@@ -55,7 +55,7 @@ pub enum Tree {
     Param(ParamText),
     Block(Boxed<BlockText>),
     Body(BodyText),
-    Behind(Boxed<BehindText>),
+    Behind(BehindText),
     Node(Boxed<NodeText>),
     Entry(Boxed<EntryText>),
     Term(Boxed<TermText>),

@@ -197,7 +197,7 @@ pub struct SwitchText {
 #[derive(Drop)]
 pub enum TermText {
     Ret(Option<OperandText>),
-    Br(BranchText),
+    Br(Boxed<BranchText>),
     Switch(SwitchText),
     Unreachable,
 }
@@ -207,7 +207,7 @@ pub enum TermText {
 pub struct BlockText {
     pub label: Option<Placed<Name>>,
     pub body: BodyText,
-    pub term: TermText,
+    pub term: Boxed<TermText>,
 }
 
 /// A definition as it is written: of one block at least. Its result is of type `iN`, or None for `void`.

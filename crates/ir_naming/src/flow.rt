@@ -231,7 +231,7 @@ pub fn name_term(alloc: Global, term: TermText, claims: &mut Seq<Claim>) -> Resu
 {
     match term {
         TermText::Ret(returned) => name_return(alloc, returned, claims),
-        TermText::Br(branch) => name_branch(alloc, branch, claims),
+        TermText::Br(branch) => name_branch(alloc, branch.into_inner(), claims),
         TermText::Switch(switch) => Ok(Term::Switch(name_switch(alloc, switch, claims)?)),
         TermText::Unreachable => Ok(Term::Unreachable),
     }

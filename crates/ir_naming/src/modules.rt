@@ -205,7 +205,7 @@ fn name_block(
     name_phis(alloc, function, &mut phis, tally, claims, &mut nodes)?;
     let mut body = with_room(alloc, lines.len())?;
     name_lines(alloc, function, &mut lines, tally, claims, &mut body)?;
-    let term = name_term(alloc, term, claims)?;
+    let term = name_term(alloc, term.into_inner(), claims)?;
     Ok(Block {
         name,
         phis: nodes,

@@ -120,7 +120,7 @@ impl Form for BehindPart {
 
     fn of(part: Part) -> Option<BehindText> {
         match tree_of(part)? {
-            Tree::Behind(x) => Some(x.into_inner()),
+            Tree::Behind(x) => Some(x),
             other => {
                 drop(other);
                 None
@@ -174,13 +174,13 @@ pub struct TermPart;
 impl Form for TermPart {
     ghost use Rattle.ir_grammar.specs.Parts.{a_term};
 
-    type Value = TermText;
+    type Value = Boxed<TermText>;
 
     ghost held_by = { a_term };
 
-    fn of(part: Part) -> Option<TermText> {
+    fn of(part: Part) -> Option<Boxed<TermText>> {
         match tree_of(part)? {
-            Tree::Term(x) => Some(x.into_inner()),
+            Tree::Term(x) => Some(x),
             other => {
                 drop(other);
                 None
@@ -194,13 +194,13 @@ pub struct BranchPart;
 impl Form for BranchPart {
     ghost use Rattle.ir_grammar.specs.Parts.{a_branch};
 
-    type Value = BranchText;
+    type Value = Boxed<BranchText>;
 
     ghost held_by = { a_branch };
 
-    fn of(part: Part) -> Option<BranchText> {
+    fn of(part: Part) -> Option<Boxed<BranchText>> {
         match tree_of(part)? {
-            Tree::Branch(x) => Some(x.into_inner()),
+            Tree::Branch(x) => Some(x),
             other => {
                 drop(other);
                 None
