@@ -5,6 +5,7 @@ pub mod Thinned
 pub mod Answered
 pub mod Defining
 pub mod Everywhere
+pub mod Settling
 pub mod Judged
 pub mod BlocksReached
 pub mod Shaped

@@ -2,4 +2,5 @@ pub mod Undefined
 pub mod Along
 pub mod Graph
 pub mod Flow
+pub mod Settled
 pub mod Laws

@@ -5,6 +5,7 @@ mod flow;
 mod homes;
 mod laws;
 mod paths;
+mod settled;
 mod uses;
 
 pub use laws::{shape_knows_labels, undefined_uses_are_faults};
