@@ -11,3 +11,5 @@ pub mod Rows
 pub mod Borrowed
 pub mod Entries
 pub mod Counted
+pub mod Sighted
+pub mod Wholly

@@ -97,7 +97,7 @@ module _ (labels : List Name) where
       ∙ append_assoc (row_at labels rows n) (edges_from n from (l ∷ [])) (edges_from n from ls)
       ∙ ap (λ es. row_at labels rows n ++ es) (sym (edges_cons n from l ls))
 
-  blocks_row : (n : Name) (rows : List (List Name)) (bs : List Block) → length labels ≤ length rows → Contains labels n
+  pub blocks_row : (n : Name) (rows : List (List Name)) (bs : List Block) → length labels ≤ length rows → Contains labels n
       → row_at labels (with_blocks labels rows bs) n ≡ row_at labels rows n ++ edges_among n bs
   blocks_row n rows [] many there = sym (append-nil (row_at labels rows n))
   blocks_row n rows (b ∷ bs) many there =

@@ -29,7 +29,7 @@ use Rattle.ir_shape.proofs.Taken.{Among, all_kept, block_taken, kept, labels_are
 use Rattle.ir_shape.proofs.Tests.{AllNone, all_flat, all_joined, all_left, all_parts, all_right, all_there, both_hold, both_left, both_none, both_right, fault_none, first_none, first_none_left, first_none_right, fits_by, joined_none, kind_none, kinds_are, kinds_by, left_none, mapped_all, none_by, not_true, one_there, right_none}
 use Rattle.ir_shape.proofs.Typed.{AreTyped, operands_are, operands_by, operands_known, value_by, value_is}
 
-abbrev IsValue : Name × Ty → Type 0
+abbrev pub IsValue : Name × Ty → Type 0
 IsValue register = IsFirstClass register.1
 
 abbrev names_of_blocks : List Block → List Name
@@ -205,7 +205,7 @@ end_is f entry end unique fit =
 
 -- ---- blocks
 
-record BlockFits (f : Function) (entry : Name) (b : Block) : Type 0 where
+pub record BlockFits (f : Function) (entry : Name) (b : Block) : Type 0 where
   pub values : AllByRecursion IsValue (registers_of b)
   pub operands : AreTyped (typed_of f) (operands_in_block b)
   pub not_entered : leads_to entry b.term ≡ false
@@ -357,7 +357,7 @@ not_entered_is name [] e = tt
 not_entered_is name (b ∷ bs) e =
     (edge_none name b (left_none (edges_from name b) (flat_map (edges_from name) bs) e), not_entered_is name bs (right_none (edges_from name b) (flat_map (edges_from name) bs) e))
 
-shape_by : (f : Function) (first : Block) (further : List Block) → f.blocks ≡ first ∷ further → is_debug f.name ≡ false → are_new [] (param_names f) ≡ true
+pub shape_by : (f : Function) (first : Block) (further : List Block) → f.blocks ≡ first ∷ further → is_debug f.name ≡ false → are_new [] (param_names f) ≡ true
     → list_all (λ (p : Param). is_integer p.ty) f.params ≡ true → are_new (with_names [] (param_names f)) (flat_map block_names (first ∷ further)) ≡ true
     → AllByRecursion (BlockFits f first.name) (first ∷ further) → HasFunctionShape f
 shape_by f first further are plain params values names all =

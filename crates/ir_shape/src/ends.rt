@@ -27,7 +27,7 @@ fn is_case_label(cases: &[Case], name: &Name) -> bool
     false
 }
 
-fn leads_to(name: &Name, end: &Term) -> bool
+pub(crate) fn leads_to(name: &Name, end: &Term) -> bool
     ensures { result ≡ meaning.leads_to name.now end.now }
 {
     match end {
@@ -42,7 +42,7 @@ fn leads_to(name: &Name, end: &Term) -> bool
     }
 }
 
-fn branch_fits(end: &Term) -> bool
+pub(crate) fn branch_fits(end: &Term) -> bool
     ensures { result ≡ meaning.branch_fits end.now }
 {
     match end {
@@ -52,7 +52,7 @@ fn branch_fits(end: &Term) -> bool
     }
 }
 
-fn return_fits(due: &Ty, end: &Term) -> bool
+pub(crate) fn return_fits(due: &Ty, end: &Term) -> bool
     ensures { result ≡ meaning.return_fits due.now end.now }
 {
     match end {
@@ -111,7 +111,7 @@ fn switch_fits(alloc: Global, switch: &Switch) -> Result<bool, AllocError>
     Ok(are_apart(alloc, &switch.value.ty, switch.cases.as_slice())?)
 }
 
-fn cases_fit(alloc: Global, end: &Term) -> Result<bool, AllocError>
+pub(crate) fn cases_fit(alloc: Global, end: &Term) -> Result<bool, AllocError>
     ensures { IfOk result (λ fit. fit ≡ meaning.cases_fit end.now) }
 {
     match end {

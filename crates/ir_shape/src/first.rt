@@ -15,6 +15,7 @@ use crate::lines::{are_short, is_short};
 use crate::names::{labels_of, take_params};
 use crate::phis::{counts_of, phi_kind};
 use crate::types::{Types, types_of};
+use crate::whole::is_whole;
 use crate::{LinePlace, ShapeEnd, ShapeFault, ShapeKind};
 use contents::Exact;
 use ir_core::{Block, Function, Instr, Limit, Module, Name, Phi};
@@ -334,11 +335,16 @@ fn all_blocks_fit<'a>(
     body_fits(alloc, function, &scope, params, function.blocks.as_slice())
 }
 
-/// Whether a function has no fault, whose name may be taken.
+/// Whether a function has no fault, whose name may be taken. Nearly all have none, which is seen at once.
 fn function_fits(alloc: Global, taken: bool, function: &Function) -> Result<(), ShapeEnd>
     ensures fits { IfOk result (λ _. meaning.in_function taken «function».now ≡ []) }
     ensures fault { IfErr result (IsFirstOf (meaning.in_function taken «function».now)) }
 {
+    if !taken {
+        if is_whole(alloc, function)? {
+            return Ok(());
+        }
+    }
     header_fits(alloc, &function.name, name_kind(taken, &function.name))?;
     let params = params_fit(alloc, function)?;
     all_blocks_fit(alloc, function, params)

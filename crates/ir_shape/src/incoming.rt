@@ -12,7 +12,11 @@ use ir_core::{Block, Case, Name, Term};
 use std::alloc::{AllocError, Global};
 
 /// Puts a name behind those at a place.
-fn put_at<'a>(place: usize, from: &'a Name, into: &mut Vec<Vec<&'a Name>>) -> Result<(), AllocError>
+pub(crate) fn put_at<'a>(
+    place: usize,
+    from: &'a Name,
+    into: &mut Vec<Vec<&'a Name>>,
+) -> Result<(), AllocError>
     ensures { OnOk result (rows_of into.new.items ≡ with_edge_at (rows_of into.old.items) place from.now) }
 {
     if place < into.len() {
@@ -98,7 +102,7 @@ fn no_edges<'a>(alloc: Global, blocks: &[Block]) -> Result<Vec<Vec<&'a Name>>, A
     Ok(into)
 }
 
-fn have_phis(blocks: &[Block]) -> bool
+pub(crate) fn have_phis(blocks: &[Block]) -> bool
     ensures { result ≡ list_any has_phis blocks.now }
 {
     for block in blocks {

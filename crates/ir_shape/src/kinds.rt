@@ -57,7 +57,7 @@ fn select_fits(select: &Select<Name>) -> bool
     same_ty(&select.condition.ty, BIT) && same_ty(&select.left.ty, &select.right.ty)
 }
 
-fn right_kind(right: &Expr<Name>) -> Option<ShapeKind>
+pub(crate) fn right_kind(right: &Expr<Name>) -> Option<ShapeKind>
     ensures { result ≡ meaning.right_kind right.now }
 {
     match right {

@@ -29,6 +29,7 @@ impl<'a> Model for LentNames<'a> {
 impl<'a> LentNames<'a> {
     ghost use Rattle.std.specs.Prelude.{[], IfOk, OnOk};
     ghost use Rattle.name_index.specs.Among.{is_among, place_among};
+    ghost use Rattle.ir_shape.specs.Edges.{named};
     ghost use Rattle.ir_shape.specs.Shape.{with_name};
 
     /// There is room for so many.
@@ -46,6 +47,12 @@ impl<'a> LentNames<'a> {
         LentNames {
             names: IndexSet::new(alloc),
         }
+    }
+
+    pub(crate) fn as_slice(&self) -> &[&'a Name]
+        ensures { named result.now ≡ self.now }
+    {
+        self.names.as_slice()
     }
 
     pub(crate) fn has(&self, name: &Name) -> bool

@@ -10,11 +10,14 @@ mod first;
 mod incoming;
 mod kinds;
 mod laws;
+mod leads;
 mod lent;
 mod lines;
 mod names;
 mod phis;
+mod sight;
 mod types;
+mod whole;
 
 pub use fault::{LinePlace, ShapeEnd, ShapeFault, ShapeKind};
 pub use first::{shape, shape_function};

@@ -79,7 +79,7 @@ pub(crate) fn counts_of<'a>(alloc: Global, edges: &[&'a Name]) -> Result<Counts<
     Ok(Counts::new(alloc))
 }
 
-fn fits_edges(
+pub(crate) fn fits_edges(
     alloc: Global,
     edges: &[&Name],
     counts: &Counts,
