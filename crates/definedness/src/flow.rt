@@ -58,11 +58,21 @@ pub(crate) fn place_of(blocks: &[Block], labels: &PlaceIndex, name: &Name) -> Op
     place
 }
 
+/// How many edges lead from a terminator.
+fn successor_count(term: &Term) -> usize {
+    match term {
+        Term::Br(_) => 1,
+        Term::CondBr(_) => 2,
+        Term::Switch(switch) => switch.cases.len().saturating_add(1),
+        Term::Ret(_) | Term::RetVoid | Term::Unreachable => 0,
+    }
+}
+
 /// The places of the blocks to which a terminator leads.
 fn places_of(alloc: Global, labels: &PlaceIndex, term: &Term) -> Result<Vec<usize>, AllocError>
     ensures { IfOk result (λ places. places.items ≡ places_by labels.now (successors_of term.now)) }
 {
-    let mut places = Vec::new(alloc);
+    let mut places = Vec::with_capacity(alloc, successor_count(term))?;
     match term {
         Term::Br(label) => add_place(labels, label, &mut places)?,
         Term::CondBr(branch) => {

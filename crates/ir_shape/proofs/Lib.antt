@@ -13,3 +13,4 @@ pub mod Entries
 pub mod Counted
 pub mod Sighted
 pub mod Wholly
+pub mod Two

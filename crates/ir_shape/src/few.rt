@@ -1,5 +1,5 @@
 //! Few edges and entries of a phi, compared one by one.
-ghost use Rattle.std.specs.Prelude.{◌≡◌, ◌&&◌};
+ghost use Rattle.std.specs.Prelude.{◌≡◌, ◌&&◌, IsTrue, true};
 ghost use Rattle.std.specs.List.{list_all};
 ghost use Rattle.ir_shape.specs.Edges.{agrees, alike_with, named};
 ghost use Rattle.ir_shape.specs.Shape as meaning;
@@ -86,9 +86,30 @@ fn are_alike(entries: &[Entry]) -> bool
     true
 }
 
+/// Whether there are two entries, of two blocks, one for each of two edges in their order.
+fn two_fit(edges: &[&Name], entries: &[Entry]) -> bool
+    ensures { IsTrue result → (meaning.same_counts (named edges.now) (meaning.froms_of entries.now) && meaning.are_alike entries.now) ≡ true }
+{
+    match (edges, entries) {
+        ([one, two], [first, second]) => {
+            if !same_name(one, &first.from) || !same_name(two, &second.from) {
+                return false;
+            }
+            !same_name(&first.from, &second.from)
+        }
+        _ => false,
+    }
+}
+
 /// Whether there is an entry for each of the edges and no other, and entries of one block have one value.
-#[tactic(auto, using(crate::proofs::Edges::counts_joined))]
 pub(crate) fn few_fit(edges: &[&Name], entries: &[Entry]) -> bool
+    ensures { result ≡ (meaning.same_counts (named edges.now) (meaning.froms_of entries.now) && meaning.are_alike entries.now) }
+{
+    two_fit(edges, entries) || each_fit(edges, entries)
+}
+
+#[tactic(auto, using(crate::proofs::Edges::counts_joined))]
+fn each_fit(edges: &[&Name], entries: &[Entry]) -> bool
     ensures { result ≡ (meaning.same_counts (named edges.now) (meaning.froms_of entries.now) && meaning.are_alike entries.now) }
 {
     edges_agree(edges, entries) && entries_agree(edges, entries) && are_alike(entries)
