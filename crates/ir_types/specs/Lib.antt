@@ -1,0 +1,4 @@
+pub mod formers
+pub mod Same
+pub mod NameLaws
+pub mod Hashed
