@@ -3,11 +3,16 @@
 //! A value of these types is plain data to a contract: two are equal exactly where `Exact::is` says so.
 #![tactic(auto)]
 
+mod laws;
+mod layout;
+mod named;
 mod names;
 mod same;
 mod shared;
 mod ty;
 
+pub use laws::{examples_of_layouts, layouts_are_computed};
+pub use named::NamedTy;
 pub use names::{Name, Sigil};
 pub use same::{same_name, same_ty, tests_are_equality};
 pub use shared::Shared;

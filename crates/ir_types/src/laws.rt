@@ -1,0 +1,23 @@
+ghost use Rattle.ir_types.specs.Examples.{IntegersTake, ArraysTake, StructsTake, NamesTake};
+ghost use Rattle.ir_types.specs.Laws.{LayoutsAreComputed, LayoutsAreOne, NamesAreStructs, PointersHaveLayouts};
+
+/// Empty on purpose: its contract is the law.
+///
+/// A type has one layout at most, and where it has one it is the one that definitions compute. A named type has that of its struct,
+/// and none where it is opaque or unknown; a pointer has one, whatever it points to.
+pub fn layouts_are_computed()
+    ensures computed { LayoutsAreComputed }
+    ensures one { LayoutsAreOne }
+    ensures names { NamesAreStructs }
+    ensures pointers { PointersHaveLayouts }
+{}
+
+/// Empty on purpose: its contract is the law.
+///
+/// Sizes and alignments of integers, arrays, structs and named types, worked out by hand.
+pub fn examples_of_layouts()
+    ensures integers { IntegersTake }
+    ensures arrays { ArraysTake }
+    ensures structs { StructsTake }
+    ensures names { NamesTake }
+{}
