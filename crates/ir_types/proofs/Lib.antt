@@ -4,3 +4,8 @@ pub mod Monotone
 pub mod Found
 pub mod Rounds
 pub mod Examples
+pub mod Capping
+pub mod Powers
+pub mod KeptNames
+pub mod Wholes
+pub mod Offsets

@@ -5,4 +5,5 @@ pub mod Hashed
 pub mod Layout
 pub mod Named
 pub mod Laws
+pub mod Kept
 pub mod Examples

@@ -2,14 +2,18 @@
 --
 -- A type has a layout where those of the names in it, outside of pointers, can be found one after the other, each from those
 -- before it. So a type has none that holds itself without a pointer, nor one that holds an opaque type or `void`.
-use Rattle.std.specs.Prelude.{◌≡◌, ℕ, zero, suc, Bool, cond, List, [], ◌∷◌, length, Option, None, Some}
+use Rattle.std.specs.Prelude.{◌≡◌, ◌*◌, ℕ, zero, suc, Bool, cond, nat_le, List, [], ◌∷◌, map, length, Option, None, Some, Result, Ok, Err}
 use Rattle.std.specs.Option.{option_and_then, is_some}
 use Rattle.ir_types.specs.declared.layout.Layout.{Layout}
 use Rattle.ir_types.specs.declared.named.NamedTy.{NamedTy}
 use Rattle.ir_types.specs.declared.names.Name.{Name}
-use Rattle.ir_types.specs.declared.ty.Ty.{Ty, Struct}
+use Rattle.ir_types.specs.declared.sizes.SizeFault.{SizeFault}
+use Rattle.ir_types.specs.declared.sizes.SizeFault.TheVariants.{Unsized, TooLarge}
+use Rattle.ir_types.specs.declared.ty.Ty.{Ty, Struct, out-Ty}
+use Rattle.ir_types.specs.declared.ty.Ty.TheOpen.{Ty-F}
+use Rattle.ir_types.specs.declared.ty.Ty.TheOpen as ty
 use Rattle.ir_types.specs.Same.{same_name}
-use Rattle.ir_types.specs.Layout.{layout_by}
+use Rattle.ir_types.specs.Layout.{all_of, layout_by, offset_from}
 
 -- the fields of the first type of that name: none where it is opaque, and where there is none
 abbrev pub fields_of : List NamedTy → Name → Option (List Ty)
@@ -90,3 +94,36 @@ size_of types t = size_in (layout_of types t)
 
 abbrev pub align_of : List NamedTy → Ty → ℕ
 align_of types t = align_in (layout_of types t)
+
+-- ---- blocks
+
+-- The bytes of so many of the type, one after the other: 2^31 at most.
+abbrev pub block_in : Option Layout → ℕ → Result ℕ SizeFault
+block_in None count = Err Unsized
+block_in (Some layout) count = cond (nat_le (layout.size * count) 2147483648) (Ok (layout.size * count)) (Err TooLarge)
+
+abbrev pub block_of : List NamedTy → Ty → ℕ → Result ℕ SizeFault
+block_of types t count = block_in (layout_of types t) count
+
+-- ---- fields
+
+abbrev pub fields_or_none : Option (List Ty) → List Ty
+fields_or_none None = []
+fields_or_none (Some fields) = fields
+
+abbrev pub fields_at_level : List NamedTy → Ty-F Ty → List Ty
+fields_at_level types (ty.Struct fields) = fields
+fields_at_level types (ty.Named x) = fields_or_none (fields_of types x)
+fields_at_level types level = []
+
+-- the fields of a struct, or of a named one
+abbrev pub fields_in : List NamedTy → Ty → List Ty
+fields_in types t = fields_at_level types (out-Ty t)
+
+abbrev pub offset_in : Option (List Layout) → ℕ → ℕ
+offset_in (Some fields) k = offset_from 0 fields k
+offset_in None k = 0
+
+-- where the field of that number begins
+abbrev pub field_offset : List NamedTy → Ty → ℕ → ℕ
+field_offset types t k = offset_in (all_of (map (layout_of types) (fields_in types t))) k

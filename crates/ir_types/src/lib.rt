@@ -3,17 +3,24 @@
 //! A value of these types is plain data to a contract: two are equal exactly where `Exact::is` says so.
 #![tactic(auto)]
 
+mod keeping;
+mod kept;
 mod laws;
 mod layout;
+mod name_map;
 mod named;
+mod named_types;
 mod names;
 mod same;
 mod shared;
+mod sizes;
 mod ty;
 
 pub use laws::{examples_of_layouts, layouts_are_computed};
 pub use named::NamedTy;
+pub use named_types::NamedTypes;
 pub use names::{Name, Sigil};
 pub use same::{same_name, same_ty, tests_are_equality};
 pub use shared::Shared;
+pub use sizes::{SizeFault, align_of, field_offset, fits_block, size_of};
 pub use ty::Ty;
