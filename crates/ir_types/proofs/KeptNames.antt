@@ -235,3 +235,9 @@ module _ (types : List NamedTy) (fields : Name → Option (List Ty)) (are : (x :
       (one ≡ false → IsClosed fields now t.name) → IsRound types fields before new (more || one) (i + 1)
   round_step true positive found same closed = found_one positive (found refl)
   round_step false positive found same closed = found_none (same refl) (closed refl)
+
+-- after a name, whether it was kept or not
+pub partly_after : (types : List NamedTy) (fields : Name → Option (List Ty)) → ((x : Name) → fields x ≡ fields_of types x) → (now new : Name → Option Layout) (x : Name) →
+    ArePartlyKept types now → (one : Bool) → (one ≡ true → IsOneMore fields now new x) → (one ≡ false → now ≡ new) → ArePartlyKept types new
+partly_after types fields are now new x partly true found same = more_kept types now partly fields are new x (found refl)
+partly_after types fields are now new x partly false found same = subst (ArePartlyKept types) (same refl) partly

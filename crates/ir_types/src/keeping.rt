@@ -8,6 +8,7 @@ use crate::kept::kept_struct;
 use crate::layout::Layout;
 use crate::name_map::NameMap;
 use crate::named::{Fields, NamedTy};
+use crate::order::places_in_order;
 use contents::Exact;
 use std::alloc::{AllocError, Global};
 
@@ -94,7 +95,29 @@ fn keep_round(
     Ok(more)
 }
 
-/// What is kept of the layouts of all names.
+/// Keeps the layouts of names in the order in which they are found at once.
+fn keep_in_order(
+    alloc: Global,
+    types: &[NamedTy],
+    fields: &NameMap<Fields>,
+    layouts: &mut NameMap<Layout>,
+) -> Result<(), AllocError>
+    requires indexed { kept.AreIndexed types.now fields.now }
+    requires positive { kept.AlignsArePositive (kept.value_of layouts.old) }
+    requires partly { kept.ArePartlyKept types.now (kept.value_of layouts.old) }
+    ensures positive { OnOk result (kept.AlignsArePositive (kept.value_of layouts.new)) }
+    ensures partly { OnOk result (kept.ArePartlyKept types.now (kept.value_of layouts.new)) }
+{
+    let order = places_in_order(alloc, types)?;
+    for place in order.as_slice() {
+        if let Some(named) = types.get(*place) {
+            keep_name(alloc, fields, layouts, &named.name)?;
+        }
+    }
+    Ok(())
+}
+
+/// What is kept of the layouts of all names. The first round finds none behind the names in order, so that the work is linear.
 pub(crate) fn keep_layouts(
     alloc: Global,
     types: &[NamedTy],
@@ -105,6 +128,7 @@ pub(crate) fn keep_layouts(
     ensures positive { IfOk result (λ layouts. kept.AlignsArePositive (kept.value_of layouts)) }
 {
     let mut layouts = NameMap::with_room(alloc, types.len())?;
+    keep_in_order(alloc, types, fields, &mut layouts)?;
     while keep_round(alloc, types, fields, &mut layouts)? {}
     Ok(layouts)
 }

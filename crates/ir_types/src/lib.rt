@@ -11,6 +11,7 @@ mod name_map;
 mod named;
 mod named_types;
 mod names;
+mod order;
 mod same;
 mod shared;
 mod sizes;
