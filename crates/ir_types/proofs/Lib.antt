@@ -9,3 +9,4 @@ pub mod Powers
 pub mod KeptNames
 pub mod Wholes
 pub mod Offsets
+pub mod Parts

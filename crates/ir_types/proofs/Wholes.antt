@@ -44,7 +44,7 @@ greater_power a b p q = elim (cases_lt a b) [
   | inr not ↦ subst IsPowerOfTwo (sym (max-eq_left not)) p
 ]
 
-align_power : (least : ℕ) (ls : List Layout) → IsPowerOfTwo least → AllByRecursion IsWhole ls → IsPowerOfTwo (align_from least ls)
+pub align_power : (least : ℕ) (ls : List Layout) → IsPowerOfTwo least → AllByRecursion IsWhole ls → IsPowerOfTwo (align_from least ls)
 align_power least [] power all = power
 align_power least (l ∷ ls) power all = align_power (max least l.align) ls (greater_power least l.align power all.0.power) all.1
 

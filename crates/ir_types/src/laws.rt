@@ -1,5 +1,6 @@
 ghost use Rattle.ir_types.specs.Examples.{IntegersTake, ArraysTake, StructsTake, NamesTake};
 ghost use Rattle.ir_types.specs.Laws.{LayoutsAreComputed, LayoutsAreOne, NamesAreStructs, PointersHaveLayouts};
+ghost use Rattle.ir_types.specs.Laws.{SizesAreMultiples, AlignsArePowers, FieldsLieInside, FieldsAreApart, ElementsLieInside, PartsFit};
 
 /// Empty on purpose: its contract is the law.
 ///
@@ -10,6 +11,19 @@ pub fn layouts_are_computed()
     ensures one { LayoutsAreOne }
     ensures names { NamesAreStructs }
     ensures pointers { PointersHaveLayouts }
+{}
+
+/// Empty on purpose: its contract is the law.
+///
+/// A size is a multiple of its alignment, which is a power of two. Fields and elements lie inside, at multiples of their alignment, and apart;
+/// what lies inside of what makes a block makes one.
+pub fn parts_lie_inside()
+    ensures multiples { SizesAreMultiples }
+    ensures powers { AlignsArePowers }
+    ensures fields { FieldsLieInside }
+    ensures apart { FieldsAreApart }
+    ensures elements { ElementsLieInside }
+    ensures parts { PartsFit }
 {}
 
 /// Empty on purpose: its contract is the law.

@@ -17,7 +17,7 @@ mod shared;
 mod sizes;
 mod ty;
 
-pub use laws::{examples_of_layouts, layouts_are_computed};
+pub use laws::{examples_of_layouts, layouts_are_computed, parts_lie_inside};
 pub use named::NamedTy;
 pub use named_types::NamedTypes;
 pub use names::{Name, Sigil};
