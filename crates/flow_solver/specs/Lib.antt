@@ -2,4 +2,6 @@ pub mod Ways
 pub mod Near
 pub mod Searched
 pub mod Dominated
+pub mod Frameworks
+pub mod Solving
 pub mod Examples

@@ -2,14 +2,19 @@
 #![tactic(auto)]
 
 mod dominance;
+mod facts;
 mod graph;
 mod laws;
+mod queue;
 mod reached;
 mod search;
+mod solver;
 mod tree;
 mod walk;
 
 pub use dominance::{Dominators, dominators_of};
+pub use facts::Facts;
 pub use graph::Graph;
 pub use laws::{examples_of_ways, reached_nodes_are_reached};
 pub use reached::{first_way, reachable};
+pub use solver::solve;
