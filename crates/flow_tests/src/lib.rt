@@ -1,0 +1,18 @@
+//! Analyses as a user of `flow_solver` brings them, and what they find in graphs.
+#![tactic(auto)]
+
+#[cfg(test)]
+mod graphs;
+#[cfg(test)]
+mod large;
+mod reached;
+#[cfg(test)]
+mod sets;
+#[cfg(test)]
+mod sign_tests;
+mod signs;
+mod small;
+
+pub use reached::Reached;
+pub use signs::{Act, Known, Sign, Signs, is_same};
+pub use small::{Effect, Small};
