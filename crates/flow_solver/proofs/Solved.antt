@@ -1,31 +1,83 @@
 -- Values go down to the greatest solution.
-use Rattle.std.proofs.Common.{◌≡◌, ◌≢◌, ◌∙◌, ◌⊎◌, ⊎_elim, inl, inr, ℕ, ◌<◌, ◌≤◌, ◌+◌, Bool, List, [], length, get_or, set, refl, sym, ap, subst, arith}
+use Rattle.std.proofs.Common.{◌≡◌, ◌≢◌, ◌∙◌, ◌⊎◌, ⊎_elim, inl, inr, ℕ, ◌<◌, ◌≤◌, ◌+◌, Bool, false, List, [], length, get_or, set, refl, sym, ap, subst, arith}
 use Rattle.std.specs.List.{AllByRecursion, Contains}
 use Rattle.std.proofs.lemmas.Bool.{cases_eq, cases_lt}
-use Rattle.std.proofs.lemmas.List.{get_or-set_other, get_or-set_same, get_or_default, length-set}
+use Rattle.std.proofs.lemmas.List.{get_or-set_other, get_or-set_same, get_or_default, get_or_past, length-set, set-get_or}
 use Rattle.std.proofs.lemmas.List.Elements.{All-from_recursion, All-get_or}
 use Rattle.std.proofs.lemmas.List.Sums.{sum_by-set}
 use Rattle.flow_solver.specs.Ways.{LeadsWithin, led_to}
 use Rattle.flow_solver.specs.Frameworks.{Enters, Framework, IsEither, IsGreatestLowerBound, IsGreatestSolution, IsLowerBound, IsMonotone, IsSafe, IsSolution, value_at}
-use Rattle.flow_solver.specs.Solving.{AreLeft, IsAboveAll, IsLeaving, IsLeft, StillWait, Waits, weight}
+use Rattle.std.specs.BinaryHeap.{heap_len}
+use Rattle.flow_solver.specs.declared.queue.Queue.{Queue}
+use Rattle.flow_solver.specs.Solving.{HasEntered, IsAboveAll, IsLeaving, IsLeft, IsQueue, IsSolving, StillWait, Waits, weight}
 
 module _ {V : Type 0} (f : Framework V) (is : IsMonotone f) (g : List (List ℕ)) where
   solution_safe : (vs : List V) → IsSolution f g vs → IsSafe f g vs
   solution_safe vs solution = record { many = solution.many; below = λ n at. (solution.met n at).0 }
 
+  -- ---- the start
+
+  start_value : (vs : List V) → length vs ≡ length g → ((n : ℕ) → n < length g → value_at f vs n ≡ f.start n) → (n : ℕ) → f.IsValue (value_at f vs n)
+  start_value vs many starts n = ⊎_elim
+      (λ at. subst f.IsValue (sym (starts n at)) (is.start n))
+      (λ (past : length g ≤ n). subst f.IsValue (sym (get_or_past vs n f.top (subst (λ k. k ≤ n) (sym many) past))) is.top) (cases_lt n (length g))
+
+  begun_above : (vs : List V) → length vs ≡ length g → ((n : ℕ) → n < length g → value_at f vs n ≡ f.start n) → IsAboveAll f g vs
+  begun_above vs many starts = record {
+    many = many;
+    value = start_value vs many starts;
+    start = λ n at. subst (λ v. f.IsBelow v (f.start n)) (sym (starts n at)) (is.reflexive (f.start n) (is.start n));
+    met = λ n at w bound. subst (f.IsBelow w) (sym (starts n at)) (bound.1 (f.start n) (inl refl));
+    safe = λ others safe n at. subst (f.IsBelow (value_at f others n)) (sym (starts n at)) ((safe.below n at).1 (f.start n) (inl refl));
+  }
+
+  pub begun :
+      (vs : List V) (q : Queue) → length vs ≡ length g → ((n : ℕ) → n < length g → value_at f vs n ≡ f.start n)
+      → length q.waits.items ≡ length g → IsQueue q → ((n : ℕ) → n < length g → Waits q n) → IsSolving f g vs q
+  begun vs q many starts marks queue waits = record {
+    queue = queue;
+    marks = marks;
+    above = begun_above vs many starts;
+    left = λ n idle. ⊎_elim
+        (λ at. absurd (idle (waits n at)))
+        (λ (past : length g ≤ n) t at. absurd (omega (arith, at, ap (length {A = ℕ}) (get_or_past g n [] past)))) (cases_lt n (length g));
+  }
+
   -- ---- a value enters a node
 
-  pub lighter :
-      (vs : List V) (n : ℕ) (s v : V) (queued after : ℕ) → n < length vs → f.IsValue (value_at f vs n) → f.IsValue s
-      → v ≡ f.meet (value_at f vs n) s → (v ≡ value_at f vs n → ⊥) → after ≤ queued + 1
-      → weight f (set vs n v) after ≤ weight f vs queued
-  lighter vs n s v queued after at own value by changed more =
+  lighter :
+      (vs : List V) (n : ℕ) (s v : V) (q r : Queue) → n < length vs → f.IsValue (value_at f vs n) → f.IsValue s
+      → v ≡ f.meet (value_at f vs n) s → (v ≡ value_at f vs n → ⊥) → heap_len r.heap ≤ heap_len q.heap + 1
+      → weight f (set vs n v) r ≤ weight f vs q
+  lighter vs n s v q r at own value by changed more =
       let is_met = is.meet (value_at f vs n) s own value in
       let is_value : f.IsValue v = subst f.IsValue (sym by) is_met.0.0 in
       let below : f.IsBelow v (value_at f vs n) = subst (λ u. f.IsBelow u (value_at f vs n)) (sym by) (is_met.0.1 (value_at f vs n) (inl refl)) in
       let falls = is.height v (value_at f vs n) is_value own below changed in
       let sums = sum_by-set f.height vs n v f.top at in
       omega (arith, falls, sums, more)
+
+  pub lower_entered :
+      (vs : List V) (n : ℕ) (s v : V) (q r : Queue) → n < length vs → f.IsValue (value_at f vs n) → f.IsValue s
+      → v ≡ f.meet (value_at f vs n) s → (v ≡ value_at f vs n → ⊥) → IsQueue r → StillWait q r → Waits r n → heap_len r.heap ≤ heap_len q.heap + 1
+      → HasEntered f n s vs q (set vs n v) r
+  lower_entered vs n s v q r at own value by changed queue still waiting more = record {
+    met = ap (set vs n) by;
+    queue = queue;
+    still = still;
+    changed = inr waiting;
+    weight = lighter vs n s v q r at own value by changed more;
+  }
+
+  pub same_entered :
+      (vs : List V) (n : ℕ) (s v : V) (q : Queue) → v ≡ f.meet (value_at f vs n) s → v ≡ value_at f vs n → IsQueue q → HasEntered f n s vs q vs q
+  same_entered vs n s v q by same queue = record {
+    met = sym (set-get_or vs n f.top) ∙ ap (set vs n) (sym same ∙ by);
+    queue = queue;
+    still = record { many = refl; waits = λ k waiting. waiting };
+    changed = inl refl;
+    weight = omega arith;
+  }
 
   module _ (vs : List V) (n : ℕ) (v : V) (at : n < length vs) where
     by_node : (P : ℕ → V → Type 0) → P n v → ((k : ℕ) → k ≢ n → P k (value_at f vs k)) → (k : ℕ) → P k (value_at f (set vs n v) k)
@@ -118,10 +170,12 @@ module _ {V : Type 0} (f : Framework V) (is : IsMonotone f) (g : List (List ℕ)
     new_below : f.IsBelow (value_at f (set vs n met) n) (f.transfer m x)
     new_below = subst (λ u. f.IsBelow u (f.transfer m x)) (sym (get_or-set_same vs n met f.top within)) (is_met.0.1 (f.transfer m x) (inr refl))
 
-    pub entered_leaving :
-        (waits after : List Bool) (t : ℕ) → t < length (led_to g m) → n ≡ get_or (led_to g m) t 0 → StillWait waits after
-        → (set vs n met ≡ vs) ⊎ Waits after n → IsLeaving f g vs waits m x t → IsLeaving f g (set vs n met) after m x (t + 1)
-    entered_leaving waits after t turn next still changed leaving = record {
+    entered_leaving :
+        (q r : Queue) (t : ℕ) → t < length (led_to g m) → n ≡ get_or (led_to g m) t 0 → IsQueue r → StillWait q r
+        → (set vs n met ≡ vs) ⊎ Waits r n → IsLeaving f g m x vs q t → IsLeaving f g m x (set vs n met) r (t + 1)
+    entered_leaving q r t turn next queue still changed leaving = record {
+      queue = queue;
+      marks = still.many ∙ leaving.marks;
       above = entered_above;
       same = λ idle. same idle changed;
       down = met_down;
@@ -129,16 +183,19 @@ module _ {V : Type 0} (f : Framework V) (is : IsMonotone f) (g : List (List ℕ)
       turns = λ u before at_u. ⊎_elim (λ earlier. earlier_turn u earlier at_u) (λ (none : t ≤ u). last_turn u (omega (arith, before, none))) (cases_lt u t);
     }
       where
-        idle_before : (k : ℕ) → (Waits after k → ⊥) → Waits waits k → ⊥
-        idle_before k idle waiting = idle (still.1 k waiting)
+        idle_before : (k : ℕ) → (Waits r k → ⊥) → Waits q k → ⊥
+        idle_before k idle waiting = idle (still.waits k waiting)
 
-        same : (Waits after m → ⊥) → (set vs n met ≡ vs) ⊎ Waits after n → value_at f (set vs n met) m ≡ x
+        other_from : (k : ℕ) → (Waits r k → ⊥) → Waits r n → k ≢ n
+        other_from k idle waiting is_n = idle (subst (Waits r) (sym is_n) waiting)
+
+        same : (Waits r m → ⊥) → (set vs n met ≡ vs) ⊎ Waits r n → value_at f (set vs n met) m ≡ x
         same idle (inl unchanged) = ap (λ us. value_at f us m) unchanged ∙ leaving.same (idle_before m idle)
-        same idle (inr waiting) = get_or-set_other vs n m met f.top (λ is_n. idle (subst (Waits after) (sym is_n) waiting)) ∙ leaving.same (idle_before m idle)
+        same idle (inr waiting) = get_or-set_other vs n m met f.top (other_from m idle waiting) ∙ leaving.same (idle_before m idle)
 
-        left : (k : ℕ) → k ≢ m → (Waits after k → ⊥) → (set vs n met ≡ vs) ⊎ Waits after n → IsLeft f g (set vs n met) k
+        left : (k : ℕ) → k ≢ m → (Waits r k → ⊥) → (set vs n met ≡ vs) ⊎ Waits r n → IsLeft f g (set vs n met) k
         left k other idle (inl unchanged) = subst (λ us. IsLeft f g us k) (sym unchanged) (leaving.left k other (idle_before k idle))
-        left k other idle (inr waiting) = entered_left k (λ is_n. idle (subst (Waits after) (sym is_n) waiting)) (leaving.left k other (idle_before k idle))
+        left k other idle (inr waiting) = entered_left k (other_from k idle waiting) (leaving.left k other (idle_before k idle))
 
         earlier_turn : (u : ℕ) → u < t → u < length (led_to g m) → f.IsBelow (value_at f (set vs n met) (get_or (led_to g m) u 0)) (f.transfer m x)
         earlier_turn u earlier at_u =
@@ -150,65 +207,71 @@ module _ {V : Type 0} (f : Framework V) (is : IsMonotone f) (g : List (List ℕ)
 
   -- ---- how a node is left
 
-  pub still_left :
-      (vs : List V) (waits : List Bool) (m : ℕ) → IsAboveAll f g vs → ((n : ℕ) → n ≢ m → (Waits waits n → ⊥) → IsLeft f g vs n)
-      → IsLeaving f g vs waits m (value_at f vs m) 0
-  still_left vs waits m above left = record {
-    above = above;
+  pub taken :
+      (vs : List V) (q r : Queue) (m : ℕ) → m < length q.waits.items → IsSolving f g vs q → IsQueue r → r.waits.items ≡ set q.waits.items m false
+      → IsLeaving f g m (value_at f vs m) vs r 0
+  taken vs q r m at solving queue marks = record {
+    queue = queue;
+    marks = ap (length {A = Bool}) marks ∙ length-set q.waits.items m false ∙ solving.marks;
+    above = solving.above;
     same = λ _. refl;
-    down = is.reflexive (value_at f vs m) (above.value m);
-    left = left;
+    down = is.reflexive (value_at f vs m) (solving.above.value m);
+    left = λ n other idle. solving.left n (λ waiting. idle (ap (λ (bs : List Bool). get_or bs n false) marks ∙ get_or-set_other q.waits.items m n false false other ∙ waiting));
     turns = λ t at. absurd (omega (arith, at));
   }
 
-  pub all_left : (vs : List V) (waits : List Bool) (m many : ℕ) (x : V) → length (led_to g m) ≤ many → IsLeaving f g vs waits m x many → AreLeft f g vs waits
-  all_left vs waits m many x all leaving n idle = ⊎_elim
-      (λ (same : n ≡ m). subst (IsLeft f g vs) (sym same) (here (λ waiting. idle (subst (Waits waits) (sym same) waiting))))
-      (λ other. leaving.left n other idle) (cases_eq n m)
+  pub all_left : (vs : List V) (q : Queue) (m many : ℕ) (x : V) → length (led_to g m) ≤ many → IsLeaving f g m x vs q many → IsSolving f g vs q
+  all_left vs q m many x all leaving = record {
+    queue = leaving.queue;
+    marks = leaving.marks;
+    above = leaving.above;
+    left = λ n idle. ⊎_elim
+        (λ (same : n ≡ m). subst (IsLeft f g vs) (sym same) (here (λ waiting. idle (subst (Waits q) (sym same) waiting))))
+        (λ other. leaving.left n other idle) (cases_eq n m);
+  }
     where
-      here : (Waits waits m → ⊥) → IsLeft f g vs m
+      here : (Waits q m → ⊥) → IsLeft f g vs m
       here idle t at = subst (λ u. f.IsBelow (value_at f vs (get_or (led_to g m) t 0)) (f.transfer m u)) (sym (leaving.same idle)) (leaving.turns t (omega (arith, at, all)) at)
 
   -- where no node waits, that is the solution
-  module _ (vs : List V) (waits : List Bool) (above : IsAboveAll f g vs) (left : AreLeft f g vs waits) (none : (n : ℕ) → Waits waits n → ⊥) where
+  module _ (vs : List V) (q : Queue) (solving : IsSolving f g vs q) (none : (n : ℕ) → Waits q n → ⊥) where
     below_left_of : (n m : ℕ) → Contains (led_to g m) n → f.IsBelow (value_at f vs n) (f.transfer m (value_at f vs m))
     below_left_of n m edge =
-        subst (λ k. f.IsBelow (value_at f vs k) (f.transfer m (value_at f vs m))) (get_or_default (led_to g m) edge.0 0 n edge.1 ∙ edge.2) (left m (none m) edge.0 edge.1)
+        subst (λ k. f.IsBelow (value_at f vs k) (f.transfer m (value_at f vs m))) (get_or_default (led_to g m) edge.0 0 n edge.1 ∙ edge.2) (solving.left m (none m) edge.0 edge.1)
 
     is_solution : IsSolution f g vs
     is_solution = record {
-      many = above.many;
+      many = solving.above.many;
       met = λ n at. (
         (
-          above.value n,
+          solving.above.value n,
           λ e by. elim by [
-            | inl is_start ↦ subst (f.IsBelow (value_at f vs n)) (sym is_start) (above.start n at)
+            | inl is_start ↦ subst (f.IsBelow (value_at f vs n)) (sym is_start) (solving.above.start n at)
             | inr from ↦ subst (f.IsBelow (value_at f vs n)) (sym from.2) (below_left_of n from.0 from.1)
           ],
         ),
-        above.met n at,
+        solving.above.met n at,
       );
     }
 
     pub is_greatest : IsGreatestSolution f g vs
-    is_greatest = record { solution = is_solution; greatest = λ others solution. above.safe others (solution_safe others solution) }
+    is_greatest = record { solution = is_solution; greatest = λ others solution. solving.above.safe others (solution_safe others solution) }
 
 -- a set has entered the next one of the nodes to which a node leads
 module _ {V : Type 0} (f : Framework V) (is : IsMonotone f) (g : List (List ℕ)) where
   pub entered :
-      (vs after : List V) (waits waits_after : List Bool) (m n t : ℕ) (x s : V) → m < length g → n < length g → t < length (led_to g m) → n ≡ get_or (led_to g m) t 0
-      → f.IsValue x → s ≡ f.transfer m x → after ≡ set vs n (f.meet (value_at f vs n) s) → StillWait waits waits_after
-      → (after ≡ vs) ⊎ Waits waits_after n → IsLeaving f g vs waits m x t → IsLeaving f g after waits_after m x (t + 1)
-  entered vs after waits waits_after m n t x s from at turn next value left is_after still changed leaving =
-      subst (λ us. IsLeaving f g us waits_after m x (t + 1)) (sym is_set)
-      (entered_leaving f is g vs m n x from at edge leaving.above value leaving.down waits waits_after t turn next still
-      (⊎_elim (λ same. inl (sym is_set ∙ same)) (λ waiting. inr waiting) changed) leaving)
+      (vs after : List V) (q r : Queue) (m n t : ℕ) (x s : V) → m < length g → n < length g → t < length (led_to g m) → n ≡ get_or (led_to g m) t 0
+      → f.IsValue x → s ≡ f.transfer m x → HasEntered f n s vs q after r → IsLeaving f g m x vs q t → IsLeaving f g m x after r (t + 1)
+  entered vs after q r m n t x s from at turn next value left has leaving =
+      subst (λ us. IsLeaving f g m x us r (t + 1)) (sym is_set)
+      (entered_leaving f is g vs m n x from at edge leaving.above value leaving.down q r t turn next has.queue has.still
+      (⊎_elim (λ same. inl (sym is_set ∙ same)) (λ waiting. inr waiting) has.changed) leaving)
     where
       edge : Contains (led_to g m) n
       edge = (t, turn, get_or_default (led_to g m) t n 0 turn ∙ sym next)
 
       is_set : after ≡ set vs n (f.meet (value_at f vs n) (f.transfer m x))
-      is_set = is_after ∙ ap (λ u. set vs n (f.meet (value_at f vs n) u)) left
+      is_set = has.met ∙ ap (λ u. set vs n (f.meet (value_at f vs n) u)) left
 
 pub led_within : (g : List (List ℕ)) → LeadsWithin g → (m t : ℕ) → m < length g → t < length (led_to g m) → get_or (led_to g m) t 0 < length g
 led_within g within m t at turn =

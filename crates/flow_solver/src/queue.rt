@@ -1,6 +1,6 @@
 //! The nodes that wait to be left.
 ghost use Rattle.std.specs.Prelude.{◌≡◌, ℕ, ◌+◌, ◌<◌, ◌≤◌, length, slice_set, true, false, IfOk, OnOk, MatchOption};
-ghost use Rattle.std.specs.BinaryHeap.{heap_items, heap_len};
+ghost use Rattle.std.specs.BinaryHeap.{heap_len};
 ghost use Rattle.flow_solver.specs.Solving.{IsQueue, StillWait, Waits};
 
 use crate::Graph;
@@ -27,10 +27,10 @@ impl Queue {
     /// A node waits from now on.
     pub(crate) fn wait(&mut self, node: usize) -> Result<(), AllocError>
         requires node { node < length self.old.waits.items }
-        requires queue { IsQueue self.old.waits.items (heap_items self.old.heap) }
-        ensures queue { OnOk result (IsQueue self.new.waits.items (heap_items self.new.heap)) }
-        ensures waits { OnOk result (Waits self.new.waits.items node) }
-        ensures still { OnOk result (StillWait self.old.waits.items self.new.waits.items) }
+        requires queue { IsQueue self.old }
+        ensures queue { OnOk result (IsQueue self.new) }
+        ensures waits { OnOk result (Waits self.new node) }
+        ensures still { OnOk result (StillWait self.old self.new) }
         ensures one { OnOk result (heap_len self.new.heap ≤ heap_len self.old.heap + 1) }
     {
         if !self.waits[node] {
@@ -43,9 +43,9 @@ impl Queue {
 
     /// The next node, which doesn't wait any longer.
     pub(crate) fn next(&mut self) -> Option<usize>
-        requires queue { IsQueue self.old.waits.items (heap_items self.old.heap) }
-        ensures none { MatchOption result ((n : ℕ) → Waits self.old.waits.items n → ⊥) (λ node. node < length self.old.waits.items) }
-        ensures queue { IsQueue self.new.waits.items (heap_items self.new.heap) }
+        requires queue { IsQueue self.old }
+        ensures none { MatchOption result ((n : ℕ) → Waits self.old n → ⊥) (λ node. node < length self.old.waits.items) }
+        ensures queue { IsQueue self.new }
         ensures waits { MatchOption result (self.new.waits.items ≡ self.old.waits.items) (λ node. self.new.waits.items ≡ slice_set self.old.waits.items node false) }
         ensures one { MatchOption result (heap_len self.new.heap ≡ heap_len self.old.heap) (λ node. heap_len self.new.heap + 1 ≡ heap_len self.old.heap) }
     {
@@ -58,8 +58,8 @@ impl Queue {
 /// All nodes of a graph, ranked by a walk.
 pub(crate) fn all_nodes(alloc: Global, graph: &Graph) -> Result<Queue, AllocError>
     ensures many { IfOk result (λ queue. length queue.waits.items ≡ length graph.now) }
-    ensures queue { IfOk result (λ queue. IsQueue queue.waits.items (heap_items queue.heap)) }
-    ensures waits { IfOk result (λ queue. (n : ℕ) → n < length graph.now → Waits queue.waits.items n) }
+    ensures queue { IfOk result IsQueue }
+    ensures waits { IfOk result (λ queue. (n : ℕ) → n < length graph.now → Waits queue n) }
 {
     let mut queue = Queue {
         waits: vec![in alloc; false; graph.len()]?,

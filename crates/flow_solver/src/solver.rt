@@ -1,9 +1,8 @@
 //! The greatest solution of a monotone framework over a graph, by a worklist.
-ghost use Rattle.std.specs.Prelude.{◌≡◌, ◌≢◌, ℕ, ◌<◌, ◌≤◌, ◌⊎◌, ◌+◌, length, slice_index, slice_set, IfOk, OnOk};
-ghost use Rattle.std.specs.BinaryHeap.{heap_items, heap_len};
+ghost use Rattle.std.specs.Prelude.{◌≡◌, ℕ, ◌<◌, ◌≤◌, length, IfOk, OnOk};
 ghost use Rattle.flow_solver.specs.Ways.{LeadsWithin};
 ghost use Rattle.flow_solver.specs.Frameworks.{IsGreatestSolution, IsSafe, value_at};
-ghost use Rattle.flow_solver.specs.Solving.{AreLeft, IsAboveAll, IsLeft, IsQueue, StillWait, Waits, weight};
+ghost use Rattle.flow_solver.specs.Solving.{HasEntered, IsLeaving, IsQueue, IsSolving, weight};
 
 use crate::queue::{Queue, all_nodes};
 use crate::{Facts, Graph};
@@ -32,14 +31,10 @@ fn enter<F: Facts>(
 ) -> Result<(), AllocError>
     requires node { node < length sets.old.items }
     requires marks { length queue.old.waits.items ≡ length sets.old.items }
+    requires queue { IsQueue queue.old }
     requires own { (F.framework facts.now).IsValue (value_at (F.framework facts.now) sets.old.items node) }
     requires set { (F.framework facts.now).IsValue set.now }
-    requires queue { IsQueue queue.old.waits.items (heap_items queue.old.heap) }
-    ensures met { OnOk result (sets.new.items ≡ slice_set sets.old.items node ((F.framework facts.now).meet (value_at (F.framework facts.now) sets.old.items node) set.now)) }
-    ensures queue { OnOk result (IsQueue queue.new.waits.items (heap_items queue.new.heap)) }
-    ensures still { OnOk result (StillWait queue.old.waits.items queue.new.waits.items) }
-    ensures changed { OnOk result ((sets.new.items ≡ sets.old.items) ⊎ Waits queue.new.waits.items node) }
-    ensures weight { OnOk result (weight (F.framework facts.now) sets.new.items (heap_len queue.new.heap) ≤ weight (F.framework facts.now) sets.old.items (heap_len queue.old.heap)) }
+    ensures { OnOk result (HasEntered (F.framework facts.now) node set.now sets.old.items queue.old sets.new.items queue.new) }
 {
     let met = facts.meet(alloc, &sets[node], set)?;
     if !facts.same(&met, &sets[node]) {
@@ -60,15 +55,9 @@ fn leave<F: Facts>(
 ) -> Result<(), AllocError>
     requires within { LeadsWithin graph.now }
     requires node { node < length graph.now }
-    requires marks { length queue.old.waits.items ≡ length graph.now }
-    requires queue { IsQueue queue.old.waits.items (heap_items queue.old.heap) }
-    requires above { IsAboveAll (F.framework facts.now) graph.now sets.old.items }
-    requires left { (n : ℕ) → n ≢ node → (Waits queue.old.waits.items n → ⊥) → IsLeft (F.framework facts.now) graph.now sets.old.items n }
-    ensures queue { OnOk result (IsQueue queue.new.waits.items (heap_items queue.new.heap)) }
-    ensures marks { OnOk result (length queue.new.waits.items ≡ length queue.old.waits.items) }
-    ensures above { OnOk result (IsAboveAll (F.framework facts.now) graph.now sets.new.items) }
-    ensures left { OnOk result (AreLeft (F.framework facts.now) graph.now sets.new.items queue.new.waits.items) }
-    ensures weight { OnOk result (weight (F.framework facts.now) sets.new.items (heap_len queue.new.heap) ≤ weight (F.framework facts.now) sets.old.items (heap_len queue.old.heap)) }
+    requires leaving { IsLeaving (F.framework facts.now) graph.now node (value_at (F.framework facts.now) sets.old.items node) sets.old.items queue.old 0 }
+    ensures solving { OnOk result (IsSolving (F.framework facts.now) graph.now sets.new.items queue.new) }
+    ensures weight { OnOk result (weight (F.framework facts.now) sets.new.items queue.new ≤ weight (F.framework facts.now) sets.old.items queue.old) }
 {
     let left = facts.transfer(alloc, node, &sets[node])?;
     for next in graph.led_to(node) {

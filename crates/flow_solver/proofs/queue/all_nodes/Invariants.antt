@@ -1,5 +1,4 @@
 use Rattle.std.proofs.Common.{◌≡◌, ℕ, ◌<◌, length}
-use Rattle.std.specs.BinaryHeap.{heap_items}
 use Rattle.flow_solver.specs.Solving.{IsQueue, Waits}
 use Rattle.flow_solver.proofs.queue.all_nodes.Given as goal
 
@@ -7,6 +6,6 @@ use Rattle.flow_solver.proofs.queue.all_nodes.Given as goal
 abbrev pub invariant-loop-node : goal.invariant-loop-node
 invariant-loop-node l = record {
   many : length l.queue.waits.items ≡ length l.graph;
-  queue : IsQueue l.queue.waits.items (heap_items l.queue.heap);
-  waits : (n : ℕ) → n < l.node → Waits l.queue.waits.items n;
+  queue : IsQueue l.queue;
+  waits : (n : ℕ) → n < l.node → Waits l.queue n;
 }

@@ -1,17 +1,28 @@
-use Rattle.std.proofs.Common.{rules, [], sym, ◌∙◌, ◌≡◌}
-use Rattle.std.specs.BinaryHeap.{heap_len}
+use Rattle.std.proofs.Common.{[], refl, sym, subst, ◌∙◌, ◌≡◌}
+use Rattle.std.proofs.lemmas.Bool.{true≢false}
 use Rattle.std.proofs.lemmas.List.{get_or_read}
 use Rattle.flow_solver.specs.Frameworks.{value_at}
-use Rattle.flow_solver.proofs.Solved.{lighter}
+use Rattle.flow_solver.proofs.Solved.{lower_entered, same_entered}
 use Rattle.flow_solver.proofs.solver.enter.Goals as goal
 
-pub returns-in_ok-wait-clause-weight : goal.returns-in_ok-wait-clause-weight
-returns-in_ok-wait-clause-weight g c =
+pub returns-in_ok-wait : goal.returns-in_ok-wait
+returns-in_ok-wait g c =
     let f = g.F.Facts.framework c.args.facts.now in
-    let own = value_at f c.args.sets.now.items c.args.node in
-    let read : c.index.result.now ≡ own = get_or_read c.args.sets.now.items c.args.node c.index.result.now c.requires.node (search rules) f.top in
-    let again : c.index-2.result.now ≡ own = get_or_read c.args.sets.now.items c.args.node c.index-2.result.now c.requires.node (search rules) f.top in
-    let met : c.in_ok-met.met ≡ f.meet own c.args.set.now = search rules in
-    let changed : c.in_ok-met.met ≡ own → ⊥ = λ same. let alike : c.in_ok-met.met ≡ c.index-2.result.now = same ∙ sym again in search rules in
-    lighter f (g.met.F.Facts.monotone c.args.facts.now) [] c.args.sets.now.items c.args.node c.args.set.now c.in_ok-met.met (heap_len c.args.queue.now.heap) (heap_len c.wait.new.self.heap)
-    c.requires.node c.requires.own c.requires.set met changed (search rules)
+    let vs = c.args.sets.now.items in
+    let n = c.args.node in
+    let read : c.index.result.now ≡ value_at f vs n = get_or_read vs n c.index.result.now c.requires.node c.index.ensures f.top in
+    let again : c.index-2.result.now ≡ value_at f vs n = get_or_read vs n c.index-2.result.now c.requires.node c.index-2.ensures f.top in
+    let met : c.in_ok-met.met ≡ f.meet (value_at f vs n) c.args.set.now = subst (λ u. c.in_ok-met.met ≡ f.meet u c.args.set.now) read c.in_ok-met.ensures in
+    lower_entered f (g.met.F.Facts.monotone c.args.facts.now) [] vs n c.args.set.now c.in_ok-met.met c.args.queue.now c.wait.new.self
+    c.requires.node c.requires.own c.requires.set met (λ same. true≢false (sym (c.if-not-same.ensures.1 (same ∙ sym again))))
+    c.in_ok-wait.ensures.queue c.in_ok-wait.ensures.still c.in_ok-wait.ensures.waits c.in_ok-wait.ensures.one
+
+pub returns-else-not-same : goal.returns-else-not-same
+returns-else-not-same g c =
+    let f = g.F.Facts.framework c.args.facts.now in
+    let vs = c.args.sets.now.items in
+    let n = c.args.node in
+    let read : c.index.result.now ≡ value_at f vs n = get_or_read vs n c.index.result.now c.requires.node c.index.ensures f.top in
+    let again : c.index-2.result.now ≡ value_at f vs n = get_or_read vs n c.index-2.result.now c.requires.node c.index-2.ensures f.top in
+    let met : c.in_ok-met.met ≡ f.meet (value_at f vs n) c.args.set.now = subst (λ u. c.in_ok-met.met ≡ f.meet u c.args.set.now) read c.in_ok-met.ensures in
+    same_entered f (g.met.F.Facts.monotone c.args.facts.now) [] vs n c.args.set.now c.in_ok-met.met c.args.queue.now met (c.if-not-same.ensures.0 refl ∙ again) c.requires.queue
