@@ -2,7 +2,7 @@
 use Rattle.std.proofs.Common.{◌≡◌, ◌≢◌, ◌∙◌, ◌⊎◌, ⊎_elim, inl, inr, ℕ, ◌<◌, ◌≤◌, ◌+◌, Bool, false, List, [], length, get_or, set, refl, sym, ap, subst, arith}
 use Rattle.std.specs.List.{AllByRecursion, Contains}
 use Rattle.std.proofs.lemmas.Bool.{cases_eq, cases_lt}
-use Rattle.std.proofs.lemmas.List.{get_or-set_other, get_or-set_same, get_or_default, get_or_past, length-set, set-get_or}
+use Rattle.std.proofs.lemmas.List.{ext_get_or, get_or-set_other, get_or-set_same, get_or_default, get_or_past, length-set, set-get_or}
 use Rattle.std.proofs.lemmas.List.Elements.{All-from_recursion, All-get_or}
 use Rattle.std.proofs.lemmas.List.Sums.{sum_by-set}
 use Rattle.flow_solver.specs.Ways.{LeadsWithin, led_to}
@@ -256,6 +256,15 @@ module _ {V : Type 0} (f : Framework V) (is : IsMonotone f) (g : List (List ℕ)
 
     pub is_greatest : IsGreatestSolution f g vs
     is_greatest = record { solution = is_solution; greatest = λ others solution. solving.above.safe others (solution_safe others solution) }
+
+-- two that are greatest are one
+pub one_greatest : {V : Type 0} (f : Framework V) → IsMonotone f → (g : List (List ℕ)) (vs ws : List V) → IsGreatestSolution f g vs → IsGreatestSolution f g ws → vs ≡ ws
+one_greatest f is g vs ws left right =
+    let many = left.solution.many in
+    ext_get_or f.top vs ws (many ∙ sym right.solution.many) (λ n at.
+    let within : n < length g = subst (λ k. n < k) many at in
+    is.antisymmetric (value_at f vs n) (value_at f ws n) (left.solution.met n within).0.0 (right.solution.met n within).0.0
+    (right.greatest vs left.solution n within) (left.greatest ws right.solution n within))
 
 -- a set has entered the next one of the nodes to which a node leads
 module _ {V : Type 0} (f : Framework V) (is : IsMonotone f) (g : List (List ℕ)) where

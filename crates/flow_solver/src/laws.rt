@@ -2,6 +2,9 @@ ghost use Rattle.std.specs.Prelude.{◌≡◌, ◌<◌, ◌↔◌, ℕ, List, Bo
 ghost use Rattle.flow_solver.specs.Examples.{NodesNear, NodesOfLoops, NodesPassed, WaysPart};
 ghost use Rattle.flow_solver.specs.Near.{is_reached, reached_nodes};
 ghost use Rattle.flow_solver.specs.Ways.{IsReached};
+ghost use Rattle.flow_solver.specs.Frameworks.{IsGreatestSolution};
+
+use crate::Facts;
 
 /// Empty on purpose: its contract is the law.
 ///
@@ -21,4 +24,11 @@ pub fn reached_nodes_are_reached()
     ensures tested { (g : List (List ℕ)) (n : ℕ) → (is_reached g n ≡ true) ↔ IsReached g n }
     ensures marked { (g : List (List ℕ)) (marks : List Bool) → length marks ≡ length g
         → ((n : ℕ) → n < length g → IsTrue (slice_index_or marks n false) ↔ IsReached g n) → marks ≡ reached_nodes g }
+{}
+
+/// Empty on purpose: its contract is the law.
+///
+/// An analysis has one greatest solution over a graph.
+pub fn one_greatest_solution<F: Facts>(facts: &F)
+    ensures { (g : List (List ℕ)) (vs ws : _) → IsGreatestSolution (F.framework facts.now) g vs → IsGreatestSolution (F.framework facts.now) g ws → vs ≡ ws }
 {}

@@ -17,6 +17,8 @@ pub(crate) enum Form<'a> {
     BackChain,
     /// Each leads to the next two.
     Ladder,
+    /// Each leads to the next one, and back to the one before it.
+    BothWays,
     /// The first leads to all others, and all to the last.
     Fan,
 }
@@ -72,6 +74,10 @@ fn row(alloc: Global, form: Form<'_>, node: usize, nodes: usize) -> Result<Vec<u
         Form::Ladder => {
             add(&mut row, node.saturating_add(1), nodes)?;
             add(&mut row, node.saturating_add(2), nodes)?;
+        }
+        Form::BothWays => {
+            add(&mut row, node.saturating_add(1), nodes)?;
+            add(&mut row, node.saturating_sub(1), nodes)?;
         }
         Form::Fan if node == 0 => add_all(&mut row, nodes)?,
         Form::Fan => add(&mut row, nodes.saturating_sub(1), nodes)?,

@@ -35,3 +35,8 @@ fn each_node_is_left_once_where_no_edge_leads_back(rt: HostRuntime) {
         assert!(rt; takes(rt.alloc(), form, 100_000));
     }
 }
+
+#[test]
+fn an_edge_that_changes_nothing_costs_no_step(rt: HostRuntime) {
+    assert!(rt; takes(rt.alloc(), Form::BothWays, 100_000));
+}
