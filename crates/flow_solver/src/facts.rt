@@ -5,8 +5,10 @@ use std::alloc::{AllocError, Global};
 
 /// An analysis of one's own: sets that stand in an order, and how they go through the nodes of a graph.
 pub trait Facts {
+    /// What is known where a node is entered.
     type Set: Drop;
 
+    /// What contracts see of it all: the order, and what the functions give.
     ghost framework: { Self → Framework Self.Set };
 
     /// The greatest set.

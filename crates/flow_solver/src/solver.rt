@@ -36,8 +36,9 @@ fn enter<F: Facts>(
     requires set { (F.framework facts.now).IsValue set.now }
     ensures { OnOk result (HasEntered (F.framework facts.now) node set.now sets.old.items queue.old sets.new.items queue.new) }
 {
-    let met = facts.meet(alloc, &sets[node], set)?;
-    if !facts.same(&met, &sets[node]) {
+    let own = &sets[node];
+    let met = facts.meet(alloc, own, set)?;
+    if !facts.same(&met, own) {
         sets[node] = met;
         queue.wait(node)?;
     }

@@ -1,4 +1,4 @@
-use Rattle.std.proofs.Common.{arith, ◌≡◌, ◌<◌, ℕ, List, length, get_or, rules, sym, subst, ap}
+use Rattle.std.proofs.Common.{arith, ◌≡◌, ◌<◌, ℕ, List, length, get_or, sym, subst, ap}
 use Rattle.std.proofs.lemmas.List.{get_or_read}
 use Rattle.flow_solver.specs.Frameworks.{value_at}
 use Rattle.flow_solver.specs.Ways.{led_to}
@@ -9,7 +9,7 @@ pub transfer-requires : goal.transfer-requires
 transfer-requires g c =
     let f = g.F.Facts.framework c.args.facts.now in
     let within : c.args.node < length c.args.sets.now.items = subst (λ k. c.args.node < k) (sym c.requires.leaving.above.many) c.requires.node in
-    subst f.IsValue (sym (get_or_read c.args.sets.now.items c.args.node c.index.result.now within (search rules) f.top)) (c.requires.leaving.above.value c.args.node)
+    subst f.IsValue (sym (get_or_read c.args.sets.now.items c.args.node c.index.result.now within c.index.ensures f.top)) (c.requires.leaving.above.value c.args.node)
 
 pub enter-requires-clause-node : goal.enter-requires-clause-node
 enter-requires-clause-node g c =
