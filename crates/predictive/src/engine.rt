@@ -24,6 +24,7 @@ fn item_of(symbol: Symbol) -> Item
 }
 
 /// Wants the right side of a rule, and then the rule is done.
+#[inline(always)]
 fn open<G: Table>(table: &G, items: &mut Stack<Item>, rule: u16) -> Result<(), AllocError>
     requires { rule < (G.grammar table.now).count }
     ensures { OnOk result (items.new ≡ opened ((G.grammar table.now).right rule) (Done rule ∷ items.old)) }
