@@ -1,19 +1,25 @@
 -- Facts that are between no two operands lead from none to another.
-use Rattle.std.proofs.Common.{◌≡◌, ◌∙◌, Bool, true, false, ◌&&◌, ◌||◌, cond, not, filter, List, [], ◌∷◌, ◌++◌, refl, sym, ap}
+use Rattle.std.proofs.Common.{◌≡◌, ◌∙◌, Bool, true, false, ◌&&◌, ◌||◌, cond, not, filter, List, [], ◌∷◌, ◌++◌, refl, sym, ap, subst}
 use Rattle.std.proofs.lemmas.Bool.{false≢true}
 use Rattle.std.proofs.lemmas.List.Folds.{list_any-append}
 use Rattle.std.specs.List.{list_any}
 use Rattle.ir_core.specs.declared.operands.Operand.{Operand}
 use Rattle.ir_core.specs.declared.expressions.Reg.{Reg}
 use Rattle.ir_core.specs.declared.expressions.Expr.TheVariants.{Plain, Binary, Icmp, Cast, Select}
-use Rattle.ir_core.specs.Same.{same_expr, same_reg}
+use Rattle.ir_core.specs.Same.{same_expr, same_name, same_reg}
+use Rattle.ir_core.specs.declared.names.Name.{Name}
+use Rattle.ir_core.specs.NameLaws.{same_name_refl}
+use Rattle.ir_core.proofs.SameLaws.{same_reg_operand_true}
 use Rattle.erhl_assert.specs.declared.facts.Fact.{Fact}
 use Rattle.erhl_assert.specs.declared.facts.Fact.TheVariants.{LessDef}
 use Rattle.erhl_assert.specs.declared.fact_set.Kill.{Kill}
 use Rattle.erhl_assert.specs.declared.fact_set.Kill.TheVariants.{Naming}
 use Rattle.erhl_assert.specs.Facts.{fact_names, has_fact, with_fact, with_facts, killed}
 use Rattle.erhl_assert.specs.Matched.{from_fact, into_fact}
-use Rattle.erhl_sides.specs.Joining.{joins, AreTold}
+use Rattle.fact_sets.specs.declared.near_facts.NearFacts.{NearFacts}
+use Rattle.fact_sets.specs.Near.{found_under, near_in, is_near, HasAllNear, AreNear}
+use Rattle.fact_sets.proofs.Nearness.{fewer_near, found_near}
+use Rattle.erhl_sides.specs.Joining.{joins, AreTold, AreNearIf}
 use Rattle.erhl_sides.proofs.Once.{one_once, killed_once}
 
 and_false : (b : Bool) → (b && false) ≡ false
@@ -110,3 +116,80 @@ left_told may is k fs gs are e = (
   λ h. ap (list_any joins) e ∙ killed_none k fs (are.0 h),
   λ h. ap (λ hs. with_facts hs []) e ∙ killed_once k fs (are.1 h) ∙ sym e,
 )
+
+-- ---- what is near
+pub none_near_told : (is : Bool) (near : NearFacts) (fs : List Fact) → fs ≡ [] → AreNear near [] → AreNearIf is near fs
+unfolding AreNearIf
+none_near_told is near fs none are = λ h. subst (AreNear near) (sym none) are
+
+pub nothing_near : (is : Bool) (near : NearFacts) (fs : List Fact) → is ≡ false → AreNearIf is near fs
+unfolding AreNearIf
+nothing_near is near fs none = λ h. absurd (false≢true (sym none ∙ h))
+
+pub there_near : (f : Fact) (near : NearFacts) (fs : List Fact) → has_fact f fs ≡ true → AreNear near fs → AreNear near (with_fact f fs)
+there_near f near fs h are = subst (AreNear near) (sym (ap (λ b. cond b fs (fs ++ f ∷ [])) h)) are
+
+pub one_near : (is : Bool) (few many : NearFacts) (f : Fact) (fs gs : List Fact) → AreNearIf is few fs → (AreNear few fs → AreNear many (with_fact f fs)) → gs ≡ with_fact f fs → AreNearIf is many gs
+unfolding AreNearIf
+one_near is few many f fs gs are more e = λ h. subst (AreNear many) (sym e) (more (are h))
+
+pub left_near : (is : Bool) (near : NearFacts) (k : Kill) (fs gs : List Fact) → AreNearIf is near fs → gs ≡ killed k fs → AreNearIf is near gs
+unfolding AreNearIf
+left_near is near (Naming r) fs gs are e = λ h. subst (AreNear near) (sym e) (fewer_near near (λ f. not (fact_names r f)) fs (are h))
+
+pub all_near : (is : Bool) (near : NearFacts) (x : Name) (kept fs gs : List Fact) → AreNearIf is near fs → is ≡ true → kept ≡ near_in near x → gs ≡ fs → HasAllNear x kept gs
+unfolding AreNearIf AreNear
+all_near is near x kept fs gs are h e e' = λ f k n. subst (λ hs. has_fact f hs ≡ true) (sym e) (are h x f (ap (has_fact f) (sym e') ∙ k) n)
+
+-- ---- what leads from an operand or into one is near it
+both_true : (a b : Bool) → (a && b) ≡ true → (a ≡ true) × (b ≡ true)
+both_true true b h = (refl, h)
+both_true false b h = absurd (false≢true h)
+
+or_behind : (a b : Bool) → b ≡ true → (a || b) ≡ true
+or_behind true b h = refl
+or_behind false b h = h
+
+or_before : (a b : Bool) → a ≡ true → (a || b) ≡ true
+or_before true b h = refl
+or_before false b h = absurd (false≢true h)
+
+-- one operand is found where the other is
+found_beside : (a b : Operand Reg) → same_expr same_reg (Plain a) (Plain b) ≡ true → same_name (found_under a.atom) (found_under b.atom) ≡ true
+found_beside a b h =
+    let one : a ≡ b = same_reg_operand_true a b h in
+    subst (λ (o : Operand Reg). same_name (found_under o.atom) (found_under b.atom) ≡ true) (sym one) (same_name_refl (found_under b.atom))
+
+into_near : (p : Operand Reg → Bool) (b : Operand Reg) (f : Fact) → into_fact p b f ≡ true → is_near (found_under b.atom) f ≡ true
+into_near p b (LessDef (Plain o) (Plain q)) h =
+    or_behind (same_name (found_under o.atom) (found_under b.atom)) (same_name (found_under q.atom) (found_under b.atom))
+    (found_beside q b (both_true (same_expr same_reg (Plain q) (Plain b)) (p o) h).0)
+into_near p b (LessDef (Binary e) y) h = absurd (false≢true (sym (into_none p b (LessDef (Binary e) y) refl) ∙ h))
+into_near p b (LessDef (Icmp e) y) h = absurd (false≢true (sym (into_none p b (LessDef (Icmp e) y) refl) ∙ h))
+into_near p b (LessDef (Cast e) y) h = absurd (false≢true (sym (into_none p b (LessDef (Cast e) y) refl) ∙ h))
+into_near p b (LessDef (Select e) y) h = absurd (false≢true (sym (into_none p b (LessDef (Select e) y) refl) ∙ h))
+into_near p b (LessDef (Plain o) (Binary e)) h = absurd (false≢true h)
+into_near p b (LessDef (Plain o) (Icmp e)) h = absurd (false≢true h)
+into_near p b (LessDef (Plain o) (Cast e)) h = absurd (false≢true h)
+into_near p b (LessDef (Plain o) (Select e)) h = absurd (false≢true h)
+
+from_near : (p : Operand Reg → Bool) (a : Operand Reg) (f : Fact) → from_fact p a f ≡ true → is_near (found_under a.atom) f ≡ true
+from_near p a (LessDef (Plain o) (Plain q)) h =
+    or_before (same_name (found_under o.atom) (found_under a.atom)) (same_name (found_under q.atom) (found_under a.atom))
+    (found_beside o a (both_true (same_expr same_reg (Plain o) (Plain a)) (p q) h).0)
+from_near p a (LessDef (Plain o) (Binary e)) h = absurd (false≢true (sym (from_none p a (LessDef (Plain o) (Binary e)) refl) ∙ h))
+from_near p a (LessDef (Plain o) (Icmp e)) h = absurd (false≢true (sym (from_none p a (LessDef (Plain o) (Icmp e)) refl) ∙ h))
+from_near p a (LessDef (Plain o) (Cast e)) h = absurd (false≢true (sym (from_none p a (LessDef (Plain o) (Cast e)) refl) ∙ h))
+from_near p a (LessDef (Plain o) (Select e)) h = absurd (false≢true (sym (from_none p a (LessDef (Plain o) (Select e)) refl) ∙ h))
+from_near p a (LessDef (Binary e) y) h = absurd (false≢true h)
+from_near p a (LessDef (Icmp e) y) h = absurd (false≢true h)
+from_near p a (LessDef (Cast e) y) h = absurd (false≢true h)
+from_near p a (LessDef (Select e) y) h = absurd (false≢true h)
+
+pub into_found : (p : Operand Reg → Bool) (b : Operand Reg) (near fs : List Fact) → HasAllNear (found_under b.atom) near fs
+    → list_any (λ f. has_fact f fs && into_fact p b f) near ≡ list_any (into_fact p b) fs
+into_found p b near fs all = found_near (into_fact p b) (found_under b.atom) (into_near p b) near fs all
+
+pub from_found : (p : Operand Reg → Bool) (a : Operand Reg) (near fs : List Fact) → HasAllNear (found_under a.atom) near fs
+    → list_any (λ f. has_fact f fs && from_fact p a f) near ≡ list_any (from_fact p a) fs
+from_found p a near fs all = found_near (from_fact p a) (found_under a.atom) (from_near p a) near fs all

@@ -6,6 +6,8 @@ use Rattle.ir_core.specs.Expressions.{Expr0}
 use Rattle.erhl_assert.specs.declared.facts.Fact.{Fact}
 use Rattle.erhl_assert.specs.declared.facts.Fact.TheVariants.{LessDef}
 use Rattle.erhl_assert.specs.Facts.{with_facts}
+use Rattle.fact_sets.specs.declared.near_facts.NearFacts.{NearFacts}
+use Rattle.fact_sets.specs.Near.{AreNear}
 
 abbrev pub is_operand : Expr0 → Bool
 is_operand (Plain o) = true
@@ -17,3 +19,7 @@ joins (LessDef x y) = is_operand x && is_operand y
 -- where none may join two operands, none does; and where they are whole, each stands once
 unfoldable pub AreTold : Bool → Bool → List Fact → Type 0
 AreTold may_join is_whole fs = (may_join ≡ false → list_any joins fs ≡ false) × (is_whole ≡ true → with_facts fs [] ≡ fs)
+
+-- where they are whole, each between two operands is kept where it is found
+unfoldable pub AreNearIf : Bool → NearFacts → List Fact → Type 0
+AreNearIf is_whole near fs = is_whole ≡ true → AreNear near fs

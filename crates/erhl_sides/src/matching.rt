@@ -1,12 +1,13 @@
 //! When the source's operand and the target's operand are known to be related. No memory is taken: a function's operand
 //! is compared with those of facts as it stands.
-ghost use Rattle.std.specs.Prelude.{◌≡◌};
+ghost use Rattle.std.specs.Prelude.{◌≡◌, ◌&&◌};
 ghost use Rattle.std.specs.List.{list_any};
 ghost use Rattle.ir_core.specs.declared.expressions.Reg.TheVariants.{Now};
 ghost use Rattle.ir_core.specs.declared.expressions.Expr.TheVariants.{Plain};
 ghost use Rattle.ir_core.specs.Same.{same_reg, same_atom, same_expr};
 ghost use Rattle.ir_core.specs.Types.{kind_of};
 ghost use Rattle.ir_core.specs.Expressions.{map_atom};
+ghost use Rattle.erhl_assert.specs.Facts.{has_fact};
 ghost use Rattle.erhl_assert.specs.Matched.{now_operand, of_plain, from_fact, into_fact, some_into, is_kind, meet, meet_at, matched_at, matched, atoms_matched};
 
 use crate::Sides;
@@ -127,8 +128,36 @@ fn leads_into<R: InLogic>(
     is_plain_now(y, t, b) && meets_plain(diff, kind, s, c, x)
 }
 
+/// Whether one of the facts that are known and near says that c is less defined than the target's operand.
+fn near_leads_into<R: InLogic, S: FactSet>(
+    facts: &S,
+    near: &[Fact],
+    diff: &RegisterSet,
+    kind: Kind,
+    s: &Ty,
+    c: &Atom<R>,
+    t: &Ty,
+    b: &Atom<Name>,
+) -> bool
+    ensures { result
+        ≡ list_any
+        (λ f. has_fact f (S.contents facts.now)
+        && into_fact
+        (λ d. meet diff.now kind (record { ty = s.now; atom = map_atom R.in_logic c.now }) d)
+        (now_operand (record { ty = t.now; atom = b.now })) f)
+        near.now }
+{
+    for fact in near {
+        if facts.has(fact) && leads_into(fact, diff, kind, s, c, t, b) {
+            return true;
+        }
+    }
+    false
+}
+
+/// The same of all facts, by a walk.
 #[tactic(auto, using(crate::proofs::Walked::found, crate::proofs::Walked::not_yet, crate::proofs::Walked::nowhere))]
-fn some_leads_into<R: InLogic, S: FactSet>(
+fn walked_into<R: InLogic, S: FactSet>(
     facts: &S,
     diff: &RegisterSet,
     kind: Kind,
@@ -154,6 +183,28 @@ fn some_leads_into<R: InLogic, S: FactSet>(
     false
 }
 
+fn some_leads_into<R: InLogic, S: FactSet>(
+    facts: &Joined<S>,
+    diff: &RegisterSet,
+    kind: Kind,
+    s: &Ty,
+    c: &Atom<R>,
+    t: &Ty,
+    b: &Atom<Name>,
+) -> bool
+    ensures { result
+        ≡ list_any
+        (into_fact
+        (λ d. meet diff.now kind (record { ty = s.now; atom = map_atom R.in_logic c.now }) d)
+        (now_operand (record { ty = t.now; atom = b.now })))
+        facts.now }
+{
+    match facts.near(b) {
+        Some(near) => near_leads_into(facts.facts(), near, diff, kind, s, c, t, b),
+        None => walked_into(facts.facts(), diff, kind, s, c, t, b),
+    }
+}
+
 #[tactic(auto, using(crate::proofs::Joining::none_leads_into))]
 fn reaches_among<R: InLogic, S: FactSet>(
     diff: &RegisterSet,
@@ -171,7 +222,7 @@ fn reaches_among<R: InLogic, S: FactSet>(
         (now_operand (record { ty = t.now; atom = b.now })) facts.now }
 {
     meets_now(diff, kind, s, c, t, b)
-        || facts.may_join() && some_leads_into(facts.facts(), diff, kind, s, c, t, b)
+        || facts.may_join() && some_leads_into(facts, diff, kind, s, c, t, b)
 }
 
 /// Whether c is the target's operand, or is known on the target to be less defined than it.
@@ -231,8 +282,64 @@ fn leads_from<S: FactSet>(
     is_plain_now(x, s, a) && plain_reaches(known, kind, y, t, b)
 }
 
+/// Whether one of the facts that are known and near says that the source's operand is less defined than some c that reaches the target's.
+fn near_leads_from<S: FactSet>(
+    near: &[Fact],
+    known: &Sides<S>,
+    kind: Kind,
+    s: &Ty,
+    a: &Atom<Name>,
+    t: &Ty,
+    b: &Atom<Name>,
+) -> bool
+    ensures { result
+        ≡ list_any
+        (λ f. has_fact f known.now.src
+        && from_fact
+        (λ c. some_into (λ d. meet known.now.diff kind c d)
+        (now_operand (record { ty = t.now; atom = b.now })) known.now.tgt)
+        (now_operand (record { ty = s.now; atom = a.now })) f)
+        near.now }
+{
+    for fact in near {
+        if known.has_fact(Side::Src, fact) && leads_from(fact, known, kind, s, a, t, b) {
+            return true;
+        }
+    }
+    false
+}
+
+/// The same of all facts, by a walk.
+#[tactic(auto, using(crate::proofs::Walked::found, crate::proofs::Walked::not_yet, crate::proofs::Walked::nowhere))]
+fn walked_from<S: FactSet>(
+    known: &Sides<S>,
+    kind: Kind,
+    s: &Ty,
+    a: &Atom<Name>,
+    t: &Ty,
+    b: &Atom<Name>,
+) -> bool
+    ensures { result
+        ≡ list_any
+        (from_fact
+        (λ c. some_into (λ d. meet known.now.diff kind c d)
+        (now_operand (record { ty = t.now; atom = b.now })) known.now.tgt)
+        (now_operand (record { ty = s.now; atom = a.now })))
+        known.now.src }
+{
+    let facts = known.facts(Side::Src);
+    for k in 0..facts.len() {
+        if let Some(fact) = facts.at(k) {
+            if leads_from(fact, known, kind, s, a, t, b) {
+                return true;
+            }
+        }
+    }
+    false
+}
+
 /// Whether the source's operand is known to be less defined than some c that reaches the target's.
-#[tactic(auto, using(crate::proofs::Joining::none_leads_from, crate::proofs::Walked::found, crate::proofs::Walked::not_yet, crate::proofs::Walked::nowhere))]
+#[tactic(auto, using(crate::proofs::Joining::none_leads_from))]
 fn reaches_by_fact<S: FactSet>(
     known: &Sides<S>,
     kind: Kind,
@@ -252,15 +359,10 @@ fn reaches_by_fact<S: FactSet>(
     if !known.joined(Side::Src).may_join() {
         return false;
     }
-    let facts = known.facts(Side::Src);
-    for k in 0..facts.len() {
-        if let Some(fact) = facts.at(k) {
-            if leads_from(fact, known, kind, s, a, t, b) {
-                return true;
-            }
-        }
+    match known.joined(Side::Src).near(a) {
+        Some(near) => near_leads_from(near, known, kind, s, a, t, b),
+        None => walked_from(known, kind, s, a, t, b),
     }
-    false
 }
 
 /// Whether two atoms are matched at the kind of the first one's type.

@@ -65,8 +65,8 @@ pub fn sides_for(
 ) -> Result<Sides<IndexedSet>, AllocError>
     ensures { IfOk result (λ sides. sides ≡ no_facts) }
 {
-    let src = Joined::of_none(facts_for(alloc, source)?);
-    let tgt = Joined::of_none(facts_for(alloc, target)?);
+    let src = Joined::of_none(alloc, facts_for(alloc, source)?);
+    let tgt = Joined::of_none(alloc, facts_for(alloc, target)?);
     let diff = RegisterSet::of(alloc, Seq::new(alloc))?;
     Ok(Sides { src, tgt, diff })
 }
@@ -102,8 +102,8 @@ pub fn sides_of(
     ensures { IfOk result (λ sides. within (put_in known.now) ≡ option_map Gives sides) }
 {
     let mut sides = Sides {
-        src: Joined::of_none(facts_for(alloc, source)?),
-        tgt: Joined::of_none(facts_for(alloc, target)?),
+        src: Joined::of_none(alloc, facts_for(alloc, source)?),
+        tgt: Joined::of_none(alloc, facts_for(alloc, target)?),
         diff: RegisterSet::of(alloc, known.diff.copy(alloc)?)?,
     };
     if !put(alloc, Side::Src, known.src.as_slice(), &mut sides)? {
@@ -121,8 +121,8 @@ impl<S: FactSet> Sides<S> {
         ensures { IfOk result (λ sides. sides ≡ no_facts) }
     {
         Ok(Sides {
-            src: Joined::of_none(S::empty(alloc)),
-            tgt: Joined::of_none(S::empty(alloc)),
+            src: Joined::of_none(alloc, S::empty(alloc)),
+            tgt: Joined::of_none(alloc, S::empty(alloc)),
             diff: RegisterSet::of(alloc, Seq::new(alloc))?,
         })
     }

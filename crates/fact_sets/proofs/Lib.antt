@@ -1,3 +1,4 @@
 pub mod Indexing
 pub mod Listed
 pub mod Names
+pub mod Nearness

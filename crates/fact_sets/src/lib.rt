@@ -4,7 +4,9 @@
 
 mod indexed_set;
 mod naming;
+mod near_facts;
 mod register_set;
 
 pub use indexed_set::IndexedSet;
+pub use near_facts::NearFacts;
 pub use register_set::RegisterSet;

@@ -1,7 +1,7 @@
 use Rattle.std.proofs.Common.{◌≡◌, drop}
 use Rattle.std.specs.List.{list_any}
 use Rattle.erhl_assert.specs.Matched.{now_operand, from_fact, some_into, meet}
-use Rattle.erhl_sides.proofs.matching.reaches_by_fact.Given as goal
+use Rattle.erhl_sides.proofs.matching.walked_from.Given as goal
 
 abbrev pub invariant-loop-k : goal.invariant-loop-k
 invariant-loop-k g l =

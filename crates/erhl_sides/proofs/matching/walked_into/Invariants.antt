@@ -2,7 +2,7 @@ use Rattle.std.proofs.Common.{◌≡◌, drop}
 use Rattle.std.specs.List.{list_any}
 use Rattle.erhl_assert.specs.Matched.{now_operand, into_fact, meet}
 use Rattle.ir_core.specs.Expressions.{map_atom}
-use Rattle.erhl_sides.proofs.matching.some_leads_into.Given as goal
+use Rattle.erhl_sides.proofs.matching.walked_into.Given as goal
 
 abbrev pub invariant-loop-k : goal.invariant-loop-k
 invariant-loop-k g l =
