@@ -41,11 +41,11 @@ use Rattle.erhl_assert.specs.declared.verdict.Spot.TheVariants as spot
 use Rattle.erhl_assert.specs.Facts.{has_fact, expr_names, fact_names, fact_has, without}
 use Rattle.erhl_assert.specs.Alignment.{Line, AlignedBlock, no_facts, block_hint}
 use Rattle.erhl_assert.specs.Allowed.{can_trap, same_operator, first_unmatched, right_fault, line_fault}
-use Rattle.erhl_assert.specs.Matched.{now_operand, from_fact, into_fact, some_into, meet, matched_at, matched, atoms_matched, are_matched}
+use Rattle.erhl_assert.specs.Matched.{now_operand, from_fact, into_fact, some_into, meet, matched_at, matched, are_matched}
 use Rattle.erhl_assert.specs.Postcondition.{right_side, left_side, flags_agree, rights_agree, lines_agree, without_reg, with_reg, diff_after, after_line}
 use Rattle.erhl_assert.specs.Edges.{Edge, edge_between, phis_at, is_old, as_old, without_old, is_of_phi, sets, phi_fact, phi_facts, phi_setting, entries_match, phis_match, is_alike, phi_registers, old_too, diff_over, after_edge}
-use Rattle.erhl_assert.specs.Course.{Ends, Refuses, Gives, Course, gives, after_ends, and_then, tested, first_fault, Good, are_too_many, within, answer_at, judged_answer}
-use Rattle.erhl_assert.specs.Growth.{size, adds, adds_all, put_in, forgetting, over_calm, over_allowed, over_line, without_phis, over_edge}
+use Rattle.erhl_assert.specs.Course.{Ends, Refuses, Gives, Course, gives, after_ends, and_then, first_fault, are_too_many, within, answer_at, judged_answer}
+use Rattle.erhl_assert.specs.Growth.{size, adds, adds_all, forgetting, over_calm, over_allowed, over_line, without_phis, over_edge}
 use Rattle.erhl_assert.specs.Steps.{Beside, after_steps, steps_at, steps_on}
 use Rattle.erhl_assert.specs.Acceptance.{same_case, operand_fault, of_one_kind, term_fault, missing_fault, first_printed, left_over, arrival_fault, edge_judged, edges_judged, labels_once, hint_of_block, block_judged}
 use Rattle.erhl_assert.proofs.Courses.{allowed_ends, line_allowed}

@@ -1,5 +1,5 @@
 -- A register's definitions, found by its name.
-use Rattle.std.proofs.Common.{◌≡◌, ◌∙◌, ◌&&◌, ◌||◌, Bool, true, false, not, cond, List, [], ◌∷◌, map, filter, refl, sym, ap}
+use Rattle.std.proofs.Common.{◌≡◌, ◌∙◌, ◌&&◌, ◌||◌, true, false, cond, List, [], ◌∷◌, map, filter, refl, ap}
 use Rattle.std.specs.List.{list_any}
 use Rattle.ir_core.specs.declared.names.Name.{Name}
 use Rattle.ir_core.specs.declared.operands.Ty.{Ty}
@@ -19,3 +19,6 @@ found_among x e (d ∷ ds) =
       | true ↦ ap (λ b. is_other_kind e d || b) (found_among x e ds)
       | false ↦ found_among x e ds
     ]
+
+pub defined_same : (found all : List Definition) (wanted : List (Name × Ty)) → found ≡ all → map definition_of all ≡ wanted → map definition_of found ≡ wanted
+defined_same found all wanted e h = ap (map definition_of) e ∙ h

@@ -1,5 +1,5 @@
 -- A check, one step at a time, within the limit on facts.
-use Rattle.std.proofs.Common.{◌≡◌, ◌∙◌, ℕ, ◌+◌, ◌<◌, ◌≤◌, ◌++◌, Bool, true, false, cond, List, [], ◌∷◌, length, map, drop, get_or, Option, None, Some, Result, Ok, Err, refl, sym, ap, subst}
+use Rattle.std.proofs.Common.{◌≡◌, ◌∙◌, ℕ, ◌+◌, ◌<◌, ◌≤◌, true, false, cond, List, [], ◌∷◌, length, map, drop, get_or, Option, None, Some, Result, Ok, Err, refl, sym, ap, subst}
 use Rattle.std.proofs.lemmas.List.{drop_all}
 use Rattle.std.specs.Borrow.{Bor}
 use Rattle.ir_core.specs.declared.names.Name.{Name}
@@ -22,7 +22,7 @@ use Rattle.erhl_assert.specs.declared.verdict.Verdict.{Verdict}
 use Rattle.erhl_assert.specs.declared.verdict.Verdict.TheVariants as verdict
 use Rattle.erhl_assert.specs.Alignment.{Line, AlignedBlock, block_hint}
 use Rattle.erhl_assert.specs.Allowed.{line_fault}
-use Rattle.erhl_assert.specs.Course.{Ends, Refuses, Gives, Course, gives, and_then, tested, Judged, Good, are_too_many, within, answer_at, judged_answer}
+use Rattle.erhl_assert.specs.Course.{Ends, Refuses, Gives, Course, and_then, tested, Judged, Good, are_too_many, within, answer_at, judged_answer}
 use Rattle.erhl_assert.specs.Edges.{without_old, phis_at, edge_between, after_edge}
 use Rattle.erhl_assert.specs.Growth.{adds, adds_all, put_in, over_line, over_edge}
 use Rattle.erhl_assert.specs.Postcondition.{after_line}

@@ -2,9 +2,8 @@
 ghost use Rattle.std.specs.Prelude.{◌≡◌, ◌+◌, ◌*◌, not, nat_lt, IfOk};
 ghost use Rattle.std.specs.Option.{option_copied};
 ghost use Rattle.ir_core.specs.Limits.{fact_limit};
-ghost use Rattle.ir_machine.specs.Machine.{entry_from};
+ghost use Rattle.ir_core.specs.Same.{same_list};
 ghost use Rattle.erhl_assert.specs.Alignment.{no_facts};
-ghost use Rattle.erhl_assert.specs.Edges as logic;
 ghost use Rattle.line_align.specs.Cursor.{aligned_line};
 ghost use Rattle.line_align.specs.Lent.{lent_block, lines_under};
 ghost use Rattle.block_checker.specs.Agreeing.{instrs_agree, line_agrees, all_agree, terms_agree, are_few, block_agrees, phi_agrees, phis_agree, claims_nothing, edge_agrees, edges_agree};
@@ -14,11 +13,11 @@ ghost use Rattle.block_checker.specs.Progress.{names_lent};
 use crate::pair::Pair;
 use crate::terms::term_fault;
 use erhl_assert::{HintBlock, Letter};
-use erhl_sides::{Sides, atoms_matched};
+use erhl_sides::Sides;
 use fact_sets::IndexedSet;
-use ir_core::{Entry, Instr, Limit, Name, Phi, Term, Ty, same_name, same_ty};
+use ir_core::{Instr, Limit, Name, Term, same_name};
 use line_align::{AlignedBlock, left, on_source, on_target, taken};
-use postcondition::lines_agree;
+use postcondition::{IndexedPhi, lines_agree, phis_match};
 use rule_base::RuleSet;
 use std::alloc::{AllocError, Global};
 
@@ -82,59 +81,37 @@ fn terms_agree(
     }
 }
 
-/// The first entry for that block.
-fn entry_from<'a>(from: &Name, entries: &'a [Entry]) -> Option<&'a Entry>
-    ensures { option_copied result ≡ entry_from from.now entries.now }
-{
-    for entry in entries {
-        if same_name(&entry.from, from) {
-            return Some(entry);
-        }
-    }
-    None
-}
-
-fn entries_match(
+fn phi_agrees(
     nothing: &Sides<IndexedSet>,
-    ty: &Ty,
-    source: Option<&Entry>,
-    target: Option<&Entry>,
+    from: &Name,
+    p: &IndexedPhi<'_>,
+    q: &IndexedPhi<'_>,
 ) -> bool
-    requires { nothing.now ≡ no_facts }
-    ensures { result ≡ logic.entries_match no_facts ty.now (option_copied source.entry) (option_copied target.entry) }
-{
-    match source {
-        Some(d) => match target {
-            Some(e) => atoms_matched(ty, &d.value, ty, &e.value, nothing),
-            None => false,
-        },
-        None => false,
-    }
-}
-
-fn phi_agrees(nothing: &Sides<IndexedSet>, from: &Name, p: &Phi, q: &Phi) -> bool
     requires { nothing.now ≡ no_facts }
     ensures { result ≡ phi_agrees from.now p.now q.now }
 {
-    same_name(&p.name, &q.name)
-        && same_ty(&p.ty, &q.ty)
-        && entries_match(
-            nothing,
-            &p.ty,
-            entry_from(from, p.entries.as_slice()),
-            entry_from(from, q.entries.as_slice()),
-        )
+    same_name(p.name(), q.name()) && phis_match(nothing, from, Some(p), Some(q))
 }
 
-fn phis_agree(nothing: &Sides<IndexedSet>, from: &Name, source: &[Phi], target: &[Phi]) -> bool
-    requires { nothing.now ≡ no_facts }
-    ensures { result ≡ phis_agree from.now source.now target.now }
+/// A way in which two things agree.
+trait Agreement<T> {
+    ghost use Rattle.std.specs.Prelude.{Bool};
+
+    ghost agree: { Self → T → T → Bool };
+
+    fn agree(&self, a: &T, b: &T) -> bool
+        ensures { result ≡ agree self.now a.now b.now };
+}
+
+/// Whether the lists are equally long, and agree in pairs.
+fn all_in_pairs<T, A: Agreement<T>>(agreement: &A, source: &[T], target: &[T]) -> bool
+    ensures { result ≡ same_list (A.agree agreement.now) source.now target.now }
 {
     let mut rest = target;
-    for p in source {
+    for a in source {
         match rest.split_first() {
-            Some((q, after)) => {
-                if !phi_agrees(nothing, from, p, q) {
+            Some((b, after)) => {
+                if !agreement.agree(a, b) {
                     return false;
                 }
                 rest = after;
@@ -143,6 +120,44 @@ fn phis_agree(nothing: &Sides<IndexedSet>, from: &Name, source: &[Phi], target: 
         }
     }
     rest.is_empty()
+}
+
+/// Phis agree on the edge from a block, where nothing is known.
+struct OnEdge<'b> {
+    nothing: &'b Sides<IndexedSet>,
+    from: &'b Name,
+    ghost none: { nothing.now ≡ no_facts },
+}
+
+impl<'b> Drop for OnEdge<'b> {
+    fn drop(self) {
+        let OnEdge {
+            nothing: _,
+            from: _,
+        } = self;
+    }
+}
+
+impl<'b, 'a> Agreement<IndexedPhi<'a>> for OnEdge<'b> {
+    ghost use Rattle.block_checker.specs.Agreeing.{phi_agrees};
+
+    ghost agree = { λ edge p q. phi_agrees edge.from.now p q };
+
+    fn agree(&self, p: &IndexedPhi<'a>, q: &IndexedPhi<'a>) -> bool {
+        phi_agrees(self.nothing, self.from, p, q)
+    }
+}
+
+fn phis_agree<'a>(
+    nothing: &Sides<IndexedSet>,
+    from: &Name,
+    source: &[IndexedPhi<'a>],
+    target: &[IndexedPhi<'a>],
+) -> bool
+    requires { nothing.now ≡ no_facts }
+    ensures { result ≡ phis_agree from.now source.now target.now }
+{
+    all_in_pairs(&OnEdge { nothing, from }, source, target)
 }
 
 fn claims_nothing(hint: &HintBlock) -> bool
@@ -162,10 +177,10 @@ fn are_few_over(lines: usize, phis: usize) -> bool
 fn edge_agrees<B: RuleSet>(pair: &Pair<'_, '_, '_, B>, from: &Name, lines: usize, to: &Name) -> bool
     ensures { result ≡ edge_agrees (asked B.rules pair.now) from.now lines to.now }
 {
-    let source = pair.source_phis(to);
+    let source = pair.source_phis(to).all();
     are_few_over(lines, source.len())
         && claims_nothing(pair.hint_of(to))
-        && phis_agree(pair.nothing(), from, source, pair.target_phis(to))
+        && phis_agree(pair.nothing(), from, source, pair.target_phis(to).all())
 }
 
 fn edges_agree<B: RuleSet>(

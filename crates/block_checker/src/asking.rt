@@ -1,35 +1,24 @@
 //! What is looked up of two functions and of their hint.
 ghost use Rattle.std.specs.Prelude.{◌≡◌, IfOk};
 ghost use Rattle.ir_core.specs.Modules.{scope_of};
-ghost use Rattle.ir_machine.specs.Machine.{block_named};
 ghost use Rattle.erhl_assert.specs.Alignment.{block_hint, no_facts};
-ghost use Rattle.erhl_assert.specs.Edges as edges;
 ghost use Rattle.erhl_assert.specs.Edges.{phis_at};
 ghost use Rattle.erhl_assert.specs.Steps.{beside, rule_named};
 ghost use Rattle.rule_base.specs.Book.{answer_of};
 ghost use Rattle.block_checker.specs.Asked.{asked};
 ghost use Rattle.block_checker.specs.Empty.{AreParts};
 
-use crate::definitions::Definitions;
+use crate::function_index::FunctionIndex;
 use crate::pair::{Empty, Pair};
 use contents::Seq;
 use erhl_assert::{HintBlock, Schema};
 use erhl_sides::Sides;
 use fact_sets::IndexedSet;
-use ir_core::{Block, Function, Module, Name, Phi};
+use ir_core::{Function, Module, Name};
 use line_align::ByName;
+use postcondition::Phis;
 use rule_base::{Fitness, RuleSet};
 use std::alloc::{AllocError, Global};
-
-/// The phis of the first block of that name.
-fn phis_of<'a>(blocks: &ByName<'a, Block>, name: &Name) -> &'a [Phi]
-    ensures { result.now ≡ edges.phis_of (block_named name.now blocks.now) }
-{
-    match blocks.first(name) {
-        Some(block) => block.phis.as_slice(),
-        None => &[],
-    }
-}
 
 impl<'a, 's, 't, B: RuleSet> Pair<'a, 's, 't, B> {
     #[tactic(auto, unfolding(crate::specs::Asked::asked))]
@@ -37,8 +26,8 @@ impl<'a, 's, 't, B: RuleSet> Pair<'a, 's, 't, B> {
         alloc: Global,
         module: &'a Module,
         book: &'a B,
-        source: Definitions<'s, 'a>,
-        target: Definitions<'t, 'a>,
+        source: FunctionIndex<'s, 'a>,
+        target: FunctionIndex<'t, 'a>,
         hints: ByName<'a, HintBlock>,
     ) -> Result<Pair<'a, 's, 't, B>, AllocError>
         ensures { IfOk result
@@ -46,8 +35,6 @@ impl<'a, 's, 't, B: RuleSet> Pair<'a, 's, 't, B> {
             ≡ beside (B.rules book.now) (scope_of «module».now) source.entry target.entry (record { blocks = hints.entry })) }
     {
         let empty = Empty::new(alloc)?;
-        let source_blocks = ByName::new(alloc, source.function().blocks.as_slice())?;
-        let target_blocks = ByName::new(alloc, target.function().blocks.as_slice())?;
         Ok(Pair {
             module,
             book,
@@ -55,8 +42,6 @@ impl<'a, 's, 't, B: RuleSet> Pair<'a, 's, 't, B> {
             target,
             hints,
             empty,
-            source_blocks,
-            target_blocks,
         })
     }
 
@@ -88,30 +73,31 @@ impl<'a, 's, 't, B: RuleSet> Pair<'a, 's, 't, B> {
 
     /// The phis of the source's block of that name.
     #[tactic(auto, unfolding(crate::specs::Asked::asked))]
-    pub(crate) fn source_phis(&self, block: &Name) -> &'a [Phi]
+    pub(crate) fn source_phis(&self, block: &Name) -> &Phis<'a>
         ensures { result.now ≡ phis_at block.now (asked B.rules self.now).source }
     {
-        phis_of(&self.source_blocks, block)
+        self.source.phis_of(block)
     }
 
     /// The phis of the target's block of that name.
     #[tactic(auto, unfolding(crate::specs::Asked::asked))]
-    pub(crate) fn target_phis(&self, block: &Name) -> &'a [Phi]
+    pub(crate) fn target_phis(&self, block: &Name) -> &Phis<'a>
         ensures { result.now ≡ phis_at block.now (asked B.rules self.now).target }
     {
-        phis_of(&self.target_blocks, block)
+        self.target.phis_of(block)
     }
-    /// The source with its definitions.
+
+    /// The source with what is looked up of it.
     #[tactic(auto, unfolding(crate::specs::Asked::asked))]
-    pub(crate) fn source(&self) -> &Definitions<'s, 'a>
+    pub(crate) fn source(&self) -> &FunctionIndex<'s, 'a>
         ensures { result.now ≡ (asked B.rules self.now).source }
     {
         &self.source
     }
 
-    /// The target with its definitions.
+    /// The target with what is looked up of it.
     #[tactic(auto, unfolding(crate::specs::Asked::asked))]
-    pub(crate) fn target(&self) -> &Definitions<'t, 'a>
+    pub(crate) fn target(&self) -> &FunctionIndex<'t, 'a>
         ensures { result.now ≡ (asked B.rules self.now).target }
     {
         &self.target

@@ -8,12 +8,13 @@ mod blocks;
 mod definitions;
 mod edges;
 mod ends;
+mod function_index;
 mod labels;
 mod pair;
 mod steps;
 mod terms;
 
 pub use blocks::block_answer;
-pub use definitions::{Definition, Definitions, definitions_of};
 pub use ends::CheckEnd;
+pub use function_index::{FunctionIndex, FunctionParts};
 pub use pair::Pair;

@@ -3,17 +3,17 @@ ghost use Rattle.std.specs.Prelude.{◌≡◌};
 ghost use Rattle.erhl_assert.specs.Alignment.{no_facts};
 ghost use Rattle.block_checker.specs.Empty.{IsEmpty};
 
-use crate::definitions::Definitions;
+use crate::function_index::FunctionIndex;
 use contents::Seq;
 use erhl_assert::{Assertion, HintBlock};
 use erhl_sides::Sides;
 use fact_sets::IndexedSet;
-use ir_core::{Block, Module, Name};
+use ir_core::{Module, Name};
 use line_align::ByName;
 use std::alloc::{AllocError, Global};
 
 /// A hint of a block that says nothing, and that nothing is known.
-pub struct Empty {
+pub(crate) struct Empty {
     pub(crate) hint: HintBlock,
     pub(crate) nothing: Sides<IndexedSet>,
     ghost empty: { IsEmpty hint },
@@ -30,7 +30,7 @@ impl Drop for Empty {
 }
 
 impl Empty {
-    pub fn new(alloc: Global) -> Result<Empty, AllocError> {
+    pub(crate) fn new(alloc: Global) -> Result<Empty, AllocError> {
         let hint = HintBlock {
             at: Name::Number(0),
             lines: None,
@@ -49,16 +49,12 @@ impl Empty {
 
 /// What a check of two functions is asked of: rules, a module, the functions and the blocks of their hint.
 pub struct Pair<'a, 's, 't, B> {
-    pub module: &'a Module,
-    pub book: &'a B,
-    pub source: Definitions<'s, 'a>,
-    pub target: Definitions<'t, 'a>,
-    pub hints: ByName<'a, HintBlock>,
-    pub empty: Empty,
-    pub source_blocks: ByName<'a, Block>,
-    pub target_blocks: ByName<'a, Block>,
-    ghost of_source: { source_blocks ≡ source.blocks },
-    ghost of_target: { target_blocks ≡ target.blocks },
+    pub(crate) module: &'a Module,
+    pub(crate) book: &'a B,
+    pub(crate) source: FunctionIndex<'s, 'a>,
+    pub(crate) target: FunctionIndex<'t, 'a>,
+    pub(crate) hints: ByName<'a, HintBlock>,
+    pub(crate) empty: Empty,
 }
 
 impl<'a, 's, 't, B> Drop for Pair<'a, 's, 't, B> {
@@ -70,8 +66,6 @@ impl<'a, 's, 't, B> Drop for Pair<'a, 's, 't, B> {
             target: _,
             hints: _,
             empty: _,
-            source_blocks: _,
-            target_blocks: _,
         } = self;
     }
 }

@@ -11,7 +11,7 @@ ghost use Rattle.block_checker.specs.Asked.{asked};
 ghost use Rattle.block_checker.specs.Progress.{CameOf, Follows, on_answer};
 
 use crate::CheckEnd;
-use crate::definitions::Definitions;
+use crate::function_index::FunctionIndex;
 use crate::pair::Pair;
 use contents::{Exact, Seq};
 use erhl_assert::{Fact, GhostStep, HintStep, Reason, RuleStep, SameStep, Side, expr_names};
@@ -247,7 +247,7 @@ fn after_ghost(
 /// That the fact isn't there. It counts as missing where the function defines the register at another kind.
 fn premise_fault(
     alloc: Global,
-    function: &Definitions<'_, '_>,
+    function: &FunctionIndex<'_, '_>,
     register: &Reg,
     expr: &Expr0,
     side: Side,

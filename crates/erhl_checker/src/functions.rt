@@ -1,8 +1,7 @@
 //! The verdict on two functions.
-ghost use Rattle.std.specs.Prelude.{◌≡◌, IfOk, IfErr, None, Some, [], cond, true, map};
+ghost use Rattle.std.specs.Prelude.{◌≡◌, IfOk, IfErr, None, Some, [], cond, map};
 ghost use Rattle.ir_core.specs.declared.limits.Limit.{Limit};
 ghost use Rattle.ir_core.specs.declared.limits.Limit.TheVariants.{Facts};
-ghost use Rattle.ir_core.specs.Functions.{typed_of};
 ghost use Rattle.ir_core.specs.Modules.{scope_of};
 ghost use Rattle.flow_solver.specs.Near.{reached_nodes};
 ghost use Rattle.definedness.specs.Graph.{flow_of};
@@ -13,11 +12,10 @@ ghost use Rattle.erhl_assert.specs.Steps.{beside};
 ghost use Rattle.rule_base.specs.Book.{meanings_of};
 ghost use Rattle.line_align.specs.Lent.{lent_block};
 ghost use Rattle.block_checker.specs.Asked.{asked};
-ghost use Rattle.block_checker.specs.Defining.{definition_of};
 ghost use Rattle.block_checker.specs.Progress.{Answers};
 ghost use Rattle.erhl_checker.specs.Reached.{from_entry_answer};
 
-use block_checker::{CheckEnd, Definition, Definitions, Pair, block_answer, definitions_of};
+use block_checker::{CheckEnd, FunctionIndex, FunctionParts, Pair, block_answer};
 use contents::Exact;
 use definedness::reached;
 use erhl_assert::{
@@ -182,21 +180,6 @@ fn has_same(blocks: &[HintBlock]) -> bool {
     false
 }
 
-/// The definitions of a function's registers, where they are asked for.
-fn definitions_if(
-    alloc: Global,
-    asked: bool,
-    function: &Function,
-) -> Result<Vec<Definition<'_>>, AllocError>
-    ensures { IfOk result (λ found. asked ≡ true → map definition_of found.items ≡ typed_of «function».now) }
-{
-    if asked {
-        definitions_of(alloc, function)
-    } else {
-        Ok(Vec::new(alloc))
-    }
-}
-
 /// The answer on two functions whose blocks align.
 fn aligned_answer<'a, B: RuleSet>(
     alloc: Global,
@@ -214,10 +197,10 @@ fn aligned_answer<'a, B: RuleSet>(
         (beside (B.rules book.now) (scope_of «module».now) source.now target.now (record { blocks = hints.entry }))
         (map lent_block blocks.now))) }
 {
-    let of_source = definitions_if(alloc, asked, source)?;
-    let of_target = definitions_if(alloc, asked, target)?;
-    let source = Definitions::new(alloc, source, of_source.as_slice(), asked)?;
-    let target = Definitions::new(alloc, target, of_target.as_slice(), asked)?;
+    let of_source = FunctionParts::new(alloc, source, asked)?;
+    let of_target = FunctionParts::new(alloc, target, asked)?;
+    let source = FunctionIndex::new(alloc, &of_source)?;
+    let target = FunctionIndex::new(alloc, &of_target)?;
     let pair = Pair::new(alloc, module, book, source, target, hints)?;
     reached_answer(alloc, &pair, blocks)
 }

@@ -2,7 +2,7 @@
 ghost use Rattle.std.specs.Prelude.{◌≡◌};
 
 use erhl_assert::{FunctionHint, HintBlock, HintEdge};
-use ir_core::{Block, Name};
+use ir_core::{Block, Entry, Name};
 
 /// What has a name.
 pub trait Named {
@@ -19,6 +19,15 @@ impl Named for Block {
 
     fn name(&self) -> &Name {
         &self.name
+    }
+}
+
+/// An entry of a phi is named after the block from which the phi is entered.
+impl Named for Entry {
+    ghost named = { λ entry. entry.from };
+
+    fn name(&self) -> &Name {
+        &self.from
     }
 }
 

@@ -2,6 +2,7 @@
 use Rattle.std.specs.Prelude.{◌≡◌, ℕ, Bool, ◌&&◌, not, slice_get, List, map, Option, IfSome}
 use Rattle.std.specs.Option.{option_to_list}
 use Rattle.ir_core.specs.declared.names.Name.{Name}
+use Rattle.ir_core.specs.declared.functions.Entry.{Entry}
 use Rattle.ir_core.specs.declared.functions.Phi.{Phi}
 use Rattle.erhl_assert.specs.declared.facts.Fact.{Fact}
 use Rattle.erhl_assert.specs.declared.facts.Assertion.{Assertion}
@@ -15,6 +16,10 @@ use Rattle.erhl_sides.specs.Beside.{adds_all_beside}
 -- where there are names, they are those of the phis' registers
 abbrev pub AreTheirNames : Option (List Name) → List Phi → Type 0
 AreTheirNames names ps = IfSome names (λ ns. ns ≡ map (λ (p : Phi). p.name) ps)
+
+-- where there are entries, they are the phi's
+abbrev pub AreItsEntries : Option (List Entry) → Phi → Type 0
+AreItsEntries entries p = IfSome entries (λ es. es ≡ p.entries)
 
 -- the fact names no old register, and goes as it names one of a phi
 abbrev pub goes : List Phi → Fact → Bool

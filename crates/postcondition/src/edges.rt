@@ -23,19 +23,19 @@ use crate::LineEnd;
 use crate::ends::AddEnd;
 use crate::lines::add_equal;
 use crate::naming::{old_atom, old_fact, old_register};
-use crate::phis::{Phis, entry_from, sets_alike};
+use crate::phis::{IndexedPhi, Phis, sets_alike};
 use contents::{Exact, Seq};
 use erhl_assert::{Fact, FactSet, Side};
 use erhl_sides::{Sides, fact_has, names_old};
-use ir_core::{Atom, Entry, Expr, Limit, Name, Operand, Phi, Reg};
+use ir_core::{Atom, Entry, Expr, Limit, Name, Operand, Reg};
 use std::alloc::{AllocError, Global};
 
 /// An edge: the block that it leaves, and on both sides the phis of the block that it enters.
 #[derive(Drop, Clone, Copy)]
-pub struct Edge<'a> {
-    pub from: &'a Name,
-    pub source: &'a [Phi],
-    pub target: &'a [Phi],
+pub struct Edge<'b, 'a> {
+    pub from: &'b Name,
+    pub source: &'b Phis<'a>,
+    pub target: &'b Phis<'a>,
 }
 
 // ---- what stays
@@ -186,18 +186,18 @@ fn add_copies<S: FactSet>(
 fn add_entry<S: FactSet>(
     alloc: Global,
     side: Side,
-    phi: &Phi,
+    phi: &IndexedPhi<'_>,
     entry: &Entry,
     after: &mut Sides<S>,
 ) -> Result<(), AddEnd>
     ensures { Follows result after.new (adds_all side (phi_fact phi.now (Some entry.now)) after.old) }
 {
     let register = Expr::Plain(Operand {
-        ty: phi.ty.copy(alloc)?,
-        atom: Atom::Register(Reg::Now(phi.name.copy(alloc)?)),
+        ty: phi.ty().copy(alloc)?,
+        atom: Atom::Register(Reg::Now(phi.name().copy(alloc)?)),
     });
     let operand = Expr::Plain(Operand {
-        ty: phi.ty.copy(alloc)?,
+        ty: phi.ty().copy(alloc)?,
         atom: old_atom(alloc, &entry.value)?,
     });
     add_equal(alloc, side, register, operand, after)
@@ -208,12 +208,12 @@ fn add_phi<S: FactSet>(
     alloc: Global,
     side: Side,
     from: &Name,
-    phi: &Phi,
+    phi: &IndexedPhi<'_>,
     after: &mut Sides<S>,
 ) -> Result<(), AddEnd>
     ensures { Follows result after.new (adds_all side (phi_fact phi.now (entry_from from.now phi.now.entries)) after.old) }
 {
-    match entry_from(from, phi.entries.as_slice()) {
+    match phi.entry_from(from) {
         None => Ok(()),
         Some(entry) => add_entry(alloc, side, phi, entry, after),
     }
@@ -224,7 +224,7 @@ fn add_phis<S: FactSet>(
     alloc: Global,
     side: Side,
     from: &Name,
-    phis: &[Phi],
+    phis: &[IndexedPhi<'_>],
     after: &mut Sides<S>,
 ) -> Result<(), AddEnd>
     ensures { Follows result after.new (adds_all side (phi_facts from.now phis.now) after.old) }
@@ -241,7 +241,7 @@ fn add_over<S: FactSet>(
     alloc: Global,
     others: u128,
     known: &Sides<S>,
-    edge: &Edge<'_>,
+    edge: &Edge<'_, '_>,
     after: &mut Sides<S>,
 ) -> Result<(), AddEnd>
     ensures { Follows result after.new
@@ -251,8 +251,8 @@ fn add_over<S: FactSet>(
 {
     add_copies(alloc, others, Side::Src, known.facts(Side::Src), after)?;
     add_copies(alloc, others, Side::Tgt, known.facts(Side::Tgt), after)?;
-    add_phis(alloc, Side::Src, edge.from, edge.source, after)?;
-    add_phis(alloc, Side::Tgt, edge.from, edge.target, after)
+    add_phis(alloc, Side::Src, edge.from, edge.source.all(), after)?;
+    add_phis(alloc, Side::Tgt, edge.from, edge.target.all(), after)
 }
 
 // ---- registers that may differ
@@ -381,7 +381,7 @@ fn add_set<S: FactSet>(
     from: &Name,
     source: &Phis<'_>,
     target: &Phis<'_>,
-    phis: &[Phi],
+    phis: &[IndexedPhi<'_>],
     diff: &mut Seq<Reg>,
 ) -> Result<(), AllocError>
     ensures { OnOk result
@@ -391,7 +391,7 @@ fn add_set<S: FactSet>(
         (phi_registers phis.now)) }
 {
     for phi in phis {
-        add_one_set(alloc, known, from, source, target, &phi.name, diff)?;
+        add_one_set(alloc, known, from, source, target, phi.name(), diff)?;
     }
     Ok(())
 }
@@ -444,7 +444,11 @@ fn staying<S: FactSet>(
 
 /// What is known behind the phis, with the registers that may differ, of sides in which each fact stands once.
 #[tactic(auto, using(crate::proofs::Crossing::not_crossed))]
-fn over<S: FactSet>(alloc: Global, known: &Sides<S>, edge: &Edge<'_>) -> Result<Sides<S>, AddEnd>
+fn over<S: FactSet>(
+    alloc: Global,
+    known: &Sides<S>,
+    edge: &Edge<'_, '_>,
+) -> Result<Sides<S>, AddEnd>
     requires source_once { with_facts known.now.src [] ≡ known.now.src }
     requires target_once { with_facts known.now.tgt [] ≡ known.now.tgt }
     ensures ok { IfOk result
@@ -458,23 +462,23 @@ fn over<S: FactSet>(alloc: Global, known: &Sides<S>, edge: &Edge<'_>) -> Result<
         (over_edge (record { from = edge.now.from.now; source = edge.now.source.now; target = edge.now.target.now }) known.now)
         ≡ None)) }
 {
-    let source = Phis::of(alloc, edge.source)?;
-    let target = Phis::of(alloc, edge.target)?;
-    let gone_source = count_gone(known.facts(Side::Src), &source) as u128;
-    let gone_target = count_gone(known.facts(Side::Tgt), &target) as u128;
-    let mut after = staying(alloc, known, &source, &target)?;
+    let source = edge.source;
+    let target = edge.target;
+    let gone_source = count_gone(known.facts(Side::Src), source) as u128;
+    let gone_target = count_gone(known.facts(Side::Tgt), target) as u128;
+    let mut after = staying(alloc, known, source, target)?;
     add_over(alloc, gone_source + gone_target, known, edge, &mut after)?;
-    let diff = diff_over(alloc, known, edge.from, &source, &target)?;
+    let diff = diff_over(alloc, known, edge.from, source, target)?;
     after.set_differing(alloc, diff)?;
     Ok(after)
 }
 
 /// What is known on an edge, behind the phis of the block that it enters, of what was known at the end of the block that it leaves.
-#[tactic(auto, using(crate::proofs::Crossing::known_after, crate::proofs::Crossing::few_over, crate::proofs::Crossing::too_many_over))]
+#[tactic(auto, using(crate::proofs::Crossing::few_over, crate::proofs::Crossing::too_many_over))]
 pub fn after_edge<S: FactSet>(
     alloc: Global,
     sides: &Sides<S>,
-    edge: &Edge<'_>,
+    edge: &Edge<'_, '_>,
 ) -> Result<Sides<S>, LineEnd>
     ensures after { IfOk result
         (λ after. after

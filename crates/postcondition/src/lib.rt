@@ -14,3 +14,4 @@ pub use allowed::can_trap;
 pub use edges::{Edge, after_edge};
 pub use ends::LineEnd;
 pub use lines::{Line, after_line};
+pub use phis::{IndexedPhi, Phis, phis_match};
