@@ -10,3 +10,5 @@ pub mod KeptNames
 pub mod Wholes
 pub mod Offsets
 pub mod Parts
+pub mod Held
+pub mod Unsized

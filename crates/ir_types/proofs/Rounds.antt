@@ -42,15 +42,15 @@ module _ (types : List NamedTy) where
 
 -- ---- how many are still to find
 
-abbrev one_where_none : Option Layout → ℕ
+abbrev pub one_where_none : Option Layout → ℕ
 one_where_none None = 1
 one_where_none (Some l) = 0
 
-abbrev missing : List NamedTy → Found → ℕ
+abbrev pub missing : List NamedTy → Found → ℕ
 missing [] found = 0
 missing (t ∷ ts) found = one_where_none (layout_of_name found t.name) + missing ts found
 
-abbrev Occurs : List NamedTy → Name → Type 0
+abbrev pub Occurs : List NamedTy → Name → Type 0
 Occurs [] x = ⊥
 Occurs (t ∷ ts) x = (t.name ≡ x) ⊎ Occurs ts x
 
@@ -65,7 +65,7 @@ none_more : (entry : Name × Layout) (found : Found) (ts : List NamedTy) → mis
 none_more entry found [] = omega arith
 none_more entry found (t ∷ ts) = omega (arith, one_is_less entry found t.name, none_more entry found ts)
 
-one_less : (entry : Name × Layout) (found : Found) → layout_of_name found entry.0 ≡ None → (ts : List NamedTy) → Occurs ts entry.0 →
+pub one_less : (entry : Name × Layout) (found : Found) → layout_of_name found entry.0 ≡ None → (ts : List NamedTy) → Occurs ts entry.0 →
     missing ts (entry ∷ found) < missing ts found
 one_less entry found new [] occurs = absurd occurs
 one_less entry found new (t ∷ ts) (inl own) =
@@ -76,7 +76,7 @@ one_less entry found new (t ∷ ts) (inl own) =
     omega (arith, none_more entry found ts)
 one_less entry found new (t ∷ ts) (inr later) = omega (arith, one_is_less entry found t.name, one_less entry found new ts later)
 
-missing_at_first : (ts : List NamedTy) → missing ts [] ≡ length ts
+pub missing_at_first : (ts : List NamedTy) → missing ts [] ≡ length ts
 missing_at_first [] = refl
 missing_at_first (t ∷ ts) = omega (arith, missing_at_first ts)
 

@@ -5,5 +5,6 @@ pub mod Hashed
 pub mod Layout
 pub mod Named
 pub mod Laws
+pub mod Held
 pub mod Kept
 pub mod Examples

@@ -1,6 +1,7 @@
 ghost use Rattle.ir_types.specs.Examples.{IntegersTake, ArraysTake, StructsTake, NamesTake};
 ghost use Rattle.ir_types.specs.Laws.{LayoutsAreComputed, LayoutsAreOne, NamesAreStructs, PointersHaveLayouts};
 ghost use Rattle.ir_types.specs.Laws.{SizesAreMultiples, AlignsArePowers, FieldsLieInside, FieldsAreApart, ElementsLieInside, PartsFit};
+ghost use Rattle.ir_types.specs.Held.{HeldTypesAreSized, NoneHoldsItself, UnsizedTypesHoldOne};
 
 /// Empty on purpose: its contract is the law.
 ///
@@ -11,6 +12,16 @@ pub fn layouts_are_computed()
     ensures one { LayoutsAreOne }
     ensures names { NamesAreStructs }
     ensures pointers { PointersHaveLayouts }
+{}
+
+/// Empty on purpose: its contract is the law.
+///
+/// What a type with a layout holds outside of pointers has one too, and no type has one that holds itself. A type has none exactly where it
+/// is `void`, opaque, unknown or holds itself, or holds such a one.
+pub fn sized_types_hold_sized()
+    ensures held { HeldTypesAreSized }
+    ensures itself { NoneHoldsItself }
+    ensures reason { UnsizedTypesHoldOne }
 {}
 
 /// Empty on purpose: its contract is the law.

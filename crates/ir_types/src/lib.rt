@@ -17,7 +17,9 @@ mod shared;
 mod sizes;
 mod ty;
 
-pub use laws::{examples_of_layouts, layouts_are_computed, parts_lie_inside};
+pub use laws::{
+    examples_of_layouts, layouts_are_computed, parts_lie_inside, sized_types_hold_sized,
+};
 pub use named::NamedTy;
 pub use named_types::NamedTypes;
 pub use names::{Name, Sigil};
