@@ -1,6 +1,6 @@
 """Makes small well-formed functions, and puts further lines and uses into them."""
 from .functions import (BINARY, CASTS, DIVISIONS, FLAGS, PREDICATES, Block, Function, definitions, dominators, is_defined_at, is_register,
-                        labels_of, operands_of, predecessors, term_operand, with_operands, with_term_operand)
+                        operands_of, predecessors, term_operand, with_operands, with_term_operand)
 
 END = 10 ** 6
 

@@ -8,6 +8,9 @@ from .pairs import aged, plain, rule, text
 
 WORDS = sorted({*BINARY, *CASTS, *PREDICATES, "nuw", "nsw", "exact", "undef"}, key=len, reverse=True)
 TOKEN = re.compile(r"(?<![\w%.])(?:" + "|".join(WORDS) + r")(?![\w.])|%[a-z][a-z0-9.]*|(?<![\w%.])\d+(?![\w.])")
+NEAR = {"lshr": "ashr", "ashr": "lshr", "udiv": "sdiv", "sdiv": "udiv", "urem": "srem", "srem": "urem", "add": "sub", "sub": "add", "or": "xor",
+        "xor": "or", "zext": "sext", "sext": "zext", "eq": "ne", "ne": "eq", "ugt": "uge", "uge": "ugt", "ult": "ule", "ule": "ult",
+        "sgt": "sge", "sge": "sgt", "slt": "sle", "sle": "slt"}
 RULES = ("refl", "trans", "undef_const", "subst", "drop_flags", "fold", "zero_right")
 
 
@@ -30,6 +33,10 @@ def widths(function):
 
 def other_token(rng, token, known):
     """Another word of the token's sort; known are registers with their widths."""
+    if token in NEAR and rng.random() < 0.4:
+        return NEAR[token]
+    if token in PREDICATES and token not in ("eq", "ne") and rng.random() < 0.5:
+        return ("u" if token[0] == "s" else "s") + token[1:]
     if token in BINARY:
         if rng.random() < 0.3:
             return f"{token} {rng.choice(FLAGS.get(token, ('',)))}".strip()
