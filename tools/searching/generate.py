@@ -15,9 +15,9 @@ def available(function, block, line, over=None):
 def some_operand(rng, registers, width):
     fitting = [name for name, other in registers if other == width]
     roll = rng.random()
-    if fitting and roll < 0.74:
+    if fitting and roll < 0.86:
         return rng.choice(fitting)
-    if roll < 0.94:
+    if roll < 0.97:
         return rng.choice([0, 1, 2 ** width - 1, rng.randrange(2 ** width)]) % 2 ** width
     return "undef"
 

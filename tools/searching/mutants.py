@@ -86,10 +86,16 @@ def body(lines):
     return [k for k, line in enumerate(lines) if line.startswith("  ")]
 
 
-def matters(lines, k):
-    """Whether the line is a terminator, or its register is used."""
-    head, equal, _ = lines[k].partition(" = ")
-    return not equal or sum(len(re.findall(re.escape(head.strip()) + r"(?![\w.])", line)) for line in lines) > 1
+def lines_that_matter(lines):
+    """Terminators, and the lines on whose registers they rest."""
+    found, live = set(), set()
+    while True:
+        more = [k for k in body(lines) if k not in found and (" = " not in lines[k] or lines[k].split(" = ")[0].strip() in live)]
+        if not more:
+            return sorted(found)
+        found.update(more)
+        for k in more:
+            live.update(re.findall(r"%[a-z][a-z0-9.]*", lines[k].split(" = ")[-1]))
 
 
 # Changes of the texts. Each takes numbers, the case, and the functions that its texts are; False where there is nothing to change.
@@ -100,8 +106,8 @@ def one_token(rng, case, functions):
     lines, function = getattr(case, which), functions[which == "target"]
     known = widths(function)
     at = rng.choice(body(lines))
-    if rng.random() < 0.7:
-        at = rng.choice([k for k in body(lines) if matters(lines, k)] or [at])
+    if rng.random() < 0.85:
+        at = rng.choice(lines_that_matter(lines))
     start = lines[at].find("=") + 1
     found = [m for m in TOKEN.finditer(lines[at]) if m.start() >= start and (m.group()[0] != "%" or m.group() in known)]
     if not found:
@@ -109,7 +115,7 @@ def one_token(rng, case, functions):
     match = rng.choice(found)
     new = lines[at][:match.start()] + other_token(rng, match.group(), known) + lines[at][match.end():]
     new = "  " + " ".join(new.split())
-    both = rng.random() < 0.35
+    both = rng.random() < 0.2
     for side in (case.source, case.target):
         for k in body(side):
             if side[k] == lines[at] and side is not lines and both:
@@ -376,7 +382,7 @@ def likely_step(rng, case, functions):
     return True
 
 
-OF_TEXTS = (one_token, one_token, one_token, every_token, every_token, every_token, swapped, line_goes, lines_change_places)
+OF_TEXTS = (one_token, one_token, one_token, one_token, every_token, every_token, swapped, line_goes, lines_change_places)
 OF_HINTS = (step_changes, step_changes, fact_changes, diff_changes, letters_change, edge_changes, age_changes,
             likely_step, likely_step)
 
