@@ -1,6 +1,7 @@
 -- The examples, by the equations of the layouts.
 use Rattle.std.proofs.Common.{refl}
-use Rattle.ir_types.specs.Examples.{IntegersTake, ArraysTake, StructsTake, NamesTake}
+use Rattle.ir_types.specs.Examples.{IntegersTake, ArraysTake, StructsTake, NamesTake, BlocksFit, FieldsBegin}
+use Rattle.ir_types.specs.declared.ty.Ty.TheViews.{outs-Struct, outs-Named}
 use Rattle.ir_types.proofs.Monotone.{at_int, at_ptr, at_array, at_struct, at_named, at_void}
 
 pub integers_take : IntegersTake
@@ -44,4 +45,23 @@ names_take = record {
   void = simp (at_void) refl;
   of_void = simp (at_array, at_void) refl;
   unknown = simp (at_named) refl;
+}
+
+pub blocks_fit : BlocksFit
+blocks_fit = record {
+  exactly = simp (at_int) refl;
+  one_more = simp (at_int) refl;
+  in_array = simp (at_int, at_array) refl;
+  too_huge = simp (at_int, at_array) refl;
+  none_huge = simp (at_int, at_array) refl;
+  opaque = simp (at_named) refl;
+  to_opaque = simp (at_ptr) refl;
+}
+
+pub fields_begin : FieldsBegin
+fields_begin = record {
+  first = simp (outs-Struct, at_int, at_struct) refl;
+  second = simp (outs-Struct, at_int, at_struct) refl;
+  third = simp (outs-Struct, at_int, at_struct) refl;
+  of_named = simp (outs-Named, at_int, at_ptr, at_struct) refl;
 }

@@ -1,9 +1,10 @@
 -- Examples of layouts, worked out by hand.
-use Rattle.std.specs.Prelude.{◌≡◌, ℕ, ◌^◌, codes, List, [], ◌∷◌, Option, None, Some}
+use Rattle.std.specs.Prelude.{◌≡◌, ℕ, ◌^◌, codes, List, [], ◌∷◌, Option, None, Some, Ok, Err}
 use Rattle.ir_types.specs.declared.named.NamedTy.{NamedTy}
 use Rattle.ir_types.specs.declared.names.Name.TheVariants.{Text}
 use Rattle.ir_types.specs.declared.ty.Ty.{Ty, Int, Ptr, Array, Struct, Named, Void}
-use Rattle.ir_types.specs.Named.{layout_of}
+use Rattle.ir_types.specs.declared.sizes.SizeFault.TheVariants.{Unsized, TooLarge}
+use Rattle.ir_types.specs.Named.{layout_of, block_of, field_offset}
 
 -- in a module without named types the type has this size and this alignment
 abbrev pub Takes : Ty → ℕ → ℕ → Type 0
@@ -76,3 +77,24 @@ pub record NamesTake : Type 0 where
   pub void : layout_of [] Void ≡ None
   pub of_void : layout_of [] (Array 0 Void) ≡ None
   pub unknown : layout_of one_opaque b ≡ None
+
+-- `[4294967296 x [4294967296 x i8]]`
+abbrev pub huge : Ty
+huge = Array 4294967296 (Array 4294967296 (Int 8))
+
+-- a block has 2^31 bytes at most
+pub record BlocksFit : Type 0 where
+  pub exactly : block_of [] (Int 8) 2147483648 ≡ Ok 2147483648
+  pub one_more : block_of [] (Int 8) 2147483649 ≡ Err TooLarge
+  pub in_array : block_of [] (Array 2147483649 (Int 8)) 1 ≡ Err TooLarge
+  pub too_huge : block_of [] huge 1 ≡ Err TooLarge
+  pub none_huge : block_of [] huge 0 ≡ Ok 0
+  pub opaque : block_of one_opaque a 0 ≡ Err Unsized
+  pub to_opaque : block_of one_opaque (Ptr a) 2 ≡ Ok 16
+
+-- `{i8, {i64, i8}, i16}`, and the second field of `%a = type { i32, %a* }`
+pub record FieldsBegin : Type 0 where
+  pub first : field_offset [] (Struct (Int 8 ∷ Struct (Int 64 ∷ Int 8 ∷ []) ∷ Int 16 ∷ [])) 0 ≡ 0
+  pub second : field_offset [] (Struct (Int 8 ∷ Struct (Int 64 ∷ Int 8 ∷ []) ∷ Int 16 ∷ [])) 1 ≡ 8
+  pub third : field_offset [] (Struct (Int 8 ∷ Struct (Int 64 ∷ Int 8 ∷ []) ∷ Int 16 ∷ [])) 2 ≡ 24
+  pub of_named : field_offset linked a 1 ≡ 8

@@ -1,6 +1,5 @@
 //! How the layouts of a module's named types are found: by rounds, until one finds none.
-ghost use Rattle.std.specs.Prelude.{◌≡◌, ◌<◌, ◌≤◌, true, false, IfOk, IfSome, OnOk};
-ghost use Rattle.ir_types.specs.declared.names.Name.{Name};
+ghost use Rattle.std.specs.Prelude.{◌≡◌, ◌<◌, true, false, IfOk, IfSome, OnOk};
 ghost use Rattle.ir_types.specs.Kept as kept;
 
 use crate::Name;

@@ -1,4 +1,4 @@
-ghost use Rattle.ir_types.specs.Examples.{IntegersTake, ArraysTake, StructsTake, NamesTake};
+ghost use Rattle.ir_types.specs.Examples.{IntegersTake, ArraysTake, StructsTake, NamesTake, BlocksFit, FieldsBegin};
 ghost use Rattle.ir_types.specs.Laws.{LayoutsAreComputed, LayoutsAreOne, NamesAreStructs, PointersHaveLayouts};
 ghost use Rattle.ir_types.specs.Laws.{SizesAreMultiples, AlignsArePowers, FieldsLieInside, FieldsAreApart, ElementsLieInside, PartsFit};
 ghost use Rattle.ir_types.specs.Held.{HeldTypesAreSized, NoneHoldsItself, UnsizedTypesHoldOne};
@@ -39,10 +39,12 @@ pub fn parts_lie_inside()
 
 /// Empty on purpose: its contract is the law.
 ///
-/// Sizes and alignments of integers, arrays, structs and named types, worked out by hand.
+/// Sizes and alignments of integers, arrays, structs and named types, blocks and offsets, worked out by hand.
 pub fn examples_of_layouts()
     ensures integers { IntegersTake }
     ensures arrays { ArraysTake }
     ensures structs { StructsTake }
     ensures names { NamesTake }
+    ensures blocks { BlocksFit }
+    ensures fields { FieldsBegin }
 {}
