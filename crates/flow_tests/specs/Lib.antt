@@ -3,4 +3,6 @@ pub mod Small
 pub mod SmallLaws
 pub mod Signs
 pub mod SignLaws
+pub mod Marks
+pub mod MarkLaws
 pub mod Graphs

@@ -5,6 +5,9 @@
 mod graphs;
 #[cfg(test)]
 mod large;
+#[cfg(test)]
+mod mark_tests;
+mod marks;
 mod reached;
 #[cfg(test)]
 mod sets;
@@ -13,6 +16,7 @@ mod sign_tests;
 mod signs;
 mod small;
 
+pub use marks::{Gathered, Marks};
 pub use reached::Reached;
 pub use signs::{Act, Known, Sign, Signs, is_same};
 pub use small::{Effect, Small};
