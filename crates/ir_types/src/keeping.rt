@@ -6,19 +6,10 @@ use crate::Name;
 use crate::kept::kept_struct;
 use crate::layout::Layout;
 use crate::name_map::NameMap;
-use crate::named::{Fields, NamedTy};
+use crate::named::{Fields, NamedTy, shared_fields};
 use crate::order::places_in_order;
 use contents::Exact;
 use std::alloc::{AllocError, Global};
-
-fn shared_fields(named: &NamedTy) -> Result<Fields, AllocError>
-    ensures { IfOk result (λ fields. fields ≡ named.now.fields) }
-{
-    match &named.fields {
-        Some(fields) => Ok(Some(fields.share()?)),
-        None => Ok(None),
-    }
-}
 
 /// The fields of each name: those of the first type of that name.
 pub(crate) fn index_fields(alloc: Global, types: &[NamedTy]) -> Result<NameMap<Fields>, AllocError>
@@ -29,7 +20,7 @@ pub(crate) fn index_fields(alloc: Global, types: &[NamedTy]) -> Result<NameMap<F
     while left > 0 {
         left -= 1;
         let named = &types[left];
-        fields.put(named.name.copy(alloc)?, shared_fields(named)?)?;
+        fields.put(named.name.copy(alloc)?, shared_fields(&named.fields)?)?;
     }
     Ok(fields)
 }

@@ -4,7 +4,7 @@ use crate::layout::Layout;
 use crate::name_map::NameMap;
 use crate::named::{Fields, NamedTy};
 use crate::{Name, Ty};
-use contents::Seq;
+use contents::{Exact, Seq};
 use std::alloc::{AllocError, Global};
 use std::marker::Model;
 
@@ -89,5 +89,15 @@ impl NamedTypes {
         ensures { result ≡ kept.capped_size (offset_in (all_of (map (layout_of self.now) fields.now)) index) }
     {
         kept_offset(&self.layouts, fields, index)
+    }
+}
+
+impl Exact for NamedTypes {
+    fn is(&self, other: &NamedTypes) -> bool {
+        self.types.is(&other.types)
+    }
+
+    fn copy(&self, alloc: Global) -> Result<NamedTypes, AllocError> {
+        NamedTypes::new(alloc, self.types.copy(alloc)?)
     }
 }
