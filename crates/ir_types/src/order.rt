@@ -14,15 +14,28 @@ struct Waiting {
     counts: Vec<usize>,
 }
 
+fn no_users(alloc: Global, places: usize) -> Result<Vec<Vec<usize>>, AllocError> {
+    let mut users = Vec::new(alloc);
+    for _ in 0..places {
+        users.push(Vec::new(alloc))?;
+    }
+    Ok(users)
+}
+
+fn no_counts(alloc: Global, places: usize) -> Result<Vec<usize>, AllocError> {
+    let mut counts = Vec::new(alloc);
+    for _ in 0..places {
+        counts.push(0)?;
+    }
+    Ok(counts)
+}
+
 impl Waiting {
     fn with_places(alloc: Global, places: usize) -> Result<Waiting, AllocError> {
-        let mut users = Vec::new(alloc);
-        let mut counts = Vec::new(alloc);
-        for _ in 0..places {
-            users.push(Vec::new(alloc))?;
-            counts.push(0)?;
-        }
-        Ok(Waiting { users, counts })
+        Ok(Waiting {
+            users: no_users(alloc, places)?,
+            counts: no_counts(alloc, places)?,
+        })
     }
 
     fn wait(&mut self, place: usize, other: usize) -> Result<(), AllocError> {
