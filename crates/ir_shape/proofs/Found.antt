@@ -9,7 +9,8 @@ use Rattle.name_index.specs.Among.{is_among}
 use Rattle.ir_shape.specs.declared.fault.ShapeEnd.{ShapeEnd}
 use Rattle.ir_shape.specs.declared.fault.ShapeEnd.TheVariants as end
 use Rattle.ir_shape.specs.declared.fault.ShapeFault.{ShapeFault}
-use Rattle.ir_shape.specs.Shape.{IsEndOf, IsFirstOf, IsShort, Types, first_of, in_block, in_blocks, in_function, in_functions, with_block, with_name}
+use Rattle.ir_shape.specs.Shape.{IsEndOf, IsFirstOf, IsShort, first_of, in_block, in_blocks, in_function, in_functions, with_block}
+use Rattle.shape_tests.specs.Kinds.{Types, with_name}
 
 first_joined : (xs ys : List ShapeFault) (f : ShapeFault) → first_of xs ≡ Some f → first_of (xs ++ ys) ≡ Some f
 first_joined [] ys f e = cc

@@ -16,21 +16,27 @@ use Rattle.ir_core.specs.Expressions.{operands_in, type_of}
 use Rattle.ir_core.specs.Functions.{block_names, edges_into, function_names, is_debug, names_in, names_of, operands_at_end, operands_in_block, operands_of, operands_of_phi, params_of, phi_registers, registers_of, set_by, successors_of, typed_of}
 use Rattle.ir_core.specs.Order.{AreNew}
 use Rattle.ir_core.specs.Same.{same_name}
-use Rattle.ir_core.specs.WellFormed.{BranchesOn, FitsEdges, HasBlockShape, HasCases, HasFunctionShape, IsFirstClass, Returns, SetsByOperator}
+use Rattle.ir_core.specs.WellFormed.{BranchesOn, FitsEdges, HasBlockShape, HasCases, HasFunctionShape, Returns, SetsByOperator}
 use Rattle.name_index.specs.Among.{is_among}
 use Rattle.ir_shape.specs.declared.fault.ShapeFault.{ShapeFault}
-use Rattle.ir_shape.specs.declared.fault.ShapeKind.{ShapeKind}
-use Rattle.ir_shape.specs.declared.fault.ShapeKind.TheVariants as kind
+use Rattle.shape_tests.specs.declared.kind.ShapeKind.{ShapeKind}
+use Rattle.shape_tests.specs.declared.kind.ShapeKind.TheVariants as kind
 use Rattle.ir_shape.specs.Laws.{FaultlessFunctionsHaveShape, FaultlessModulesHaveShape, ShapelyFunctionsAreFaultless, ShapelyModulesAreFaultless}
-use Rattle.ir_shape.specs.Shape.{are_known, are_labels, are_new, are_typed, block_kind, branch_fits, cases_fit, end_kind, fault_at, fault_unless, first_of, froms_of, header_kind, in_block, in_blocks, in_body, in_function, in_functions, is_integer, labels_of, leads_to, line_kinds, name_kind, none_typed, phi_fits, phi_kinds, return_fits, right_kind, types_of, with_block, with_name, with_names, with_phis, with_types}
-use Rattle.ir_shape.proofs.Entries.{fits_edges_by, fits_edges_is}
-use Rattle.ir_shape.proofs.Fits.{branch_by, branch_is, cases_by, cases_is, edge_none, edges_from, no_edge, operator_by, operator_is, return_by, return_is}
-use Rattle.ir_shape.proofs.Taken.{Among, all_kept, block_taken, kept, labels_are, labels_by, new_by, new_is, new_joined, not_taken, old_or_new, put, registers_joined, registers_new}
-use Rattle.ir_shape.proofs.Tests.{AllNone, all_flat, all_joined, all_left, all_parts, all_right, all_there, both_hold, both_left, both_none, both_right, fault_none, first_none, first_none_left, first_none_right, fits_by, joined_none, kind_none, kinds_are, kinds_by, left_none, mapped_all, none_by, not_true, one_there, right_none}
-use Rattle.ir_shape.proofs.Typed.{AreTyped, operands_are, operands_by, operands_known, value_by, value_is}
+use Rattle.shape_tests.specs.Kinds.{are_known, are_labels, are_new, are_typed, block_kind, branch_fits, cases_fit, end_kind, fault_unless, froms_of, header_kind, is_integer, labels_of, leads_to, name_kind, none_typed, phi_fits, return_fits, right_kind, types_of, with_name, with_names, with_types}
+use Rattle.ir_shape.specs.Shape.{fault_at, first_of, in_block, in_blocks, in_body, in_function, in_functions, line_kinds, phi_kinds, with_block, with_phis}
+use Rattle.shape_tests.proofs.Entries.{fits_edges_by, fits_edges_is}
+use Rattle.shape_tests.proofs.Fits.{branch_by, branch_is, cases_by, cases_is, edge_none, edges_from, operator_by, operator_is, return_by, return_is}
+use Rattle.shape_tests.proofs.Taken.{Among, all_kept, kept, labels_are, labels_by, new_by, new_is, new_joined, not_taken, old_or_new, put, registers_joined, registers_new}
+use Rattle.ir_shape.proofs.Faults.{AllNone, fault_none, first_none, kind_none, kinds_are, kinds_by}
+use Rattle.shape_tests.proofs.Tests.{all_joined, all_left, all_parts, all_right, all_there, both_hold, both_left, both_none, both_right, first_none_left, first_none_right, fits_by, joined_none, left_none, none_by, not_true, one_there, right_none}
+use Rattle.shape_tests.proofs.Typed.{AreTyped, operands_are, operands_by, operands_known, value_by, value_is}
+use Rattle.shape_tests.proofs.Taken.{names_joined}
+use Rattle.whole_shapes.proofs.Fitted.{IsValue, BlockFits, shape_by}
 
-abbrev pub IsValue : Name × Ty → Type 0
-IsValue register = IsFirstClass register.1
+block_taken : (taken : List Name) (b : Block) → with_block taken b ≡ with_names taken (block_names b)
+block_taken taken b =
+    sym (ap (with_names (with_name taken b.name)) (registers_joined (phi_registers b.phis) (set_by b.body))
+    ∙ names_joined (with_name taken b.name) (names_in (phi_registers b.phis)) (names_in (set_by b.body)))
 
 abbrev names_of_blocks : List Block → List Name
 names_of_blocks = map (λ (b : Block). b.name)
@@ -205,12 +211,6 @@ end_is f entry end unique fit =
 
 -- ---- blocks
 
-pub record BlockFits (f : Function) (entry : Name) (b : Block) : Type 0 where
-  pub values : AllByRecursion IsValue (registers_of b)
-  pub operands : AreTyped (typed_of f) (operands_in_block b)
-  pub not_entered : leads_to entry b.term ≡ false
-  pub shape : HasBlockShape f b
-
 own_new : (doubled taken : Bool) → block_kind doubled taken ≡ None → not taken ≡ true
 own_new true taken e = absurd (cc)
 own_new false taken e = fits_by (not taken) kind.Name e
@@ -338,45 +338,14 @@ in_all f = in_body f (labels_of f) (types_of f) (with_names [] (param_names f))
 abbrev of_header : Function → Option ShapeKind
 of_header f = header_kind (are_new [] (param_names f)) f
 
-values_by : (ps : List Param) → list_all (λ (p : Param). is_integer p.ty) ps ≡ true → AllByRecursion IsValue (map (λ (p : Param). (p.name, p.ty)) ps)
-values_by [] e = tt
-values_by (p ∷ ps) e =
-    let rest = list_all (λ (q : Param). is_integer q.ty) ps in
-    (value_by p.ty (both_left (is_integer p.ty) rest e), values_by ps (both_right (is_integer p.ty) rest e))
-
 values_are : (ps : List Param) → AllByRecursion IsValue (map (λ (p : Param). (p.name, p.ty)) ps) → list_all (λ (p : Param). is_integer p.ty) ps ≡ true
 values_are [] all = refl
 values_are (p ∷ ps) all = both_hold (is_integer p.ty) (list_all (λ (q : Param). is_integer q.ty) ps) (value_is p.ty all.0) (values_are ps all.1)
-
-not_entered_by : (f : Function) (name : Name) (bs : List Block) → AllByRecursion (BlockFits f name) bs → flat_map (edges_from name) bs ≡ []
-not_entered_by f name [] all = refl
-not_entered_by f name (b ∷ bs) all = joined_none (edges_from name b) (flat_map (edges_from name) bs) (no_edge name b all.0.not_entered) (not_entered_by f name bs all.1)
 
 not_entered_is : (name : Name) (bs : List Block) → flat_map (edges_from name) bs ≡ [] → AllByRecursion (λ (b : Block). leads_to name b.term ≡ false) bs
 not_entered_is name [] e = tt
 not_entered_is name (b ∷ bs) e =
     (edge_none name b (left_none (edges_from name b) (flat_map (edges_from name) bs) e), not_entered_is name bs (right_none (edges_from name b) (flat_map (edges_from name) bs) e))
-
-pub shape_by : (f : Function) (first : Block) (further : List Block) → f.blocks ≡ first ∷ further → is_debug f.name ≡ false → are_new [] (param_names f) ≡ true
-    → list_all (λ (p : Param). is_integer p.ty) f.params ≡ true → are_new (with_names [] (param_names f)) (flat_map block_names (first ∷ further)) ≡ true
-    → AllByRecursion (BlockFits f first.name) (first ∷ further) → HasFunctionShape f
-shape_by f first further are plain params values names all =
-    let blocks : AllByRecursion (BlockFits f first.name) f.blocks = subst (AllByRecursion (BlockFits f first.name)) (sym are) all in
-    record {
-      first = first;
-      further = further;
-      blocks = are;
-      not_entered = ap (flat_map (edges_from first.name)) are ∙ not_entered_by f first.name (first ∷ further) all;
-      name = plain;
-      names = new_by [] (names_of f)
-          (new_joined [] (param_names f) (flat_map block_names f.blocks)
-          ∙ both_hold (are_new [] (param_names f)) (are_new (with_names [] (param_names f)) (flat_map block_names f.blocks)) params
-          (subst (λ (bs : List Block). are_new (with_names [] (param_names f)) (flat_map block_names bs) ≡ true) (sym are) names));
-      registers = all_joined IsValue (params_of f) (flat_map registers_of f.blocks) (values_by f.params values)
-          (all_flat IsValue registers_of f.blocks (mapped_all (BlockFits f first.name) (λ (b : Block). AllByRecursion IsValue (registers_of b)) (λ b fit. fit.values) f.blocks blocks));
-      operands = all_flat _ operands_in_block f.blocks (mapped_all (BlockFits f first.name) (λ (b : Block). AreTyped (typed_of f) (operands_in_block b)) (λ b fit. fit.operands) f.blocks blocks);
-      each = mapped_all (BlockFits f first.name) (HasBlockShape f) (λ b fit. fit.shape) f.blocks blocks;
-    }
 
 function_by : (f : Function) (taken : Bool) → in_function taken f ≡ [] → (not taken ≡ true) × HasFunctionShape f
 function_by f taken e =

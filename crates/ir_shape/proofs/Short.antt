@@ -7,7 +7,7 @@ use Rattle.ir_core.specs.Functions.{line_count}
 use Rattle.ir_core.specs.Limits.{line_limit}
 use Rattle.ir_shape.specs.Lines.{is_short}
 use Rattle.ir_shape.specs.Shape.{IsShort}
-use Rattle.ir_shape.proofs.Tests.{all_tested, each_tested, mapped_all}
+use Rattle.shape_tests.proofs.Tests.{all_tested, each_tested, mapped_all}
 
 pub one_by : (f : Function) → is_short f ≡ true → IsShort f
 one_by f e = leb-true (line_count f) line_limit e

@@ -24,7 +24,7 @@ use Rattle.ir_core.specs.declared.operands.Pred.TheVariants.{Eq}
 use Rattle.ir_core.specs.declared.operands.Ty.{Ty}
 use Rattle.ir_core.specs.declared.operands.Ty.TheVariants.{Int, Void}
 use Rattle.ir_shape.specs.declared.fault.ShapeFault.{ShapeFault}
-use Rattle.ir_shape.specs.declared.fault.ShapeKind.{ShapeKind}
+use Rattle.shape_tests.specs.declared.kind.ShapeKind.{ShapeKind}
 
 abbrev pub f : Name
 f = Text (codes "f")

@@ -9,7 +9,7 @@ use Rattle.ir_core.specs.declared.operands.Atom.TheVariants.{Register}
 use Rattle.ir_core.specs.declared.operands.CastOp.TheVariants.{ZExt, SExt, Trunc, BitCast}
 use Rattle.ir_core.specs.declared.operands.Ty.TheVariants.{Int, Void}
 use Rattle.ir_core.specs.WellFormed.{HasFunctionShape, HasShape}
-use Rattle.ir_shape.specs.declared.fault.ShapeKind.TheVariants as kind
+use Rattle.shape_tests.specs.declared.kind.ShapeKind.TheVariants as kind
 use Rattle.ir_shape.specs.Examples.{add, alone, block, branching, cast, cast_of, debug, entering, entry, f, fitting, function, icmp, in_f, in_header, in_y, jumping, last, of_blocks, of_lines, params, phi, returning, select, setting, switching, given, x, y}
 use Rattle.ir_shape.specs.Shape.{first_fault, in_function}
 

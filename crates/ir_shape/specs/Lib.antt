@@ -1,8 +1,6 @@
 pub mod Shape
-pub mod Edges
 pub mod Typed
-pub mod Counted
-pub mod Whole
 pub mod Lines
 pub mod Laws
 pub mod Examples
+pub use Rattle.shape_tests.specs.Kinds

@@ -2,24 +2,24 @@ ghost use Rattle.std.specs.Prelude.{◌≡◌, ◌++◌, [], ◌∷◌, false, N
 ghost use Rattle.std.specs.List.{AllByRecursion};
 ghost use Rattle.std.specs.Option.{option_copied};
 ghost use Rattle.ir_core.specs.Functions as functions;
-ghost use Rattle.ir_shape.specs.Edges.{HasEdges, named, row_kept, rows_of};
+ghost use Rattle.shape_tests.specs.Edges.{HasEdges, named, row_kept, rows_of};
 ghost use Rattle.ir_shape.specs.Shape as meaning;
+ghost use Rattle.shape_tests.specs.Kinds as fitting;
 ghost use Rattle.ir_shape.specs.Shape.{IsEndOf, IsFirstOf};
 ghost use Rattle.ir_shape.specs.Typed.{type_in};
 
-use crate::ends::end_kind;
-use crate::incoming::{edges_of, row_of};
-use crate::kinds::{block_kind, header_kind, least, line_kind, name_kind};
-use crate::lent::LentNames;
 use crate::lines::{are_short, is_short};
-use crate::names::{labels_of, take_params};
-use crate::phis::{counts_of, phi_kind};
+use crate::told::{end_kind, line_kind, phi_kind};
 use crate::types::{Types, types_of};
-use crate::whole::is_whole;
-use crate::{LinePlace, ShapeEnd, ShapeFault, ShapeKind};
+use crate::{LinePlace, ShapeEnd, ShapeFault};
 use contents::Exact;
 use ir_core::{Block, Function, Instr, Limit, Module, Name, Phi};
+use shape_tests::{
+    LentNames, ShapeKind, block_kind, counts_of, edges_of, header_kind, labels_of, least,
+    name_kind, row_of, take_params,
+};
 use std::alloc::{AllocError, Global};
+use whole_shapes::is_whole;
 
 /// What is known of a function before its blocks are read: their names, the types of its registers, and the edges that enter the blocks
 /// that have phis, at the places of their names.
@@ -213,7 +213,7 @@ fn block_fits<'a>(
     requires edges { HasEdges scope.now.labels (rows_of scope.now.edges.items) «function».now.blocks block.now }
     ensures fits { IfOk result
         (λ _. meaning.in_block «function».now scope.now.labels (type_in scope.now.types) entry.now earlier.old names.old block.now ≡ []) }
-    ensures earlier { IfOk result (λ _. earlier.new ≡ meaning.with_name earlier.old block.now.name) }
+    ensures earlier { IfOk result (λ _. earlier.new ≡ fitting.with_name earlier.old block.now.name) }
     ensures names { IfOk result (λ _. names.new ≡ meaning.with_block names.old block.now) }
     ensures fault { IfErr result
         (IsFirstOf (meaning.in_block «function».now scope.now.labels (type_in scope.now.types) entry.now earlier.old names.old block.now)) }
@@ -284,18 +284,18 @@ fn body_fits<'a>(
 }
 
 /// Whether a function's parameters have no fault, and it has a block; gives the parameters' names.
-#[tactic(auto, using(crate::proofs::Tests::new_where_fits))]
+#[tactic(auto, using(crate::proofs::Faults::new_where_fits))]
 fn params_fit<'a>(alloc: Global, function: &'a Function) -> Result<LentNames<'a>, ShapeEnd>
     ensures names { IfOk result
-        (λ names. names ≡ meaning.with_names [] (functions.names_in (functions.params_of «function».now))) }
+        (λ names. names ≡ fitting.with_names [] (functions.names_in (functions.params_of «function».now))) }
     ensures fits { IfOk result
         (λ _. meaning.fault_at «function».now.name None
-        (meaning.header_kind (meaning.are_new [] (functions.names_in (functions.params_of «function».now))) «function».now)
+        (fitting.header_kind (fitting.are_new [] (functions.names_in (functions.params_of «function».now))) «function».now)
         ≡ []) }
     ensures fault { IfErr result
         (IsFirstOf
         (meaning.fault_at «function».now.name None
-        (meaning.header_kind (meaning.are_new [] (functions.names_in (functions.params_of «function».now))) «function».now))) }
+        (fitting.header_kind (fitting.are_new [] (functions.names_in (functions.params_of «function».now))) «function».now))) }
 {
     let mut names = LentNames::new(alloc);
     let new = take_params(&mut names, function.params.as_slice())?;
@@ -304,8 +304,8 @@ fn params_fit<'a>(alloc: Global, function: &'a Function) -> Result<LentNames<'a>
 }
 
 fn scope_of<'a>(alloc: Global, function: &'a Function) -> Result<Scope<'a>, AllocError>
-    ensures labels { IfOk result (λ scope. scope.labels ≡ meaning.labels_of «function».now) }
-    ensures types { IfOk result (λ scope. type_in scope.types ≡ meaning.types_of «function».now) }
+    ensures labels { IfOk result (λ scope. scope.labels ≡ fitting.labels_of «function».now) }
+    ensures types { IfOk result (λ scope. type_in scope.types ≡ fitting.types_of «function».now) }
     ensures edges { IfOk result
         (λ scope. AllByRecursion (HasEdges scope.labels (rows_of scope.edges.items) «function».now.blocks) «function».now.blocks) }
 {
@@ -326,10 +326,10 @@ fn all_blocks_fit<'a>(
     params: LentNames<'a>,
 ) -> Result<(), ShapeEnd>
     ensures fits { IfOk result
-        (λ _. meaning.in_body «function».now (meaning.labels_of «function».now) (meaning.types_of «function».now) params.entry «function».now.blocks ≡ []) }
+        (λ _. meaning.in_body «function».now (fitting.labels_of «function».now) (fitting.types_of «function».now) params.entry «function».now.blocks ≡ []) }
     ensures fault { IfErr result
         (IsFirstOf
-        (meaning.in_body «function».now (meaning.labels_of «function».now) (meaning.types_of «function».now) params.entry «function».now.blocks)) }
+        (meaning.in_body «function».now (fitting.labels_of «function».now) (fitting.types_of «function».now) params.entry «function».now.blocks)) }
 {
     let scope = scope_of(alloc, function)?;
     body_fits(alloc, function, &scope, params, function.blocks.as_slice())

@@ -28,7 +28,7 @@ pub fn functions_have_shape_or_a_fault()
 /// Empty on purpose: its contract is the law.
 ///
 /// What is at fault in a line, a terminator, a label and a name, and that nothing is where all fit.
-#[tactic(auto, unfolding(crate::specs::Shape::with_type))]
+#[tactic(auto, unfolding(shape_tests::specs::Kinds::with_type))]
 pub fn examples_of_shape_faults()
     ensures none { FittingLinesHaveNone }
     ensures integers { OperandsOfNoInteger }
@@ -49,7 +49,7 @@ pub fn examples_of_shape_faults()
 ///
 /// The first place decides: a line before a terminator, a name before the lines, a function before the next one's name. At one place
 /// the first kind does.
-#[tactic(auto, unfolding(crate::specs::Shape::with_type))]
+#[tactic(auto, unfolding(shape_tests::specs::Kinds::with_type))]
 pub fn examples_of_order()
     ensures ends { LinesComeBeforeEnds }
     ensures names { NamesComeBeforeLines }

@@ -2,26 +2,17 @@
 //! and lines and terminators fit their types.
 #![tactic(auto)]
 
-mod counts;
-mod ends;
 mod fault;
-mod few;
 mod first;
-mod incoming;
-mod kinds;
 mod laws;
-mod leads;
-mod lent;
 mod lines;
-mod names;
-mod phis;
-mod sight;
+mod told;
 mod types;
-mod whole;
 
-pub use fault::{LinePlace, ShapeEnd, ShapeFault, ShapeKind};
+pub use fault::{LinePlace, ShapeEnd, ShapeFault};
 pub use first::{shape, shape_function};
 pub use laws::{
     examples_of_order, examples_of_shape_faults, faultless_modules_have_shape,
     functions_have_shape_or_a_fault, modules_with_shape_are_faultless,
 };
+pub use shape_tests::ShapeKind;

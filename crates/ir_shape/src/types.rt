@@ -4,12 +4,13 @@ ghost use Rattle.std.specs.List.{flat_map};
 ghost use Rattle.ir_core.specs.declared.functions.Param.{Param};
 ghost use Rattle.ir_core.specs.Functions as functions;
 ghost use Rattle.ir_core.specs.Expressions as expressions;
-ghost use Rattle.ir_shape.specs.Shape as meaning;
-ghost use Rattle.ir_shape.specs.Typed.{operands_at, type_in};
+ghost use Rattle.shape_tests.specs.Kinds as fitting;
+ghost use Rattle.shape_tests.specs.Typed.{operands_at};
+ghost use Rattle.ir_shape.specs.Typed.{type_in};
 
-use crate::kinds::is_integer;
 use indexmap::IndexMap;
 use ir_core::{Atom, Block, Entry, Expr, Function, Instr, Name, Param, Phi, Term, Ty, same_ty};
+use shape_tests::is_integer;
 use std::alloc::{AllocError, Global};
 
 /// The type of each register, as it is first defined, found by its name without a walk through the others.
@@ -25,7 +26,7 @@ impl<'a> Drop for Types<'a> {
 
 impl<'a> Types<'a> {
     ghost use Rattle.std.specs.Option.{option_copied};
-    ghost use Rattle.ir_shape.specs.Shape.{none_typed, with_type, with_types};
+    ghost use Rattle.shape_tests.specs.Kinds.{none_typed, with_type, with_types};
     ghost use Rattle.ir_shape.specs.Typed.{found_in};
 
     fn new(alloc: Global) -> Types<'a>
@@ -83,7 +84,7 @@ impl<'a> Types<'a> {
         Ok(())
     }
 
-    #[tactic(auto, using(crate::proofs::Typed::types_joined))]
+    #[tactic(auto, using(shape_tests::proofs::Typed::types_joined))]
     fn put_block(&mut self, block: &'a Block) -> Result<(), AllocError>
         ensures { OnOk result (type_in self.new ≡ with_types (type_in self.old) (functions.registers_of block.now)) }
     {
@@ -91,7 +92,7 @@ impl<'a> Types<'a> {
         self.put_lines(block.body.as_slice())
     }
 
-    #[tactic(auto, using(crate::proofs::Typed::types_joined))]
+    #[tactic(auto, using(shape_tests::proofs::Typed::types_joined))]
     fn put_blocks(&mut self, blocks: &'a [Block]) -> Result<(), AllocError>
         ensures { OnOk result (type_in self.new ≡ with_types (type_in self.old) (flat_map functions.registers_of blocks.now)) }
     {
@@ -104,7 +105,7 @@ impl<'a> Types<'a> {
     /// Whether a register that is named is one of them.
     #[tactic(auto, unfolding(crate::specs::Typed::type_in))]
     fn is_known(&self, atom: &Atom<Name>) -> bool
-        ensures { result ≡ meaning.is_known (type_in self.now) atom.now }
+        ensures { result ≡ fitting.is_known (type_in self.now) atom.now }
     {
         match atom {
             Atom::Constant(_) => true,
@@ -115,7 +116,7 @@ impl<'a> Types<'a> {
     /// Whether the type is that of the register.
     #[tactic(auto, unfolding(crate::specs::Typed::type_in))]
     fn is_of(&self, name: &Name, ty: &Ty) -> bool
-        ensures { result ≡ meaning.is_type (type_in self.now name.now) ty.now }
+        ensures { result ≡ fitting.is_type (type_in self.now name.now) ty.now }
     {
         match self.get(name) {
             None => false,
@@ -124,7 +125,7 @@ impl<'a> Types<'a> {
     }
 
     fn has_type(&self, ty: &Ty, atom: &Atom<Name>) -> bool
-        ensures { result ≡ meaning.has_type (type_in self.now) ty.now atom.now }
+        ensures { result ≡ fitting.has_type (type_in self.now) ty.now atom.now }
     {
         match atom {
             Atom::Constant(_) => is_integer(ty),
@@ -134,9 +135,9 @@ impl<'a> Types<'a> {
 }
 
 /// The types of the function's registers.
-#[tactic(auto, using(crate::proofs::Typed::types_joined))]
+#[tactic(auto, using(shape_tests::proofs::Typed::types_joined))]
 pub(crate) fn types_of<'a>(alloc: Global, function: &'a Function) -> Result<Types<'a>, AllocError>
-    ensures { IfOk result (λ types. type_in types ≡ meaning.types_of «function».now) }
+    ensures { IfOk result (λ types. type_in types ≡ fitting.types_of «function».now) }
 {
     let mut types = Types::new(alloc);
     types.put_params(function.params.as_slice())?;
@@ -145,9 +146,9 @@ pub(crate) fn types_of<'a>(alloc: Global, function: &'a Function) -> Result<Type
 }
 
 /// Whether the registers that a line's right side names are such.
-#[tactic(auto, using(crate::proofs::Tests::with_true))]
+#[tactic(auto, using(shape_tests::proofs::Tests::with_true))]
 fn operands_are_known(types: &Types, right: &Expr<Name>) -> bool
-    ensures { result ≡ meaning.are_known (type_in types.now) (expressions.operands_in right.now) }
+    ensures { result ≡ fitting.are_known (type_in types.now) (expressions.operands_in right.now) }
 {
     match right {
         Expr::Plain(operand) => types.is_known(&operand.atom),
@@ -163,9 +164,9 @@ fn operands_are_known(types: &Types, right: &Expr<Name>) -> bool
 }
 
 /// Whether they are of the types that are stated for them.
-#[tactic(auto, using(crate::proofs::Tests::with_true))]
+#[tactic(auto, using(shape_tests::proofs::Tests::with_true))]
 pub(crate) fn operands_are_typed(types: &Types, right: &Expr<Name>) -> bool
-    ensures { result ≡ meaning.are_typed (type_in types.now) (expressions.operands_in right.now) }
+    ensures { result ≡ fitting.are_typed (type_in types.now) (expressions.operands_in right.now) }
 {
     match right {
         Expr::Plain(operand) => types.has_type(&operand.ty, &operand.atom),
@@ -185,18 +186,18 @@ pub(crate) fn operands_are_typed(types: &Types, right: &Expr<Name>) -> bool
 }
 
 /// Whether they are such, where it is told whether they are of the types stated for them, which says more.
-#[tactic(auto, using(crate::proofs::Typed::typed_known))]
+#[tactic(auto, using(shape_tests::proofs::Typed::typed_known))]
 pub(crate) fn are_operands_known(types: &Types, typed: bool, right: &Expr<Name>) -> bool
-    requires { typed ≡ meaning.are_typed (type_in types.now) (expressions.operands_in right.now) }
-    ensures { result ≡ meaning.are_known (type_in types.now) (expressions.operands_in right.now) }
+    requires { typed ≡ fitting.are_typed (type_in types.now) (expressions.operands_in right.now) }
+    ensures { result ≡ fitting.are_known (type_in types.now) (expressions.operands_in right.now) }
 {
     typed || operands_are_known(types, right)
 }
 
 /// The same of a terminator.
-#[tactic(auto, using(crate::proofs::Tests::with_true))]
+#[tactic(auto, using(shape_tests::proofs::Tests::with_true))]
 fn end_is_known(types: &Types, end: &Term) -> bool
-    ensures { result ≡ meaning.are_known (type_in types.now) (functions.operands_at_end end.now) }
+    ensures { result ≡ fitting.are_known (type_in types.now) (functions.operands_at_end end.now) }
 {
     match end {
         Term::Ret(operand) => types.is_known(&operand.atom),
@@ -206,9 +207,9 @@ fn end_is_known(types: &Types, end: &Term) -> bool
     }
 }
 
-#[tactic(auto, using(crate::proofs::Tests::with_true))]
+#[tactic(auto, using(shape_tests::proofs::Tests::with_true))]
 pub(crate) fn end_is_typed(types: &Types, end: &Term) -> bool
-    ensures { result ≡ meaning.are_typed (type_in types.now) (functions.operands_at_end end.now) }
+    ensures { result ≡ fitting.are_typed (type_in types.now) (functions.operands_at_end end.now) }
 {
     match end {
         Term::Ret(operand) => types.has_type(&operand.ty, &operand.atom),
@@ -218,17 +219,17 @@ pub(crate) fn end_is_typed(types: &Types, end: &Term) -> bool
     }
 }
 
-#[tactic(auto, using(crate::proofs::Typed::typed_known))]
+#[tactic(auto, using(shape_tests::proofs::Typed::typed_known))]
 pub(crate) fn is_end_known(types: &Types, typed: bool, end: &Term) -> bool
-    requires { typed ≡ meaning.are_typed (type_in types.now) (functions.operands_at_end end.now) }
-    ensures { result ≡ meaning.are_known (type_in types.now) (functions.operands_at_end end.now) }
+    requires { typed ≡ fitting.are_typed (type_in types.now) (functions.operands_at_end end.now) }
+    ensures { result ≡ fitting.are_known (type_in types.now) (functions.operands_at_end end.now) }
 {
     typed || end_is_known(types, end)
 }
 
 /// The same of the entries of a phi.
 fn entries_are_known(types: &Types, ty: &Ty, entries: &[Entry]) -> bool
-    ensures { result ≡ meaning.are_known (type_in types.now) (operands_at ty.now entries.now) }
+    ensures { result ≡ fitting.are_known (type_in types.now) (operands_at ty.now entries.now) }
 {
     for entry in entries {
         if !types.is_known(&entry.value) {
@@ -239,7 +240,7 @@ fn entries_are_known(types: &Types, ty: &Ty, entries: &[Entry]) -> bool
 }
 
 pub(crate) fn entries_are_typed(types: &Types, ty: &Ty, entries: &[Entry]) -> bool
-    ensures { result ≡ meaning.are_typed (type_in types.now) (operands_at ty.now entries.now) }
+    ensures { result ≡ fitting.are_typed (type_in types.now) (operands_at ty.now entries.now) }
 {
     for entry in entries {
         if !types.has_type(ty, &entry.value) {
@@ -249,10 +250,10 @@ pub(crate) fn entries_are_typed(types: &Types, ty: &Ty, entries: &[Entry]) -> bo
     true
 }
 
-#[tactic(auto, using(crate::proofs::Typed::typed_known))]
+#[tactic(auto, using(shape_tests::proofs::Typed::typed_known))]
 pub(crate) fn are_entries_known(types: &Types, typed: bool, ty: &Ty, entries: &[Entry]) -> bool
-    requires { typed ≡ meaning.are_typed (type_in types.now) (operands_at ty.now entries.now) }
-    ensures { result ≡ meaning.are_known (type_in types.now) (operands_at ty.now entries.now) }
+    requires { typed ≡ fitting.are_typed (type_in types.now) (operands_at ty.now entries.now) }
+    ensures { result ≡ fitting.are_known (type_in types.now) (operands_at ty.now entries.now) }
 {
     typed || entries_are_known(types, ty, entries)
 }

@@ -1,5 +1,5 @@
 use Rattle.std.proofs.Common.{◌≡◌, ◌++◌, drop}
-use Rattle.ir_shape.specs.Edges.{named}
+use Rattle.shape_tests.specs.Edges.{named}
 use Rattle.ir_shape.specs.Shape.{phi_kinds, with_phis}
 use Rattle.ir_shape.specs.Typed.{type_in}
 use Rattle.ir_shape.proofs.first.push_phis.Given as goal

@@ -1,6 +1,7 @@
 use Rattle.std.proofs.Common.{◌≡◌, drop}
-use Rattle.ir_shape.specs.Shape.{are_known}
-use Rattle.ir_shape.specs.Typed.{operands_at, type_in}
+use Rattle.shape_tests.specs.Kinds.{are_known}
+use Rattle.shape_tests.specs.Typed.{operands_at}
+use Rattle.ir_shape.specs.Typed.{type_in}
 use Rattle.ir_shape.proofs.types.entries_are_known.Given as goal
 
 abbrev pub invariant-loop-entry : goal.invariant-loop-entry

@@ -1,4 +1,4 @@
-use Rattle.ir_shape.proofs.Typed.{none_kept}
+use Rattle.ir_shape.proofs.Kept.{none_kept}
 use Rattle.ir_shape.proofs.types.Types.new.Goals as goal
 
 pub returns : goal.returns

@@ -1,5 +1,5 @@
 use Rattle.std.proofs.Common.{◌∙◌, sym}
-use Rattle.ir_shape.proofs.Typed.{put_new, put_there}
+use Rattle.ir_shape.proofs.Kept.{put_new, put_there}
 use Rattle.ir_shape.proofs.types.Types.put.Goals as goal
 
 pub returns-in-Some : goal.returns-in-Some

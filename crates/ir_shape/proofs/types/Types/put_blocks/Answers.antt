@@ -1,5 +1,5 @@
 use Rattle.ir_shape.specs.Typed.{type_in}
-use Rattle.ir_shape.proofs.Typed.{blocks_more}
+use Rattle.shape_tests.proofs.Typed.{blocks_more}
 use Rattle.ir_shape.proofs.types.Types.put_blocks.Goals as goal
 
 pub loop-block-preserved : goal.loop-block-preserved

@@ -1,7 +1,7 @@
 use Rattle.std.proofs.Common.{◌≡◌, drop}
 use Rattle.std.specs.List.{flat_map}
 use Rattle.ir_core.specs.Functions.{registers_of}
-use Rattle.ir_shape.specs.Shape.{with_types}
+use Rattle.shape_tests.specs.Kinds.{with_types}
 use Rattle.ir_shape.specs.Typed.{type_in}
 use Rattle.ir_shape.proofs.types.Types.put_blocks.Given as goal
 

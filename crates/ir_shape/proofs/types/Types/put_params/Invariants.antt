@@ -1,6 +1,6 @@
 use Rattle.std.proofs.Common.{◌≡◌, drop, map}
 use Rattle.ir_core.specs.declared.functions.Param.{Param}
-use Rattle.ir_shape.specs.Shape.{with_types}
+use Rattle.shape_tests.specs.Kinds.{with_types}
 use Rattle.ir_shape.specs.Typed.{type_in}
 use Rattle.ir_shape.proofs.types.Types.put_params.Given as goal
 

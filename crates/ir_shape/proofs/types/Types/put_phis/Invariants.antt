@@ -1,6 +1,6 @@
 use Rattle.std.proofs.Common.{◌≡◌, drop}
 use Rattle.ir_core.specs.Functions.{phi_registers}
-use Rattle.ir_shape.specs.Shape.{with_types}
+use Rattle.shape_tests.specs.Kinds.{with_types}
 use Rattle.ir_shape.specs.Typed.{type_in}
 use Rattle.ir_shape.proofs.types.Types.put_phis.Given as goal
 

@@ -1,9 +1,0 @@
-use Rattle.std.proofs.Common.{◌≡◌, drop}
-use Rattle.ir_shape.specs.Shape.{are_new, with_names}
-use Rattle.ir_shape.specs.Typed.{param_names}
-use Rattle.ir_shape.proofs.sight.put_params.Given as goal
-
-abbrev pub invariant-loop-param : goal.invariant-loop-param
-invariant-loop-param l =
-    (are_new l.sight.names (param_names (drop l.param-index l.params)) ≡ are_new l.initial.sight.names (param_names l.params))
-    × (with_names l.sight.names (param_names (drop l.param-index l.params)) ≡ with_names l.initial.sight.names (param_names l.params))

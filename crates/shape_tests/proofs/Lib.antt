@@ -1,0 +1,11 @@
+pub mod Tests
+pub mod Taken
+pub mod Typed
+pub mod Fits
+pub mod Numbers
+pub mod Edges
+pub mod Rows
+pub mod Borrowed
+pub mod Entries
+pub mod Counted
+pub mod Two

@@ -1,0 +1,13 @@
+use Rattle.std.proofs.Common.{◌∙◌, List, ap, rules}
+use Rattle.ir_core.specs.declared.names.Name.{Name}
+use Rattle.shape_tests.specs.Edges.{with_blocks}
+use Rattle.shape_tests.proofs.Rows.{all_have_edges, none_need_edges}
+use Rattle.shape_tests.proofs.incoming.edges_of.Goals as goal
+
+pub returns-then-not-have_phis : goal.returns-then-not-have_phis
+returns-then-not-have_phis c = none_need_edges c.args.labels.now _ c.args.blocks.now (search rules)
+
+pub returns : goal.returns
+returns c =
+    all_have_edges c.args.labels.now _ c.args.blocks.now c.requires
+    (c.in_ok-put_blocks.ensures ∙ ap (λ (rows : List (List Name)). with_blocks c.args.labels.now rows c.args.blocks.now) c.in_ok-into.ensures)

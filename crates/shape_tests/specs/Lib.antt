@@ -1,0 +1,4 @@
+pub mod Kinds
+pub mod Edges
+pub mod Typed
+pub mod Counted

@@ -1,0 +1,143 @@
+//! The entries of a phi: how many there are of each block, and what is first for each.
+ghost use Rattle.std.specs.Prelude.{◌≡◌, IfOk, OnOk};
+ghost use Rattle.shape_tests.specs.Counted.{alike_along, count_in, counts_of, first_in, none_first};
+ghost use Rattle.shape_tests.specs.Edges.{named};
+ghost use Rattle.shape_tests.specs.Kinds as meaning;
+
+use indexmap::IndexMap;
+use ir_core::{Atom, Entry, Name, same_name_atom};
+use std::alloc::{AllocError, Global};
+
+/// How often each name stands among some, found without a walk through them.
+pub struct Counts<'a> {
+    of: IndexMap<&'a Name, usize>,
+}
+
+impl<'a> Drop for Counts<'a> {
+    fn drop(self) {
+        let Counts { of: _ } = self;
+    }
+}
+
+impl<'a> Counts<'a> {
+    ghost use Rattle.shape_tests.specs.Counted.{none_counted, with_count};
+
+    pub(crate) fn new(alloc: Global) -> Counts<'a>
+        ensures { count_in result ≡ none_counted }
+    {
+        Counts {
+            of: IndexMap::new(alloc),
+        }
+    }
+
+    #[tactic(auto, unfolding(crate::specs::Counted::count_in))]
+    pub(crate) fn get(&self, name: &Name) -> usize
+        ensures { result ≡ count_in self.now name.now }
+    {
+        match self.of.get(&name).copied() {
+            None => 0,
+            Some(count) => count,
+        }
+    }
+
+    fn put(&mut self, name: &'a Name) -> Result<(), AllocError>
+        ensures { OnOk result (count_in self.new ≡ with_count (count_in self.old) name.now) }
+    {
+        // So many names stand in no memory.
+        let count = self.get(name);
+        if count == usize::MAX {
+            return Err(AllocError);
+        }
+        self.of.insert(name, count + 1)?;
+        Ok(())
+    }
+}
+
+pub(crate) fn count_edges<'a>(alloc: Global, edges: &[&'a Name]) -> Result<Counts<'a>, AllocError>
+    ensures { IfOk result (λ counts. count_in counts ≡ counts_of (named edges.now)) }
+{
+    let mut counts = Counts::new(alloc);
+    for edge in edges {
+        counts.put(*edge)?;
+    }
+    Ok(counts)
+}
+
+pub(crate) fn count_entries<'a>(
+    alloc: Global,
+    entries: &'a [Entry],
+) -> Result<Counts<'a>, AllocError>
+    ensures { IfOk result (λ counts. count_in counts ≡ counts_of (meaning.froms_of entries.now)) }
+{
+    let mut counts = Counts::new(alloc);
+    for entry in entries {
+        counts.put(&entry.from)?;
+    }
+    Ok(counts)
+}
+
+/// The value of the first entry of each block.
+struct Firsts<'a> {
+    of: IndexMap<&'a Name, &'a Atom<Name>>,
+}
+
+impl<'a> Drop for Firsts<'a> {
+    fn drop(self) {
+        let Firsts { of: _ } = self;
+    }
+}
+
+impl<'a> Firsts<'a> {
+    ghost use Rattle.shape_tests.specs.Counted.{agrees_with, found_first, with_first};
+
+    fn new(alloc: Global) -> Firsts<'a>
+        ensures { first_in result ≡ none_first }
+    {
+        Firsts {
+            of: IndexMap::new(alloc),
+        }
+    }
+
+    fn get(&self, name: &Name) -> Option<&'a Atom<Name>>
+        ensures { result ≡ found_first self.now name.now }
+    {
+        self.of.get(&name).copied()
+    }
+
+    fn put(&mut self, name: &'a Name, value: &'a Atom<Name>) -> Result<(), AllocError>
+        ensures { OnOk result (first_in self.new ≡ with_first (first_in self.old) name.now value.now) }
+    {
+        match self.get(name) {
+            Some(_) => Ok(()),
+            None => {
+                self.of.insert(name, value)?;
+                Ok(())
+            }
+        }
+    }
+
+    /// Whether the value is the first one of that name, if there is one.
+    #[tactic(auto, unfolding(crate::specs::Counted::first_in))]
+    fn agree(&self, name: &Name, value: &Atom<Name>) -> bool
+        ensures { result ≡ agrees_with (first_in self.now name.now) value.now }
+    {
+        match self.get(name) {
+            None => true,
+            Some(first) => same_name_atom(first, value),
+        }
+    }
+}
+
+/// Whether entries of one block have one value.
+pub(crate) fn are_alike(alloc: Global, entries: &[Entry]) -> Result<bool, AllocError>
+    ensures { IfOk result (λ alike. alike ≡ alike_along none_first entries.now) }
+{
+    let mut firsts = Firsts::new(alloc);
+    for entry in entries {
+        if !firsts.agree(&entry.from, &entry.value) {
+            return Ok(false);
+        }
+        firsts.put(&entry.from, &entry.value)?;
+    }
+    Ok(true)
+}

@@ -1,0 +1,22 @@
+//! What is asked of one line, one terminator, one phi or one name of a function (LangRef 3.7, Well-Formedness), and the edges that
+//! enter its blocks.
+#![tactic(auto)]
+
+mod counts;
+mod ends;
+mod few;
+mod incoming;
+mod kind;
+mod kinds;
+mod lent;
+mod names;
+mod phis;
+
+pub use counts::Counts;
+pub use ends::{branch_fits, cases_fit, leads_to, return_fits};
+pub use incoming::{edges_of, have_phis, put_at, row_of};
+pub use kind::ShapeKind;
+pub use kinds::{block_kind, fault_unless, header_kind, is_integer, least, name_kind, right_kind};
+pub use lent::LentNames;
+pub use names::{entries_are_labels, labels_of, leads_to_labels, take_params};
+pub use phis::{counts_of, fits_edges};

@@ -1,0 +1,3 @@
+pub mod Fitted
+pub mod Sighted
+pub mod Wholly
