@@ -11,6 +11,7 @@ ghost use Rattle.definedness.specs.Graph.{graph_in, labels_in};
 use flow_solver::Graph;
 use ir_core::{Block, Case, Instr, Name, Phi, Term, same_name};
 use name_index::PlaceIndex;
+use smallvec::SmallVec;
 use std::alloc::{AllocError, Global};
 
 /// Where the names of blocks stand first among them.
@@ -30,7 +31,11 @@ pub(crate) fn labels_of<'a>(
 }
 
 /// Puts the place of a block behind the others.
-fn add_place(labels: &PlaceIndex, label: &Name, places: &mut Vec<usize>) -> Result<(), AllocError>
+fn add_place(
+    labels: &PlaceIndex,
+    label: &Name,
+    places: &mut SmallVec<usize, 2>,
+) -> Result<(), AllocError>
     ensures { OnOk result (places.new.items ≡ places.old.items ++ places_by labels.now (label.now ∷ [])) }
 {
     if let Some(place) = labels.position(label) {
@@ -39,7 +44,11 @@ fn add_place(labels: &PlaceIndex, label: &Name, places: &mut Vec<usize>) -> Resu
     Ok(())
 }
 
-fn add_cases(labels: &PlaceIndex, cases: &[Case], places: &mut Vec<usize>) -> Result<(), AllocError>
+fn add_cases(
+    labels: &PlaceIndex,
+    cases: &[Case],
+    places: &mut SmallVec<usize, 2>,
+) -> Result<(), AllocError>
     ensures { OnOk result
         (places.new.items ≡ places.old.items ++ places_by labels.now (map (λ (c : Case). c.label) cases.now)) }
 {
@@ -69,10 +78,14 @@ fn successor_count(term: &Term) -> usize {
 }
 
 /// The places of the blocks to which a terminator leads.
-fn places_of(alloc: Global, labels: &PlaceIndex, term: &Term) -> Result<Vec<usize>, AllocError>
+fn places_of(
+    alloc: Global,
+    labels: &PlaceIndex,
+    term: &Term,
+) -> Result<SmallVec<usize, 2>, AllocError>
     ensures { IfOk result (λ places. places.items ≡ places_by labels.now (successors_of term.now)) }
 {
-    let mut places = Vec::with_capacity(alloc, successor_count(term))?;
+    let mut places = SmallVec::with_capacity(alloc, successor_count(term))?;
     match term {
         Term::Br(label) => add_place(labels, label, &mut places)?,
         Term::CondBr(branch) => {
@@ -97,11 +110,11 @@ pub(crate) fn graph_of(
     requires { ArePlaces labels.now (labels_in blocks.now) }
     ensures { IfOk result (λ graph. graph ≡ graph_in (labels_in blocks.now) blocks.now) }
 {
-    let mut successors = Vec::new(alloc);
+    let mut successors = Vec::with_capacity(alloc, blocks.len())?;
     for block in blocks {
         successors.push(places_of(alloc, labels, &block.term)?)?;
     }
-    Ok(Graph::new(successors))
+    Ok(Graph::of_short(successors))
 }
 
 fn phis_define(phis: &[Phi], name: &Name) -> bool

@@ -5,7 +5,7 @@ ghost use Rattle.std.specs.Option.{option_copied};
 ghost use Rattle.ir_core.specs.declared.functions.Param.{Param};
 ghost use Rattle.ir_core.specs.Expressions.{operands_in};
 ghost use Rattle.ir_core.specs.Functions.{names_in, operands_at_end, phi_registers};
-ghost use Rattle.definedness.specs.Along.{left_along, left_by, left_by_entries, left_by_phis, left_in, left_in_block, use_of, with_name, with_names};
+ghost use Rattle.definedness.specs.Along.{is_known, left_along, left_by, left_by_entries, left_by_phis, left_in, left_in_block, use_of, with_name, with_names};
 
 use ir_core::{Atom, Block, Entry, Expr, Instr, Name, Param, Phi, Select, Term};
 use name_index::NameIndex;
@@ -39,6 +39,13 @@ pub(crate) fn add(alloc: Global, names: &mut NameIndex, name: &Name) -> Result<(
     Ok(())
 }
 
+/// Whether a register is defined at a place where these are.
+fn is_known(known: &Known, name: &Name) -> bool
+    ensures { result ≡ is_known known.now.params known.now.own name.now }
+{
+    known.params.has(name) || known.own.has(name)
+}
+
 /// Puts a use behind the others, where its register isn't known.
 fn note<'a>(
     known: &Known,
@@ -53,7 +60,7 @@ fn note<'a>(
         ≡ map use_of uses.old.items ++ left_in known.now.params known.now.own block.now line (option_copied end_of.entry) atom.now) }
 {
     if let Atom::Register(name) = atom {
-        if !known.own.has(name) && !known.params.has(name) {
+        if !is_known(known, name) {
             uses.push(Crossing {
                 block,
                 line,

@@ -1,3 +1,4 @@
+pub mod Edges
 pub mod Order
 pub mod Searching
 pub mod Found

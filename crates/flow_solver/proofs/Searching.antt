@@ -1,13 +1,14 @@
 -- A search goes on, and ends with the first way to each node that any way leads to.
-use Rattle.std.proofs.Common.{◌≡◌, ◌∙◌, ◌⊎◌, ⊎_elim, inl, inr, ℕ, suc, zero, ◌+◌, ◌<◌, Bool, List, [], ◌∷◌, ◌++◌, length, get_or, set, Option, None, Some, refl, sym, ap, subst, arith}
+use Rattle.std.proofs.Common.{◌≡◌, ◌∙◌, ◌⊎◌, ⊎_elim, inl, inr, ℕ, ◌+◌, ◌<◌, Bool, List, [], ◌∷◌, ◌++◌, length, set, Option, None, Some, refl, sym, ap, subst, arith}
 use Rattle.std.proofs.lemmas.List.{get_or_append_left, get_or_push, get_or-set_other, get_or-set_same, length_push, length-set}
 use Rattle.std.proofs.lemmas.Bool.{cases_lt}
 use Rattle.std.proofs.lemmas.List.Sums.{sum_by-set}
-use Rattle.std.specs.List.{AllByRecursion, sum_by}
+use Rattle.std.specs.List.{sum_by}
 use Rattle.std.specs.Prelude.{slice_index}
 use Rattle.flow_solver.specs.declared.search.Step.{Step}
 use Rattle.flow_solver.specs.Ways.{IsBefore, IsOpen, Leads, LeadsWithin, led_to}
 use Rattle.flow_solver.specs.Searched.{CameBy, Comes, ComesBy, HasSearched, IsDone, IsNotBehind, IsSooner, free_at, node_at, place_of, step_at, way_at}
+use Rattle.flow_solver.proofs.Edges.{led_within}
 use Rattle.flow_solver.proofs.Order.{before_further, before_last, none_before}
 
 -- ---- ways
@@ -240,11 +241,6 @@ module _ (g : List (List ℕ)) (closed : List Bool) (steps : List Step) (places 
 
 -- ---- what the code does
 
-all_at : {A : Type 0} (P : A → Type 0) (xs : List A) (k : ℕ) (d : A) → k < length xs → AllByRecursion P xs → P (get_or xs k d)
-all_at P [] k d within all = absurd (omega arith)
-all_at P (x ∷ xs) zero d within all = all.0
-all_at P (x ∷ xs) (suc k) d within all = all_at P xs k d (omega arith) all.1
-
 module _ (g : List (List ℕ)) (closed : List Bool) (steps : List Step) (places : List (Option ℕ)) (at turn : ℕ) where
   abbrev Goes : List Step → List (Option ℕ) → Type 0
   Goes steps_after places_after =
@@ -256,9 +252,7 @@ module _ (g : List (List ℕ)) (closed : List Bool) (steps : List Step) (places 
   next_by h within here passes turns steps_after places_after comes = go (place_of places (slice_index (led_to g (node_at steps at)) turn)) refl comes
     where
       inside : slice_index (led_to g (node_at steps at)) turn < length g
-      inside =
-          all_at (λ n. n < length g) (led_to g (node_at steps at)) turn 0 turns
-          (all_at (AllByRecursion (λ n. n < length g)) g (node_at steps at) [] (h.placed at here).0 within)
+      inside = led_within g within (node_at steps at) turn (h.placed at here).0 turns
 
       go : (place : Option ℕ) → place_of places (slice_index (led_to g (node_at steps at)) turn) ≡ place
           → ComesBy place steps places (slice_index (led_to g (node_at steps at)) turn) at steps_after places_after → Goes steps_after places_after

@@ -1,11 +1,10 @@
 -- Values go down to the greatest solution.
 use Rattle.std.proofs.Common.{◌≡◌, ◌≢◌, ◌∙◌, ◌⊎◌, ⊎_elim, inl, inr, ℕ, ◌<◌, ◌≤◌, ◌+◌, Bool, false, List, [], length, get_or, set, refl, sym, ap, subst, arith}
-use Rattle.std.specs.List.{AllByRecursion, Contains}
+use Rattle.std.specs.List.{Contains}
 use Rattle.std.proofs.lemmas.Bool.{cases_eq, cases_lt}
 use Rattle.std.proofs.lemmas.List.{ext_get_or, get_or-set_other, get_or-set_same, get_or_default, get_or_past, length-set, set-get_or}
-use Rattle.std.proofs.lemmas.List.Elements.{All-from_recursion, All-get_or}
 use Rattle.std.proofs.lemmas.List.Sums.{sum_by-set}
-use Rattle.flow_solver.specs.Ways.{LeadsWithin, led_to}
+use Rattle.flow_solver.specs.Ways.{led_to}
 use Rattle.flow_solver.specs.Frameworks.{Enters, Framework, IsEither, IsGreatestLowerBound, IsGreatestSolution, IsLowerBound, IsMonotone, IsSafe, IsSolution, value_at}
 use Rattle.std.specs.BinaryHeap.{heap_len}
 use Rattle.flow_solver.specs.declared.queue.Queue.{Queue}
@@ -281,8 +280,3 @@ module _ {V : Type 0} (f : Framework V) (is : IsMonotone f) (g : List (List ℕ)
 
       is_set : after ≡ set vs n (f.meet (value_at f vs n) (f.transfer m x))
       is_set = has.met ∙ ap (λ u. set vs n (f.meet (value_at f vs n) u)) left
-
-pub led_within : (g : List (List ℕ)) → LeadsWithin g → (m t : ℕ) → m < length g → t < length (led_to g m) → get_or (led_to g m) t 0 < length g
-led_within g within m t at turn =
-    All-get_or (λ n. n < length g) (led_to g m) t 0 turn
-    (All-from_recursion (λ n. n < length g) (led_to g m) (All-get_or (AllByRecursion (λ n. n < length g)) g m [] at (All-from_recursion (AllByRecursion (λ n. n < length g)) g within)))

@@ -1,3 +1,4 @@
+pub mod Rows
 pub mod Ways
 pub mod Near
 pub mod Searched

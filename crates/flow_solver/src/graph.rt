@@ -1,23 +1,52 @@
 ghost use Rattle.std.specs.Prelude.{◌≡◌, ◌<◌, length, map};
+ghost use Rattle.flow_solver.specs.Rows.{rows_in};
 ghost use Rattle.flow_solver.specs.Ways.{LeadsWithin, led_to};
 
+use smallvec::SmallVec;
 use std::marker::Model;
+
+/// Of each node those that it leads to: all in memory of their own, or up to two of them in place.
+#[derive(Drop)]
+enum Rows {
+    Long(Vec<Vec<usize>>),
+    Short(Vec<SmallVec<usize, 2>>),
+}
 
 /// Nodes, counted from 0, each with those that it leads to, in their order. Contracts see a graph as the list of these lists.
 #[derive(Drop)]
 pub struct Graph {
-    successors: Vec<Vec<usize>>,
+    rows: Rows,
 }
 
 impl Model for Graph {
-    ghost use Rattle.std.specs.Prelude.{List, ℕ, map};
+    ghost use Rattle.std.specs.Prelude.{List, ℕ};
+    ghost use Rattle.flow_solver.specs.Rows.{rows_in};
     ghost use Rattle.flow_solver.specs.Ways.{LeadsWithin};
 
     ghost Value = { List (List ℕ) };
 
-    ghost view = { λ it. map (λ nodes. nodes.items) it.successors.items };
+    ghost view = { λ it. rows_in it.rows };
 
-    ghost invariant = { λ it. LeadsWithin (map (λ nodes. nodes.items) it.successors.items) };
+    ghost invariant = { λ it. LeadsWithin (rows_in it.rows) };
+}
+
+fn rows_len(rows: &Rows) -> usize
+    ensures { result ≡ length (rows_in rows.now) }
+{
+    match rows {
+        Rows::Long(rows) => rows.len(),
+        Rows::Short(rows) => rows.len(),
+    }
+}
+
+fn row_at(rows: &Rows, node: usize) -> &[usize]
+    requires { node < length (rows_in rows.now) }
+    ensures { result.now ≡ led_to (rows_in rows.now) node }
+{
+    match rows {
+        Rows::Long(rows) => rows[node].as_slice(),
+        Rows::Short(rows) => rows[node].as_slice(),
+    }
 }
 
 impl Graph {
@@ -26,7 +55,19 @@ impl Graph {
         requires { LeadsWithin (map (λ nodes. nodes.items) successors.items) }
         ensures { result ≡ map (λ nodes. nodes.items) successors.items }
     {
-        Graph { successors }
+        Graph {
+            rows: Rows::Long(successors),
+        }
+    }
+
+    /// The same of lists that are short as a rule.
+    pub fn of_short(successors: Vec<SmallVec<usize, 2>>) -> Graph
+        requires { LeadsWithin (map (λ nodes. nodes.items) successors.items) }
+        ensures { result ≡ map (λ nodes. nodes.items) successors.items }
+    {
+        Graph {
+            rows: Rows::Short(successors),
+        }
     }
 
     /// How many nodes it has.
@@ -34,7 +75,7 @@ impl Graph {
         ensures many { result ≡ length self.now }
         ensures within { LeadsWithin self.now }
     {
-        self.successors.len()
+        rows_len(&self.rows)
     }
 
     /// The nodes that a node leads to.
@@ -42,6 +83,6 @@ impl Graph {
         requires { node < length self.now }
         ensures { result.now ≡ led_to self.now node }
     {
-        self.successors[node].as_slice()
+        row_at(&self.rows, node)
     }
 }

@@ -15,7 +15,7 @@ use crate::{LinePlace, ShapeEnd, ShapeFault};
 use contents::Exact;
 use ir_core::{Block, Function, Instr, Limit, Module, Name, Phi};
 use shape_tests::{
-    LentNames, ShapeKind, block_kind, counts_of, edges_of, header_kind, labels_of, least,
+    LentNames, Row, ShapeKind, block_kind, counts_of, edges_of, header_kind, labels_of, least,
     name_kind, row_of, take_params,
 };
 use std::alloc::{AllocError, Global};
@@ -26,7 +26,7 @@ use whole_shapes::is_whole;
 pub(crate) struct Scope<'a> {
     pub(crate) labels: LentNames<'a>,
     pub(crate) types: Types<'a>,
-    pub(crate) edges: Vec<Vec<&'a Name>>,
+    pub(crate) edges: Vec<Row<'a>>,
 }
 
 impl<'a> Drop for Scope<'a> {
@@ -140,7 +140,7 @@ fn push_phis<'a>(
 fn push_with<'a>(
     alloc: Global,
     scope: &Scope,
-    row: Option<&Vec<&Name>>,
+    row: Option<&Row>,
     names: &mut LentNames<'a>,
     phis: &'a [Phi],
     kinds: &mut Vec<Option<ShapeKind>>,

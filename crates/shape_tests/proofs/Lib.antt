@@ -9,3 +9,4 @@ pub mod Borrowed
 pub mod Entries
 pub mod Counted
 pub mod Two
+pub mod OneOrTwo

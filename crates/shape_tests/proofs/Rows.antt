@@ -1,5 +1,5 @@
 -- Edges that are collected at the places of labels are those that enter each block.
-use Rattle.std.proofs.Common.{◌≡◌, ◌∙◌, ℕ, zero, suc, ◌+◌, ◌<◌, ◌≤◌, Bool, true, false, ◌||◌, List, [], ◌∷◌, ◌++◌, length, map, get_or, Option, None, Some, refl, sym, ap, subst, append_assoc, arith, if◌then◌else◌, is_some, ltb, IfSome, Vec, Global}
+use Rattle.std.proofs.Common.{◌≡◌, ◌∙◌, ℕ, zero, suc, ◌+◌, ◌<◌, ◌≤◌, Bool, true, false, ◌||◌, List, [], ◌∷◌, ◌++◌, length, map, get_or, Option, None, Some, refl, sym, ap, subst, append_assoc, arith, if◌then◌else◌, is_some, ltb, IfSome}
 use Rattle.std.proofs.lemmas.Bool.{ltb-false, ltb-true}
 use Rattle.std.proofs.lemmas.List.{append-nil, get_or-map, get_or_past, get_or-set_other, get_or-set_same, length-set}
 use Rattle.std.specs.Borrow.{Bor}
@@ -12,7 +12,8 @@ use Rattle.ir_core.specs.NameLaws.{same_name_refl, same_name_true}
 use Rattle.ir_core.specs.Same.{same_name}
 use Rattle.name_index.specs.Among.{is_among, place_among}
 use Rattle.name_index.proofs.FirstPlaces.{no_place, place_is}
-use Rattle.shape_tests.specs.Edges.{HasEdges, edge_at, edges_among, edges_from, has_phis, named, no_rows, row_kept, rows_of, row_at, row_by, with_block, with_blocks, with_edge, with_edge_at, with_edges}
+use Rattle.shape_tests.specs.declared.row.Row.{Row}
+use Rattle.shape_tests.specs.Edges.{HasEdges, edge_at, edges_among, edges_from, has_phis, named, names_on, no_rows, row_kept, rows_of, row_at, row_by, with_block, with_blocks, with_edge, with_edge_at, with_edges}
 use Rattle.shape_tests.specs.Kinds.{with_name, with_names}
 use Rattle.shape_tests.proofs.Taken.{all_put}
 use Rattle.shape_tests.proofs.Tests.{all_there, one_there}
@@ -190,12 +191,11 @@ pub named_more : (xs : List (Bor Name)) (x : Bor Name) → named (xs ++ x ∷ []
 named_more [] x = refl
 named_more (y ∷ xs) x = ap (λ (names : List Name). y.now ∷ names) (named_more xs x)
 
-pub row_there : (rows : List (Vec (Bor Name) Global)) (p : ℕ) (o : Option (Bor (Vec (Bor Name) Global))) → is_some o ≡ ltb p (length rows)
-    → IfSome o (λ row. row.now ≡ get_or rows p row.now) → row_kept (option_copied o) ≡ get_or (rows_of rows) p []
+pub row_there : (rows : List Row) (p : ℕ) (o : Option (Bor Row)) → is_some o ≡ ltb p (length rows)
+    → IfSome o (λ r. r.now ≡ get_or rows p r.now) → row_kept (option_copied o) ≡ get_or (rows_of rows) p []
 row_there rows p None some is = sym (get_or_past (rows_of rows) p [] (omega (arith, ltb-false p (length rows) (sym some), rows_many rows)))
   where
-    rows_many : (rows : List (Vec (Bor Name) Global)) → length (rows_of rows) ≡ length rows
+    rows_many : (rows : List Row) → length (rows_of rows) ≡ length rows
     rows_many [] = refl
     rows_many (r ∷ rows) = ap suc (rows_many rows)
-row_there rows p (Some row) some is =
-    ap (λ (r : Vec (Bor Name) Global). named r.items) is ∙ sym (get_or-map (λ (r : Vec (Bor Name) Global). named r.items) rows p row.now [] (ltb-true p (length rows) (sym some)))
+row_there rows p (Some r) some is = ap names_on is ∙ sym (get_or-map names_on rows p r.now [] (ltb-true p (length rows) (sym some)))

@@ -1,7 +1,6 @@
 -- Words of private functions: edges as they are collected, and what is compared of entries.
-use Rattle.std.specs.Prelude.{◌≡◌, ℕ, ◌++◌, ◌||◌, Bool, not, true, List, [], ◌∷◌, length, map, nat_eq, nat_lt, slice_index_or, slice_set, Option, None, Some, Vec}
+use Rattle.std.specs.Prelude.{◌≡◌, ℕ, ◌++◌, ◌||◌, Bool, not, true, List, [], ◌∷◌, length, map, nat_eq, nat_lt, slice_index_or, slice_set, Option, None, Some}
 use Rattle.std.specs.Borrow.{Bor}
-use Rattle.std.specs.declared.alloc.Global.{Global}
 use Rattle.std.specs.List.{filter, flat_map}
 use Rattle.ir_core.specs.declared.functions.Block.{Block}
 use Rattle.ir_core.specs.declared.functions.Entry.{Entry}
@@ -9,6 +8,8 @@ use Rattle.ir_core.specs.declared.names.Name.{Name}
 use Rattle.ir_core.specs.Functions.{successors_of}
 use Rattle.ir_core.specs.Same.{same_atom, same_name}
 use Rattle.name_index.specs.Among.{place_among}
+use Rattle.shape_tests.specs.declared.row.Row.{Row}
+use Rattle.shape_tests.specs.declared.row.Row.TheVariants as row
 use Rattle.shape_tests.specs.Kinds.{count_of}
 
 -- names that are lent
@@ -24,8 +25,14 @@ edges_among name = flat_map (λ (b : Block). edges_from name b.name (successors_
 
 -- ---- as they are collected: at the place of each label the blocks from which an edge leads to it
 
-abbrev pub rows_of : List (Vec (Bor Name) Global) → List (List Name)
-rows_of = map (λ row. named row.items)
+abbrev pub names_on : Row → List Name
+names_on row.Empty = []
+names_on (row.One single) = named single.names
+names_on (row.Two pair) = named pair.names
+names_on (row.More names) = named names.items
+
+abbrev pub rows_of : List Row → List (List Name)
+rows_of = map names_on
 
 -- a row without names for each block
 abbrev pub no_rows : List Block → List (List Name)
@@ -59,9 +66,9 @@ row_by (Some place) rows = slice_index_or rows place []
 abbrev pub row_at : List Name → List (List Name) → Name → List Name
 row_at labels rows name = row_by (place_among name labels) rows
 
-abbrev pub row_kept : Option (Vec (Bor Name) Global) → List Name
+abbrev pub row_kept : Option Row → List Name
 row_kept None = []
-row_kept (Some row) = named row.items
+row_kept (Some r) = names_on r
 
 abbrev pub has_phis : Block → Bool
 has_phis b = nat_lt 0 (length b.phis)

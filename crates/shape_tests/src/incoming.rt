@@ -7,20 +7,19 @@ ghost use Rattle.ir_core.specs.declared.functions.Case.{Case};
 ghost use Rattle.shape_tests.specs.Edges.{HasEdges, has_phis, no_rows, row_at, row_kept, rows_of, with_block, with_blocks, with_edge, with_edge_at, with_edges};
 ghost use Rattle.shape_tests.specs.Kinds.{with_names};
 
+use crate::Row;
 use crate::lent::LentNames;
+use crate::row::put_on;
 use ir_core::{Block, Case, Name, Term};
 use std::alloc::{AllocError, Global};
 
 /// Puts a name behind those at a place.
-pub fn put_at<'a>(
-    place: usize,
-    from: &'a Name,
-    into: &mut Vec<Vec<&'a Name>>,
-) -> Result<(), AllocError>
+pub fn put_at<'a>(place: usize, from: &'a Name, into: &mut Vec<Row<'a>>) -> Result<(), AllocError>
     ensures { OnOk result (rows_of into.new.items ≡ with_edge_at (rows_of into.old.items) place from.now) }
 {
     if place < into.len() {
-        into[place].push(from)?;
+        let alloc = *into.allocator();
+        put_on(&mut into[place], alloc, from)?;
     }
     Ok(())
 }
@@ -30,7 +29,7 @@ fn put_edge<'a>(
     labels: &LentNames,
     from: &'a Name,
     label: &Name,
-    into: &mut Vec<Vec<&'a Name>>,
+    into: &mut Vec<Row<'a>>,
 ) -> Result<(), AllocError>
     ensures { OnOk result (rows_of into.new.items ≡ with_edge labels.now from.now (rows_of into.old.items) label.now) }
 {
@@ -44,7 +43,7 @@ fn put_cases<'a>(
     labels: &LentNames,
     from: &'a Name,
     cases: &[Case],
-    into: &mut Vec<Vec<&'a Name>>,
+    into: &mut Vec<Row<'a>>,
 ) -> Result<(), AllocError>
     ensures { OnOk result
         (rows_of into.new.items ≡ with_edges labels.now from.now (rows_of into.old.items) (map (λ (c : Case). c.label) cases.now)) }
@@ -59,7 +58,7 @@ fn put_cases<'a>(
 fn put_block<'a>(
     labels: &LentNames,
     block: &'a Block,
-    into: &mut Vec<Vec<&'a Name>>,
+    into: &mut Vec<Row<'a>>,
 ) -> Result<(), AllocError>
     ensures { OnOk result (rows_of into.new.items ≡ with_block labels.now (rows_of into.old.items) block.now) }
 {
@@ -81,7 +80,7 @@ fn put_block<'a>(
 fn put_blocks<'a>(
     labels: &LentNames,
     blocks: &'a [Block],
-    into: &mut Vec<Vec<&'a Name>>,
+    into: &mut Vec<Row<'a>>,
 ) -> Result<(), AllocError>
     ensures { OnOk result (rows_of into.new.items ≡ with_blocks labels.now (rows_of into.old.items) blocks.now) }
 {
@@ -92,12 +91,12 @@ fn put_blocks<'a>(
 }
 
 /// A row without names for each block.
-fn no_edges<'a>(alloc: Global, blocks: &[Block]) -> Result<Vec<Vec<&'a Name>>, AllocError>
+fn no_edges<'a>(alloc: Global, blocks: &[Block]) -> Result<Vec<Row<'a>>, AllocError>
     ensures { IfOk result (λ into. rows_of into.items ≡ no_rows blocks.now) }
 {
     let mut into = Vec::new(alloc);
     for _block in blocks {
-        into.push(Vec::new(alloc))?;
+        into.push(Row::Empty)?;
     }
     Ok(into)
 }
@@ -118,7 +117,7 @@ pub fn edges_of<'a>(
     alloc: Global,
     labels: &LentNames,
     blocks: &'a [Block],
-) -> Result<Vec<Vec<&'a Name>>, AllocError>
+) -> Result<Vec<Row<'a>>, AllocError>
     requires { labels.now ≡ with_names [] (map (λ (b : Block). b.name) blocks.now) }
     ensures { IfOk result (λ into. AllByRecursion (HasEdges labels.now (rows_of into.items) blocks.now) blocks.now) }
 {
@@ -131,11 +130,7 @@ pub fn edges_of<'a>(
 }
 
 /// Those that enter the block of that name.
-pub fn row_of<'b, 'a>(
-    labels: &LentNames,
-    into: &'b [Vec<&'a Name>],
-    name: &Name,
-) -> Option<&'b Vec<&'a Name>>
+pub fn row_of<'b, 'a>(labels: &LentNames, into: &'b [Row<'a>], name: &Name) -> Option<&'b Row<'a>>
     ensures { row_kept (option_copied result) ≡ row_at labels.now (rows_of into.now) name.now }
 {
     match labels.position(name) {

@@ -11,6 +11,7 @@ mod kinds;
 mod lent;
 mod names;
 mod phis;
+mod row;
 
 pub use counts::Counts;
 pub use ends::{branch_fits, cases_fit, leads_to, return_fits};
@@ -20,3 +21,4 @@ pub use kinds::{block_kind, fault_unless, header_kind, is_integer, least, name_k
 pub use lent::LentNames;
 pub use names::{entries_are_labels, labels_of, leads_to_labels, take_params};
 pub use phis::{counts_of, fits_edges};
+pub use row::Row;

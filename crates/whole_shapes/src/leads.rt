@@ -9,7 +9,7 @@ ghost use Rattle.whole_shapes.specs.Whole.{AreLabels, LeadsToLabels, bare_rows};
 
 use crate::sight::{Sight, is_block, place_of};
 use ir_core::{Block, Case, Name, Switch, Term};
-use shape_tests::{have_phis, put_at};
+use shape_tests::{Row, have_phis, put_at};
 use std::alloc::{AllocError, Global};
 
 /// Puts the block from which an edge comes behind the others of the label to which it leads, if that is a block's.
@@ -18,7 +18,7 @@ fn put_edge<'a>(
     sight: &Sight,
     from: &'a Name,
     label: &Name,
-    into: &mut Vec<Vec<&'a Name>>,
+    into: &mut Vec<Row<'a>>,
 ) -> Result<bool, AllocError>
     ensures known { IfOk result (λ known. known ≡ true → Contains (map (λ (b : Block). b.name) blocks.now) label.now) }
     ensures rows { IfOk result (λ known. known ≡ true → rows_of into.new.items ≡ with_edge sight.now.names from.now (rows_of into.old.items) label.now) }
@@ -40,7 +40,7 @@ fn put_cases<'a>(
     sight: &Sight,
     from: &'a Name,
     cases: &[Case],
-    into: &mut Vec<Vec<&'a Name>>,
+    into: &mut Vec<Row<'a>>,
 ) -> Result<bool, AllocError>
     ensures known { IfOk result (λ known. known ≡ true → AreLabels blocks.now (map (λ (c : Case). c.label) cases.now)) }
     ensures rows { IfOk result
@@ -61,7 +61,7 @@ fn put_two<'a>(
     from: &'a Name,
     one: &Name,
     two: &Name,
-    into: &mut Vec<Vec<&'a Name>>,
+    into: &mut Vec<Row<'a>>,
 ) -> Result<bool, AllocError>
     ensures known { IfOk result (λ known. known ≡ true → AreLabels blocks.now (one.now ∷ two.now ∷ [])) }
     ensures rows { IfOk result
@@ -78,7 +78,7 @@ fn put_switch<'a>(
     sight: &Sight,
     from: &'a Name,
     switch: &Switch,
-    into: &mut Vec<Vec<&'a Name>>,
+    into: &mut Vec<Row<'a>>,
 ) -> Result<bool, AllocError>
     ensures known { IfOk result (λ known. known ≡ true → AreLabels blocks.now (successors_of (Term.Switch switch.now))) }
     ensures rows { IfOk result
@@ -99,7 +99,7 @@ fn put_block<'a>(
     blocks: &[Block],
     sight: &Sight,
     block: &'a Block,
-    into: &mut Vec<Vec<&'a Name>>,
+    into: &mut Vec<Row<'a>>,
 ) -> Result<bool, AllocError>
     ensures known { IfOk result (λ known. known ≡ true → LeadsToLabels blocks.now block.now) }
     ensures rows { IfOk result (λ known. known ≡ true → rows_of into.new.items ≡ with_block sight.now.names (rows_of into.old.items) block.now) }
@@ -118,7 +118,7 @@ fn put_block<'a>(
 fn put_blocks<'a>(
     blocks: &'a [Block],
     sight: &Sight,
-    into: &mut Vec<Vec<&'a Name>>,
+    into: &mut Vec<Row<'a>>,
 ) -> Result<bool, AllocError>
     ensures known { IfOk result (λ known. known ≡ true → AllByRecursion (LeadsToLabels blocks.now) blocks.now) }
     ensures rows { IfOk result (λ known. known ≡ true → rows_of into.new.items ≡ with_blocks sight.now.names (rows_of into.old.items) blocks.now) }
@@ -132,12 +132,12 @@ fn put_blocks<'a>(
 }
 
 /// A row without names for each of these.
-fn no_edges<'a>(alloc: Global, names: &[&Name]) -> Result<Vec<Vec<&'a Name>>, AllocError>
+fn no_edges<'a>(alloc: Global, names: &[&Name]) -> Result<Vec<Row<'a>>, AllocError>
     ensures { IfOk result (λ into. rows_of into.items ≡ bare_rows (named names.now)) }
 {
     let mut into = Vec::with_capacity(alloc, names.len())?;
     for _name in names {
-        into.push(Vec::new(alloc))?;
+        into.push(Row::Empty)?;
     }
     Ok(into)
 }
@@ -146,7 +146,7 @@ fn edges_kept<'a>(
     alloc: Global,
     blocks: &'a [Block],
     sight: &Sight,
-) -> Result<Option<Vec<Vec<&'a Name>>>, AllocError>
+) -> Result<Option<Vec<Row<'a>>>, AllocError>
     requires { AllByRecursion (λ (b : Block). Contains sight.now.names b.name) blocks.now }
     ensures known { IfOk result (λ found. IfSome found (λ _. AllByRecursion (LeadsToLabels blocks.now) blocks.now)) }
     ensures rows { IfOk result
@@ -164,7 +164,7 @@ fn labels_tested<'a>(
     alloc: Global,
     blocks: &'a [Block],
     sight: &Sight,
-) -> Result<Option<Vec<Vec<&'a Name>>>, AllocError>
+) -> Result<Option<Vec<Row<'a>>>, AllocError>
     requires { list_any has_phis blocks.now ≡ false }
     ensures known { IfOk result (λ found. IfSome found (λ _. AllByRecursion (LeadsToLabels blocks.now) blocks.now)) }
     ensures rows { IfOk result
@@ -184,7 +184,7 @@ pub(crate) fn edges_of<'a>(
     alloc: Global,
     blocks: &'a [Block],
     sight: &Sight,
-) -> Result<Option<Vec<Vec<&'a Name>>>, AllocError>
+) -> Result<Option<Vec<Row<'a>>>, AllocError>
     requires { AllByRecursion (λ (b : Block). Contains sight.now.names b.name) blocks.now }
     ensures known { IfOk result (λ found. IfSome found (λ _. AllByRecursion (LeadsToLabels blocks.now) blocks.now)) }
     ensures rows { IfOk result

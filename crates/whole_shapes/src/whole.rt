@@ -17,7 +17,7 @@ use crate::leads::edges_of;
 use crate::sight::{Sight, is_of, sight_of};
 use ir_core::{Atom, Block, Entry, Expr, Function, Instr, Name, Phi, Term, Ty};
 use shape_tests::{
-    Counts, branch_fits, cases_fit, counts_of, fits_edges, header_kind, is_integer, leads_to,
+    Counts, Row, branch_fits, cases_fit, counts_of, fits_edges, header_kind, is_integer, leads_to,
     name_kind, return_fits, right_kind, row_of,
 };
 use std::alloc::{AllocError, Global};
@@ -175,7 +175,7 @@ fn are_whole_with(
     function: &Function,
     sight: &Sight,
     block: &Block,
-    row: Option<&Vec<&Name>>,
+    row: Option<&Row>,
 ) -> Result<bool, AllocError>
     requires { row_kept (option_copied row) ≡ edges_into «function».now block.now.name }
     ensures { IfOk result (λ whole. whole ≡ true → AllByRecursion (IsPhiWhole «function».now block.now) block.now.phis) }
@@ -190,7 +190,7 @@ fn are_block_phis_whole(
     alloc: Global,
     function: &Function,
     sight: &Sight,
-    rows: &[Vec<&Name>],
+    rows: &[Row],
     block: &Block,
 ) -> Result<bool, AllocError>
     requires { HasEdges sight.now.names (rows_of rows.now) «function».now.blocks block.now }
@@ -207,7 +207,7 @@ fn is_block_whole(
     alloc: Global,
     function: &Function,
     sight: &Sight,
-    rows: &[Vec<&Name>],
+    rows: &[Row],
     entry: &Name,
     block: &Block,
 ) -> Result<bool, AllocError>
@@ -226,7 +226,7 @@ fn are_blocks_whole(
     alloc: Global,
     function: &Function,
     sight: &Sight,
-    rows: &[Vec<&Name>],
+    rows: &[Row],
     entry: &Name,
     blocks: &[Block],
 ) -> Result<bool, AllocError>

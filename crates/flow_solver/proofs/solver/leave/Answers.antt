@@ -2,7 +2,8 @@ use Rattle.std.proofs.Common.{arith, ◌≡◌, ◌<◌, ℕ, List, length, get_
 use Rattle.std.proofs.lemmas.List.{get_or_read}
 use Rattle.flow_solver.specs.Frameworks.{value_at}
 use Rattle.flow_solver.specs.Ways.{led_to}
-use Rattle.flow_solver.proofs.Solved.{entered, led_within}
+use Rattle.flow_solver.proofs.Edges.{led_within}
+use Rattle.flow_solver.proofs.Solved.{entered}
 use Rattle.flow_solver.proofs.solver.leave.Goals as goal
 
 pub transfer-requires : goal.transfer-requires
