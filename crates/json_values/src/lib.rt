@@ -1,0 +1,15 @@
+//! JSON values that borrow their texts: what `serde_json` reads a text as, in little room.
+//!
+//! `specs/View.antt` has the data that a value stands for.
+#![tactic(auto)]
+
+mod ends;
+mod finding;
+mod numbers;
+mod reading;
+mod value;
+
+pub use ends::ReadEnd;
+pub use json::Scratch;
+pub use reading::read;
+pub use value::{Member, Value};
