@@ -1,12 +1,15 @@
 -- A value, level by level, and lists that grow at their end.
-use Rattle.std.proofs.Common.{◌≡◌, ℕ, zero, suc, ◌<◌, ◌≤◌, List, [], ◌∷◌, ◌++◌, length, get_or, map, Option, Some, None, Vec, Global, Bor, Bool, true, false, cond, bytes_eq, true≢false, refl, sym, ap, ◌∙◌, arith, rules}
+use Rattle.std.proofs.Common.{◌≡◌, ℕ, zero, suc, ◌<◌, ◌≤◌, List, [], ◌∷◌, ◌++◌, length, get_or, map, Option, Some, None, Vec, Global, Bor, Bool, true, false, cond, bytes_eq, true≢false, Ordering, Less, Equal, Greater, nat_cmp, refl, sym, ap, ◌∙◌, arith, rules}
 use Rattle.std.proofs.lemmas.Slice.Eq.{bytes_eq-Decides}
+use Rattle.std.specs.BTreeMap.{insert_entry}
+use Rattle.std.specs.Cmp.Lexicographic.{slice_cmp}
+use Rattle.std.specs.Ordering.{match_ordering}
 use Rattle.json.specs.Json.{parse_map}
 use Rattle.json.specs.Token.{Token}
-use Rattle.serde_json.specs.Data.{Data, array, object, Items, no_items, item, Members, no_members, put}
+use Rattle.serde_json.specs.Data.{array, object, Items, no_items, item, Members, no_members, put}
 use Rattle.serde_json.specs.Find.{get_member, get_item}
 use Rattle.serde_json.proofs.Views.{get_member-put, get_member-put_other}
-use Rattle.json_values.specs.View.{view, items_view, members_view, put_all}
+use Rattle.json_values.specs.View.{view, items_view, members_view, put_all, sorted_view}
 use Rattle.json_values.specs.declared.value.Value.{Value, Array, Object, the_lemmas}
 
 abbrev pub Entry : Type 0
@@ -69,3 +72,22 @@ found_at key ms m false e =
 pub get_member-push : (key : List ℕ) (ms : List Entry) (m : Entry)
     → get_member key (members_view (ms ++ m ∷ [])) ≡ cond (bytes_eq m.0.now key) (Some (view m.1)) (get_member key (members_view ms))
 get_member-push key ms m = ap (get_member key) (members_push ms m) ∙ found_at key ms m (bytes_eq m.0.now key) refl
+
+-- ---- members in order
+
+abbrev pub Sorted : Type 0
+Sorted = Bor (List ℕ) × Bor Value
+
+-- keys go by their bytes
+abbrev pub key_cmp : Bor (List ℕ) → Bor (List ℕ) → Ordering
+key_cmp a b = slice_cmp nat_cmp a.now b.now
+
+sorted_view-match_ordering : (o : Ordering) (a b c : List Sorted) → sorted_view (match_ordering o a b c) ≡ match_ordering o (sorted_view a) (sorted_view b) (sorted_view c)
+sorted_view-match_ordering Less a b c = refl
+sorted_view-match_ordering Equal a b c = refl
+sorted_view-match_ordering Greater a b c = refl
+
+-- what is inserted is put there
+pub sorted_view_inserted : (es : List Sorted) (k : Bor (List ℕ)) (v : Bor Value) → sorted_view (insert_entry key_cmp es k v) ≡ put k.now (view v.now) (sorted_view es)
+sorted_view_inserted [] k v = refl
+sorted_view_inserted (e ∷ es) k v = sorted_view-match_ordering (key_cmp k e.0) _ _ _ ∙ rw (sorted_view_inserted es k v)

@@ -28,3 +28,8 @@ items_view vs = items_of (map view vs)
 
 abbrev pub members_view : List (Bor (List ℕ) × Value) → Members
 members_view ms = put_all (map (λ m. (m.0, view m.1)) ms) no_members
+
+-- entries in the order in which they stand
+abbrev pub sorted_view : List (Bor (List ℕ) × Bor Value) → Members
+sorted_view [] = no_members
+sorted_view (e ∷ es) = member e.0.now (view e.1.now) (sorted_view es)

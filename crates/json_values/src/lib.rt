@@ -7,9 +7,11 @@ mod ends;
 mod finding;
 mod numbers;
 mod reading;
+mod sorting;
 mod value;
 
 pub use ends::ReadEnd;
 pub use json::Scratch;
 pub use reading::read;
+pub use sorting::sorted;
 pub use value::{Member, Value};
