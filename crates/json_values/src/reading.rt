@@ -83,6 +83,17 @@ fn read_value<'a>(
     }
 }
 
+/// The list, without room of which it fills at most a half.
+fn fitted<T>(list: Vec<T>) -> Vec<T>
+    ensures { result.items ≡ list.items }
+{
+    let mut fitted = list;
+    if fitted.len() <= fitted.capacity() / 2 {
+        fitted.shrink_to_fit();
+    }
+    fitted
+}
+
 #[cycle(read_value)]
 #[inline(never)]
 fn read_items<'a>(
@@ -102,8 +113,7 @@ fn read_items<'a>(
         let item = read_value(alloc, reader, depth)?;
         found.push(item)?;
     }
-    found.shrink_to_fit();
-    Ok(found)
+    Ok(fitted(found))
 }
 
 #[cycle(read_value)]
@@ -127,6 +137,5 @@ fn read_members<'a>(
         let member = read_value(alloc, reader, depth)?;
         found.push((key, member))?;
     }
-    found.shrink_to_fit();
-    Ok(found)
+    Ok(fitted(found))
 }

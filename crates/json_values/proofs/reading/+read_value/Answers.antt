@@ -134,7 +134,7 @@ read_items-returns-clause-ok t c =
     let l = c.items in
     let n = l.invariant.0 in
     let r = c.take_end_array.new.self in
-    l.invariant.2 ∙ ap (parse_map (items_before l.found.items)) (items_over p n l.reader r l.invariant.1 (grind arith)) ∙ ap (λ ds. Some (ds, r)) (items_before-no_items l.found.items ∙ ap items_view (sym c.shrink_to_fit.ensures.items))
+    l.invariant.2 ∙ ap (parse_map (items_before l.found.items)) (items_over p n l.reader r l.invariant.1 (grind arith)) ∙ ap (λ ds. Some (ds, r)) (items_before-no_items l.found.items ∙ ap items_view (sym c.fitted.ensures))
 
 pub read_members-members-init : goal.read_members-members-init
 read_members-members-init t c =
@@ -188,4 +188,4 @@ read_members-returns-clause-ok t c =
     let l = c.members in
     let n = l.invariant.0 in
     let old = members_view l.found.items in
-    l.invariant.2 ∙ members_over p old n l.reader c.next_key.new.self l.invariant.1 (grind arith) ∙ ap (λ es. Some (members_view es, c.next_key.new.self)) (sym c.shrink_to_fit.ensures.items)
+    l.invariant.2 ∙ members_over p old n l.reader c.next_key.new.self l.invariant.1 (grind arith) ∙ ap (λ es. Some (members_view es, c.next_key.new.self)) (sym c.fitted.ensures)
