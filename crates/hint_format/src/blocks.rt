@@ -1,5 +1,5 @@
 ghost use Rattle.std.specs.Prelude.{◌≡◌, [], IfOk};
-ghost use Rattle.serde_json.specs.View.{view};
+ghost use Rattle.json_values.specs.View.{view};
 ghost use Rattle.json_forms.specs.Answers.{Answers};
 ghost use Rattle.hint_format.specs.Form.{block_form, block_names, letter_of, letters_of, named_block};
 ghost use Rattle.hint_format.specs.Reading.{read_leaves};
@@ -14,8 +14,8 @@ use json_forms::{
     Failure, RowForm, Text, TextForm, has_members, member, optional, optional_list, under_key,
     unfit,
 };
+use json_values::Value;
 use name_index::NameIndex;
-use serde_json::Value;
 use std::alloc::Global;
 
 /// A block's hint. No two blocks have one name.
@@ -40,7 +40,7 @@ impl RowForm for BlockForm {
         alloc: Global,
         index: &mut NameIndex,
         _before: &[HintBlock],
-        value: &Value,
+        value: &Value<'_>,
     ) -> Result<HintBlock, Failure> {
         let optional = ["diff", "edges", "lines", "src", "steps", "tgt"];
         if !has_members(value, &["at"], &optional) {
@@ -56,7 +56,7 @@ impl RowForm for BlockForm {
 }
 
 /// The hint of the block of that name.
-fn named_block(alloc: Global, name: Name, value: &Value) -> Result<HintBlock, Failure>
+fn named_block(alloc: Global, name: Name, value: &Value<'_>) -> Result<HintBlock, Failure>
     ensures answers { Answers result (named_block read_leaves name (view value.now)) }
     ensures named { IfOk result (λ block. block.at ≡ name) }
 {

@@ -6,7 +6,7 @@ ghost use Rattle.hint_format.specs.Reading.{read_leaves};
 use crate::texts::ExpressionText;
 use erhl_assert::Fact;
 use json_forms::{Failure, Form, Text, TextForm, item, item_count, unfit};
-use serde_json::Value;
+use json_values::Value;
 use std::alloc::Global;
 
 /// A fact, `["ge", E, E]`.
@@ -20,7 +20,7 @@ impl Form for FactForm {
 
     ghost form = { λ it. fact_form read_leaves it.may_be_old };
 
-    fn read(&self, alloc: Global, value: &Value) -> Result<Fact, Failure> {
+    fn read(&self, alloc: Global, value: &Value<'_>) -> Result<Fact, Failure> {
         if item_count(value) != 3 {
             return Err(unfit(alloc));
         }

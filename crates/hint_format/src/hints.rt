@@ -15,7 +15,7 @@ use ir_core::Sigil;
 use json_forms::{
     EntryForm, Failure, Form, MapOf, RowsOf, TextForm, has_members, member, read_bytes, unfit,
 };
-use serde_json::Value;
+use json_values::Value;
 use std::alloc::Global;
 
 /// The hints of a file that has the form, or what is first at fault in it.
@@ -43,7 +43,7 @@ impl Form for HintsForm {
 
     ghost form = { λ _. hints_form read_leaves };
 
-    fn read(&self, alloc: Global, value: &Value) -> Result<Hints, Failure> {
+    fn read(&self, alloc: Global, value: &Value<'_>) -> Result<Hints, Failure> {
         if !has_members(value, &["format", "functions"], &[]) {
             return Err(unfit(alloc));
         }
@@ -62,7 +62,7 @@ impl Form for FirstFormat {
 
     ghost form = { λ _. format_form };
 
-    fn read(&self, alloc: Global, value: &Value) -> Result<(), Failure> {
+    fn read(&self, alloc: Global, value: &Value<'_>) -> Result<(), Failure> {
         match value.as_u64() {
             Some(1) => Ok(()),
             _ => Err(unfit(alloc)),
@@ -87,7 +87,12 @@ impl EntryForm for FunctionForm {
         Ok(())
     }
 
-    fn read_entry(&self, alloc: Global, key: &str, value: &Value) -> Result<FunctionHint, Failure> {
+    fn read_entry(
+        &self,
+        alloc: Global,
+        key: &str,
+        value: &Value<'_>,
+    ) -> Result<FunctionHint, Failure> {
         let sigil = Sigil::Global;
         let function = NameText { sigil }.read_text(alloc, key)?;
         if !has_members(value, &["blocks"], &[]) {

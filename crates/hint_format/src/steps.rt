@@ -1,5 +1,5 @@
 ghost use Rattle.std.specs.Prelude.{◌≡◌, IfOk};
-ghost use Rattle.serde_json.specs.View.{view};
+ghost use Rattle.json_values.specs.View.{view};
 ghost use Rattle.json_forms.specs.Answers.{Answers};
 ghost use Rattle.hint_format.specs.Form.{any_text, edge_form, edge_kind, edge_step_form, placed_kind, placed_step_form, side_of_text, step_as};
 ghost use Rattle.hint_format.specs.Reading.{read_leaves};
@@ -12,7 +12,7 @@ use erhl_assert::{
 };
 use ir_core::{Reg, Sigil};
 use json_forms::{Failure, Form, ListOf, Text, TextForm, U64, has_members, member, unfit};
-use serde_json::Value;
+use json_values::Value;
 use std::alloc::Global;
 
 /// The kinds of steps.
@@ -32,7 +32,7 @@ impl Form for PlacedStepForm {
 
     ghost form = { λ _. placed_step_form read_leaves };
 
-    fn read(&self, alloc: Global, value: &Value) -> Result<PlacedStep, Failure> {
+    fn read(&self, alloc: Global, value: &Value<'_>) -> Result<PlacedStep, Failure> {
         match placed_kind(value) {
             Some(kind) => {
                 let at = member(alloc, value, "at", &U64)?;
@@ -53,7 +53,7 @@ impl Form for EdgeStepForm {
 
     ghost form = { λ _. edge_step_form read_leaves };
 
-    fn read(&self, alloc: Global, value: &Value) -> Result<HintStep, Failure> {
+    fn read(&self, alloc: Global, value: &Value<'_>) -> Result<HintStep, Failure> {
         match edge_kind(value) {
             Some(kind) => read_step(alloc, kind, true, value),
             None => Err(unfit(alloc)),
@@ -70,7 +70,7 @@ impl Form for EdgeForm {
 
     ghost form = { λ _. edge_form read_leaves };
 
-    fn read(&self, alloc: Global, value: &Value) -> Result<HintEdge, Failure> {
+    fn read(&self, alloc: Global, value: &Value<'_>) -> Result<HintEdge, Failure> {
         if !has_members(value, &["steps", "to"], &[]) {
             return Err(unfit(alloc));
         }
@@ -81,7 +81,7 @@ impl Form for EdgeForm {
     }
 }
 
-fn placed_kind(value: &Value) -> Option<StepKind>
+fn placed_kind(value: &Value<'_>) -> Option<StepKind>
     ensures { result ≡ placed_kind (view value.now) }
 {
     if has_members(value, &["at", "from", "rule", "side", "to"], &[]) {
@@ -95,7 +95,7 @@ fn placed_kind(value: &Value) -> Option<StepKind>
     }
 }
 
-fn edge_kind(value: &Value) -> Option<StepKind>
+fn edge_kind(value: &Value<'_>) -> Option<StepKind>
     ensures { result ≡ edge_kind (view value.now) }
 {
     if has_members(value, &["from", "rule", "side", "to"], &[]) {
@@ -113,7 +113,7 @@ fn read_step(
     alloc: Global,
     kind: StepKind,
     may_be_old: bool,
-    value: &Value,
+    value: &Value<'_>,
 ) -> Result<HintStep, Failure>
     ensures { Answers result (step_as kind read_leaves may_be_old (view value.now)) }
 {

@@ -1,2 +1,3 @@
 pub mod Counts
+mod Keys
 pub mod Readings

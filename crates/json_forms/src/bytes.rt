@@ -1,34 +1,36 @@
 ghost use Rattle.std.specs.Prelude.{◌≡◌, ◌⊎◌, IfOk, IfErr};
-ghost use Rattle.serde_json.specs.View.{view};
+ghost use Rattle.json_values.specs.View.{view};
 ghost use Rattle.json_forms.specs.Answers.{AnswersBytes, IsJson, IsNoJson};
 ghost use Rattle.json_forms.specs.Faults.{here};
 ghost use Rattle.json_forms.specs.declared.failure.Failure.TheVariants as failure;
 
 use crate::{Failure, Form, unfit};
-use serde_json::{Category, Value};
+use json_values::{ReadEnd, Scratch, Value, read};
 use std::alloc::Global;
 
 /// A value that is let go by one call.
-struct Parsed {
-    json: Value,
+struct Parsed<'a> {
+    json: Value<'a>,
 }
 
-impl Drop for Parsed {
+impl<'a> Drop for Parsed<'a> {
     fn drop(self) {
         let Parsed { json: _ } = self;
     }
 }
 
-fn parse(alloc: Global, bytes: &[u8]) -> Result<Parsed, Failure>
+fn parse<'a>(
+    alloc: Global,
+    bytes: &'a [u8],
+    scratch: &'a mut Scratch,
+) -> Result<Parsed<'a>, Failure>
     ensures ok { IfOk result (λ parsed. IsJson bytes.now (view parsed.json)) }
     ensures err { IfErr result (λ it. it ≡ failure.Memory ⊎ ((it ≡ failure.Form here) × IsNoJson bytes.now)) }
 {
-    match Value::from_slice(alloc, bytes) {
+    match read(alloc, bytes, scratch) {
         Ok(json) => Ok(Parsed { json }),
-        Err(error) => match error.classify() {
-            Category::Memory => Err(Failure::Memory),
-            _ => Err(unfit(alloc)),
-        },
+        Err(ReadEnd::NoJson) => Err(unfit(alloc)),
+        Err(ReadEnd::Memory) => Err(Failure::Memory),
     }
 }
 
@@ -36,6 +38,7 @@ fn parse(alloc: Global, bytes: &[u8]) -> Result<Parsed, Failure>
 pub fn read_bytes<F: Form>(alloc: Global, bytes: &[u8], form: &F) -> Result<F::Value, Failure>
     ensures { AnswersBytes result (F.form form.now) bytes.now }
 {
-    let parsed = parse(alloc, bytes)?;
+    let mut scratch = Scratch::new(alloc);
+    let parsed = parse(alloc, bytes, &mut scratch)?;
     form.read(alloc, &parsed.json)
 }

@@ -1,11 +1,11 @@
 ghost use Rattle.std.specs.Prelude.{◌++◌, ◌∷◌, [], List, ℕ, Result, IfOk};
 ghost use Rattle.serde_json.specs.Data.{Data};
-ghost use Rattle.serde_json.specs.View.{view};
+ghost use Rattle.json_values.specs.View.{view};
 ghost use Rattle.json_forms.specs.Answers.{Answers};
 ghost use Rattle.json_forms.specs.Forms.{Reading};
 
 use crate::Failure;
-use serde_json::Value;
+use json_values::Value;
 use std::alloc::Global;
 
 /// A form of JSON values, with what a value of it means.
@@ -14,7 +14,7 @@ pub trait Form {
 
     ghost form: { Self → Data → Reading Self.Value };
 
-    fn read(&self, alloc: Global, value: &Value) -> Result<Self::Value, Failure>
+    fn read(&self, alloc: Global, value: &Value<'_>) -> Result<Self::Value, Failure>
         ensures { Answers result (form self.now (view value.now)) };
 }
 
@@ -39,7 +39,7 @@ pub trait RowForm {
         alloc: Global,
         index: &mut Self::Index,
         before: &[Self::Value],
-        value: &Value,
+        value: &Value<'_>,
     ) -> Result<Self::Value, Failure>
         requires { is_of index.old before.now }
         ensures read { Answers result (row_form self.now before.now (view value.now)) }
@@ -67,6 +67,11 @@ pub trait EntryForm {
     fn test_key(&self, alloc: Global, key: &str) -> Result<(), Failure>
         ensures { Answers result (key_form self.now key.now) };
 
-    fn read_entry(&self, alloc: Global, key: &str, value: &Value) -> Result<Self::Value, Failure>
+    fn read_entry(
+        &self,
+        alloc: Global,
+        key: &str,
+        value: &Value<'_>,
+    ) -> Result<Self::Value, Failure>
         ensures { Answers result (entry_form self.now key.now (view value.now)) };
 }

@@ -1,11 +1,11 @@
 ghost use Rattle.std.specs.Prelude.{◌≡◌, IfOk, OnErr, Some, None};
 ghost use Rattle.serde_json.specs.Find.{as_str};
-ghost use Rattle.serde_json.specs.View.{view};
+ghost use Rattle.json_values.specs.View.{view};
 ghost use Rattle.json_forms.specs.Answers.{Answers};
 ghost use Rattle.json_forms.specs.Forms.{text_of, u64_of};
 
 use crate::{Failure, Form, TextForm, unfit};
-use serde_json::Value;
+use json_values::Value;
 use std::alloc::Global;
 
 /// A text of that form.
@@ -17,7 +17,7 @@ impl<F: TextForm> Form for Text<F> {
 
     ghost form = { λ it. text_of (F.text_form it.0) };
 
-    fn read(&self, alloc: Global, value: &Value) -> Result<F::Value, Failure> {
+    fn read(&self, alloc: Global, value: &Value<'_>) -> Result<F::Value, Failure> {
         match value.as_str() {
             Some(text) => self.0.read_text(alloc, text),
             None => Err(unfit(alloc)),
@@ -34,7 +34,7 @@ impl Form for U64 {
 
     ghost form = { λ _. u64_of };
 
-    fn read(&self, alloc: Global, value: &Value) -> Result<u64, Failure> {
+    fn read(&self, alloc: Global, value: &Value<'_>) -> Result<u64, Failure> {
         match value.as_u64() {
             Some(number) => Ok(number),
             None => Err(unfit(alloc)),

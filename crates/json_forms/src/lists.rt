@@ -1,12 +1,12 @@
 ghost use Rattle.std.specs.Prelude.{[]};
-ghost use Rattle.serde_json.specs.View.{view, items_view};
+ghost use Rattle.json_values.specs.View.{view, items_view};
 ghost use Rattle.json_forms.specs.Answers.{Answers};
 ghost use Rattle.json_forms.specs.Forms.{list_of, rows_of, items_of};
 
 use crate::path::under_index;
 use crate::{Failure, Form, RowForm, unfit};
 use contents::Seq;
-use serde_json::Value;
+use json_values::Value;
 use std::alloc::Global;
 
 /// An array of items of that form.
@@ -18,25 +18,29 @@ impl<F: Form> Form for ListOf<F> {
 
     ghost form = { λ it. list_of (F.form it.0) };
 
-    fn read(&self, alloc: Global, value: &Value) -> Result<Seq<F::Value>, Failure> {
+    fn read(&self, alloc: Global, value: &Value<'_>) -> Result<Seq<F::Value>, Failure> {
         read_list(alloc, value, &self.0)
     }
 }
 
 pub(crate) fn read_list<F: Form>(
     alloc: Global,
-    value: &Value,
+    value: &Value<'_>,
     form: &F,
 ) -> Result<Seq<F::Value>, Failure>
     ensures { Answers result (list_of (F.form form.now) (view value.now)) }
 {
     match value.as_array() {
-        Some(items) => each_item(alloc, items.as_slice(), form),
+        Some(items) => each_item(alloc, items, form),
         None => Err(unfit(alloc)),
     }
 }
 
-fn each_item<F: Form>(alloc: Global, items: &[Value], form: &F) -> Result<Seq<F::Value>, Failure>
+fn each_item<F: Form>(
+    alloc: Global,
+    items: &[Value<'_>],
+    form: &F,
+) -> Result<Seq<F::Value>, Failure>
     ensures { Answers result (items_of (λ _. F.form form.now) [] (items_view items.now)) }
 {
     let mut read = Seq::new(alloc);
@@ -58,15 +62,19 @@ impl<F: RowForm> Form for RowsOf<F> {
 
     ghost form = { λ it. rows_of (F.row_form it.0) };
 
-    fn read(&self, alloc: Global, value: &Value) -> Result<Seq<F::Value>, Failure> {
+    fn read(&self, alloc: Global, value: &Value<'_>) -> Result<Seq<F::Value>, Failure> {
         match value.as_array() {
-            Some(items) => each_row(alloc, items.as_slice(), &self.0),
+            Some(items) => each_row(alloc, items, &self.0),
             None => Err(unfit(alloc)),
         }
     }
 }
 
-fn each_row<F: RowForm>(alloc: Global, items: &[Value], form: &F) -> Result<Seq<F::Value>, Failure>
+fn each_row<F: RowForm>(
+    alloc: Global,
+    items: &[Value<'_>],
+    form: &F,
+) -> Result<Seq<F::Value>, Failure>
     ensures { Answers result (items_of (F.row_form form.now) [] (items_view items.now)) }
 {
     let mut read = Seq::new(alloc);

@@ -1,13 +1,14 @@
 ghost use Rattle.std.specs.Prelude.{◌≡◌, []};
-ghost use Rattle.serde_json.specs.View.{view, members_view};
+ghost use Rattle.json_values.specs.View.{view, sorted_view};
 ghost use Rattle.json_forms.specs.Answers.{Answers};
 ghost use Rattle.json_forms.specs.Forms.{keys_of, entries_of, map_of};
 
 use crate::path::under_key;
 use crate::{EntryForm, Failure, Form, unfit};
 use contents::Seq;
-use serde_json::{Map, Value};
+use json_values::{Value, sorted};
 use std::alloc::Global;
+use std::collections::BTreeMap;
 
 /// An object whose keys are names. A key at fault is the object's own fault, before all that it holds.
 #[derive(Drop)]
@@ -18,11 +19,12 @@ impl<F: EntryForm> Form for MapOf<F> {
 
     ghost form = { λ it. map_of (F.key_form it.0) (F.entry_form it.0) };
 
-    fn read(&self, alloc: Global, value: &Value) -> Result<Seq<F::Value>, Failure> {
+    fn read(&self, alloc: Global, value: &Value<'_>) -> Result<Seq<F::Value>, Failure> {
         match value.as_object() {
             Some(members) => {
-                each_key(alloc, members, &self.0)?;
-                each_entry(alloc, members, &self.0)
+                let members = sorted(alloc, members)?;
+                each_key(alloc, &members, &self.0)?;
+                each_entry(alloc, &members, &self.0)
             }
             None => Err(unfit(alloc)),
         }
@@ -31,27 +33,26 @@ impl<F: EntryForm> Form for MapOf<F> {
 
 fn each_key<F: EntryForm>(
     alloc: Global,
-    members: &Map<String, Value>,
+    members: &BTreeMap<&str, &Value<'_>>,
     form: &F,
 ) -> Result<(), Failure>
-    ensures { Answers result (keys_of (F.key_form form.now) (members_view members.now.entries)) }
+    ensures { Answers result (keys_of (F.key_form form.now) (sorted_view members.now.entries)) }
 {
     for (key, _) in members.iter() {
-        form.test_key(alloc, key.as_str())?;
+        form.test_key(alloc, key)?;
     }
     Ok(())
 }
 
 fn each_entry<F: EntryForm>(
     alloc: Global,
-    members: &Map<String, Value>,
+    members: &BTreeMap<&str, &Value<'_>>,
     form: &F,
 ) -> Result<Seq<F::Value>, Failure>
-    ensures { Answers result (entries_of (F.entry_form form.now) [] (members_view members.now.entries)) }
+    ensures { Answers result (entries_of (F.entry_form form.now) [] (sorted_view members.now.entries)) }
 {
     let mut read = Seq::new(alloc);
     for (key, member) in members.iter() {
-        let key = key.as_str();
         match form.read_entry(alloc, key, member) {
             Ok(one) => read.push(one)?,
             Err(failure) => return Err(under_key(alloc, key, failure)),

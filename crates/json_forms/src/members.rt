@@ -1,7 +1,7 @@
 ghost use Rattle.std.specs.Prelude.{◌≡◌, is_some, ◌||◌};
 ghost use Rattle.std.specs.List.{list_all};
 ghost use Rattle.serde_json.specs.Find.{get};
-ghost use Rattle.serde_json.specs.View.{view, members_view};
+ghost use Rattle.json_values.specs.View.{view, members_view};
 ghost use Rattle.json_forms.specs.Answers.{Answers};
 ghost use Rattle.json_forms.specs.Forms.{has_members as have_members, texts, is_one_of, all_keys, only_keys, member_of, optional_of, optional_list_of, count_of, item_of};
 
@@ -9,17 +9,17 @@ use crate::lists::read_list;
 use crate::path::{under_index, under_key};
 use crate::{Failure, Form, unfit};
 use contents::Seq;
-use serde_json::{Map, Value};
+use json_values::{Member, Value};
 use std::alloc::Global;
 
 /// An object with each needed member, and no others than these and the optional ones.
-pub fn has_members(value: &Value, needed: &[&str], others: &[&str]) -> bool
+pub fn has_members(value: &Value<'_>, needed: &[&str], others: &[&str]) -> bool
     ensures { result ≡ have_members (texts needed.now) (texts others.now) (view value.now) }
 {
     has_each(value, needed) && has_only(value, needed, others)
 }
 
-fn has_each(value: &Value, keys: &[&str]) -> bool
+fn has_each(value: &Value<'_>, keys: &[&str]) -> bool
     ensures { result ≡ list_all (λ k. is_some (get k (view value.now))) (texts keys.now) }
 {
     for key in keys {
@@ -33,7 +33,7 @@ fn has_each(value: &Value, keys: &[&str]) -> bool
 /// The member of that key.
 pub fn member<F: Form>(
     alloc: Global,
-    value: &Value,
+    value: &Value<'_>,
     key: &str,
     form: &F,
 ) -> Result<F::Value, Failure>
@@ -51,7 +51,7 @@ pub fn member<F: Form>(
 /// The same, of a member that need not be there.
 pub fn optional<F: Form>(
     alloc: Global,
-    value: &Value,
+    value: &Value<'_>,
     key: &str,
     form: &F,
 ) -> Result<Option<F::Value>, Failure>
@@ -69,7 +69,7 @@ pub fn optional<F: Form>(
 /// The list in such a member, or none.
 pub fn optional_list<F: Form>(
     alloc: Global,
-    value: &Value,
+    value: &Value<'_>,
     key: &str,
     form: &F,
 ) -> Result<Seq<F::Value>, Failure>
@@ -86,7 +86,7 @@ pub fn optional_list<F: Form>(
 
 /// How many items an array has.
 #[tactic(auto, using(crate::proofs::Counts::item_count))]
-pub fn item_count(value: &Value) -> usize
+pub fn item_count(value: &Value<'_>) -> usize
     ensures { result ≡ count_of (view value.now) }
 {
     match value.as_array() {
@@ -98,13 +98,13 @@ pub fn item_count(value: &Value) -> usize
 /// The item at that index.
 pub fn item<F: Form>(
     alloc: Global,
-    value: &Value,
+    value: &Value<'_>,
     index: usize,
     form: &F,
 ) -> Result<F::Value, Failure>
     ensures { Answers result (item_of index (F.form form.now) (view value.now)) }
 {
-    match value.get(index) {
+    match value.at(index) {
         Some(found) => match form.read(alloc, found) {
             Ok(read) => Ok(read),
             Err(failure) => Err(under_index(alloc, index, failure)),
@@ -113,7 +113,7 @@ pub fn item<F: Form>(
     }
 }
 
-fn has_only(value: &Value, needed: &[&str], others: &[&str]) -> bool
+fn has_only(value: &Value<'_>, needed: &[&str], others: &[&str]) -> bool
     ensures { result ≡ only_keys (λ key. is_one_of (texts needed.now) key || is_one_of (texts others.now) key) (view value.now) }
 {
     match value.as_object() {
@@ -122,11 +122,11 @@ fn has_only(value: &Value, needed: &[&str], others: &[&str]) -> bool
     }
 }
 
-fn each_known(members: &Map<String, Value>, needed: &[&str], others: &[&str]) -> bool
-    ensures { result ≡ all_keys (λ key. is_one_of (texts needed.now) key || is_one_of (texts others.now) key) (members_view members.now.entries) }
+fn each_known(members: &[Member<'_>], needed: &[&str], others: &[&str]) -> bool
+    ensures { result ≡ all_keys (λ key. is_one_of (texts needed.now) key || is_one_of (texts others.now) key) (members_view members.now) }
 {
-    for (key, _) in members.iter() {
-        if !is_in(key.as_str(), needed) && !is_in(key.as_str(), others) {
+    for member in members {
+        if !is_in(member.0, needed) && !is_in(member.0, others) {
             return false;
         }
     }
