@@ -2,7 +2,6 @@
 #![tactic(auto)]
 
 mod acts;
-mod flow;
 mod taking;
 
 pub use acts::reduce;

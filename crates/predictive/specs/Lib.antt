@@ -1,3 +1,4 @@
+pub mod Frames
 pub mod Grammar
 pub mod Predictive
 pub mod Moves

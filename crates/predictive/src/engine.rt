@@ -1,48 +1,22 @@
-ghost use Rattle.std.specs.Prelude.{◌≡◌, ◌<◌, [], ◌∷◌, IfOk, MatchBool, MatchOption, OnOk};
+ghost use Rattle.std.specs.Prelude.{◌≡◌, ◌<◌, [], ◌∷◌, IfOk, MatchBool, MatchOption};
 ghost use Rattle.predictive.specs.Grammar.{Forest, Forms, yield, after_trees, IsFirstFault};
-ghost use Rattle.predictive.specs.Moves.{IsMet, IsStuck, opened, wanted};
-ghost use Rattle.predictive.specs.Moves as moves;
+ghost use Rattle.predictive.specs.Moves.{IsMet, IsStuck, wanted};
 ghost use Rattle.predictive.specs.Predictive.{IsFollowed, MayEnd, at_end};
-ghost use Rattle.predictive.specs.declared.item.Item.TheVariants.{Done};
 ghost use Rattle.predictive.specs.declared.symbol.Symbol.TheVariants.{Non};
 
 use crate::action::Action;
 use crate::item::Item;
-use crate::stack::Stack;
-use crate::symbol::Symbol;
+use crate::items::Items;
 use crate::table::Table;
 use std::alloc::{AllocError, Global};
 
-/// What a symbol has the engine do.
-fn item_of(symbol: Symbol) -> Item
-    ensures { result ≡ moves.item_of symbol }
-{
-    match symbol {
-        Symbol::Kind(kind) => Item::Kind(kind),
-        Symbol::Non(non) => Item::Non(non),
-    }
-}
-
-/// Wants the right side of a rule, and then the rule is done.
-#[inline(always)]
-fn open<G: Table>(table: &G, items: &mut Stack<Item>, rule: u16) -> Result<(), AllocError>
-    requires { rule < (G.grammar table.now).count }
-    ensures { OnOk result (items.new ≡ opened ((G.grammar table.now).right rule) (Done rule ∷ items.old)) }
-{
-    items.push(Item::Done(rule))?;
-    for symbol in table.right(rule).iter().rev().copied() {
-        items.push(item_of(symbol))?;
-    }
-    Ok(())
-}
-
 /// Reduces and opens rules until a token is wanted, and takes that off; whether it is what is ahead.
 #[inline(always)]
-fn advance<G: Table, A: Action>(
+fn advance<'a, G: Table, A: Action>(
     alloc: Global,
-    table: &G,
+    table: &'a G,
     actions: &mut A,
-    items: &mut Stack<Item>,
+    items: &mut Items<'a>,
     ahead: u16,
 ) -> Result<bool, AllocError>
     requires { IsFollowed (G.sets table.now) (wanted items.old) at_end }
@@ -56,7 +30,7 @@ fn advance<G: Table, A: Action>(
             Item::Kind(kind) => return Ok(u16::from(kind) + 1 == ahead),
             Item::Non(non) => match table.choose(non, ahead) {
                 None => return Ok(false),
-                Some(rule) => open(table, items, rule)?,
+                Some(rule) => items.open(table.right(rule), rule)?,
             },
         }
     }
@@ -77,8 +51,7 @@ pub fn parse<G: Table, A: Action>(
         ((f : Forest) × Forms (G.grammar table.now) f (Non start ∷ []) × (yield f ≡ kinds.now) × (A.state actions.new ≡ after_trees A.shifted A.reduced f (A.state actions.old)))
         (λ place. IsFirstFault (G.grammar table.now) (Non start ∷ []) kinds.now place)) }
 {
-    let mut items = Stack::new(alloc);
-    items.push(Item::Non(start))?;
+    let mut items = Items::new(alloc, start);
     for (place, kind) in kinds.iter().enumerate() {
         if !advance(alloc, table, actions, &mut items, u16::from(*kind) + 1)? {
             return Ok(Some(place));

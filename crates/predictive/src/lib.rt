@@ -10,6 +10,7 @@ mod action;
 mod dense;
 mod engine;
 mod item;
+mod items;
 mod laws;
 mod stack;
 mod symbol;

@@ -8,7 +8,7 @@ ghost use Rattle.tree_reader.specs.Reading.{IsReading, IsRun};
 ghost use Rattle.tree_reader.specs.Tables.{sets};
 
 use crate::tables::Grammar;
-use crate::tokens::{kinds_of, leaf};
+use crate::tokens::{keep, kinds_of};
 use grammar_acts::{reduce, take_expr, take_global, take_local, take_module};
 use ir_core::{Name, Sigil};
 use ir_grammar::{ExprText, Language, ModuleText, Part, Placed};
@@ -80,10 +80,7 @@ impl<'a> Action for Reading<'a> {
             return Ok(());
         };
         self.tokens = rest;
-        match leaf(alloc, self.language, self.text, token)? {
-            None => Ok(()),
-            Some(leaf) => self.parts.push(Part::Leaf(leaf)),
-        }
+        keep(&mut self.parts, alloc, self.language, self.text, token)
     }
 
     fn reduce(&mut self, alloc: Global, rule: u16) -> Result<(), AllocError> {

@@ -1,11 +1,13 @@
-ghost use Rattle.std.specs.Prelude.{◌≡◌, ℕ, IfOk, map};
-ghost use Rattle.ir_grammar.specs.Kinds.{leaf_of};
+ghost use Rattle.std.specs.Prelude.{◌≡◌, ◌∷◌, ℕ, IfOk, OnOk, map};
+ghost use Rattle.ir_grammar.specs.Kinds.{kept};
+ghost use Rattle.ir_grammar.specs.declared.parts.Part.TheVariants as part;
 ghost use Rattle.ir_grammar.specs.Symbols.{behind_others, key_number, kind_in, kind_of, mark_symbol, symbol_at, symbol_in, word_symbol};
 
 use crate::words::word_of;
-use ir_grammar::{KeyWord, Language, Leaf, Placed, Word};
+use ir_grammar::{KeyWord, Language, Leaf, Part, Placed, Word};
 use ir_lexer::{Kind, Token, TokenKind, bytes_of, mark_of, says};
 use std::alloc::{AllocError, Global};
+use typed_grammars::Stack;
 
 /// The kind of a word that stands alone.
 fn kind_of_key(key: KeyWord) -> u8
@@ -107,53 +109,70 @@ fn placed<T>(what: T, token: &Token) -> Placed<T>
     }
 }
 
-/// What a word says, at the token's place, where that is more than its kind.
-fn word_leaf(said: Word, token: &Token) -> Option<Leaf>
-    ensures { result ≡ leaf_of (word_symbol said token.now.start token.now.end) }
+/// A leaf on top.
+#[inline(always)]
+fn push_leaf(parts: &mut Stack<Part>, leaf: Leaf) -> Result<(), AllocError>
+    ensures { OnOk result (parts.new ≡ part.Leaf leaf ∷ parts.old) }
+{
+    parts.push(Part::Leaf(leaf))
+}
+
+/// What a word says on top, at the token's place, where that is more than its kind.
+#[inline(always)]
+fn keep_word(parts: &mut Stack<Part>, said: Word, token: &Token) -> Result<(), AllocError>
+    ensures { OnOk result (parts.new ≡ kept (word_symbol said token.now.start token.now.end) parts.old) }
 {
     match said {
-        Word::Width(width) => Some(Leaf::Width(placed(width, token))),
-        Word::Truth(truth) => Some(Leaf::Truth(placed(truth, token))),
-        Word::Overflow(op) => Some(Leaf::Overflow(op)),
-        Word::Exact(op) => Some(Leaf::Exact(op)),
-        Word::Plain(op) => Some(Leaf::Plain(op)),
-        Word::Cast(op) => Some(Leaf::Cast(op)),
-        Word::Pred(pred) => Some(Leaf::Pred(pred)),
-        Word::Flag(flag) => Some(Leaf::Flag(flag)),
-        Word::Key(_) | Word::Foreign => None,
+        Word::Width(width) => push_leaf(parts, Leaf::Width(placed(width, token))),
+        Word::Truth(truth) => push_leaf(parts, Leaf::Truth(placed(truth, token))),
+        Word::Overflow(op) => push_leaf(parts, Leaf::Overflow(op)),
+        Word::Exact(op) => push_leaf(parts, Leaf::Exact(op)),
+        Word::Plain(op) => push_leaf(parts, Leaf::Plain(op)),
+        Word::Cast(op) => push_leaf(parts, Leaf::Cast(op)),
+        Word::Pred(pred) => push_leaf(parts, Leaf::Pred(pred)),
+        Word::Flag(flag) => push_leaf(parts, Leaf::Flag(flag)),
+        Word::Key(_) | Word::Foreign => Ok(()),
     }
 }
 
-/// What is said at the token's place, where it is more than a kind.
+/// What is said on top, at the token's place, where it is more than a kind.
+#[inline(always)]
 #[tactic(auto, unfolding(ir_grammar::specs::Symbols::mark_symbol))]
-fn leaf_of(language: Language, said: TokenKind, token: &Token) -> Option<Leaf>
-    ensures { result ≡ leaf_of (symbol_at language said token.now.start token.now.end) }
+fn keep_said(
+    parts: &mut Stack<Part>,
+    language: Language,
+    said: TokenKind,
+    token: &Token,
+) -> Result<(), AllocError>
+    ensures { OnOk result (parts.new ≡ kept (symbol_at language said token.now.start token.now.end) parts.old) }
 {
     match said {
-        TokenKind::Local(name) => Some(Leaf::Local(placed(name, token))),
-        TokenKind::Global(name) => Some(Leaf::Global(placed(name, token))),
-        TokenKind::Label(name) => Some(Leaf::Label(placed(name, token))),
-        TokenKind::Number(number) => Some(Leaf::Number(placed(number, token))),
-        TokenKind::Word(word) => word_leaf(word_of(language, word.as_slice()), token),
-        _ => None,
+        TokenKind::Local(name) => push_leaf(parts, Leaf::Local(placed(name, token))),
+        TokenKind::Global(name) => push_leaf(parts, Leaf::Global(placed(name, token))),
+        TokenKind::Label(name) => push_leaf(parts, Leaf::Label(placed(name, token))),
+        TokenKind::Number(number) => push_leaf(parts, Leaf::Number(placed(number, token))),
+        TokenKind::Word(word) => keep_word(parts, word_of(language, word.as_slice()), token),
+        _ => Ok(()),
     }
 }
 
-/// What the token of the text says with its place, where it says more than its kind.
+/// What the token of the text says with its place on top, where it says more than its kind.
+#[inline(always)]
 #[tactic(auto, unfolding(ir_grammar::specs::Symbols::mark_symbol))]
-pub fn leaf(
+pub fn keep(
+    parts: &mut Stack<Part>,
     alloc: Global,
     language: Language,
     text: &[u8],
     token: &Token,
-) -> Result<Option<Leaf>, AllocError>
-    ensures { IfOk result (λ leaf. leaf ≡ leaf_of (symbol_in language text.now token.now)) }
+) -> Result<(), AllocError>
+    ensures { OnOk result (parts.new ≡ kept (symbol_in language text.now token.now) parts.old) }
 {
     match token.kind {
         Kind::Local | Kind::Global | Kind::Label | Kind::Number => {
-            Ok(leaf_of(language, says(alloc, text, token)?, token))
+            keep_said(parts, language, says(alloc, text, token)?, token)
         }
-        Kind::Word => Ok(word_leaf(word_of(language, bytes_of(text, token)), token)),
-        _ => Ok(None),
+        Kind::Word => keep_word(parts, word_of(language, bytes_of(text, token)), token),
+        _ => Ok(()),
     }
 }

@@ -1,6 +1,10 @@
 //! What words are, as `ir_grammar/specs/Words.antt` has it.
-ghost use Rattle.std.specs.Prelude.{◌≡◌};
+ghost use Rattle.std.specs.Prelude.{◌≡◌, [], ◌∷◌};
+ghost use Rattle.ir_core.specs.declared.operands.Pred.TheVariants as pred;
+ghost use Rattle.ir_core.specs.Words as text;
+ghost use Rattle.ir_grammar.specs.declared.words.KeyWord.TheVariants as key;
 ghost use Rattle.ir_grammar.specs.declared.words.Language.TheVariants.{Logic};
+ghost use Rattle.ir_grammar.specs.Words.{key_text, written_so};
 ghost use Rattle.ir_grammar.specs.Words as said;
 
 use crate::widths::width_of;
@@ -90,23 +94,11 @@ fn cast_of(word: &[u8]) -> Option<CastOp>
     }
 }
 
-/// The predicate that the word is, if it is one.
-fn pred_of(word: &[u8]) -> Option<Pred>
-    ensures { result ≡ said.pred_of word.now }
+/// The predicate of signed order that the word is, if it is one.
+fn signed_pred_of(word: &[u8]) -> Option<Pred>
+    ensures { result ≡ written_so text.pred_word (pred.Sgt ∷ pred.Sge ∷ pred.Slt ∷ pred.Sle ∷ []) word.now }
 {
-    if word == pred_word(Pred::Eq) {
-        Some(Pred::Eq)
-    } else if word == pred_word(Pred::Ne) {
-        Some(Pred::Ne)
-    } else if word == pred_word(Pred::Ugt) {
-        Some(Pred::Ugt)
-    } else if word == pred_word(Pred::Uge) {
-        Some(Pred::Uge)
-    } else if word == pred_word(Pred::Ult) {
-        Some(Pred::Ult)
-    } else if word == pred_word(Pred::Ule) {
-        Some(Pred::Ule)
-    } else if word == pred_word(Pred::Sgt) {
+    if word == pred_word(Pred::Sgt) {
         Some(Pred::Sgt)
     } else if word == pred_word(Pred::Sge) {
         Some(Pred::Sge)
@@ -116,6 +108,36 @@ fn pred_of(word: &[u8]) -> Option<Pred>
         Some(Pred::Sle)
     } else {
         None
+    }
+}
+
+/// The predicate of order that the word is, if it is one.
+fn order_pred_of(word: &[u8]) -> Option<Pred>
+    ensures { result ≡ written_so text.pred_word (pred.Ugt ∷ pred.Uge ∷ pred.Ult ∷ pred.Ule ∷ pred.Sgt ∷ pred.Sge ∷ pred.Slt ∷ pred.Sle ∷ []) word.now }
+{
+    if word == pred_word(Pred::Ugt) {
+        Some(Pred::Ugt)
+    } else if word == pred_word(Pred::Uge) {
+        Some(Pred::Uge)
+    } else if word == pred_word(Pred::Ult) {
+        Some(Pred::Ult)
+    } else if word == pred_word(Pred::Ule) {
+        Some(Pred::Ule)
+    } else {
+        signed_pred_of(word)
+    }
+}
+
+/// The predicate that the word is, if it is one.
+fn pred_of(word: &[u8]) -> Option<Pred>
+    ensures { result ≡ said.pred_of word.now }
+{
+    if word == pred_word(Pred::Eq) {
+        Some(Pred::Eq)
+    } else if word == pred_word(Pred::Ne) {
+        Some(Pred::Ne)
+    } else {
+        order_pred_of(word)
     }
 }
 
@@ -132,6 +154,42 @@ fn flag_of(word: &[u8]) -> Option<FlagWord>
     }
 }
 
+/// The word of blocks and their ends that it is, if it is one.
+fn flow_key_of(word: &[u8]) -> Option<KeyWord>
+    ensures { result ≡ written_so key_text (key.Phi ∷ key.Br ∷ key.Label ∷ key.Switch ∷ key.Unreachable ∷ []) word.now }
+{
+    if word == b"phi".as_slice() {
+        Some(KeyWord::Phi)
+    } else if word == b"br".as_slice() {
+        Some(KeyWord::Br)
+    } else if word == b"label".as_slice() {
+        Some(KeyWord::Label)
+    } else if word == b"switch".as_slice() {
+        Some(KeyWord::Switch)
+    } else if word == b"unreachable".as_slice() {
+        Some(KeyWord::Unreachable)
+    } else {
+        None
+    }
+}
+
+/// The word of lines or of blocks that it is, if it is one.
+fn line_key_of(word: &[u8]) -> Option<KeyWord>
+    ensures { result ≡ written_so key_text (key.Icmp ∷ key.Select ∷ key.To ∷ key.Undef ∷ key.Phi ∷ key.Br ∷ key.Label ∷ key.Switch ∷ key.Unreachable ∷ []) word.now }
+{
+    if word == b"icmp".as_slice() {
+        Some(KeyWord::Icmp)
+    } else if word == b"select".as_slice() {
+        Some(KeyWord::Select)
+    } else if word == b"to".as_slice() {
+        Some(KeyWord::To)
+    } else if word == b"undef".as_slice() {
+        Some(KeyWord::Undef)
+    } else {
+        flow_key_of(word)
+    }
+}
+
 /// The word of textual IR that stands alone that it is, if it is one.
 fn key_of(word: &[u8]) -> Option<KeyWord>
     ensures { result ≡ said.key_of word.now }
@@ -144,26 +202,8 @@ fn key_of(word: &[u8]) -> Option<KeyWord>
         Some(KeyWord::Ret)
     } else if word == b"exact".as_slice() {
         Some(KeyWord::Exact)
-    } else if word == b"icmp".as_slice() {
-        Some(KeyWord::Icmp)
-    } else if word == b"select".as_slice() {
-        Some(KeyWord::Select)
-    } else if word == b"to".as_slice() {
-        Some(KeyWord::To)
-    } else if word == b"undef".as_slice() {
-        Some(KeyWord::Undef)
-    } else if word == b"phi".as_slice() {
-        Some(KeyWord::Phi)
-    } else if word == b"br".as_slice() {
-        Some(KeyWord::Br)
-    } else if word == b"label".as_slice() {
-        Some(KeyWord::Label)
-    } else if word == b"switch".as_slice() {
-        Some(KeyWord::Switch)
-    } else if word == b"unreachable".as_slice() {
-        Some(KeyWord::Unreachable)
     } else {
-        None
+        line_key_of(word)
     }
 }
 
@@ -206,6 +246,7 @@ fn named_word(word: &[u8]) -> Word
 }
 
 /// What a word is in textual IR.
+#[inline(always)]
 #[tactic(auto, unfolding(ir_grammar::specs::Words::word_said))]
 fn word_said(word: &[u8]) -> Word
     ensures { result ≡ said.word_said word.now }
@@ -230,6 +271,7 @@ fn logic_key_of(word: &[u8]) -> Option<KeyWord>
 }
 
 /// What a word is in the logic's expressions.
+#[inline(never)]
 fn logic_word(word: &[u8]) -> Word
     ensures { result ≡ said.word_of Logic word.now }
 {
@@ -240,6 +282,7 @@ fn logic_word(word: &[u8]) -> Word
 }
 
 /// What a word is in a text of the language.
+#[inline(always)]
 pub fn word_of(language: Language, word: &[u8]) -> Word
     ensures { result ≡ said.word_of language word.now }
 {

@@ -1,12 +1,10 @@
-use Rattle.std.proofs.Common.{ap, ◌∙◌, ◌∷◌}
 use Rattle.std.proofs.lemmas.Bool.{MatchBool-at_true, MatchBool-at_false}
-use Rattle.predictive.specs.declared.item.Item.TheVariants.{Non}
 use Rattle.predictive.proofs.Holding.{holds_first, holds_next, fault_in, fault_at_end, whole_at}
 use Rattle.predictive.proofs.engine.parse.Goals as goal
 
 pub loop-place-init : goal.loop-place-init
 loop-place-init g c =
-    holds_first _ _ (g.met.G.Table.lawful c.args.table.now) _ _ _ _ c.requires _ (c.in_ok-push.ensures.ok ∙ ap (λ l. Non c.args.start ∷ l) c.new-items.ensures)
+    holds_first _ _ (g.met.G.Table.lawful c.args.table.now) _ _ _ _ c.requires _ c.new-items.ensures
 
 pub returns-then-not-branch : goal.returns-then-not-branch
 returns-then-not-branch g c =
