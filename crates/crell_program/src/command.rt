@@ -1,5 +1,5 @@
 ghost use Rattle.std.specs.Prelude.{◌≡◌, ◌<◌, ◌^◌, ◌-◌, map, string_bytes, option_map};
-ghost use Rattle.crell_program.specs.Command.{Defs, begins_with_dash, check_in, command_of, defs_in, files_of, limit_of, most_bytes, shown_command, shown_file, shown_request};
+ghost use Rattle.crell_program.specs.Command.{begins_with_dash, check_in, command_of, defs_in, files_of, limit_of, most_bytes, shown_command, shown_file, shown_request};
 
 use ir_core::Limit;
 
@@ -85,18 +85,15 @@ pub enum Request<'a> {
 pub fn command_of(words: &[String]) -> Option<Request<'_>>
     ensures { option_map shown_request result ≡ command_of (map string_bytes words.now) }
 {
-    if let Some(files) = check_in(words) {
-        return Some(Request::Check(files));
-    }
-    match defs_in(words) {
-        Some(file) => Some(Request::Defs(file)),
-        None => None,
+    match check_in(words) {
+        Some(request) => Some(request),
+        None => defs_in(words),
     }
 }
 
-/// The files of `check`, if the words are that command's.
-fn check_in(words: &[String]) -> Option<FileNames<'_>>
-    ensures { option_map shown_command result ≡ check_in (map string_bytes words.now) }
+/// `check` and its files, if the words are that command's.
+fn check_in(words: &[String]) -> Option<Request<'_>>
+    ensures { option_map shown_request result ≡ check_in (map string_bytes words.now) }
 {
     let [_program, command, source, target, hints] = words else {
         return None;
@@ -109,16 +106,16 @@ fn check_in(words: &[String]) -> Option<FileNames<'_>>
     {
         return None;
     }
-    Some(FileNames {
+    Some(Request::Check(FileNames {
         source,
         target,
         hints,
-    })
+    }))
 }
 
-/// The file of `defs`, if the words are that command's.
-fn defs_in(words: &[String]) -> Option<&str>
-    ensures { option_map (λ file. Defs file.now) result ≡ defs_in (map string_bytes words.now) }
+/// `defs` and its file, if the words are that command's.
+fn defs_in(words: &[String]) -> Option<Request<'_>>
+    ensures { option_map shown_request result ≡ defs_in (map string_bytes words.now) }
 {
     let [_program, command, file] = words else {
         return None;
@@ -127,7 +124,7 @@ fn defs_in(words: &[String]) -> Option<&str>
     if command.as_str() != "defs" || begins_with_dash(file) {
         return None;
     }
-    Some(file)
+    Some(Request::Defs(file))
 }
 
 fn begins_with_dash(word: &str) -> bool
