@@ -15,9 +15,7 @@ ghost use Rattle.crell_program.specs.Statuses.{AreRefined, IsRefinement, IsRefin
 use crate::command::{FileNames, Form, Request, Wanted, command_of};
 use crate::delivery::deliver;
 use crate::fetch::{Stop, gather};
-use crell_answers::{
-    Answer, module_fault, past_limit, printed, unfit, usage_text, verdict_answer,
-};
+use crell_answers::{Answer, module_fault, past_limit, printed, unfit, usage_text, verdict_answer};
 use crell_io::{Shelf, Sink};
 use definition_text::definitions_text;
 use erhl_assert::{Hints, ModuleVerdict};
