@@ -1,4 +1,5 @@
-//! `crell check SRC TGT HINTS`: whether the target module refines the source module, by hints that say why.
+//! `crell check SRC TGT HINTS`: whether the target module refines the source module, by hints that say why; and `crell defs FILE`: which
+//! registers are defined on every path to each block of a module.
 #![tactic(auto)]
 
 ghost use Rattle.std.specs.Prelude.{◌≡◌, ◌⊎◌, None, IfOk, OnErr, map, string_bytes};

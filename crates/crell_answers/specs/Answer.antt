@@ -31,12 +31,14 @@ fault_of status file what = record { status = status; out = []; err = line (file
 unfoldable pub usage_text : List ℕ
 usage_text =
     line (codes "usage: crell check SRC TGT HINTS")
+    ++ line (codes "       crell defs FILE")
     ++ line (codes "")
-    ++ line (codes "Says whether the module in the file TGT refines the one in the file SRC, both textual LLVM IR, by the")
-    ++ line (codes "hints in the JSON file HINTS. A file's name doesn't begin with `-`.")
+    ++ line (codes "check says whether the module in the file TGT refines the one in the file SRC, both textual LLVM IR, by")
+    ++ line (codes "the hints in the JSON file HINTS. defs prints for each block of the module in FILE the registers that are")
+    ++ line (codes "defined on every path to its start, or that no path leads there. A file's name doesn't begin with `-`.")
     ++ line (codes "")
     ++ line (codes "Exit status:")
-    ++ line (codes "  0   valid")
+    ++ line (codes "  0   valid, or printed whole")
     ++ line (codes "  1   refused: the place and the reason are printed")
     ++ line (codes "  2   the words are no command's")
     ++ line (codes "  3   a text spells no module: the place and what is wrong there are printed")
@@ -52,6 +54,10 @@ usage_text =
 -- the words are no command's
 abbrev pub usage : Answer
 usage = record { status = 2; out = []; err = usage_text }
+
+-- a text that is printed whole
+abbrev pub printed : List ℕ → Answer
+printed text = record { status = 0; out = text; err = [] }
 
 abbrev pub read_failed : List ℕ → Answer
 read_failed file = fault_of 6 file (codes ": read failed")

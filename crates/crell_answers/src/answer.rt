@@ -26,13 +26,15 @@ impl Drop for Answer {
 pub fn usage_text() -> &'static [u8]
     ensures { result.now ≡ answer.usage_text }
 {
-    b"usage: crell check SRC TGT HINTS\n\
+    b"usage: crell check SRC TGT HINTS\n       \
+crell defs FILE\n\
 \n\
-Says whether the module in the file TGT refines the one in the file SRC, both textual LLVM IR, by the\n\
-hints in the JSON file HINTS. A file's name doesn't begin with `-`.\n\
+check says whether the module in the file TGT refines the one in the file SRC, both textual LLVM IR, by\n\
+the hints in the JSON file HINTS. defs prints for each block of the module in FILE the registers that are\n\
+defined on every path to its start, or that no path leads there. A file's name doesn't begin with `-`.\n\
 \n\
 Exit status:\n  \
-0   valid\n  \
+0   valid, or printed whole\n  \
 1   refused: the place and the reason are printed\n  \
 2   the words are no command's\n  \
 3   a text spells no module: the place and what is wrong there are printed\n  \
@@ -44,6 +46,17 @@ Exit status:\n  \
 9   a limit is passed: 16 MiB a module, 64 MiB the hints, 16 MiB a name or an expression in them,\n      \
 1048576 lines a function, 65536 facts at a place\n  \
 10  there is no such file\n"
+}
+
+/// A text, printed whole.
+pub fn printed(alloc: Global, text: Vec<u8>) -> Answer
+    ensures { result ≡ answer.printed text.items }
+{
+    Answer {
+        status: 0,
+        out: Seq::from_vec(text),
+        err: Seq::new(alloc),
+    }
 }
 
 /// What is first at fault in a hint file stands at that place.

@@ -7,6 +7,6 @@ mod faults;
 mod pieces;
 mod verdict_text;
 
-pub use answer::{Answer, absent, past_limit, read_failed, unfit, usage_text};
+pub use answer::{Answer, absent, past_limit, printed, read_failed, unfit, usage_text};
 pub use faults::module_fault;
 pub use verdict_text::verdict_answer;

@@ -17,19 +17,19 @@ use Rattle.crell_io.specs.Count.{HasRisen}
 use Rattle.crell_io.specs.Shelf.{IfTold}
 use Rattle.crell_io.specs.Sink.{appended}
 use Rattle.crell_answers.specs.declared.answer.Answer.{Answer}
-use Rattle.crell_answers.specs.Answer.{usage, usage_text, module_fault, text_fault, at_fault, read_failed, past_limit, absent}
+use Rattle.crell_answers.specs.Answer.{usage, usage_text, module_fault, text_fault, at_fault, printed, read_failed, past_limit, absent}
 use Rattle.crell_program.specs.declared.command.Form.TheVariants.{ModuleText, HintFile}
-use Rattle.crell_program.specs.Command.{File, limit_of, CheckFiles, Command, Check, files_of}
+use Rattle.crell_program.specs.Command.{File, limit_of, CheckFiles, Command, Check, Defs, files_of}
 use Rattle.crell_answers.specs.VerdictText.{verdict_answer}
-use Rattle.crell_program.specs.Due.{ShelfSeen, Held, Missing, Long, Broken, MayCome, DueOfFile, DueOfFiles, DueOfCheck, DueOfTexts, IsAtFault, IsReadOnlyAs, SpellsOnly, checked}
+use Rattle.crell_program.specs.Due.{ShelfSeen, Held, Missing, Long, Broken, MayCome, DueOfFile, DueOfFiles, DueOfCheck, DueOfDefs, DueOfTexts, IsAtFault, IsReadOnlyAs, SpellsOnly, checked}
 use Rattle.crell_program.specs.Delivery.{SinkSeen, GotAll, GotPart, GotNothing, IsDelivered}
 use Rattle.crell_program.specs.Rows.{Run, IsAnswered, WritingFailed}
-use Rattle.crell_program.specs.Statuses.{SomeOf, IsFit, HasFault, IsPlace, IsPassedLimit, HintsAreAtFault, IsAnswer, IsInvalid, HasNoVerdict, IsUnfit, module_status, text_status, AreJudged, NoneIsAbsent, SomeFileIsUnfit, SomeFileIsLonger, SomeFileIsMissing, IsStatus}
+use Rattle.crell_program.specs.Statuses.{AreDefinitions, ReadsHints, SomeOf, IsFit, HasFault, IsPlace, IsPassedLimit, HintsAreAtFault, IsAnswer, IsInvalid, HasNoVerdict, IsUnfit, module_status, text_status, AreJudged, NoneIsAbsent, SomeFileIsUnfit, SomeFileIsLonger, SomeFileIsMissing, IsStatus}
 use Rattle.crell_program.proofs.Bytes.{if_told, TellsAll, if_all_told, none_absent}
 
 -- what is said at a status
 abbrev pub Says : Run → ℕ → Type 0
-Says run zero = Unit {0}
+Says run zero = AreDefinitions run.shelf.told run.command (λ lines. GotAll run.out lines)
 Says run (suc zero) = IsAnswer IsInvalid run.rules run.shelf.told run.command
 Says run (suc (suc zero)) = (run.command ≡ None) × GotNothing run.out × GotAll run.err usage_text
 Says run (suc (suc (suc zero))) = SomeFileIsUnfit 3 run.shelf.told run.command × GotNothing run.out
@@ -82,12 +82,12 @@ module _ (rules : Rules) (shelf : ShelfSeen) (out err : SinkSeen) (command : Com
   this = command_run rules shelf out err command
 
   -- the verdict on the texts, or none
-  says_checked : (said : Option ModuleVerdict) (source : List ℕ) → (IsInvalid said → IsAnswer IsInvalid rules shelf.told (Some command))
+  says_checked : Says this 0 → (said : Option ModuleVerdict) (source : List ℕ) → (IsInvalid said → IsAnswer IsInvalid rules shelf.told (Some command))
       → (HasNoVerdict said → IsAnswer HasNoVerdict rules shelf.told (Some command)) → SaysOf this (checked said source)
-  says_checked None source invalid none = λ to_out to_err. (inr (inr (inr (none refl))), nothing_of out to_out)
-  says_checked (Some modules.Valid) source invalid none = λ to_out to_err. tt
-  says_checked (Some (modules.Differs what)) source invalid none = λ to_out to_err. invalid (modules.Differs what, refl, λ e. cc)
-  says_checked (Some (modules.Refused function block spot reason)) source invalid none =
+  says_checked fine None source invalid none = λ to_out to_err. (inr (inr (inr (none refl))), nothing_of out to_out)
+  says_checked fine (Some modules.Valid) source invalid none = λ to_out to_err. fine
+  says_checked fine (Some (modules.Differs what)) source invalid none = λ to_out to_err. invalid (modules.Differs what, refl, λ e. cc)
+  says_checked fine (Some (modules.Refused function block spot reason)) source invalid none =
       λ to_out to_err. invalid (modules.Refused function block spot reason, refl, λ e. cc)
 
   says_text_fault : (f : TextFault) (bytes file : List ℕ) → f ≢ text.Memory → SomeFileIsUnfit (text_status f) shelf.told (Some command)
@@ -146,6 +146,9 @@ module _ (rules : Rules) (shelf : ShelfSeen) (out err : SinkSeen) (names : Check
   present : NoneIsAbsent shelf.told (files_of (Check names))
   present = none_absent shelf.told (files_of (Check names)) (source ∷ target ∷ hints ∷ []) told
 
+  reads : ReadsHints (Check names)
+  reads = inr (inr (inl refl))
+
   pub says_check : (answer : Answer) → DueOfCheck rules names answer source target hints → SaysOf checks answer
   says_check answer (inl (f, is, e)) =
       let unfit : IsUnfit (module_status f) ModuleText source = (refl, (f, is, refl)) in
@@ -160,6 +163,7 @@ module _ (rules : Rules) (shelf : ShelfSeen) (out err : SinkSeen) (names : Check
   says_check answer (inr (s, sp, inr (t, tp, inl (fault, is, e)))) =
       along checks answer (at_fault fault names.hints) e
       (says_fault rules shelf out err (Check names) fault names.hints (λ P p. (
+        reads,
         present,
         (
           if_told _ source (HasFault P ModuleText) told.0 (s, sp.0),
@@ -168,12 +172,13 @@ module _ (rules : Rules) (shelf : ShelfSeen) (out err : SinkSeen) (names : Check
       )))
   says_check answer (inr (s, sp, inr (t, tp, inr (h, hp, e)))) =
       along checks answer (checked (module_answer rules s t h) names.source) e
-      (says_checked rules shelf out err (Check names) (module_answer rules s t h) names.source
+      (says_checked rules shelf out err (Check names) tt (module_answer rules s t h) names.source
       (answered IsInvalid s sp t tp h hp) (answered HasNoVerdict s sp t tp h hp))
     where
       answered : (P : Option ModuleVerdict → Type 0) (s : Module) → SpellsOnly source s → (t : Module) → SpellsOnly target t → (h : Hints) → IsReadOnlyAs hints (Ok h)
           → P (module_answer rules s t h) → IsAnswer P rules shelf.told (Some (Check names))
       answered P s sp t tp h hp p = (
+        reads,
         present,
         (
           if_told _ source (IsFit ModuleText) told.0 (s, sp.0),
@@ -182,6 +187,18 @@ module _ (rules : Rules) (shelf : ShelfSeen) (out err : SinkSeen) (names : Check
         if_all_told shelf.told (files_of (Check names)) (source ∷ target ∷ hints ∷ []) (AreJudged rules P (Check names)) told (s, t, h, sp.0, tp.0, hp.0, p),
       )
 
+module _ (rules : Rules) (shelf : ShelfSeen) (out err : SinkSeen) (file text : List ℕ) (told : TellsAll shelf.told (files_of (Defs file)) (text ∷ [])) where
+  pub says_defs : (answer : Answer) → DueOfDefs file answer text → SaysOf (command_run rules shelf out err (Defs file)) answer
+  says_defs answer (inl (f, is, e)) =
+      let unfit : IsUnfit (module_status f) ModuleText text = (refl, (f, is, refl)) in
+      let present : NoneIsAbsent shelf.told (files_of (Defs file)) = none_absent shelf.told (files_of (Defs file)) (text ∷ []) told in
+      along (command_run rules shelf out err (Defs file)) answer (module_fault f text file) e
+      (says_unfit rules shelf out err (Defs file) f text file is
+      (present, inl (refl, if_told _ text (IsUnfit (module_status f) ModuleText) told.0 unfit)))
+  says_defs answer (inr (m, sp, due)) =
+      along (command_run rules shelf out err (Defs file)) answer (printed due.0) due.2
+      (λ to_out to_err. (text, told.0, (m, sp, (due.0, due.1, to_out))))
+
 says_texts : (rules : Rules) (shelf : ShelfSeen) (out err : SinkSeen) (command : Command) (answer : Answer) (texts : List (List ℕ))
     → TellsAll shelf.told (files_of command) texts → DueOfTexts rules command answer texts → SaysOf (command_run rules shelf out err command) answer
 says_texts rules shelf out err (Check names) answer (source ∷ target ∷ hints ∷ []) told due = says_check rules shelf out err names source target hints told answer due
@@ -189,6 +206,9 @@ says_texts rules shelf out err (Check names) answer [] told due = absurd due
 says_texts rules shelf out err (Check names) answer (source ∷ []) told due = absurd due
 says_texts rules shelf out err (Check names) answer (source ∷ target ∷ []) told due = absurd due
 says_texts rules shelf out err (Check names) answer (source ∷ target ∷ hints ∷ text ∷ more) told due = absurd due
+says_texts rules shelf out err (Defs file) answer (text ∷ []) told due = says_defs rules shelf out err file text told answer due
+says_texts rules shelf out err (Defs file) answer [] told due = absurd due
+says_texts rules shelf out err (Defs file) answer (text ∷ other ∷ more) told due = absurd due
 
 module _ (rules : Rules) (shelf : ShelfSeen) (out err : SinkSeen) (command : Command) where
   says_files : (answer : Answer) → DueOfFiles shelf (files_of command) answer (DueOfTexts rules command answer) → SaysOf (command_run rules shelf out err command) answer

@@ -20,12 +20,12 @@ use Rattle.crell_io.specs.Shelf.Told.{NoSuch, Bytes}
 use Rattle.crell_answers.specs.declared.answer.Answer.{Answer}
 use Rattle.crell_program.specs.declared.command.Form.TheVariants.{ModuleText, HintFile}
 use Rattle.crell_answers.specs.Answer.{module_fault, at_fault}
-use Rattle.crell_program.specs.Command.{File, most_bytes, CheckFiles, Command, Check, files_of}
+use Rattle.crell_program.specs.Command.{File, most_bytes, CheckFiles, Command, Check, Defs, files_of}
 use Rattle.crell_answers.specs.VerdictText.{verdict_status, verdict_answer}
-use Rattle.crell_program.specs.Due.{ShelfSeen, Held, Missing, Long, Broken, DueOfFile, DueOfFiles, DueOfCheck, DueOfTexts, IsAtFault, checked}
+use Rattle.crell_program.specs.Due.{ShelfSeen, Held, Missing, Long, Broken, DueOfFile, DueOfFiles, DueOfCheck, DueOfDefs, DueOfTexts, IsAtFault, checked}
 use Rattle.crell_program.specs.Delivery.{SinkSeen, IsDelivered}
 use Rattle.crell_program.specs.Rows.{Run, IsAnswered, NoFault}
-use Rattle.crell_program.specs.Statuses.{HoldsAllOf, HoldsAll, HasVerdict, AreJudged, FirstIsUnfit, IsInvalid, HasNoVerdict, module_status, HintsHaveFault, fault_status, IsAbsent, IsOverlong, FirstUnheldOf, FirstUnheld}
+use Rattle.crell_program.specs.Statuses.{HoldsAllOf, HoldsAll, HasVerdict, AreJudged, FirstIsUnfit, IsInvalid, HasNoVerdict, module_status, HintsHaveFault, fault_status, IsListed, IsAbsent, IsOverlong, FirstUnheldOf, FirstUnheld}
 use Rattle.crell_program.proofs.Bytes.{told_bytes}
 use Rattle.crell_program.proofs.FaultStatus.{module_fault_status, one_status}
 
@@ -136,6 +136,7 @@ judged_as excludes rules P Q leads (Check names) answer [] within judged due = a
 judged_as excludes rules P Q leads (Check names) answer (source ∷ []) within judged due = absurd due
 judged_as excludes rules P Q leads (Check names) answer (source ∷ target ∷ []) within judged due = absurd due
 judged_as excludes rules P Q leads (Check names) answer (source ∷ target ∷ hints ∷ text ∷ more) within judged due = absurd due
+judged_as excludes rules P Q leads (Defs file) answer texts within judged due = absurd judged
 
 -- where the checker says such, the status is this one
 pub judged_so : FaultsExcludeModules → (P : Option ModuleVerdict → Type 0) (known : ℕ) → ((said : Option ModuleVerdict) (file : List ℕ) → P said → (checked said file).status ≡ known)
@@ -182,6 +183,12 @@ module _ (kinds : FaultsAreOfOneKind) (excludes : FaultsExcludeModules) where
   unread_check rules names answer source target hints known short also (inr (form, fit, inr (form_too, fit_too, inr unfit))) (inr (s, sp, inr (t, tp, due))) =
       absurd (not_a_module unfit.0)
 
+  unread_defs : (file : List ℕ) (answer : Answer) (text : List ℕ) (known : ℕ) → length text ≤ text_limit
+      → FirstIsUnfit known (files_of (Defs file)) (text ∷ []) → DueOfDefs file answer text → answer.status ≡ known
+  unread_defs file answer text known short (inl (form, (g, first, same))) (inl (f, is, e)) = by_fault text file answer f g known short is e first same
+  unread_defs file answer text known short (inl (form, (g, first, same))) (inr (m, sp, due)) = absurd (excludes text g m short first.0 first.1 sp.0)
+  unread_defs file answer text known short (inr (form, fit, none)) due = absurd none
+
   unread_texts : (rules : Rules) (known : ℕ) (command : Command) (answer : Answer) (texts : List (List ℕ)) → AreWithin (files_of command) texts
       → FirstIsUnfit known (files_of command) texts → DueOfTexts rules command answer texts → answer.status ≡ known
   unread_texts rules known (Check names) answer (source ∷ target ∷ hints ∷ []) within unfit due =
@@ -190,6 +197,9 @@ module _ (kinds : FaultsAreOfOneKind) (excludes : FaultsExcludeModules) where
   unread_texts rules known (Check names) answer (source ∷ []) within unfit due = absurd due
   unread_texts rules known (Check names) answer (source ∷ target ∷ []) within unfit due = absurd due
   unread_texts rules known (Check names) answer (source ∷ target ∷ hints ∷ text ∷ more) within unfit due = absurd due
+  unread_texts rules known (Defs file) answer (text ∷ []) within unfit due = unread_defs file answer text known within.0 unfit due
+  unread_texts rules known (Defs file) answer [] within unfit due = absurd due
+  unread_texts rules known (Defs file) answer (text ∷ other ∷ more) within unfit due = absurd due
 
   pub unread : (run : Run) (status : ℕ) → IsAnswered run status → (fault : ℕ)
       → HoldsAll run.shelf.told run.command (λ command. FirstIsUnfit fault (files_of command)) → NoFault run → (status ≡ fault) ⊎ (status ≡ 8)
@@ -214,20 +224,37 @@ hints_unread_check excludes rules fault names answer source target hints s t sho
     absurd (not_both h fault (sym (hq.1 (Err fault) hp)))
 
 hints_unread_texts : FaultsExcludeModules → (rules : Rules) (fault : Fault) (command : Command) (answer : Answer) (texts : List (List ℕ))
-    → AreWithin (files_of command) texts → HintsHaveFault fault (files_of command) texts → DueOfTexts rules command answer texts → answer.status ≡ fault_status fault
-hints_unread_texts excludes rules fault (Check names) answer (source ∷ target ∷ hints ∷ []) within (fit_source, (fit_target, ((found, is, first), none))) due =
+    → AreWithin (files_of command) texts → HintsHaveFault fault command texts → DueOfTexts rules command answer texts → answer.status ≡ fault_status fault
+hints_unread_texts excludes rules fault (Check names) answer (source ∷ target ∷ hints ∷ []) within (reads, (fit_source, (fit_target, ((found, is, first), none)))) due =
     hints_unread_check excludes rules fault names answer source target hints fit_source.0 fit_target.0 within.0 within.1.0 fit_source.1 fit_target.1
     (subst (λ (f : Fault). IsHintFault hints f) is first) due
 hints_unread_texts excludes rules fault (Check names) answer [] within unfit due = absurd due
 hints_unread_texts excludes rules fault (Check names) answer (source ∷ []) within unfit due = absurd due
 hints_unread_texts excludes rules fault (Check names) answer (source ∷ target ∷ []) within unfit due = absurd due
 hints_unread_texts excludes rules fault (Check names) answer (source ∷ target ∷ hints ∷ text ∷ more) within unfit due = absurd due
+hints_unread_texts excludes rules fault (Defs file) answer texts within (inl form, fit) due = absurd (not_a_module (sym form))
+hints_unread_texts excludes rules fault (Defs file) answer texts within (inr none, fit) due = absurd none
 
 pub hints_unread : FaultsExcludeModules → (run : Run) (status : ℕ) → IsAnswered run status → (fault : Fault)
-    → HoldsAll run.shelf.told run.command (λ command. HintsHaveFault fault (files_of command)) → NoFault run → (status ≡ fault_status fault) ⊎ (status ≡ 8)
+    → HoldsAll run.shelf.told run.command (HintsHaveFault fault) → NoFault run → (status ≡ fault_status fault) ⊎ (status ≡ 8)
 hints_unread excludes run status answered fault =
-    all_well run.rules run.shelf run.out run.err run.command (λ command. HintsHaveFault fault (files_of command)) (fault_status fault) status
+    all_well run.rules run.shelf run.out run.err run.command (HintsHaveFault fault) (fault_status fault) status
     (hints_unread_texts excludes run.rules fault) answered
+
+-- what is defined in a well-formed module is printed
+listed_texts : FaultsExcludeModules → (rules : Rules) (command : Command) (answer : Answer) (texts : List (List ℕ))
+    → AreWithin (files_of command) texts → IsListed command texts → DueOfTexts rules command answer texts → answer.status ≡ 0
+listed_texts excludes rules (Check names) answer texts within listed due = absurd listed
+listed_texts excludes rules (Defs file) answer (text ∷ []) within listed (inl (f, is, e)) =
+    absurd (excludes text f listed.0.0 within.0 is.0 is.1 listed.0.1)
+listed_texts excludes rules (Defs file) answer (text ∷ []) within listed (inr (m, sp, due)) = ap (λ (a : Answer). a.status) due.2
+listed_texts excludes rules (Defs file) answer [] within listed due = absurd due
+listed_texts excludes rules (Defs file) answer (text ∷ other ∷ more) within listed due = absurd due
+
+pub printed : FaultsExcludeModules → (run : Run) (status : ℕ) → IsAnswered run status → HoldsAll run.shelf.told run.command IsListed → NoFault run
+    → (status ≡ 0) ⊎ (status ≡ 8)
+printed excludes run status =
+    all_well run.rules run.shelf run.out run.err run.command IsListed 0 status (listed_texts excludes run.rules)
 
 -- a file that is told to be absent decides, where no fault is counted
 absent_decides : (shelf : ShelfSeen) (answer : Answer) (file : File) (next : List ℕ → Type 0)

@@ -19,13 +19,13 @@ use Rattle.erhl_assert.specs.declared.verdict.ModuleVerdict.{ModuleVerdict}
 use Rattle.erhl_assert.specs.declared.verdict.ModuleVerdict.TheVariants as modules
 use Rattle.crell_io.specs.Shelf.{Told, IfTold}
 use Rattle.crell_answers.specs.declared.answer.Answer.{Answer}
-use Rattle.crell_program.specs.Command.{File, CheckFiles, Command, Check, files_of}
+use Rattle.crell_program.specs.Command.{File, CheckFiles, Command, Check, Defs, files_of}
 use Rattle.crell_program.specs.Fetching.{AreHeld}
 use Rattle.crell_answers.specs.VerdictText.{verdict_status, verdict_answer}
-use Rattle.crell_program.specs.Due.{ShelfSeen, Held, Missing, Long, Broken, DueOfFile, DueOfFiles, DueOfCheck, DueOfTexts, IsReadOnlyAs, SpellsOnly, checked}
+use Rattle.crell_program.specs.Due.{ShelfSeen, Held, Missing, Long, Broken, DueOfFile, DueOfFiles, DueOfCheck, DueOfDefs, DueOfTexts, IsListing, IsReadOnlyAs, SpellsOnly, checked}
 use Rattle.crell_program.specs.Delivery.{SinkSeen, IsDelivered, Untouched}
 use Rattle.crell_program.specs.Rows.{IsAnswered}
-use Rattle.crell_program.specs.Statuses.{AreRefined, IsRefinement, IsRefinementOfBytes}
+use Rattle.crell_program.specs.Statuses.{AreRefined, IsRefinement, IsRefinementOfBytes, SpellsOne}
 use Rattle.crell_program.proofs.Bytes.{if_told}
 use Rattle.crell_program.proofs.Fetches.{due_of_held}
 use Rattle.crell_program.proofs.FaultStatus.{module_fault_status, fault_status_isnt_zero}
@@ -164,6 +164,49 @@ module _ {E : Type 0} (rules : Rules) (shelf : ShelfSeen) (names : CheckFiles) (
       (λ answer f z. if_told (shelf.told names.source) source (λ a. IfTold (shelf.told names.target) (λ b. AreRefined a b)) all.0.1
       (if_told (shelf.told names.target) target (λ b. AreRefined source b) all.1.0.1 (f z))) refined_texts
 
+-- ---- the text of `defs`
+
+one_of : (xs : List (List ℕ)) (a : List ℕ) → 1 ≤ length xs → length xs < 2 → a ≡ get_or xs 0 a → xs ≡ a ∷ []
+one_of [] a l m e = absurd (omega arith)
+one_of (x ∷ []) a l m e = cc
+one_of (x ∷ y ∷ xs) a l m e = absurd (omega arith)
+
+-- the text that was fetched is one, lent
+pub held_one : (shelf : ShelfSeen) (name : List ℕ) (files : List File) (texts lent : List (List ℕ)) (a text : List ℕ)
+    → AreHeld shelf files texts → files ≡ files_of (Defs name) → lent ≡ texts → 1 ≤ length lent → length lent < 2 → a ≡ get_or lent 0 a → text ≡ a
+    → AreHeld shelf (files_of (Defs name)) (text ∷ [])
+held_one shelf name files texts lent a text held is same least most at e =
+    let all : texts ≡ text ∷ [] = sym same ∙ one_of lent a least most at ∙ ap (λ (t : List ℕ). t ∷ []) (sym e) in
+    subst (λ (fs : List File). AreHeld shelf fs (text ∷ [])) is (subst (λ (ts : List (List ℕ)). AreHeld shelf files ts) all held)
+
+module _ {E : Type 0} (rules : Rules) (shelf : ShelfSeen) (name text : List ℕ) (all : AreHeld shelf (files_of (Defs name)) (text ∷ [])) (r : Result Answer E) where
+  pub file_judged : IfOk r (λ answer. DueOfDefs name answer text)
+      → IfOk r (λ answer. DueOfFiles shelf (files_of (Defs name)) answer (DueOfTexts rules (Defs name) answer))
+  file_judged due = if_ok_then r _ _
+      (λ answer d. due_of_held shelf (files_of (Defs name)) (text ∷ []) answer (DueOfTexts rules (Defs name) answer) all d) due
+
+  pub file_spelled : IfOk r (λ answer. answer.status ≡ 0 → SpellsOne text) → IfOk r (λ answer. answer.status ≡ 0 → IsRefinement shelf.told (Defs name))
+  file_spelled spelled = if_ok_then r _ _ (λ answer f z. if_told (shelf.told name) text SpellsOne all.0.1 (f z)) spelled
+
+module _ {E : Type 0} (name text : List ℕ) (r : Result Answer E) where
+  -- a module's lines are printed
+  pub lines_judged : (m : Module) → SpellsOnly text m → IfOk r (IsListing m) → IfOk r (λ answer. DueOfDefs name answer text)
+  lines_judged m sp = if_ok_then r (IsListing m) (λ answer. DueOfDefs name answer text) (λ answer listing. inr (m, sp, listing))
+
+  pub one_spelled : {P : Answer → Type 0} → (m : Module) → SpellsOnly text m → IfOk r P → IfOk r (λ answer. answer.status ≡ 0 → SpellsOne text)
+  one_spelled {P} m sp = if_ok_then r P (λ answer. answer.status ≡ 0 → SpellsOne text) (λ answer p z. (m, sp.0.0, sp.1))
+
+-- or its fault is told
+pub fault_listed : {E : Type 0} (name text : List ℕ) (fault : ModuleFault) → IsModuleFault text fault → (r : Result Answer E) → IfOk r (λ _. fault ≢ faults.Memory)
+    → IfOk r (λ a. a ≡ module_fault fault text name) → IfOk r (λ answer. DueOfDefs name answer text)
+fault_listed name text fault is (Ok answer) said e = inl (fault, (is, said), e)
+fault_listed name text fault is (Err end) said e = e
+
+pub fault_spelled : {E : Type 0} (name text : List ℕ) (fault : ModuleFault) → (r : Result Answer E)
+    → IfOk r (λ a. a ≡ module_fault fault text name) → IfOk r (λ answer. answer.status ≡ 0 → SpellsOne text)
+fault_spelled name text fault (Ok answer) e = λ z. absurd (fault_isnt_zero fault text name (sym (ap (λ (a : Answer). a.status) e) ∙ z))
+fault_spelled name text fault (Err end) e = e
+
 -- what is delivered of the answer's texts is delivered of the answer
 pub delivered_as : (answer : Answer) (out_text err_text : List ℕ) (out err : SinkSeen) (status : ℕ) → out_text ≡ answer.out → err_text ≡ answer.err
     → IsDelivered (record { status = answer.status; out = out_text; err = err_text }) out err status → IsDelivered answer out err status
@@ -178,16 +221,16 @@ answered_with_usage rules shelf out err command status e d =
     let P : Option Command → Type 0 = λ c. IsAnswered (record { rules = rules; command = c; shelf = shelf; out = out; err = err }) status in
     subst P e (inl (usage, refl, d))
 
-pub answered_for : (rules : Rules) (shelf : ShelfSeen) (out err : SinkSeen) (names : CheckFiles) (command : Option Command) (status : ℕ) → Some (Check names) ≡ command
-    → IsAnswered (record { rules = rules; command = Some (Check names); shelf = shelf; out = out; err = err }) status
+pub answered_for : (rules : Rules) (shelf : ShelfSeen) (out err : SinkSeen) (which : Command) (command : Option Command) (status : ℕ) → Some which ≡ command
+    → IsAnswered (record { rules = rules; command = Some which; shelf = shelf; out = out; err = err }) status
     → IsAnswered (record { rules = rules; command = command; shelf = shelf; out = out; err = err }) status
-answered_for rules shelf out err names command status e answered =
+answered_for rules shelf out err which command status e answered =
     let P : Option Command → Type 0 = λ c. IsAnswered (record { rules = rules; command = c; shelf = shelf; out = out; err = err }) status in
     subst P e answered
 
-pub refinement_for : (told : List ℕ → Told) (names : CheckFiles) (command : Option Command) (status : ℕ) → Some (Check names) ≡ command
-    → (status ≡ 0 → IsRefinement told (Check names)) → status ≡ 0 → IsRefinementOfBytes told command
-refinement_for told names command status e refined z =
+pub refinement_for : (told : List ℕ → Told) (which : Command) (command : Option Command) (status : ℕ) → Some which ≡ command
+    → (status ≡ 0 → IsRefinement told which) → status ≡ 0 → IsRefinementOfBytes told command
+refinement_for told which command status e refined z =
     let P : Option Command → Type 0 = λ c. IsRefinementOfBytes told c in subst P e (refined z)
 
 -- the usage isn't of status 0
@@ -196,6 +239,6 @@ usage_isnt_zero out err status delivered z =
     let e : usage.status ≡ 0 = zero_of usage out err status delivered z in absurd (omega arith)
 
 -- memory was refused to a command, and no sink was asked
-pub unanswered : (rules : Rules) (shelf : ShelfSeen) (out err : SinkSeen) (names : CheckFiles) → Untouched out → Untouched err
-    → IsAnswered (record { rules = rules; command = Some (Check names); shelf = shelf; out = out; err = err }) 8
-unanswered rules shelf out err names a b = let some : Some (Check names) ≢ None = λ e. cc in inr (some, refl, a, b)
+pub unanswered : (rules : Rules) (shelf : ShelfSeen) (out err : SinkSeen) (which : Command) → Untouched out → Untouched err
+    → IsAnswered (record { rules = rules; command = Some which; shelf = shelf; out = out; err = err }) 8
+unanswered rules shelf out err which a b = let some : Some which ≢ None = λ e. cc in inr (some, refl, a, b)

@@ -7,3 +7,4 @@ pub mod InMemory
 pub mod Inner
 pub mod Rows
 pub mod Writing
+pub mod Commands

@@ -3,11 +3,12 @@ use Rattle.std.proofs.Common.{ℕ}
 use Rattle.module_input.specs.Laws.{FaultsAreOfOneKind, FaultsExcludeModules}
 use Rattle.crell_program.specs.Rows.{Run, IsAnswered, KeepsRows}
 use Rattle.crell_program.proofs.Causes.{said, said_at, kept, is_status, other_status}
-use Rattle.crell_program.proofs.Completeness.{valid, invalid, too_many_facts, unread, hints_unread, missing, overlong}
+use Rattle.crell_program.proofs.Completeness.{printed, valid, invalid, too_many_facts, unread, hints_unread, missing, overlong}
 
 pub rows_follow : FaultsAreOfOneKind → FaultsExcludeModules → (run : Run) (status : ℕ) → IsAnswered run status → KeepsRows run status
 rows_follow kinds excludes run status answered = record {
   answered = answered;
+  listed = λ e. said_at run status 0 answered e;
   refused = λ e. said_at run status 1 answered e;
   usage = λ e. (said_at run status 2 answered e).0;
   usage_shown = λ e. (let s = said_at run status 2 answered e in (s.1, s.2));
@@ -22,6 +23,7 @@ rows_follow kinds excludes run status answered = record {
   out_kept = kept run status (said run status answered);
   unread = unread kinds excludes run status answered;
   hints_unread = hints_unread excludes run status answered;
+  printed = printed excludes run status answered;
   valid = valid excludes run status answered;
   invalid = invalid excludes run status answered;
   too_many_facts = too_many_facts excludes run status answered;

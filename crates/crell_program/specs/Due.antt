@@ -17,10 +17,11 @@ use Rattle.erhl_assert.specs.declared.verdict.ModuleVerdict.{ModuleVerdict}
 use Rattle.crell_io.specs.Count.{HasRisen, HasRisenAbove}
 use Rattle.crell_io.specs.Shelf.{Told, IfTold}
 use Rattle.crell_io.specs.Shelf.Told.{NoSuch}
-use Rattle.crell_program.specs.Command.{File, limit_of, most_bytes, CheckFiles, Command, Check, files_of}
+use Rattle.crell_program.specs.Command.{File, limit_of, most_bytes, CheckFiles, Command, Check, Defs, files_of}
 use Rattle.crell_answers.specs.declared.answer.Answer.{Answer}
-use Rattle.crell_answers.specs.Answer.{usage, module_fault, at_fault, read_failed, past_limit, absent}
+use Rattle.crell_answers.specs.Answer.{usage, module_fault, at_fault, printed, read_failed, past_limit, absent}
 use Rattle.crell_answers.specs.VerdictText.{verdict_answer}
+use Rattle.definition_text.specs.Lines.{AreLines}
 
 -- what came of asking for a file
 pub data Got : Type 0 where
@@ -101,6 +102,14 @@ DueOfCheck rules names answer source target hints =
     DueOfModule names.target target answer (λ t.
     DueOfHints names.hints hints answer (λ h. answer ≡ checked (module_answer rules s t h) names.source)))
 
+-- the lines of a module's functions are printed: for each block what is defined at its start
+abbrev pub IsListing : Module → Answer → Type 0
+IsListing m answer = (lines : List ℕ) × AreLines m.functions lines × (answer ≡ printed lines)
+
+-- the text of `defs` is judged, and then what is defined in its module is printed
+abbrev pub DueOfDefs : List ℕ → Answer → List ℕ → Type 0
+DueOfDefs file answer text = DueOfModule file text answer (λ m. IsListing m answer)
+
 -- the texts of a command's files are there, one for each
 abbrev pub DueOfTexts : Rules → Command → Answer → List (List ℕ) → Type 0
 DueOfTexts rules (Check names) answer (source ∷ target ∷ hints ∷ []) = DueOfCheck rules names answer source target hints
@@ -108,6 +117,9 @@ DueOfTexts rules (Check names) answer [] = ⊥
 DueOfTexts rules (Check names) answer (source ∷ []) = ⊥
 DueOfTexts rules (Check names) answer (source ∷ target ∷ []) = ⊥
 DueOfTexts rules (Check names) answer (source ∷ target ∷ hints ∷ text ∷ more) = ⊥
+DueOfTexts rules (Defs file) answer (text ∷ []) = DueOfDefs file answer text
+DueOfTexts rules (Defs file) answer [] = ⊥
+DueOfTexts rules (Defs file) answer (text ∷ other ∷ more) = ⊥
 
 -- the answer that is due to these words
 abbrev pub IsDue : Rules → ShelfSeen → Option Command → Answer → Type 0

@@ -24,8 +24,9 @@ use Rattle.crell_io.specs.Shelf.{Told, IfTold, IsBytesAnd}
 use Rattle.crell_io.specs.Shelf.Told.{NoSuch}
 use Rattle.crell_program.specs.declared.command.Form.{Form}
 use Rattle.crell_program.specs.declared.command.Form.TheVariants.{ModuleText, HintFile}
-use Rattle.crell_program.specs.Command.{File, most_bytes, Command, Check, files_of}
-use Rattle.crell_program.specs.Due.{ShelfSeen, Missing, Long, MayCome, IsAtFault}
+use Rattle.crell_program.specs.Command.{File, most_bytes, Command, Check, Defs, files_of}
+use Rattle.definition_text.specs.Lines.{AreLines}
+use Rattle.crell_program.specs.Due.{ShelfSeen, Missing, Long, MayCome, IsAtFault, SpellsOnly}
 
 -- the text spells a module, and no other
 abbrev pub SpellsOne : List ℕ → Type 0
@@ -38,12 +39,14 @@ AreRefined source target = SpellsOne source × SpellsOne target
     × ((s t : Module) → Spells source s → Spells target t
     → (f : Name) (input : Input) (n : ℕ) (items : List Item) → Shows t f input n items → MayShow s f input items)
 
--- the texts of a command's files are such that the command has done what it is for
+-- The texts of a command's files are such that the command has done what it is for. Those of `check` refine; that of `defs` spells one module, and
+-- the rows say what is printed of it.
 abbrev pub IsRefinement : (List ℕ → Told) → Command → Type 0
 IsRefinement told (Check names) = IfTold (told names.source) (λ source. IfTold (told names.target) (λ target. AreRefined source target))
+IsRefinement told (Defs file) = IfTold (told file) SpellsOne
 
 -- THE HEADLINE. The words are a command's, and if the shelf tells what it holds under the source's and the target's names,
--- these bytes spell two modules, of which the target's refines the source's.
+-- these bytes spell two modules, of which the target's refines the source's, if the command is `check`.
 abbrev pub IsRefinementOfBytes : (List ℕ → Told) → Option Command → Type 0
 IsRefinementOfBytes told None = ⊥
 IsRefinementOfBytes told (Some command) = IsRefinement told command
@@ -57,6 +60,10 @@ SomeOf P (file ∷ files) = P file ⊎ SomeOf P files
 abbrev pub SomeFile : (File → Type 0) → Option Command → Type 0
 SomeFile P None = ⊥
 SomeFile P (Some command) = SomeOf P (files_of command)
+
+-- one of a command's files is to hold hints
+abbrev pub ReadsHints : Command → Type 0
+ReadsHints command = SomeOf (λ file. file.form ≡ HintFile) (files_of command)
 
 -- one of the files may come as missing, or as longer than its limit
 abbrev pub SomeFileIsMissing : ShelfSeen → Option Command → Type 0
@@ -126,9 +133,10 @@ FirstIsUnfit status (file ∷ files) [] = ⊥
 FirstIsUnfit status (file ∷ files) (text ∷ texts) =
     IsUnfit status file.form text ⊎ ((file.form ≡ ModuleText) × IsFit ModuleText text × FirstIsUnfit status files texts)
 
--- of the texts, one for each file, those of modules are well-formed modules', and the first fault of the hints is this
-abbrev pub HintsHaveFault : Fault → List File → List (List ℕ) → Type 0
-HintsHaveFault fault files texts = AllZip (λ (file : File). HasFault (λ f. f ≡ fault) file.form) files texts
+-- The command reads hints. Of the texts, one for each file, those of modules are well-formed modules', and the first fault of the hints is
+-- this.
+abbrev pub HintsHaveFault : Fault → Command → List (List ℕ) → Type 0
+HintsHaveFault fault command texts = ReadsHints command × AllZip (λ (file : File). HasFault (λ f. f ≡ fault) file.form) (files_of command) texts
 
 -- the status that a fault of hints has
 abbrev pub fault_status : Fault → ℕ
@@ -143,6 +151,7 @@ AreJudged rules P (Check names) [] = ⊥
 AreJudged rules P (Check names) (source ∷ []) = ⊥
 AreJudged rules P (Check names) (source ∷ target ∷ []) = ⊥
 AreJudged rules P (Check names) (source ∷ target ∷ hints ∷ text ∷ more) = ⊥
+AreJudged rules P (Defs file) texts = ⊥
 
 -- The words are a command's, and none of its files is told to be absent. One of them is to hold a module, and if it is told, its
 -- first fault has that status.
@@ -152,12 +161,13 @@ SomeFileIsUnfit status told (Some command) =
     NoneIsAbsent told (files_of command)
     × SomeOf (λ file. (file.form ≡ ModuleText) × IfTold (told file.name) (IsUnfit status ModuleText)) (files_of command)
 
--- The words are a command's, and none of its files is told to be absent. Each module, if it is told, is well-formed, and the
--- first fault of the hints, if they are told, is such.
+-- The words are a command's that reads hints, and none of its files is told to be absent. Each module, if it is told, is well-formed, and
+-- the first fault of the hints, if they are told, is such.
 abbrev pub HintsAreAtFault : (Fault → Type 0) → (List ℕ → Told) → Option Command → Type 0
 HintsAreAtFault P told None = ⊥
 HintsAreAtFault P told (Some command) =
-    NoneIsAbsent told (files_of command)
+    ReadsHints command
+    × NoneIsAbsent told (files_of command)
     × AllByRecursion (λ file. IfTold (told file.name) (HasFault P file.form)) (files_of command)
 
 -- the checker has a verdict, and refuses
@@ -168,18 +178,33 @@ IsInvalid answer = (v : ModuleVerdict) × (answer ≡ Some v) × (v ≢ modules.
 abbrev pub HasNoVerdict : Option ModuleVerdict → Type 0
 HasNoVerdict answer = answer ≡ None
 
--- The words are a command's, and none of its files is told to be absent. Each, if it is told, is of its form. If all are told,
--- what the checker answers on them is such.
+-- The words are a command's that reads hints, and none of its files is told to be absent. Each, if it is told, is of its form. If all
+-- are told, what the checker answers on them is such.
 abbrev pub IsAnswer : (Option ModuleVerdict → Type 0) → Rules → (List ℕ → Told) → Option Command → Type 0
 IsAnswer P rules told None = ⊥
 IsAnswer P rules told (Some command) =
-    NoneIsAbsent told (files_of command)
+    ReadsHints command
+    × NoneIsAbsent told (files_of command)
     × AllByRecursion (λ file. IfTold (told file.name) (IsFit file.form)) (files_of command)
     × IfAllTold told (files_of command) (AreJudged rules P command)
 
 -- the shelf tells all of the files, they are within their limits, and what the checker answers on their texts is such
 abbrev pub HasVerdict : Rules → (List ℕ → Told) → Option Command → (Option ModuleVerdict → Type 0) → Type 0
 HasVerdict rules told command P = HoldsAll told command (AreJudged rules P)
+
+-- of the texts of `defs` there is one, which spells a well-formed module
+abbrev pub IsListed : Command → List (List ℕ) → Type 0
+IsListed (Check names) texts = ⊥
+IsListed (Defs file) texts = AllZip (λ (file : File). IsFit file.form) (files_of (Defs file)) texts
+
+-- Where the command is `defs`: the text of its file, if it is told, spells one module, which is well-formed; and these are the lines of its
+-- blocks with the registers that are defined at their starts.
+abbrev pub AreDefinitions : (List ℕ → Told) → Option Command → (List ℕ → Type 0) → Type 0
+AreDefinitions told None P = Unit {0}
+AreDefinitions told (Some (Check names)) P = Unit {0}
+AreDefinitions told (Some (Defs file)) P =
+    (text : List ℕ) × IfTold (told file) (λ held. text ≡ held)
+    × ((m : Module) × SpellsOnly text m × ((lines : List ℕ) × AreLines m.functions lines × P lines))
 
 -- told to be absent
 abbrev pub IsAbsent : (List ℕ → Told) → File → Type 0

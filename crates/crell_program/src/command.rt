@@ -1,5 +1,5 @@
 ghost use Rattle.std.specs.Prelude.{◌≡◌, ◌<◌, ◌^◌, ◌-◌, map, string_bytes, option_map};
-ghost use Rattle.crell_program.specs.Command.{begins_with_dash, command_of, files_of, limit_of, most_bytes, shown_command, shown_file};
+ghost use Rattle.crell_program.specs.Command.{begins_with_dash, check_in, command_of, defs_in, files_of, limit_of, most_bytes, shown_command, shown_file, shown_request};
 
 use ir_core::Limit;
 
@@ -74,9 +74,26 @@ impl FileNames<'_> {
     }
 }
 
-/// The files of the command, if the words are a command's.
-pub fn command_of(words: &[String]) -> Option<FileNames<'_>>
-    ensures { option_map shown_command result ≡ command_of (map string_bytes words.now) }
+/// A command, with the names of its files.
+#[derive(Drop)]
+pub enum Request<'a> {
+    Check(FileNames<'a>),
+    Defs(&'a str),
+}
+
+/// The command, if the words are a command's.
+pub fn command_of(words: &[String]) -> Option<Request<'_>>
+    ensures { option_map shown_request result ≡ command_of (map string_bytes words.now) }
+{
+    match check_in(words) {
+        Some(request) => Some(request),
+        None => defs_in(words),
+    }
+}
+
+/// `check` and its files, if the words are that command's.
+fn check_in(words: &[String]) -> Option<Request<'_>>
+    ensures { option_map shown_request result ≡ check_in (map string_bytes words.now) }
 {
     let [_program, command, source, target, hints] = words else {
         return None;
@@ -89,11 +106,25 @@ pub fn command_of(words: &[String]) -> Option<FileNames<'_>>
     {
         return None;
     }
-    Some(FileNames {
+    Some(Request::Check(FileNames {
         source,
         target,
         hints,
-    })
+    }))
+}
+
+/// `defs` and its file, if the words are that command's.
+fn defs_in(words: &[String]) -> Option<Request<'_>>
+    ensures { option_map shown_request result ≡ defs_in (map string_bytes words.now) }
+{
+    let [_program, command, file] = words else {
+        return None;
+    };
+    let file = file.as_str();
+    if command.as_str() != "defs" || begins_with_dash(file) {
+        return None;
+    }
+    Some(Request::Defs(file))
 }
 
 fn begins_with_dash(word: &str) -> bool

@@ -6,17 +6,18 @@ ghost use Rattle.rule_base.specs.Book.{meanings_of};
 ghost use Rattle.rule_base.specs.Rows.{shipped_rules};
 ghost use Rattle.crell_io.specs.Shelf.{StaysWell};
 ghost use Rattle.crell_answers.specs.Answer.{usage};
-ghost use Rattle.crell_program.specs.Command.{command_of, files_of, shown_command, shown_names};
-ghost use Rattle.crell_program.specs.Due.{checked, shelf_seen, DueOfFiles, DueOfCheck, DueOfTexts};
+ghost use Rattle.crell_program.specs.Command.{Defs, command_of, files_of, shown_command, shown_names, shown_request};
+ghost use Rattle.crell_program.specs.Due.{checked, shelf_seen, DueOfFiles, DueOfCheck, DueOfDefs, DueOfTexts, IsListing};
 ghost use Rattle.crell_program.specs.Delivery.{sink_seen, IsDelivered};
 ghost use Rattle.crell_program.specs.Rows.{IsAnswered, KeepsRows};
-ghost use Rattle.crell_program.specs.Statuses.{AreRefined, IsRefinement, IsRefinementOfBytes};
+ghost use Rattle.crell_program.specs.Statuses.{AreRefined, IsRefinement, IsRefinementOfBytes, SpellsOne};
 
-use crate::command::{FileNames, command_of};
+use crate::command::{FileNames, Form, Request, Wanted, command_of};
 use crate::delivery::deliver;
 use crate::fetch::{Stop, gather};
-use crell_answers::{Answer, module_fault, past_limit, unfit, usage_text, verdict_answer};
+use crell_answers::{Answer, module_fault, past_limit, printed, unfit, usage_text, verdict_answer};
 use crell_io::{Shelf, Sink};
+use definition_text::definitions_text;
 use erhl_assert::{Hints, ModuleVerdict};
 use erhl_checker::{CheckEnd, check_module_under};
 use erhl_soundness::shapes_keep_phis_apart;
@@ -33,8 +34,8 @@ const USAGE: u8 = 2;
 /// The status of a run that memory was refused to.
 pub const WANT_OF_MEMORY: u8 = 8;
 
-/// Runs the command that the words name, over this shelf and these sinks, and gives the status: `check SRC TGT HINTS`.
-/// The first word is the program's name. The passes are those that later commands run; `check` calls none.
+/// Runs the command that the words name, over this shelf and these sinks, and gives the status: `check SRC TGT HINTS`,
+/// or `defs FILE`. The first word is the program's name. The passes are those that later commands run; these call none.
 pub fn crell<S: Shelf, O: Sink, E: Sink>(
     alloc: Global,
     words: &[String],
@@ -137,7 +138,7 @@ pub(crate) fn run<R: RuleSet, S: Shelf, O: Sink, E: Sink>(
 {
     match command_of(words) {
         None => tell_usage(out, err),
-        Some(files) => check(alloc, &files, rules, shelf, out, err),
+        Some(request) => serve(alloc, &request, rules, shelf, out, err),
     }
 }
 
@@ -152,19 +153,19 @@ fn tell_usage<O: Sink, E: Sink>(out: &mut O, err: &mut E) -> u8
     deliver(USAGE, b"", usage_text(), out, err)
 }
 
-/// Finds the answer that is due to the three files, and delivers it.
-fn check<R: RuleSet, S: Shelf, O: Sink, E: Sink>(
+/// Finds the answer that is due to a command's files, and delivers it.
+fn serve<R: RuleSet, S: Shelf, O: Sink, E: Sink>(
     alloc: Global,
-    files: &FileNames<'_>,
+    request: &Request<'_>,
     rules: &R,
     shelf: &mut S,
     out: &mut O,
     err: &mut E,
 ) -> u8
-    ensures headline { result ≡ 0 → IsRefinement (S.told shelf.old) (shown_command files.now) }
+    ensures headline { result ≡ 0 → IsRefinement (S.told shelf.old) (shown_request request.now) }
     ensures answered { IsAnswered (record {
       rules = R.rules rules.now;
-      command = Some (shown_command files.now);
+      command = Some (shown_request request.now);
       shelf = shelf_seen S.told S.faults S.taken shelf.old shelf.new;
       out = sink_seen O.written O.room_left O.faults out.old out.new;
       err = sink_seen E.written E.room_left E.faults err.old err.new;
@@ -174,7 +175,7 @@ fn check<R: RuleSet, S: Shelf, O: Sink, E: Sink>(
     ensures counts { (S.faults shelf.old ≤ S.faults shelf.new) × (S.taken shelf.old ≤ S.taken shelf.new)
         × (O.faults out.old ≤ O.faults out.new) × (E.faults err.old ≤ E.faults err.new) }
 {
-    match check_files(alloc, files, rules, shelf) {
+    match find_answer(alloc, request, rules, shelf) {
         Ok(answer) => deliver(
             answer.status,
             answer.out.as_slice(),
@@ -184,6 +185,85 @@ fn check<R: RuleSet, S: Shelf, O: Sink, E: Sink>(
         ),
         Err(_) => WANT_OF_MEMORY,
     }
+}
+
+/// The answer that is due to a command's files.
+fn find_answer<R: RuleSet, S: Shelf>(
+    alloc: Global,
+    request: &Request<'_>,
+    rules: &R,
+    shelf: &mut S,
+) -> Result<Answer, AllocError>
+    ensures due { IfOk result
+        (λ answer. DueOfFiles
+        (shelf_seen S.told S.faults S.taken shelf.old shelf.new)
+        (files_of (shown_request request.now))
+        answer (DueOfTexts (R.rules rules.now) (shown_request request.now) answer)) }
+    ensures refines { IfOk result
+        (λ answer. answer.status ≡ 0 → IsRefinement (S.told shelf.old) (shown_request request.now)) }
+    ensures told { S.told shelf.new ≡ S.told shelf.old }
+    ensures well { StaysWell S.fails_nowhere S.faults shelf.old shelf.new }
+    ensures faults { S.faults shelf.old ≤ S.faults shelf.new }
+    ensures taken { S.taken shelf.old ≤ S.taken shelf.new }
+{
+    match request {
+        Request::Check(files) => check_files(alloc, files, rules, shelf),
+        Request::Defs(file) => list_file(alloc, file, rules, shelf),
+    }
+}
+
+/// The answer that is due to the file of `defs`. The rules don't matter.
+fn list_file<R: RuleSet, S: Shelf>(
+    alloc: Global,
+    file: &str,
+    _rules: &R,
+    shelf: &mut S,
+) -> Result<Answer, AllocError>
+    ensures due { IfOk result
+        (λ answer. DueOfFiles
+        (shelf_seen S.told S.faults S.taken shelf.old shelf.new)
+        (files_of (Defs file.now))
+        answer (DueOfTexts (R.rules _rules.now) (Defs file.now) answer)) }
+    ensures refines { IfOk result
+        (λ answer. answer.status ≡ 0 → IsRefinement (S.told shelf.old) (Defs file.now)) }
+    ensures told { S.told shelf.new ≡ S.told shelf.old }
+    ensures well { StaysWell S.fails_nowhere S.faults shelf.old shelf.new }
+    ensures faults { S.faults shelf.old ≤ S.faults shelf.new }
+    ensures taken { S.taken shelf.old ≤ S.taken shelf.new }
+{
+    let wanted = Wanted {
+        name: file,
+        form: Form::ModuleText,
+    };
+    match gather(alloc, shelf, &[wanted]) {
+        Ok(texts) => {
+            let [text] = texts.as_slice() else {
+                unreachable!()
+            };
+            list_text(alloc, file, text.as_slice())
+        }
+        Err(Stop::Due(answer)) => Ok(answer),
+        Err(Stop::Memory) => Err(AllocError),
+    }
+}
+
+/// The answer that is due to the text of `defs`.
+fn list_text(alloc: Global, file: &str, text: &[u8]) -> Result<Answer, AllocError>
+    ensures due { IfOk result (λ answer. DueOfDefs file.now answer text.now) }
+    ensures spelled { IfOk result (λ answer. answer.status ≡ 0 → SpellsOne text.now) }
+{
+    match read_input(alloc, text) {
+        Ok(module) => listed(alloc, &module),
+        Err(fault) => module_fault(alloc, &fault, text, file),
+    }
+}
+
+/// What is defined at the starts of a module's blocks, printed.
+fn listed(alloc: Global, module: &Module) -> Result<Answer, AllocError>
+    ensures { IfOk result (IsListing «module».now) }
+{
+    let lines = definitions_text(alloc, module.functions.as_slice())?;
+    Ok(printed(alloc, lines))
 }
 
 /// The answer that is due to the three files.
