@@ -1,4 +1,1 @@
-pub mod Agreements
-pub mod Defining
 pub mod Labelled
-pub mod Progressing
