@@ -123,11 +123,11 @@ fn are_within(source: usize, target: usize, most: usize) -> bool
     source <= most && target <= most - source
 }
 
-/// Whether these and the others together are no more than the most.
-fn are_within_beside(these: u128, others: u128, most: u128) -> bool
-    ensures { result ≡ not (nat_lt most (these + others)) }
+/// Whether both and the others together are no more than the most.
+fn are_within_beside(ours: usize, theirs: usize, others: u128, most: usize) -> bool
+    ensures { result ≡ not (nat_lt most (ours + theirs + others)) }
 {
-    these <= most && others <= most - these
+    ours <= most && theirs <= most - ours && others <= (most - ours - theirs) as u128
 }
 
 /// Whether a fact is passed over as it names an old register.
@@ -344,8 +344,8 @@ impl<S: FactSet> Sides<S> {
     fn is_within_limit_beside(&self, others: u128) -> bool
         ensures { result ≡ not (nat_lt fact_limit (size self.now + others)) }
     {
-        let these = self.src.facts().len() as u128 + self.tgt.facts().len() as u128;
-        are_within_beside(these, others, u128::from(Limit::Facts.number()))
+        let most = Limit::Facts.number() as usize;
+        are_within_beside(self.src.facts().len(), self.tgt.facts().len(), others, most)
     }
 
     /// Puts the fact at the end of the side's, where it isn't there yet. Whether no more facts are known then than the limit allows: a fact that is there already passes no limit.
