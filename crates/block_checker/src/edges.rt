@@ -1,5 +1,5 @@
 //! Over the edges that leave a block.
-ghost use Rattle.std.specs.Prelude.{◌≡◌, ◌++◌, map, IfOk, OnOk};
+ghost use Rattle.std.specs.Prelude.{◌≡◌, ◌++◌, [], ◌∷◌, map, IfOk, OnOk};
 ghost use Rattle.erhl_assert.specs.Alignment.{block_hint};
 ghost use Rattle.erhl_assert.specs.Course.{within, judged_answer};
 ghost use Rattle.erhl_assert.specs.Edges.{without_old, edge_between};
@@ -65,12 +65,20 @@ fn steps_on<'a>(
     Ok(steps)
 }
 
+/// Puts the step behind the others.
+fn note_step<'a>(step: &'a HintStep, steps: &mut Seq<&'a HintStep>) -> Result<(), AllocError>
+    ensures { OnOk result (map (λ s. s.now) steps.new ≡ map (λ s. s.now) steps.old ++ step.now ∷ []) }
+{
+    steps.push(step)
+}
+
 /// Puts the steps behind the others.
+#[tactic(auto, using(crate::proofs::Noting::one_noted))]
 fn note_steps<'a>(more: &'a [HintStep], steps: &mut Seq<&'a HintStep>) -> Result<(), AllocError>
     ensures { OnOk result (map (λ s. s.now) steps.new ≡ map (λ s. s.now) steps.old ++ more.now) }
 {
     for step in more {
-        steps.push(step)?;
+        note_step(step, steps)?;
     }
     Ok(())
 }
