@@ -1,4 +1,2 @@
-pub mod Agreements
-pub mod Defining
 pub mod Labelled
-pub mod Progressing
+pub mod Noting

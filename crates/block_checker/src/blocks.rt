@@ -8,20 +8,18 @@ ghost use Rattle.erhl_assert.specs.Growth.{over_line};
 ghost use Rattle.erhl_assert.specs.Acceptance as judged;
 ghost use Rattle.line_align.specs.Cursor.{aligned_line};
 ghost use Rattle.line_align.specs.Lent.{lent_block};
-ghost use Rattle.block_checker.specs.Empty.{AreParts, IsEmpty};
-ghost use Rattle.block_checker.specs.Asked.{asked};
-ghost use Rattle.block_checker.specs.Progress.{CameOf, Answers, past_line, lines_answer, end_answer, names_lent};
+ghost use Rattle.checked_pair.specs.Empty.{AreParts, IsEmpty};
+ghost use Rattle.checked_pair.specs.Asked.{asked};
+ghost use Rattle.checked_pair.specs.Progress.{CameOf, Answers, past_line, lines_answer, end_answer, names_lent};
 
-use crate::CheckEnd;
-use crate::agreeing::block_agrees;
 use crate::edges::{edges_answer, refused};
 use crate::labels::labels_once;
-use crate::pair::Pair;
-use crate::steps::after_steps;
-use crate::terms::term_fault;
+use agreeing_blocks::{block_agrees, term_fault};
+use checked_pair::{CheckEnd, Pair};
 use erhl_assert::{HintBlock, HintStep, Letter, Reason, Spot, Verdict};
 use erhl_sides::{Sides, sides_of};
 use fact_sets::IndexedSet;
+use hint_steps::after_steps;
 use ir_core::{Instr, Limit, Name};
 use line_align::{AlignedBlock, StepsByLine, left, on_source, on_target, taken};
 use postcondition::{Line, LineEnd, after_line};
@@ -29,7 +27,7 @@ use rule_base::RuleSet;
 use std::alloc::{AllocError, Global};
 
 /// The terminators, and then the edges.
-#[tactic(auto, using(crate::proofs::Progressing::end_refused))]
+#[tactic(auto, using(checked_pair::proofs::Progressing::end_refused))]
 fn at_terms<B: RuleSet>(
     alloc: Global,
     pair: &Pair<'_, '_, '_, B>,
@@ -79,7 +77,7 @@ fn at_end<B: RuleSet>(
     }
 }
 
-#[tactic(auto, using(crate::proofs::Progressing::line_within, crate::proofs::Progressing::line_refuses_so, crate::proofs::Progressing::line_over))]
+#[tactic(auto, using(checked_pair::proofs::Progressing::line_within, checked_pair::proofs::Progressing::line_refuses_so, checked_pair::proofs::Progressing::line_over))]
 fn over_line<B: RuleSet>(
     alloc: Global,
     pair: &Pair<'_, '_, '_, B>,
@@ -94,7 +92,7 @@ fn over_line<B: RuleSet>(
         source: taken(on_source(letter), xs),
         target: taken(on_target(letter), ys),
     };
-    match after_line(alloc, pair.module, known, &line) {
+    match after_line(alloc, pair.enclosing_module(), known, &line) {
         Ok(()) => Ok(None),
         Err(LineEnd::Refused(reason)) => Ok(Some(reason)),
         Err(LineEnd::Limit(limit)) => Err(CheckEnd::Limit(limit)),

@@ -1,21 +1,20 @@
 //! Over the edges that leave a block.
-ghost use Rattle.std.specs.Prelude.{◌≡◌, ◌++◌, map, IfOk, OnOk};
+ghost use Rattle.std.specs.Prelude.{◌≡◌, ◌++◌, [], ◌∷◌, map, IfOk, OnOk};
 ghost use Rattle.erhl_assert.specs.Alignment.{block_hint};
 ghost use Rattle.erhl_assert.specs.Course.{within, judged_answer};
 ghost use Rattle.erhl_assert.specs.Edges.{without_old, edge_between};
 ghost use Rattle.erhl_assert.specs.Growth.{over_edge};
 ghost use Rattle.erhl_assert.specs.Steps.{steps_on};
 ghost use Rattle.erhl_assert.specs.Acceptance as judged;
-ghost use Rattle.block_checker.specs.Asked.{asked};
-ghost use Rattle.block_checker.specs.Progress.{Answers, Gave, fault_at, after_edge_steps, names_lent};
+ghost use Rattle.checked_pair.specs.Asked.{asked};
+ghost use Rattle.checked_pair.specs.Progress.{Answers, Gave, fault_at, after_edge_steps, names_lent};
 
-use crate::CheckEnd;
-use crate::pair::Pair;
-use crate::steps::after_steps;
+use checked_pair::{CheckEnd, Pair};
 use contents::{Exact, Seq};
 use erhl_assert::{HintBlock, HintEdge, HintStep, Reason, Side, Spot, Verdict};
 use erhl_sides::Sides;
 use fact_sets::IndexedSet;
+use hint_steps::after_steps;
 use ir_core::Name;
 use line_align::ByName;
 use postcondition::{Edge, LineEnd, after_edge};
@@ -66,12 +65,20 @@ fn steps_on<'a>(
     Ok(steps)
 }
 
+/// Puts the step behind the others.
+fn note_step<'a>(step: &'a HintStep, steps: &mut Seq<&'a HintStep>) -> Result<(), AllocError>
+    ensures { OnOk result (map (λ s. s.now) steps.new ≡ map (λ s. s.now) steps.old ++ step.now ∷ []) }
+{
+    steps.push(step)
+}
+
 /// Puts the steps behind the others.
+#[tactic(auto, using(crate::proofs::Noting::one_noted))]
 fn note_steps<'a>(more: &'a [HintStep], steps: &mut Seq<&'a HintStep>) -> Result<(), AllocError>
     ensures { OnOk result (map (λ s. s.now) steps.new ≡ map (λ s. s.now) steps.old ++ more.now) }
 {
     for step in more {
-        steps.push(step)?;
+        note_step(step, steps)?;
     }
     Ok(())
 }
@@ -121,7 +128,7 @@ fn cross<B: RuleSet>(
 }
 
 /// Behind the phis: the steps on the edge, and what the block claims that it enters.
-#[tactic(auto, using(crate::proofs::Progressing::arrived, crate::proofs::Progressing::arrival_refused, crate::proofs::Progressing::arrival_stopped))]
+#[tactic(auto, using(checked_pair::proofs::Progressing::arrived, checked_pair::proofs::Progressing::arrival_refused, checked_pair::proofs::Progressing::arrival_stopped))]
 fn arrive<B: RuleSet>(
     alloc: Global,
     pair: &Pair<'_, '_, '_, B>,
@@ -142,7 +149,7 @@ fn arrive<B: RuleSet>(
 }
 
 /// Over the edge with its phis, the steps on it, and what the block claims that it enters.
-#[tactic(auto, using(crate::proofs::Progressing::edge_stopped))]
+#[tactic(auto, using(checked_pair::proofs::Progressing::edge_stopped))]
 fn along_edge<B: RuleSet>(
     alloc: Global,
     pair: &Pair<'_, '_, '_, B>,
@@ -159,7 +166,7 @@ fn along_edge<B: RuleSet>(
     arrive(alloc, pair, steps.as_slice(), to, &mut crossed)
 }
 
-#[tactic(auto, using(crate::proofs::Progressing::edge_valid, crate::proofs::Progressing::edge_refused, crate::proofs::Progressing::edge_unanswered))]
+#[tactic(auto, using(checked_pair::proofs::Progressing::edge_valid, checked_pair::proofs::Progressing::edge_refused, checked_pair::proofs::Progressing::edge_unanswered))]
 fn edge_answer<B: RuleSet>(
     alloc: Global,
     pair: &Pair<'_, '_, '_, B>,

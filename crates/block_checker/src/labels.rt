@@ -3,7 +3,7 @@ ghost use Rattle.std.specs.Prelude.{◌≡◌, [], ◌∷◌, map, IfOk, OnOk};
 ghost use Rattle.ir_core.specs.Functions.{successors_of};
 ghost use Rattle.definedness.specs.Along.{with_name, with_names};
 ghost use Rattle.erhl_assert.specs.Acceptance.{labels_once};
-ghost use Rattle.block_checker.specs.Progress.{names_lent};
+ghost use Rattle.checked_pair.specs.Progress.{names_lent};
 
 use contents::Seq;
 use ir_core::{Case, Name, Switch, Term};

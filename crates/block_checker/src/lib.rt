@@ -2,19 +2,10 @@
 //! each edge that leaves them.
 #![tactic(auto)]
 
-mod agreeing;
-mod asking;
 mod blocks;
-mod definitions;
 mod edges;
-mod ends;
-mod function_index;
 mod labels;
-mod pair;
-mod steps;
-mod terms;
 
 pub use blocks::block_answer;
-pub use ends::CheckEnd;
-pub use function_index::{FunctionIndex, FunctionParts};
-pub use pair::Pair;
+pub use checked_pair::{CheckEnd, Pair};
+pub use function_lookup::{FunctionIndex, FunctionParts};

@@ -21,8 +21,8 @@ use Rattle.erhl_assert.specs.declared.verdict.ModuleVerdict.TheVariants as modul
 use Rattle.erhl_assert.specs.Steps.{Rules, beside, AreSound}
 use Rattle.erhl_assert.specs.Acceptance.{function_judged, function_answer, hint_for, of_function, functions_answer, module_answer, same_signature, AreAcceptedUnder, AreAccepted}
 use Rattle.erhl_soundness.specs.Laws.{ArePhisApart, AcceptedModulesRefine}
-use Rattle.block_checker.specs.declared.ends.CheckEnd.{CheckEnd}
-use Rattle.block_checker.specs.Progress.{Answers}
+use Rattle.checked_pair.specs.declared.ends.CheckEnd.{CheckEnd}
+use Rattle.checked_pair.specs.Progress.{Answers}
 use Rattle.erhl_assert.proofs.Courses.{answer_is_good, good_answers}
 
 -- parameters are compared by their types

@@ -11,8 +11,8 @@ ghost use Rattle.erhl_assert.specs.Acceptance.{function_answer};
 ghost use Rattle.erhl_assert.specs.Steps.{beside};
 ghost use Rattle.rule_base.specs.Book.{meanings_of};
 ghost use Rattle.line_align.specs.Lent.{lent_block};
-ghost use Rattle.block_checker.specs.Asked.{asked};
-ghost use Rattle.block_checker.specs.Progress.{Answers};
+ghost use Rattle.checked_pair.specs.Asked.{asked};
+ghost use Rattle.checked_pair.specs.Progress.{Answers};
 ghost use Rattle.erhl_checker.specs.Reached.{from_entry_answer};
 
 use block_checker::{CheckEnd, FunctionIndex, FunctionParts, Pair, block_answer};
@@ -180,6 +180,28 @@ fn has_same(blocks: &[HintBlock]) -> bool {
     false
 }
 
+/// The answer on two functions whose blocks align, with what is looked up of them.
+fn parts_answer<'a, B: RuleSet>(
+    alloc: Global,
+    module: &'a Module,
+    book: &'a B,
+    hints: ByName<'a, HintBlock>,
+    source: &FunctionParts<'a>,
+    target: &FunctionParts<'a>,
+    blocks: &[AlignedBlock<'_>],
+) -> Result<Verdict, CheckEnd>
+    ensures { Answers result
+        (judged_answer
+        (judged.reached_judged
+        (beside (B.rules book.now) (scope_of «module».now) source.now target.now (record { blocks = hints.entry }))
+        (map lent_block blocks.now))) }
+{
+    let source = FunctionIndex::new(alloc, source)?;
+    let target = FunctionIndex::new(alloc, target)?;
+    let pair = Pair::new(alloc, module, book, source, target, hints)?;
+    reached_answer(alloc, &pair, blocks)
+}
+
 /// The answer on two functions whose blocks align.
 fn aligned_answer<'a, B: RuleSet>(
     alloc: Global,
@@ -197,12 +219,9 @@ fn aligned_answer<'a, B: RuleSet>(
         (beside (B.rules book.now) (scope_of «module».now) source.now target.now (record { blocks = hints.entry }))
         (map lent_block blocks.now))) }
 {
-    let of_source = FunctionParts::new(alloc, source, asked)?;
-    let of_target = FunctionParts::new(alloc, target, asked)?;
-    let source = FunctionIndex::new(alloc, &of_source)?;
-    let target = FunctionIndex::new(alloc, &of_target)?;
-    let pair = Pair::new(alloc, module, book, source, target, hints)?;
-    reached_answer(alloc, &pair, blocks)
+    let source = FunctionParts::new(alloc, source, asked)?;
+    let target = FunctionParts::new(alloc, target, asked)?;
+    parts_answer(alloc, module, book, hints, &source, &target, blocks)
 }
 
 pub(crate) fn function_answer<B: RuleSet>(

@@ -10,7 +10,7 @@ ghost use Rattle.erhl_assert.specs.Acceptance as acceptance;
 ghost use Rattle.erhl_assert.specs.Steps.{beside};
 ghost use Rattle.rule_base.specs.Book.{meanings_of};
 ghost use Rattle.erhl_soundness.specs.Laws.{ArePhisApart};
-ghost use Rattle.block_checker.specs.Progress.{Answers};
+ghost use Rattle.checked_pair.specs.Progress.{Answers};
 
 use crate::functions::function_answer;
 use block_checker::CheckEnd;
@@ -29,7 +29,7 @@ struct OneType;
 impl Likeness<Param> for OneType {
     ghost use Rattle.ir_core.specs.Same.{same_ty};
 
-    ghost like = { λ p q. same_ty p.ty q.ty };
+    ghost like = { λ _ p q. same_ty p.ty q.ty };
 
     fn are_alike(&self, p: &Param, q: &Param) -> bool {
         same_ty(&p.ty, &q.ty)
@@ -49,7 +49,7 @@ struct Signature;
 impl Likeness<Function> for Signature {
     ghost use Rattle.erhl_assert.specs.Acceptance.{same_signature};
 
-    ghost like = { same_signature };
+    ghost like = { λ _ f g. same_signature f g };
 
     fn are_alike(&self, source: &Function, target: &Function) -> bool {
         same_name(&source.name, &target.name)

@@ -1,7 +1,6 @@
-pub mod Once
-pub mod Atoms
-pub mod Joining
-pub mod Walked
 pub mod Adding
-pub mod Walks
+pub mod Joining
+pub mod Once
 pub mod Telling
+pub mod Walked
+pub mod Walks

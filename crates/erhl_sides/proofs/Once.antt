@@ -5,7 +5,9 @@ use Rattle.erhl_assert.specs.declared.facts.Fact.{Fact}
 use Rattle.erhl_assert.specs.declared.fact_set.Kill.{Kill}
 use Rattle.erhl_assert.specs.declared.fact_set.Kill.TheVariants.{Naming}
 use Rattle.erhl_assert.specs.Facts.{same_fact, has_fact, with_fact, with_facts, fact_has, without, fact_names, killed}
+use Rattle.erhl_assert.specs.Edges.{is_old}
 use Rattle.erhl_assert.specs.FactLaws.{same_fact_true}
+use Rattle.erhl_sides.specs.Looking.{looked_at}
 
 never : (b : Bool) → (b ≡ true → true ≡ false) → b ≡ false
 never true h = h refl
@@ -91,3 +93,8 @@ is_left test f fs =
       | true ↦ λ e. none_left test f e fs
       | false ↦ λ e. found_left (λ g. not (fact_has test g)) f (ap not e) fs
     ]) refl
+
+-- a fact among those that are looked at
+pub is_looked_at : (passes_old passed : Bool) (f : Fact) (fs : List Fact) → passed ≡ (passes_old && fact_has is_old f) → has_fact f (looked_at passes_old fs) ≡ (not passed && has_fact f fs)
+is_looked_at true passed f fs e = is_left is_old f fs ∙ ap (λ b. not b && has_fact f fs) (sym e)
+is_looked_at false passed f fs e = ap (λ b. not b && has_fact f fs) (sym e)

@@ -1,3 +1,4 @@
 pub mod Beside
 pub mod Differing
 pub mod Joining
+pub mod Looking

@@ -14,7 +14,7 @@ use ir_core::{Atom, Expr, Name};
 use std::alloc::{AllocError, Global};
 use std::marker::Model;
 
-pub(crate) struct Joined<S: FactSet> {
+pub struct Joined<S: FactSet> {
     facts: S,
     /// Those between two operands.
     near: NearFacts,
@@ -88,7 +88,7 @@ impl<S: FactSet> Joined<S> {
         }
     }
 
-    pub(crate) fn facts(&self) -> &S
+    pub fn facts(&self) -> &S
         ensures { S.contents result.now ≡ self.now }
     {
         &self.facts
@@ -96,7 +96,7 @@ impl<S: FactSet> Joined<S> {
 
     /// Whether a fact between two operands may be among them.
     #[tactic(auto, using(crate::proofs::Joining::told))]
-    pub(crate) fn may_join(&self) -> bool
+    pub fn may_join(&self) -> bool
         ensures { result ≡ false → list_any joins self.now ≡ false }
     {
         self.may_join
@@ -104,14 +104,14 @@ impl<S: FactSet> Joined<S> {
 
     /// Whether each fact stands once among them.
     #[tactic(auto, using(crate::proofs::Joining::whole))]
-    pub(crate) fn is_whole(&self) -> bool
+    pub fn is_whole(&self) -> bool
         ensures { result ≡ true → with_facts self.now [] ≡ self.now }
     {
         self.is_whole
     }
 
     /// Facts among which are all between two operands of which one is the function's. None where memory was refused to one.
-    pub(crate) fn near(&self, atom: &Atom<Name>) -> Option<&[Fact]>
+    pub fn near(&self, atom: &Atom<Name>) -> Option<&[Fact]>
         ensures { IfSome result (λ near. HasAllNear (found_under (map_atom Now atom.now)) near.now self.now) }
     {
         if self.is_whole {

@@ -1,8 +1,8 @@
-ghost use Rattle.std.specs.Prelude.{◌≡◌, ◌+◌, [], ◌∷◌, IfOk, OnOk, None, Some, find, true, cond, not, nat_lt};
+ghost use Rattle.std.specs.Prelude.{◌≡◌, ◌+◌, ◌&&◌, [], ◌∷◌, IfOk, OnOk, None, Some, find, true, cond, not, nat_lt};
 ghost use Rattle.std.specs.Option.{option_copied, option_map};
 ghost use Rattle.erhl_assert.specs.Sides.{has_reg};
 ghost use Rattle.erhl_assert.specs.Alignment.{no_facts};
-ghost use Rattle.erhl_assert.specs.Facts.{has_fact, with_facts, without, killed, on_side};
+ghost use Rattle.erhl_assert.specs.Facts.{fact_has, has_fact, with_facts, without, killed, on_side};
 ghost use Rattle.erhl_assert.specs.Postcondition.{with_reg, without_reg};
 ghost use Rattle.ir_core.specs.Limits.{fact_limit};
 ghost use Rattle.erhl_assert.specs.Course.{Gives, within};
@@ -12,6 +12,7 @@ ghost use Rattle.erhl_assert.specs.Steps.{first_missing, registers_in, as_new};
 ghost use Rattle.erhl_assert.specs.Acceptance.{first_printed, left_over};
 ghost use Rattle.erhl_sides.specs.Beside.{adds_beside};
 ghost use Rattle.erhl_sides.specs.Differing.{differing_among};
+ghost use Rattle.erhl_sides.specs.Looking.{looked_at};
 
 use crate::joined::Joined;
 use crate::leaving::first_left_over;
@@ -115,6 +116,34 @@ pub fn sides_of(
     Ok(Some(sides))
 }
 
+/// Whether both together are no more than the most.
+fn are_within(source: usize, target: usize, most: usize) -> bool
+    ensures { result ≡ not (nat_lt most (source + target)) }
+{
+    source <= most && target <= most - source
+}
+
+/// Whether both and the others together are no more than the most.
+fn are_within_beside(ours: usize, theirs: usize, others: u128, most: usize) -> bool
+    ensures { result ≡ not (nat_lt most (ours + theirs + others)) }
+{
+    ours <= most && theirs <= most - ours && others <= (most - ours - theirs) as u128
+}
+
+/// Whether a fact is passed over as it names an old register.
+fn is_passed(passes_old: bool, fact: &Fact) -> bool
+    ensures { result ≡ (passes_old && fact_has is_old fact.now) }
+{
+    passes_old && names_old(fact)
+}
+
+/// Whether a fact isn't there: it is passed over, or isn't known.
+fn is_absent(is_passed: bool, is_known: bool) -> bool
+    ensures { result ≡ not (not is_passed && is_known) }
+{
+    is_passed || !is_known
+}
+
 impl<S: FactSet> Sides<S> {
     /// Nothing is known, and no register may differ.
     pub fn empty(alloc: Global) -> Result<Sides<S>, AllocError>
@@ -137,7 +166,8 @@ impl<S: FactSet> Sides<S> {
         }
     }
 
-    pub(crate) fn joined(&self, side: Side) -> &Joined<S>
+    /// The facts of the side, with what they know of those between two operands.
+    pub fn joined(&self, side: Side) -> &Joined<S>
         ensures { result.now ≡ facts_of side self.now }
     {
         match side {
@@ -146,7 +176,8 @@ impl<S: FactSet> Sides<S> {
         }
     }
 
-    pub(crate) fn diff(&self) -> &RegisterSet
+    /// The registers that may differ, of which one is found by hash.
+    pub fn diff(&self) -> &RegisterSet
         ensures { result.now ≡ self.now.diff }
     {
         &self.diff
@@ -173,24 +204,38 @@ impl<S: FactSet> Sides<S> {
         self.joined(side).is_whole()
     }
 
-    /// Whether the fact isn't known on the side once those that name old registers are passed over.
-    #[tactic(auto, using(crate::proofs::Once::is_left))]
-    fn is_missing(&self, side: Side, fact: &Fact) -> bool
-        ensures { result ≡ not (has_fact fact.now (without is_old (facts_of side self.now))) }
+    /// Whether the fact isn't among those of the side that are looked at.
+    #[tactic(auto, using(crate::proofs::Once::is_looked_at))]
+    fn is_missing(&self, side: Side, passes_old: bool, fact: &Fact) -> bool
+        ensures { result ≡ not (has_fact fact.now (looked_at passes_old (facts_of side self.now))) }
     {
-        names_old(fact) || !self.has_fact(side, fact)
+        is_absent(is_passed(passes_old, fact), self.has_fact(side, fact))
+    }
+
+    /// The first of these facts that isn't among those of the side that are looked at.
+    fn first_absent<'a>(&self, side: Side, passes_old: bool, wanted: &'a [Fact]) -> Option<&'a Fact>
+        ensures { option_copied result ≡ first_missing (looked_at passes_old (facts_of side self.now)) wanted.now }
+    {
+        for fact in wanted {
+            if self.is_missing(side, passes_old, fact) {
+                return Some(fact);
+            }
+        }
+        None
+    }
+
+    /// The first of these facts that isn't known on the side.
+    pub fn first_unknown<'a>(&self, side: Side, wanted: &'a [Fact]) -> Option<&'a Fact>
+        ensures { option_copied result ≡ first_missing (facts_of side self.now) wanted.now }
+    {
+        self.first_absent(side, false, wanted)
     }
 
     /// The first of these facts that isn't known on the side. Facts that name old registers are passed over.
     pub fn first_missing<'a>(&self, side: Side, wanted: &'a [Fact]) -> Option<&'a Fact>
         ensures { option_copied result ≡ first_missing (without is_old (facts_of side self.now)) wanted.now }
     {
-        for fact in wanted {
-            if self.is_missing(side, fact) {
-                return Some(fact);
-            }
-        }
-        None
+        self.first_absent(side, true, wanted)
     }
 
     /// Of the registers that may differ, are not old and aren't wanted, the one whose printed form comes first by its bytes.
@@ -292,8 +337,7 @@ impl<S: FactSet> Sides<S> {
         ensures { result ≡ not (nat_lt fact_limit (size self.now)) }
     {
         let most = Limit::Facts.number() as usize;
-        let source = self.src.facts().len();
-        source <= most && self.tgt.facts().len() <= most - source
+        are_within(self.src.facts().len(), self.tgt.facts().len(), most)
     }
 
     /// Whether with so many others no more facts are known than the limit allows.
@@ -301,9 +345,7 @@ impl<S: FactSet> Sides<S> {
         ensures { result ≡ not (nat_lt fact_limit (size self.now + others)) }
     {
         let most = Limit::Facts.number() as usize;
-        let source = self.src.facts().len();
-        let target = self.tgt.facts().len();
-        source <= most && target <= most - source && others <= (most - source - target) as u128
+        are_within_beside(self.src.facts().len(), self.tgt.facts().len(), others, most)
     }
 
     /// Puts the fact at the end of the side's, where it isn't there yet. Whether no more facts are known then than the limit allows: a fact that is there already passes no limit.

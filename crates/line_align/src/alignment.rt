@@ -117,7 +117,7 @@ struct NameAndType;
 impl Likeness<Param> for NameAndType {
     ghost use Rattle.erhl_assert.specs.Alignment.{same_param};
 
-    ghost like = { same_param };
+    ghost like = { λ _ p q. same_param p q };
 
     fn are_alike(&self, p: &Param, q: &Param) -> bool {
         same_name(&p.name, &q.name) && same_ty(&p.ty, &q.ty)

@@ -6,15 +6,15 @@ ghost use Rattle.ir_core.specs.Same.{same_list};
 pub trait Likeness<T> {
     ghost use Rattle.std.specs.Prelude.{Bool};
 
-    ghost like: { T → T → Bool };
+    ghost like: { Self → T → T → Bool };
 
     fn are_alike(&self, a: &T, b: &T) -> bool
-        ensures { result ≡ like a.now b.now };
+        ensures { result ≡ like self.now a.now b.now };
 }
 
 /// Whether the lists are equally long, and alike in pairs.
 pub fn all_alike<T, L: Likeness<T>>(likeness: &L, source: &[T], target: &[T]) -> bool
-    ensures { result ≡ same_list L.like source.now target.now }
+    ensures { result ≡ same_list (L.like likeness.now) source.now target.now }
 {
     let mut rest = target;
     for a in source {

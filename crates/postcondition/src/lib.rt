@@ -1,17 +1,10 @@
-//! Whether an aligned line is allowed, and what is known after it and after an edge.
+//! What is known after an aligned line that is allowed, and after an edge.
 #![tactic(auto)]
 
-mod agreement;
-mod allowed;
-mod edges;
-mod ends;
 mod lines;
-mod naming;
-mod phis;
 
-pub use agreement::lines_agree;
-pub use allowed::can_trap;
-pub use edges::{Edge, after_edge};
-pub use ends::LineEnd;
+pub use added_facts::LineEnd;
+pub use allowed_lines::{can_trap, lines_agree};
+pub use block_phis::{IndexedPhi, Phis, phis_match};
+pub use edge_crossing::{Edge, after_edge};
 pub use lines::{Line, after_line};
-pub use phis::{IndexedPhi, Phis, phis_match};

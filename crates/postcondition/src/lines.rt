@@ -11,46 +11,16 @@ ghost use Rattle.erhl_assert.specs.Allowed.{line_fault_of};
 ghost use Rattle.erhl_assert.specs.Course.{and_then, are_too_many};
 ghost use Rattle.erhl_assert.specs.Growth.{adds, forgetting, over_calm, over_allowed, over_line};
 ghost use Rattle.erhl_assert.specs.Postcondition.{right_side, left_side, without_reg, with_reg, after_line};
-ghost use Rattle.postcondition.specs.declared.ends.LineEnd.TheVariants as line_end;
-ghost use Rattle.postcondition.specs.Ends.{Follows};
+ghost use Rattle.added_facts.specs.declared.ends.LineEnd.TheVariants as line_end;
+ghost use Rattle.added_facts.specs.Ends.{Follows};
 
-use crate::LineEnd;
-use crate::agreement::lines_agree;
-use crate::allowed::line_fault;
-use crate::ends::AddEnd;
-use crate::naming::{left_side, less_def, names, now_expr};
+use added_facts::{AddEnd, LineEnd, add_equal, left_side, names, now_expr};
+use allowed_lines::{line_fault, lines_agree};
 use contents::Exact;
-use erhl_assert::{Fact, FactSet, Kill, Side};
+use erhl_assert::{FactSet, Kill, Side};
 use erhl_sides::Sides;
-use ir_core::{Calm, Expr0, Instr, Limit, Module, Name, Reg};
+use ir_core::{Calm, Instr, Module, Name, Reg};
 use std::alloc::{AllocError, Global};
-
-/// Adds the fact to the side's.
-fn add<S: FactSet>(side: Side, fact: Fact, sides: &mut Sides<S>) -> Result<(), AddEnd>
-    ensures { Follows result sides.new (adds side fact sides.old) }
-{
-    if sides.add_within(side, fact)? {
-        Ok(())
-    } else {
-        Err(AddEnd::Limit(Limit::Facts))
-    }
-}
-
-/// Adds that the two expressions are less defined than each other.
-#[tactic(auto, using(erhl_assert::proofs::Courses::within_more, erhl_assert::proofs::Courses::within_none))]
-pub(crate) fn add_equal<S: FactSet>(
-    alloc: Global,
-    side: Side,
-    a: Expr0,
-    b: Expr0,
-    sides: &mut Sides<S>,
-) -> Result<(), AddEnd>
-    ensures { Follows result sides.new (and_then (adds side (LessDef a b) sides.old) (adds side (LessDef b a))) }
-{
-    let back = less_def(alloc, &b, &a)?;
-    add(side, Fact::LessDef(a, b), sides)?;
-    add(side, back, sides)
-}
 
 /// Adds that the register of the line and its right side are less defined than each other.
 fn add_line<S: FactSet>(

@@ -4,8 +4,8 @@ use Rattle.std.specs.Prelude.{Some}
 use Rattle.ir_machine.proofs.Standing.{drop_at}
 use Rattle.erhl_assert.specs.declared.hints.HintStep.{HintStep}
 use Rattle.line_align.specs.Lent.{lent_block}
-use Rattle.block_checker.specs.Asked.{asked}
-use Rattle.block_checker.proofs.Progressing.{line_stops, line_done, line_refuses, lines_end}
+use Rattle.checked_pair.specs.Asked.{asked}
+use Rattle.checked_pair.proofs.Progressing.{line_stops, line_done, line_refuses, lines_end}
 use Rattle.block_checker.proofs.blocks.along.Goals as goal
 
 pub returns : goal.returns

@@ -1,7 +1,7 @@
 use Rattle.std.proofs.Common.{◌≡◌, drop}
 use Rattle.line_align.specs.Lent.{lent_block, lines_under}
-use Rattle.block_checker.specs.Asked.{asked}
-use Rattle.block_checker.specs.Progress.{lines_answer}
+use Rattle.checked_pair.specs.Asked.{asked}
+use Rattle.checked_pair.specs.Progress.{lines_answer}
 use Rattle.block_checker.proofs.blocks.along.Given as goal
 
 -- what is left answers what all answers

@@ -1,7 +1,7 @@
 use Rattle.std.proofs.Common.{rules}
 use Rattle.line_align.specs.Lent.{lent_block}
-use Rattle.block_checker.specs.Asked.{asked}
-use Rattle.block_checker.proofs.Progressing.{answers_so, end_passed}
+use Rattle.checked_pair.specs.Asked.{asked}
+use Rattle.checked_pair.proofs.Progressing.{answers_so, end_passed}
 use Rattle.block_checker.proofs.blocks.at_terms.Goals as goal
 
 pub returns-in-None : goal.returns-in-None

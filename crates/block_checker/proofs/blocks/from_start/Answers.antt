@@ -1,7 +1,7 @@
 use Rattle.std.proofs.Common.{rules}
 use Rattle.line_align.specs.Lent.{lent_block}
-use Rattle.block_checker.specs.Asked.{asked}
-use Rattle.block_checker.proofs.Progressing.{answers_so, begun}
+use Rattle.checked_pair.specs.Asked.{asked}
+use Rattle.checked_pair.proofs.Progressing.{answers_so, begun}
 use Rattle.block_checker.proofs.blocks.from_start.Goals as goal
 
 pub returns-in-Some : goal.returns-in-Some

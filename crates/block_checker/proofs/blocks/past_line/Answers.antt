@@ -2,8 +2,8 @@ use Rattle.std.proofs.Common.{map}
 use Rattle.erhl_assert.specs.Growth.{over_line}
 use Rattle.erhl_assert.specs.Steps.{after_steps}
 use Rattle.line_align.specs.Cursor.{aligned_line}
-use Rattle.block_checker.specs.Asked.{asked}
-use Rattle.block_checker.proofs.Progressing.{came_then}
+use Rattle.checked_pair.specs.Asked.{asked}
+use Rattle.checked_pair.proofs.Progressing.{came_then}
 use Rattle.block_checker.proofs.blocks.past_line.Goals as goal
 
 pub returns-in-None : goal.returns-in-None

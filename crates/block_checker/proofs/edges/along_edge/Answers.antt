@@ -1,8 +1,8 @@
 use Rattle.std.proofs.Common.{map, rules}
 use Rattle.std.specs.Borrow.{Bor}
 use Rattle.erhl_assert.specs.declared.hints.HintStep.{HintStep}
-use Rattle.block_checker.specs.Asked.{asked}
-use Rattle.block_checker.proofs.Progressing.{answers_so, edge_crossed}
+use Rattle.checked_pair.specs.Asked.{asked}
+use Rattle.checked_pair.proofs.Progressing.{answers_so, edge_crossed}
 use Rattle.block_checker.proofs.edges.along_edge.Goals as goal
 
 pub returns : goal.returns

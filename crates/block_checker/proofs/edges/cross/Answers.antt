@@ -1,5 +1,5 @@
-use Rattle.block_checker.specs.Asked.{asked}
-use Rattle.block_checker.proofs.Progressing.{crossed_so}
+use Rattle.checked_pair.specs.Asked.{asked}
+use Rattle.checked_pair.proofs.Progressing.{crossed_so}
 use Rattle.block_checker.proofs.edges.cross.Goals as goal
 
 pub returns-in-Ok : goal.returns-in-Ok

@@ -1,7 +1,7 @@
 use Rattle.std.proofs.Common.{◌∙◌, ap, sym}
 use Rattle.std.specs.Prelude.{Some}
-use Rattle.block_checker.specs.Asked.{asked}
-use Rattle.block_checker.proofs.Progressing.{edge_refused}
+use Rattle.checked_pair.specs.Asked.{asked}
+use Rattle.checked_pair.proofs.Progressing.{edge_refused}
 use Rattle.block_checker.proofs.edges.edge_answer.Goals as goal
 
 pub returns-in_ok-verdict-in-Some : goal.returns-in_ok-verdict-in-Some

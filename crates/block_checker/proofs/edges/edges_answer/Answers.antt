@@ -1,5 +1,5 @@
-use Rattle.block_checker.specs.Asked.{asked}
-use Rattle.block_checker.proofs.Progressing.{edge_stops, edge_refuses, edge_passes}
+use Rattle.checked_pair.specs.Asked.{asked}
+use Rattle.checked_pair.proofs.Progressing.{edge_stops, edge_refuses, edge_passes}
 use Rattle.block_checker.proofs.edges.edges_answer.Goals as goal
 
 pub returns-in-Err : goal.returns-in-Err

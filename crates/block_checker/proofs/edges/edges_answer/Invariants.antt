@@ -1,8 +1,8 @@
 use Rattle.std.proofs.Common.{◌≡◌, drop}
 use Rattle.erhl_assert.specs.Course.{judged_answer}
 use Rattle.erhl_assert.specs.Acceptance.{edges_judged}
-use Rattle.block_checker.specs.Asked.{asked}
-use Rattle.block_checker.specs.Progress.{names_lent}
+use Rattle.checked_pair.specs.Asked.{asked}
+use Rattle.checked_pair.specs.Progress.{names_lent}
 use Rattle.block_checker.proofs.edges.edges_answer.Given as goal
 
 -- the edges that are left answer what all answer

@@ -1,8 +1,8 @@
 use Rattle.std.proofs.Common.{◌∙◌, ap, sym, rules}
 use Rattle.std.specs.Prelude.{Some}
 use Rattle.line_align.specs.Lent.{lent_block}
-use Rattle.block_checker.proofs.Progressing.{answers_so}
-use Rattle.block_checker.specs.Asked.{asked}
+use Rattle.checked_pair.proofs.Progressing.{answers_so}
+use Rattle.checked_pair.specs.Asked.{asked}
 use Rattle.erhl_checker.proofs.Reaching.{entry_passed}
 use Rattle.erhl_checker.proofs.functions.from_entry.Goals as goal
 

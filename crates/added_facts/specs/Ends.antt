@@ -1,0 +1,13 @@
+-- How a call follows a course within the limit on facts.
+use Rattle.std.specs.Prelude.{◌≡◌, None, Some, Result, Ok, Err}
+use Rattle.ir_core.specs.declared.limits.Limit.{Limit}
+use Rattle.ir_core.specs.declared.limits.Limit.TheVariants.{Facts}
+use Rattle.erhl_assert.specs.declared.facts.Assertion.{Assertion}
+use Rattle.erhl_assert.specs.Course.{Gives, Course, within}
+use Rattle.added_facts.specs.declared.ends.AddEnd.{AddEnd}
+use Rattle.added_facts.specs.declared.ends.AddEnd.TheVariants as add_end
+
+-- what is known is what the course gives, or the limit on facts is passed on it; want of memory says nothing
+abbrev pub Follows : {X : Type 0} → Result X AddEnd → Assertion → Course Assertion → Type 0
+Follows (Ok x) known c = within c ≡ Some (Gives known)
+Follows (Err fault) known c = (l : Limit) → fault ≡ add_end.Limit l → (l ≡ Facts) × (within c ≡ None)

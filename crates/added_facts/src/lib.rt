@@ -1,0 +1,10 @@
+//! Facts that are added to what is known, of registers as the logic names them, as far as the limit on facts goes.
+#![tactic(auto)]
+
+mod adding;
+mod ends;
+mod naming;
+
+pub use adding::add_equal;
+pub use ends::{AddEnd, LineEnd};
+pub use naming::{left_side, names, now_expr, old_atom, old_fact, old_register};

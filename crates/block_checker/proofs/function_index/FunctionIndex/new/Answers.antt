@@ -1,7 +1,0 @@
-use Rattle.std.proofs.Common.{◌∙◌}
-use Rattle.ir_core.specs.Functions.{typed_of}
-use Rattle.block_checker.proofs.function_index.FunctionIndex.new.Goals as goal
-
-pub invariant_of-result : goal.invariant_of-result
-invariant_of-result c =
-    (c.in_ok-blocks.ensures ∙ c.as_slice.ensures.value ∙ c.parts.invariant.0, c.in_ok-definitions.ensures (typed_of c.parts.inside.defining.now) c.parts.invariant.1, c.none.ensures)

@@ -1,0 +1,4 @@
+pub mod Copying
+pub mod Crossing
+pub mod Differing
+pub mod Staying

@@ -1,0 +1,127 @@
+//! The registers that a function defines, with their types.
+ghost use Rattle.std.specs.Prelude.{◌≡◌, ◌++◌, map, IfOk, OnOk};
+ghost use Rattle.std.specs.List.{flat_map, list_any};
+ghost use Rattle.std.specs.Option.{option_eq};
+ghost use Rattle.ir_core.specs.Functions.{phi_registers, set_by, registers_of, typed_of};
+ghost use Rattle.ir_values.specs.Values.{same_kind};
+ghost use Rattle.erhl_assert.specs.Steps.{is_other};
+ghost use Rattle.function_lookup.specs.Defining.{definition_of, some_other_kind};
+
+use ir_core::{Block, Expr0, Function, Instr, Kind, Name, Param, Phi, Ty, kind_of};
+use line_align::{ByName, Named};
+use std::alloc::{AllocError, Global};
+
+/// A register's definition, lent: its name and its type.
+#[derive(Drop, Clone, Copy)]
+pub(crate) struct Definition<'a> {
+    pub(crate) name: &'a Name,
+    pub(crate) ty: &'a Ty,
+}
+
+impl<'a> Named for Definition<'a> {
+    ghost named = { λ definition. definition.name.now };
+
+    fn name(&self) -> &Name {
+        self.name
+    }
+}
+
+fn note_params<'a>(params: &'a [Param], found: &mut Vec<Definition<'a>>) -> Result<(), AllocError>
+    ensures { OnOk result
+        (map definition_of found.new.items ≡ map definition_of found.old.items ++ map (λ p. (p.name, p.ty)) params.now) }
+{
+    for param in params {
+        found.push(Definition {
+            name: &param.name,
+            ty: &param.ty,
+        })?;
+    }
+    Ok(())
+}
+
+fn note_phis<'a>(phis: &'a [Phi], found: &mut Vec<Definition<'a>>) -> Result<(), AllocError>
+    ensures { OnOk result
+        (map definition_of found.new.items ≡ map definition_of found.old.items ++ phi_registers phis.now) }
+{
+    for phi in phis {
+        found.push(Definition {
+            name: &phi.name,
+            ty: &phi.ty,
+        })?;
+    }
+    Ok(())
+}
+
+fn note_lines<'a>(lines: &'a [Instr], found: &mut Vec<Definition<'a>>) -> Result<(), AllocError>
+    ensures { OnOk result (map definition_of found.new.items ≡ map definition_of found.old.items ++ set_by lines.now) }
+{
+    for line in lines {
+        let Instr::Calm(calm) = line;
+        found.push(Definition {
+            name: &calm.name,
+            ty: calm.right.ty(),
+        })?;
+    }
+    Ok(())
+}
+
+fn note_block<'a>(block: &'a Block, found: &mut Vec<Definition<'a>>) -> Result<(), AllocError>
+    ensures { OnOk result
+        (map definition_of found.new.items ≡ map definition_of found.old.items ++ registers_of block.now) }
+{
+    note_phis(block.phis.as_slice(), found)?;
+    note_lines(block.body.as_slice(), found)
+}
+
+fn note_blocks<'a>(blocks: &'a [Block], found: &mut Vec<Definition<'a>>) -> Result<(), AllocError>
+    ensures { OnOk result
+        (map definition_of found.new.items ≡ map definition_of found.old.items ++ flat_map registers_of blocks.now) }
+{
+    for block in blocks {
+        note_block(block, found)?;
+    }
+    Ok(())
+}
+
+/// All definitions of a function: its parameters, and then those of its blocks.
+pub(crate) fn definitions_of(
+    alloc: Global,
+    function: &Function,
+) -> Result<Vec<Definition<'_>>, AllocError>
+    ensures { IfOk result (λ found. map definition_of found.items ≡ typed_of «function».now) }
+{
+    let mut found = Vec::new(alloc);
+    note_params(function.params.as_slice(), &mut found)?;
+    note_blocks(function.blocks.as_slice(), &mut found)?;
+    Ok(found)
+}
+
+fn same_kind(a: &Option<Kind>, b: &Option<Kind>) -> bool
+    ensures { result ≡ option_eq same_kind a.now b.now }
+{
+    match (a, b) {
+        (Some(Kind::Int(v)), Some(Kind::Int(w))) => *v == *w,
+        (None, None) => true,
+        _ => false,
+    }
+}
+
+/// Whether one of these is of another kind than the expression.
+fn some_other_kind(definitions: &[&Definition<'_>], expr: &Expr0) -> bool
+    ensures { result ≡ some_other_kind expr.now (map (λ d. d.now) definitions.now) }
+{
+    let kind = kind_of(expr.ty());
+    for definition in definitions {
+        if !same_kind(&kind_of(definition.ty), &kind) {
+            return true;
+        }
+    }
+    false
+}
+
+/// Whether one of those of the name is of another kind than the expression.
+pub(crate) fn other_among(by_name: &ByName<'_, Definition<'_>>, name: &Name, expr: &Expr0) -> bool
+    ensures { result ≡ list_any (is_other name.now expr.now) (map definition_of by_name.now) }
+{
+    some_other_kind(by_name.all(name), expr)
+}
