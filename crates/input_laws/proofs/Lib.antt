@@ -1,0 +1,3 @@
+pub mod FirstWays
+pub mod Uses
+pub mod Texts
