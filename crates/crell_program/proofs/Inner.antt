@@ -193,8 +193,8 @@ module _ {E : Type 0} (name text : List ℕ) (r : Result Answer E) where
   pub lines_judged : (m : Module) → SpellsOnly text m → IfOk r (IsListing m) → IfOk r (λ answer. DueOfDefs name answer text)
   lines_judged m sp = if_ok_then r (IsListing m) (λ answer. DueOfDefs name answer text) (λ answer listing. inr (m, sp, listing))
 
-  pub one_spelled : {P : Answer → Type 0} → (m : Module) → SpellsOnly text m → IfOk r P → IfOk r (λ answer. answer.status ≡ 0 → SpellsOne text)
-  one_spelled {P} m sp = if_ok_then r P (λ answer. answer.status ≡ 0 → SpellsOne text) (λ answer p z. (m, sp.0.0, sp.1))
+  pub one_spelled : (m : Module) → SpellsOnly text m → IfOk r (IsListing m) → IfOk r (λ answer. answer.status ≡ 0 → SpellsOne text)
+  one_spelled m sp = if_ok_then r (IsListing m) (λ answer. answer.status ≡ 0 → SpellsOne text) (λ answer listing z. (m, sp.0.0, sp.1))
 
 -- or its fault is told
 pub fault_listed : {E : Type 0} (name text : List ℕ) (fault : ModuleFault) → IsModuleFault text fault → (r : Result Answer E) → IfOk r (λ _. fault ≢ faults.Memory)
