@@ -10,7 +10,9 @@ ghost use Rattle.erhl_assert.specs.Edges.{old_of, as_old};
 
 use contents::Exact;
 use erhl_assert::Fact;
-use ir_core::{Atom, Binary, Calm, Cast, Expr, Expr0, Icmp, Name, Operand, Reg, Select, same_name};
+use ir_core::{
+    Atom, Binary, BitType, Calm, Cast, Expr, Expr0, Icmp, Name, Operand, Reg, Select, same_name,
+};
 use std::alloc::{AllocError, Global};
 
 /// A register as the logic names it: a function's is the one of now, and the logic's own is made old.
@@ -156,8 +158,9 @@ pub fn old_atom(alloc: Global, atom: &Atom<Name>) -> Result<Atom<Reg>, AllocErro
 pub fn left_side(alloc: Global, line: &Calm) -> Result<Expr0, AllocError>
     ensures { IfOk result (λ register. register ≡ left_side line.now) }
 {
+    let bit = BitType::new();
     Ok(Expr::Plain(Operand {
-        ty: line.right.ty().copy(alloc)?,
+        ty: line.right.ty(&bit).copy(alloc)?,
         atom: Atom::Register(Reg::Now(line.name.copy(alloc)?)),
     }))
 }

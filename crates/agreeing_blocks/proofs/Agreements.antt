@@ -6,12 +6,12 @@ use Rattle.std.specs.Option.{option_map}
 use Rattle.std.proofs.lemmas.Bool.{cond_both, false≢true, or_cases, or_left, or_right}
 use Rattle.std.proofs.lemmas.Bool.Decides.{nat_tests}
 use Rattle.std.proofs.lemmas.List.{length-append, length-map}
-use Rattle.ir_core.proofs.SameLaws.{left_true, right_true, all_true, same_name_true, same_name_refl}
+use Rattle.ir_types.specs.NameLaws.{left_true, right_true, all_true, same_name_true, same_name_refl}
 use Rattle.ir_core.specs.Limits.{fact_limit}
-use Rattle.ir_core.specs.declared.names.Name.{Name}
+use Rattle.ir_types.specs.declared.names.Name.{Name}
 use Rattle.ir_core.specs.declared.values.Kind.{Kind}
 use Rattle.ir_core.specs.declared.operands.Operand.{Operand}
-use Rattle.ir_core.specs.declared.operands.Ty.{Ty}
+use Rattle.ir_types.specs.declared.ty.Ty.{Ty}
 use Rattle.ir_core.specs.declared.functions.Calm.{Calm}
 use Rattle.ir_core.specs.declared.functions.Entry.{Entry}
 use Rattle.ir_core.specs.declared.functions.Instr.{Instr}
@@ -24,7 +24,7 @@ use Rattle.ir_core.specs.declared.expressions.Reg.{Reg}
 use Rattle.ir_core.specs.declared.expressions.Reg.TheVariants.{Now}
 use Rattle.ir_core.specs.Expressions.{operands_in}
 use Rattle.ir_core.specs.Functions.{successors_of}
-use Rattle.ir_core.specs.Same.{same_list, same_ty, same_name}
+use Rattle.ir_types.specs.Same.{same_list, same_ty, same_name}
 use Rattle.ir_core.specs.Types.{kind_of}
 use Rattle.ir_machine.specs.Machine.{entry_from}
 use Rattle.erhl_assert.specs.declared.facts.Fact.{Fact}

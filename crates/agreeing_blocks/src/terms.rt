@@ -1,6 +1,6 @@
 //! When two terminators may stand beside each other.
 ghost use Rattle.std.specs.Prelude.{◌≡◌, IfOk, None};
-ghost use Rattle.ir_core.specs.Same.{same_list, same_name};
+ghost use Rattle.ir_types.specs.Same.{same_list, same_name};
 ghost use Rattle.ir_core.specs.declared.functions.Term.TheVariants as term;
 ghost use Rattle.erhl_assert.specs.Acceptance.{same_case, operand_fault, of_one_kind, term_fault};
 

@@ -1,9 +1,9 @@
 -- Labels that are met one after the other are each met where it first stands.
 use Rattle.std.proofs.Common.{◌≡◌, ◌∙◌, ◌||◌, Bool, true, false, not, cond, List, [], ◌∷◌, ◌++◌, filter, refl, sym, ap, subst, append_assoc, if◌then◌else◌}
 use Rattle.std.proofs.lemmas.List.Folds.{list_any-append}
-use Rattle.ir_core.specs.declared.names.Name.{Name}
-use Rattle.ir_core.specs.NameLaws.{same_name_true, same_name_refl}
-use Rattle.ir_core.specs.Same.{same_name}
+use Rattle.ir_types.specs.declared.names.Name.{Name}
+use Rattle.ir_types.specs.NameLaws.{same_name_true, same_name_refl}
+use Rattle.ir_types.specs.Same.{same_name}
 use Rattle.name_index.specs.Among.{is_among}
 use Rattle.definedness.specs.Along.{with_names}
 use Rattle.erhl_assert.specs.Acceptance.{labels_once}

@@ -5,11 +5,11 @@ use Rattle.std.specs.List.{list_any, position_or_len}
 use Rattle.std.proofs.lemmas.List.Folds.{find_at}
 use Rattle.std.proofs.lemmas.Option.{slice_get_past}
 use Rattle.std.proofs.lemmas.Bool.Decides.{nat_tests}
-use Rattle.ir_core.specs.declared.names.Name.{Name}
+use Rattle.ir_types.specs.declared.names.Name.{Name}
 use Rattle.ir_core.specs.declared.functions.Phi.{Phi}
 use Rattle.ir_core.specs.declared.expressions.Reg.TheVariants.{Now}
-use Rattle.ir_core.specs.Same.{same_name}
-use Rattle.ir_core.specs.NameLaws.{same_name_true, same_name_refl}
+use Rattle.ir_types.specs.Same.{same_name}
+use Rattle.ir_types.specs.NameLaws.{same_name_true, same_name_refl}
 use Rattle.name_index.specs.Among.{place_among}
 use Rattle.erhl_assert.specs.Edges.{sets, phi_setting, is_of_phi}
 

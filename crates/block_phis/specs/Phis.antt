@@ -1,6 +1,6 @@
 -- Words of private functions. The names of phis' registers, and a phi's entries.
 use Rattle.std.specs.Prelude.{◌≡◌, List, map, Option, IfSome}
-use Rattle.ir_core.specs.declared.names.Name.{Name}
+use Rattle.ir_types.specs.declared.names.Name.{Name}
 use Rattle.ir_core.specs.declared.functions.Entry.{Entry}
 use Rattle.ir_core.specs.declared.functions.Phi.{Phi}
 

@@ -30,8 +30,12 @@ pub struct IndexedPhi<'a> {
 impl<'a> Model for IndexedPhi<'a> {
     ghost use Rattle.ir_core.specs.declared.functions.Phi.{Phi};
     ghost use Rattle.block_phis.specs.Phis.{AreItsEntries};
+    ghost use Rattle.std.specs.Coded.{codes};
+    ghost use Rattle.ir_types.specs.contracts.ty.Ty as ty;
 
     ghost Value = { Phi };
+
+    ghost coded = { Prim.hlevel (codes, ty.the_row.coded) };
 
     ghost view = { λ it. it.phi.now };
 
@@ -115,8 +119,12 @@ impl<'a> Model for Phis<'a> {
     ghost use Rattle.std.specs.Prelude.{List};
     ghost use Rattle.ir_core.specs.declared.functions.Phi.{Phi};
     ghost use Rattle.block_phis.specs.Phis.{AreTheirNames};
+    ghost use Rattle.std.specs.Coded.{codes};
+    ghost use Rattle.ir_types.specs.contracts.ty.Ty as ty;
 
     ghost Value = { List Phi };
+
+    ghost coded = { Prim.hlevel (codes, ty.the_row.coded) };
 
     ghost view = { λ it. it.phis.items };
 

@@ -11,7 +11,7 @@ ghost use Rattle.checked_pair.specs.Empty.{AreParts};
 use crate::pair::{Empty, Pair};
 use block_phis::Phis;
 use contents::Seq;
-use erhl_assert::{HintBlock, Schema};
+use erhl_assert::{HeldBlock, HintBlock, Schema};
 use erhl_sides::Sides;
 use fact_sets::IndexedSet;
 use function_lookup::FunctionIndex;
@@ -28,7 +28,7 @@ impl<'a, 's, 't, B: RuleSet> Pair<'a, 's, 't, B> {
         book: &'a B,
         source: FunctionIndex<'s, 'a>,
         target: FunctionIndex<'t, 'a>,
-        hints: ByName<'a, HintBlock>,
+        hints: ByName<'a, HeldBlock>,
     ) -> Result<Pair<'a, 's, 't, B>, AllocError>
         ensures { IfOk result
             (λ pair. asked B.rules pair
@@ -67,7 +67,10 @@ impl<'a, 's, 't, B: RuleSet> Pair<'a, 's, 't, B> {
         ensures { AreParts result.now (block_hint (asked B.rules self.now).hint block.now) }
     {
         match self.hints.first(block) {
-            Some(hint) => hint,
+            Some(held) => match held.whole() {
+                Some(hint) => hint,
+                None => &self.empty.hint,
+            },
             None => &self.empty.hint,
         }
     }

@@ -4,7 +4,7 @@ ghost use Rattle.erhl_assert.specs.Alignment.{no_facts};
 ghost use Rattle.checked_pair.specs.Empty.{IsEmpty};
 
 use contents::Seq;
-use erhl_assert::{Assertion, HintBlock};
+use erhl_assert::{Assertion, HeldBlock, HintBlock};
 use erhl_sides::Sides;
 use fact_sets::IndexedSet;
 use function_lookup::FunctionIndex;
@@ -53,7 +53,7 @@ pub struct Pair<'a, 's, 't, B> {
     pub(crate) book: &'a B,
     pub(crate) source: FunctionIndex<'s, 'a>,
     pub(crate) target: FunctionIndex<'t, 'a>,
-    pub(crate) hints: ByName<'a, HintBlock>,
+    pub(crate) hints: ByName<'a, HeldBlock>,
     pub(crate) empty: Empty,
 }
 

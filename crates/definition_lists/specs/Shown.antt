@@ -2,7 +2,7 @@
 use Rattle.std.specs.Prelude.{List, map, option_map, Option, Vec}
 use Rattle.std.specs.Borrow.{Bor}
 use Rattle.std.specs.declared.alloc.Global.{Global}
-use Rattle.ir_core.specs.declared.names.Name.{Name}
+use Rattle.ir_types.specs.declared.names.Name.{Name}
 
 abbrev pub named : List (Bor Name) → List Name
 named = map (λ lent. lent.now)

@@ -3,8 +3,8 @@ use Rattle.std.proofs.Common.{◌≡◌, ◌∙◌, ◌<◌, ◌≤◌, ℕ, ◌
 use Rattle.std.proofs.lemmas.List.{append-nil, at_drop_all, drop_more, take_all, take_more}
 use Rattle.ir_core.specs.declared.functions.Block.{Block}
 use Rattle.ir_core.specs.declared.functions.Function.{Function}
-use Rattle.ir_core.specs.declared.names.Name.{Name}
-use Rattle.ir_core.specs.declared.names.Sigil.TheVariants as sigil
+use Rattle.ir_types.specs.declared.names.Name.{Name}
+use Rattle.ir_types.specs.declared.names.Sigil.TheVariants as sigil
 use Rattle.ir_printer.specs.Printed.{printed_name}
 use Rattle.definition_lists.proofs.Unique.{lists_are_one}
 use Rattle.definition_text.specs.Lines.{AreLines, HasLines, registers_text, start_text, starts_text}

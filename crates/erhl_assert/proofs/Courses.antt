@@ -1,7 +1,7 @@
 -- Courses: what is good is valid, what a good check is made of, and what an aligned line comes to.
 use Rattle.std.proofs.Common.{◌≡◌, ◌∙◌, ◌++◌, ◌||◌, ℕ, nat_lt, Bool, true, false, cond, List, Option, None, Some, refl, sym, ap}
 use Rattle.std.proofs.lemmas.List.Folds.{list_any-append}
-use Rattle.ir_core.specs.declared.names.Name.{Name}
+use Rattle.ir_types.specs.declared.names.Name.{Name}
 use Rattle.ir_core.specs.Limits.{fact_limit}
 use Rattle.ir_core.specs.declared.functions.Calm.{Calm}
 use Rattle.ir_core.specs.declared.functions.Instr.{Instr}

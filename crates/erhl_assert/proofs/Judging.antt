@@ -1,13 +1,13 @@
 -- What checks answer: two of them one after the other, a test and then a check, and what comes over an edge.
-use Rattle.std.proofs.Common.{◌≡◌, ◌∙◌, ℕ, Bool, true, false, cond, List, [], ◌∷◌, Option, None, Some, refl, sym, ap}
-use Rattle.ir_core.specs.declared.names.Name.{Name}
+use Rattle.std.proofs.Common.{◌≡◌, ◌∙◌, true, false, cond, [], Option, None, Some, refl, sym, ap}
+use Rattle.ir_types.specs.declared.names.Name.{Name}
 use Rattle.erhl_assert.specs.declared.facts.Assertion.{Assertion}
 use Rattle.erhl_assert.specs.declared.verdict.Reason.{Reason}
 use Rattle.erhl_assert.specs.declared.verdict.Spot.{Spot}
 use Rattle.erhl_assert.specs.declared.verdict.Verdict.{Verdict}
 use Rattle.erhl_assert.specs.declared.verdict.Verdict.TheVariants as verdict
 use Rattle.erhl_assert.specs.Edges.{Edge, after_edge}
-use Rattle.erhl_assert.specs.Course.{Gives, Course, gives, and_then, tested, Judged, Good, Bad, placed, then_also, are_too_many, within, judged_answer}
+use Rattle.erhl_assert.specs.Course.{Gives, tested, Judged, Good, Bad, placed, then_also, are_too_many, within, judged_answer}
 use Rattle.erhl_assert.specs.Growth.{over_edge}
 use Rattle.erhl_assert.proofs.Courses.{answer_with_sizes}
 use Rattle.erhl_assert.proofs.Edges.{edge_ends}

@@ -2,13 +2,13 @@
 use Rattle.std.specs.Prelude.{ℕ, Bool, ◌&&◌, cond, List, [], ◌∷◌, length, replicate, nat_eq, Option, None, Some, find}
 use Rattle.std.specs.List.{zip}
 use Rattle.std.specs.Option.{option_map}
-use Rattle.ir_core.specs.declared.names.Name.{Name}
-use Rattle.ir_core.specs.declared.names.Name.TheVariants.{Number}
+use Rattle.ir_types.specs.declared.names.Name.{Name}
+use Rattle.ir_types.specs.declared.names.Name.TheVariants.{Number}
 use Rattle.ir_core.specs.declared.functions.Instr.{Instr}
 use Rattle.ir_core.specs.declared.functions.Param.{Param}
 use Rattle.ir_core.specs.declared.functions.Block.{Block}
 use Rattle.ir_core.specs.declared.functions.Function.{Function}
-use Rattle.ir_core.specs.Same.{same_list, same_name, same_ty}
+use Rattle.ir_types.specs.Same.{same_list, same_name, same_ty}
 use Rattle.erhl_assert.specs.declared.hints.Letter.{Letter}
 use Rattle.erhl_assert.specs.declared.hints.Letter.TheVariants.{Both, Source, Target}
 use Rattle.erhl_assert.specs.declared.hints.HintBlock.{HintBlock}

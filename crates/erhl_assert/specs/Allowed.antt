@@ -1,9 +1,9 @@
 -- When an aligned line is allowed, and the reason where it isn't: a target may have undefined behaviour at a line only where the source
 -- has (Crellvm's postcondition).
 use Rattle.std.specs.Prelude.{◌-◌, ◌^◌, Bool, false, not, ◌&&◌, cond, nat_eq, List, [], ◌∷◌, Option, None, Some}
-use Rattle.ir_core.specs.declared.names.Name.{Name}
-use Rattle.ir_core.specs.declared.operands.Ty.{Ty}
-use Rattle.ir_core.specs.declared.operands.Ty.TheVariants as ty
+use Rattle.ir_types.specs.declared.names.Name.{Name}
+use Rattle.ir_types.specs.declared.ty.Ty.{Ty}
+use Rattle.ir_types.specs.declared.ty.Ty.TheVariants as ty
 use Rattle.ir_core.specs.declared.operands.Const.TheVariants as constant
 use Rattle.ir_core.specs.declared.operands.Atom.{Atom}
 use Rattle.ir_core.specs.declared.operands.Atom.TheVariants as atom
@@ -14,7 +14,8 @@ use Rattle.ir_core.specs.declared.functions.Instr.TheVariants as line
 use Rattle.ir_core.specs.declared.expressions.Expr.{Expr}
 use Rattle.ir_core.specs.declared.expressions.Expr.TheVariants.{Plain, Binary, Icmp, Cast, Select}
 use Rattle.ir_core.specs.Expressions.{operands_in}
-use Rattle.ir_core.specs.Same.{same_ty, same_op, same_cast, same_pred}
+use Rattle.ir_types.specs.Same.{same_ty}
+use Rattle.ir_core.specs.Same.{same_op, same_cast, same_pred}
 use Rattle.ir_core.specs.Types.{fits}
 use Rattle.ir_values.specs.Results.{is_division, is_signed_division}
 use Rattle.erhl_assert.specs.declared.facts.Assertion.{Assertion}
@@ -28,7 +29,7 @@ use Rattle.erhl_assert.specs.Alignment.{Line}
 abbrev pub divides_all : {R : Type 0} → BinOp → Ty → Atom R → Bool
 divides_all op (ty.Int width) (atom.Constant (constant.Number n)) =
     fits n width && not (nat_eq n 0) && not (is_signed_division op && nat_eq n (2 ^ width - 1))
-divides_all op ty.Void (atom.Constant (constant.Number n)) = false
+divides_all op t (atom.Constant (constant.Number n)) = false
 divides_all op t (atom.Constant constant.Undef) = false
 divides_all op t (atom.Register r) = false
 

@@ -2,9 +2,9 @@
 -- (Crellvm: old registers stand for those before the edge).
 use Rattle.std.specs.Prelude.{Bool, true, false, ◌&&◌, not, filter, find, List, [], ◌++◌, map, Option, None, Some}
 use Rattle.std.specs.List.{list_any, flat_map}
-use Rattle.ir_core.specs.declared.names.Name.{Name}
+use Rattle.ir_types.specs.declared.names.Name.{Name}
 use Rattle.ir_core.specs.declared.operands.Atom.TheVariants as atom
-use Rattle.ir_core.specs.declared.operands.Ty.{Ty}
+use Rattle.ir_types.specs.declared.ty.Ty.{Ty}
 use Rattle.ir_core.specs.declared.expressions.Reg.{Reg}
 use Rattle.ir_core.specs.declared.expressions.Reg.TheVariants.{Now, Old, Ghost}
 use Rattle.ir_core.specs.declared.expressions.Expr.TheVariants as expr
@@ -13,7 +13,7 @@ use Rattle.ir_core.specs.declared.functions.Function.{Function}
 use Rattle.ir_core.specs.declared.functions.Block.{Block}
 use Rattle.ir_core.specs.declared.functions.Phi.{Phi}
 use Rattle.ir_core.specs.Expressions.{Expr0, map_atom, map_expr}
-use Rattle.ir_core.specs.Same.{same_name, same_ty}
+use Rattle.ir_types.specs.Same.{same_name, same_ty}
 use Rattle.ir_machine.specs.Machine.{block_named, entry_from}
 use Rattle.erhl_assert.specs.declared.facts.Fact.{Fact}
 use Rattle.erhl_assert.specs.declared.facts.Fact.TheVariants.{LessDef}

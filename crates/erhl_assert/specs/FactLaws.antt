@@ -2,7 +2,8 @@
 use Rattle.std.proofs.Common.{◌≡◌, true, ap, ap₂, subst}
 use Rattle.std.specs.Cmp.{IsEquivalence, both_ways}
 use Rattle.ir_core.specs.Same.{same_reg, same_expr}
-use Rattle.ir_core.proofs.SameLaws.{left_true, right_true, all_true, same_reg_expr_true, same_reg_expr_refl}
+use Rattle.ir_types.specs.NameLaws.{left_true, right_true, all_true}
+use Rattle.ir_core.proofs.SameLaws.{same_reg_expr_true, same_reg_expr_refl}
 use Rattle.erhl_assert.specs.declared.facts.Fact.{Fact}
 use Rattle.erhl_assert.specs.declared.facts.Fact.TheVariants.{LessDef}
 use Rattle.erhl_assert.specs.Facts.{same_fact}

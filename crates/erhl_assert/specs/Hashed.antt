@@ -7,7 +7,7 @@ use Rattle.ir_core.specs.declared.operands.Atom.TheVariants as atom
 use Rattle.ir_core.specs.declared.expressions.Reg.{Reg}
 use Rattle.ir_core.specs.declared.expressions.Expr.TheVariants.{Plain, Binary, Icmp, Cast, Select}
 use Rattle.ir_core.specs.Expressions.{Expr0}
-use Rattle.ir_core.specs.Hashed.{hashed_name}
+use Rattle.ir_types.specs.Hashed.{hashed_name}
 use Rattle.erhl_assert.specs.declared.facts.Fact.{Fact}
 use Rattle.erhl_assert.specs.declared.facts.Fact.TheVariants.{LessDef}
 use Rattle.erhl_assert.specs.Named.{name_of}

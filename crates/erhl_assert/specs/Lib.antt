@@ -7,6 +7,7 @@ pub mod FactLaws
 pub mod Facts
 pub mod Growth
 pub mod Hashed
+pub mod Held
 pub mod Matched
 pub mod Named
 pub mod Postcondition

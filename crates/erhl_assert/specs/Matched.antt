@@ -1,16 +1,17 @@
 -- When the source's operand a and the target's operand b are known to be related.
 use Rattle.std.specs.Prelude.{Bool, true, false, ◌&&◌, ◌||◌, not, List, [], ◌∷◌, Option, None, Some}
 use Rattle.std.specs.List.{list_any}
-use Rattle.ir_core.specs.declared.names.Name.{Name}
+use Rattle.ir_types.specs.declared.names.Name.{Name}
 use Rattle.ir_core.specs.declared.values.Kind.{Kind}
-use Rattle.ir_core.specs.declared.operands.Ty.{Ty}
+use Rattle.ir_types.specs.declared.ty.Ty.{Ty}
 use Rattle.ir_core.specs.declared.operands.Atom.{Atom}
 use Rattle.ir_core.specs.declared.operands.Atom.TheVariants as atom
 use Rattle.ir_core.specs.declared.operands.Operand.{Operand}
 use Rattle.ir_core.specs.declared.expressions.Reg.{Reg}
 use Rattle.ir_core.specs.declared.expressions.Reg.TheVariants.{Now}
 use Rattle.ir_core.specs.declared.expressions.Expr.TheVariants.{Plain}
-use Rattle.ir_core.specs.Same.{same_ty, same_const, same_reg, same_expr}
+use Rattle.ir_types.specs.Same.{same_ty}
+use Rattle.ir_core.specs.Same.{same_const, same_reg, same_expr}
 use Rattle.ir_core.specs.Expressions.{Expr0, map_operand}
 use Rattle.ir_values.specs.Values.{same_kind}
 use Rattle.ir_core.specs.Types.{kind_of}

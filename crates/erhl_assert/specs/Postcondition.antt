@@ -1,6 +1,6 @@
 -- What is known after an aligned line, from what was known before it.
 use Rattle.std.specs.Prelude.{Bool, true, ◌&&◌, cond, not, filter, List, [], ◌∷◌, ◌++◌, Option, None, Some}
-use Rattle.ir_core.specs.declared.names.Name.{Name}
+use Rattle.ir_types.specs.declared.names.Name.{Name}
 use Rattle.ir_core.specs.declared.operands.Atom.TheVariants as atom
 use Rattle.ir_core.specs.declared.functions.Calm.{Calm}
 use Rattle.ir_core.specs.declared.functions.Instr.{Instr}
@@ -9,7 +9,8 @@ use Rattle.ir_core.specs.declared.expressions.Reg.{Reg}
 use Rattle.ir_core.specs.declared.expressions.Reg.TheVariants.{Now}
 use Rattle.ir_core.specs.declared.expressions.Expr.{Expr}
 use Rattle.ir_core.specs.declared.expressions.Expr.TheVariants as expr
-use Rattle.ir_core.specs.Same.{same_name, same_reg}
+use Rattle.ir_types.specs.Same.{same_name}
+use Rattle.ir_core.specs.Same.{same_reg}
 use Rattle.ir_core.specs.Expressions.{Expr0, type_of, operands_in, map_expr}
 use Rattle.ir_values.specs.Laws.{flags_among}
 use Rattle.erhl_assert.specs.declared.facts.Fact.{Fact}

@@ -2,17 +2,17 @@
 use Rattle.std.specs.Prelude.{◌≡◌, ℕ, Bool, true, false, ◌&&◌, not, cond, codes, List, [], ◌∷◌, map, nat_eq, filter, find, Option, None, Some}
 use Rattle.std.specs.List.{list_any, filter_map, flat_map}
 use Rattle.std.specs.Option.{option_eq, option_map}
-use Rattle.ir_core.specs.declared.names.Name.{Name}
+use Rattle.ir_types.specs.declared.names.Name.{Name}
 use Rattle.ir_core.specs.declared.operands.Atom.{Atom}
 use Rattle.ir_core.specs.declared.operands.Atom.TheVariants.{Constant, Register}
 use Rattle.ir_core.specs.declared.operands.Operand.{Operand}
-use Rattle.ir_core.specs.declared.operands.Ty.{Ty}
+use Rattle.ir_types.specs.declared.ty.Ty.{Ty}
 use Rattle.ir_core.specs.declared.expressions.Reg.{Reg}
 use Rattle.ir_core.specs.declared.expressions.Reg.TheVariants.{Now, Old, Ghost}
 use Rattle.ir_core.specs.declared.functions.Function.{Function}
 use Rattle.ir_core.specs.Expressions.{Expr0, type_of, operands_in}
 use Rattle.ir_core.specs.Functions.{typed_of}
-use Rattle.ir_core.specs.Same.{same_list, same_name}
+use Rattle.ir_types.specs.Same.{same_list, same_name}
 use Rattle.ir_core.specs.Types.{kind_of}
 use Rattle.ir_core.specs.Modules.{Scope}
 use Rattle.ir_values.specs.Values.{same_kind}

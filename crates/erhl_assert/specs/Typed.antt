@@ -1,8 +1,8 @@
 -- Which expressions have a type: those whose types and flags some well-formed line could have (LangRef 3.7, Type System). And which of
 -- their constants fit the types that are stated for them.
 use Rattle.std.specs.Prelude.{Bool, true, false, ◌&&◌}
-use Rattle.ir_core.specs.declared.operands.Ty.{Ty}
-use Rattle.ir_core.specs.declared.operands.Ty.TheVariants.{Int, Void}
+use Rattle.ir_types.specs.declared.ty.Ty.{Ty}
+use Rattle.ir_types.specs.declared.ty.Ty.TheVariants.{Int}
 use Rattle.ir_core.specs.declared.operands.Atom.{Atom}
 use Rattle.ir_core.specs.declared.operands.Atom.TheVariants as atom
 use Rattle.ir_core.specs.declared.expressions.Reg.{Reg}
@@ -13,10 +13,10 @@ use Rattle.ir_core.specs.Types.{converts, is_width}
 use Rattle.ir_machine.specs.Registers.{selects}
 pub use Rattle.ir_core.specs.Types.{constant_fits}
 
--- the type has values: i1 to i64 have some, `void` has none
+-- the type has values: i1 to i64 have some, and no other type has any
 abbrev pub has_values : Ty → Bool
 has_values (Int width) = is_width width
-has_values Void = false
+has_values t = false
 
 -- The expression has a type. `add i8 %x, 300` has one, though no i8 is 300; `add exact i8 %x, 1`, `zext i16 %x to i8` and `select i8 %c, ..`
 -- have none.

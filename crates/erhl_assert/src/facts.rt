@@ -1,5 +1,5 @@
 ghost use Rattle.std.specs.Prelude.{◌≡◌};
-ghost use Rattle.ir_core.specs.Same.{IsEquality};
+ghost use Rattle.ir_types.specs.Same.{IsEquality};
 ghost use Rattle.erhl_assert.specs.Facts.{same_fact};
 
 use contents::{Exact, Seq};

@@ -1,4 +1,6 @@
-use crate::{Assertion, Schema, Side};
+ghost use Rattle.std.specs.Prelude.{◌≡◌};
+
+use crate::{Assertion, HeldBlock, Schema, Side};
 use contents::Seq;
 use ir_core::{Expr0, Name, Reg};
 
@@ -108,9 +110,24 @@ impl Drop for HintBlock {
     }
 }
 
+impl HintBlock {
+    pub(crate) fn into_name(self) -> Name
+        ensures { result ≡ self.at }
+    {
+        let HintBlock {
+            at,
+            lines: _,
+            entry: _,
+            steps: _,
+            edges: _,
+        } = self;
+        at
+    }
+}
+
 /// The hint of one function. Of two entries for one block the first counts; a block without one has an empty hint.
 pub struct Hint {
-    pub blocks: Seq<HintBlock>,
+    pub blocks: Seq<HeldBlock>,
 }
 
 impl Drop for Hint {

@@ -5,11 +5,13 @@
 mod fact_set;
 mod facts;
 mod hashing;
+mod held;
 mod hints;
 mod verdict;
 
 pub use fact_set::{FactSet, Kill, bare_name, expr_names, fact_names};
 pub use facts::{Assertion, Expr, Fact, Schema, Side, same_fact, same_fact_is_equality};
+pub use held::HeldBlock;
 pub use hints::{
     FunctionHint, FunctionLoops, GhostStep, Hint, HintBlock, HintEdge, HintStep, Hints, Letter,
     Loop, LoopHints, PlacedStep, RuleStep, SameStep,

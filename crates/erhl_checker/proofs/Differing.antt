@@ -4,13 +4,13 @@ use Rattle.std.proofs.lemmas.Bool.{false≢true}
 use Rattle.std.specs.List.{AllByRecursion}
 use Rattle.std.specs.Prelude.{◌↔◌, Result, Ok, Err, IfOk}
 use Rattle.ir_machine.specs.Refinement.{Refines}
-use Rattle.ir_core.specs.declared.names.Name.{Name}
+use Rattle.ir_types.specs.declared.names.Name.{Name}
 use Rattle.ir_core.specs.declared.functions.Function.{Function}
 use Rattle.ir_core.specs.declared.functions.Param.{Param}
 use Rattle.ir_core.specs.declared.functions.Module.{Module}
-use Rattle.ir_core.specs.Same.{same_list, same_ty}
+use Rattle.ir_types.specs.Same.{same_list, same_ty}
 use Rattle.ir_core.specs.Modules.{Scope, scope_of, definitions_of}
-use Rattle.ir_core.proofs.SameLaws.{left_true, right_true, all_true}
+use Rattle.ir_types.specs.NameLaws.{left_true, right_true, all_true}
 use Rattle.erhl_assert.specs.declared.hints.Hints.{Hints}
 use Rattle.erhl_assert.specs.declared.verdict.Verdict.{Verdict}
 use Rattle.erhl_assert.specs.declared.verdict.Verdict.TheVariants as verdict

@@ -19,7 +19,7 @@ use block_checker::{CheckEnd, FunctionIndex, FunctionParts, Pair, block_answer};
 use contents::Exact;
 use definedness::reached;
 use erhl_assert::{
-    Assertion, Hint, HintBlock, HintEdge, HintStep, PlacedStep, Reason, Spot, Verdict,
+    Assertion, HeldBlock, Hint, HintEdge, HintStep, PlacedStep, Reason, Spot, Verdict,
 };
 use flow_solver::reached_nodes_are_reached;
 use ir_core::{Function, Module};
@@ -171,10 +171,12 @@ fn has_same_edge(edges: &[HintEdge]) -> bool {
 
 /// Whether the hint has a step that takes a register out of those that may differ. Where it has none, definitions of registers aren't
 /// asked for.
-fn has_same(blocks: &[HintBlock]) -> bool {
+fn has_same(blocks: &[HeldBlock]) -> bool {
     for block in blocks {
-        if has_same_placed(block.steps.as_slice()) || has_same_edge(block.edges.as_slice()) {
-            return true;
+        if let Some(hint) = block.whole() {
+            if has_same_placed(hint.steps.as_slice()) || has_same_edge(hint.edges.as_slice()) {
+                return true;
+            }
         }
     }
     false
@@ -185,7 +187,7 @@ fn parts_answer<'a, B: RuleSet>(
     alloc: Global,
     module: &'a Module,
     book: &'a B,
-    hints: ByName<'a, HintBlock>,
+    hints: ByName<'a, HeldBlock>,
     source: &FunctionParts<'a>,
     target: &FunctionParts<'a>,
     blocks: &[AlignedBlock<'_>],
@@ -207,7 +209,7 @@ fn aligned_answer<'a, B: RuleSet>(
     alloc: Global,
     module: &'a Module,
     book: &'a B,
-    hints: ByName<'a, HintBlock>,
+    hints: ByName<'a, HeldBlock>,
     asked: bool,
     source: &'a Function,
     target: &'a Function,

@@ -3,7 +3,7 @@ ghost use Rattle.std.specs.Prelude.{◌≡◌, ◌↔◌, false, map, IfOk, IfEr
 ghost use Rattle.std.specs.List.{AllByRecursion};
 ghost use Rattle.ir_core.specs.declared.limits.Limit.{Limit};
 ghost use Rattle.ir_core.specs.declared.limits.Limit.TheVariants.{Facts};
-ghost use Rattle.ir_core.specs.Same as same;
+ghost use Rattle.ir_types.specs.Same as same;
 ghost use Rattle.ir_core.specs.Modules.{definitions_of, scope_of};
 ghost use Rattle.ir_machine.specs.Refinement.{Refines};
 ghost use Rattle.erhl_assert.specs.Acceptance as acceptance;
@@ -27,7 +27,7 @@ use std::marker::PhantomData;
 struct OneType;
 
 impl Likeness<Param> for OneType {
-    ghost use Rattle.ir_core.specs.Same.{same_ty};
+    ghost use Rattle.ir_types.specs.Same.{same_ty};
 
     ghost like = { λ _ p q. same_ty p.ty q.ty };
 

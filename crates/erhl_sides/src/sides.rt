@@ -34,8 +34,12 @@ pub struct Sides<S: FactSet> {
 
 impl<S: FactSet> Model for Sides<S> {
     ghost use Rattle.erhl_assert.specs.declared.facts.Assertion.{Assertion};
+    ghost use Rattle.std.specs.Coded.{codes};
+    ghost use Rattle.ir_types.specs.contracts.ty.Ty as ty;
 
     ghost Value = { Assertion };
+
+    ghost coded = { Prim.hlevel (codes, ty.the_row.coded) };
 
     ghost view = { λ it. record { src = it.src; tgt = it.tgt; diff = it.diff } };
 }

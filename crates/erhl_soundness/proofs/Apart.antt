@@ -1,6 +1,6 @@
 -- Two phis of one register: what is accepted doesn't refine.
 use Rattle.std.proofs.Common.{◌≡◌, ◌⊎◌, inl, inr, ℕ, zero, suc, List, [], ◌∷◌, ◌++◌, Some, refl, ap₂, subst, ◌∙◌, ⊎_elim}
-use Rattle.ir_core.specs.declared.names.Name.TheVariants.{Number}
+use Rattle.ir_types.specs.declared.names.Name.TheVariants.{Number}
 use Rattle.ir_core.specs.declared.functions.Term.TheVariants.{Br}
 use Rattle.ir_core.specs.declared.functions.Function.{Function}
 use Rattle.ir_core.specs.declared.functions.Module.{Module}

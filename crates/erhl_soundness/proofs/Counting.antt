@@ -1,6 +1,6 @@
 -- What is judged, counted and known of checks that are written out, by computing.
 use Rattle.std.proofs.Common.{◌≡◌, Bool, true, false, cond, refl, ap}
-use Rattle.ir_core.specs.declared.names.Name.TheVariants.{Number}
+use Rattle.ir_types.specs.declared.names.Name.TheVariants.{Number}
 use Rattle.ir_core.specs.declared.expressions.Reg.{Reg}
 use Rattle.ir_core.specs.declared.expressions.Reg.TheVariants.{Now}
 use Rattle.erhl_assert.specs.declared.verdict.Reason.TheVariants.{DiffLeft}

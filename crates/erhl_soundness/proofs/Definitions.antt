@@ -3,8 +3,8 @@ use Rattle.std.proofs.Common.{◌≡◌, Bool, true, false, ◌&&◌, not, cond,
 use Rattle.std.specs.Option.{option_eq}
 use Rattle.std.specs.List.{AllByRecursion, list_any, flat_map}
 use Rattle.std.proofs.lemmas.Bool.{cond_both, or_parts, or_cases, false≢true, or_left, or_right}
-use Rattle.ir_core.specs.declared.names.Name.{Name}
-use Rattle.ir_core.specs.declared.operands.Ty.{Ty}
+use Rattle.ir_types.specs.declared.names.Name.{Name}
+use Rattle.ir_types.specs.declared.ty.Ty.{Ty}
 use Rattle.ir_core.specs.declared.values.Value.{Value}
 use Rattle.ir_core.specs.declared.values.Value.TheVariants.{Poison}
 use Rattle.ir_core.specs.declared.values.Kind.{Kind}
@@ -16,9 +16,9 @@ use Rattle.ir_core.specs.declared.functions.Block.{Block}
 use Rattle.ir_core.specs.declared.functions.Function.{Function}
 use Rattle.ir_core.specs.Expressions.{Expr0, type_of}
 use Rattle.ir_core.specs.Functions.{set_by, phi_registers, registers_of, params_of, typed_of}
-use Rattle.ir_core.specs.Same.{same_name}
+use Rattle.ir_types.specs.Same.{same_name}
 use Rattle.ir_core.specs.Types.{kind_of}
-use Rattle.ir_core.proofs.SameLaws.{left_true, right_true, same_name_true, same_name_refl}
+use Rattle.ir_types.specs.NameLaws.{left_true, right_true, same_name_true, same_name_refl}
 use Rattle.ir_values.specs.Values.{same_kind}
 use Rattle.ir_values.proofs.KindLaws.{same_kind_true, same_kind_refl}
 use Rattle.ir_machine.specs.Registers.{Held, Registers, no_registers, held_at, holding, set}

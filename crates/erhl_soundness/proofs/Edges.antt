@@ -5,8 +5,8 @@ use Rattle.std.specs.List.{AllByRecursion, Contains, list_any}
 use Rattle.std.proofs.lemmas.Bool.{or_parts, or_from, false≢true, false_from_ne_true, cases_Bool, not_from_false, cond-true, cond-false}
 use Rattle.std.proofs.lemmas.List.Elements.{Contains-append_left, Contains-push}
 use Rattle.std.proofs.lemmas.List.Folds.{list_any-append}
-use Rattle.ir_core.specs.declared.names.Name.{Name}
-use Rattle.ir_core.specs.declared.operands.Ty.{Ty}
+use Rattle.ir_types.specs.declared.names.Name.{Name}
+use Rattle.ir_types.specs.declared.ty.Ty.{Ty}
 use Rattle.ir_core.specs.declared.operands.Atom.{Atom}
 use Rattle.ir_core.specs.declared.values.Value.TheVariants.{Poison}
 use Rattle.ir_core.specs.declared.values.Kind.{Kind}
@@ -18,9 +18,11 @@ use Rattle.ir_core.specs.declared.functions.Phi.{Phi}
 use Rattle.ir_core.specs.Expressions.{Expr0, map_atom, map_expr, expr_has}
 use Rattle.ir_core.specs.Modules.{Scope}
 use Rattle.ir_core.specs.Order.{AreNew}
-use Rattle.ir_core.specs.Same.{same_name, same_ty, same_reg}
+use Rattle.ir_types.specs.Same.{same_name, same_ty}
+use Rattle.ir_core.specs.Same.{same_reg}
 use Rattle.ir_core.specs.Types.{kind_of}
-use Rattle.ir_core.proofs.SameLaws.{left_true, right_true, same_name_true, same_name_refl, same_ty_true}
+use Rattle.ir_types.specs.NameLaws.{left_true, right_true, same_name_true, same_name_refl}
+use Rattle.ir_types.proofs.SameLaws.{same_ty_true}
 use Rattle.ir_values.specs.declared.operations.Outcome.TheVariants.{Gives}
 use Rattle.ir_values.specs.Operations.{IsOutcomeLessDefined}
 use Rattle.ir_machine.specs.Registers.{Held, Registers, no_registers, read, set, holding, held_at, atom_value}

@@ -4,11 +4,11 @@ use Rattle.std.specs.Prelude.{filter}
 use Rattle.std.specs.Option.{option_map}
 use Rattle.std.specs.List.{AllByRecursion}
 use Rattle.std.proofs.lemmas.Bool.{cond_both, not_from_false}
-use Rattle.ir_core.specs.declared.names.Name.{Name}
+use Rattle.ir_types.specs.declared.names.Name.{Name}
 use Rattle.ir_core.specs.declared.expressions.Reg.{Reg}
 use Rattle.ir_core.specs.Functions.{successors_of}
-use Rattle.ir_core.specs.Same.{same_name}
-use Rattle.ir_core.proofs.SameLaws.{all_true, same_name_true}
+use Rattle.ir_types.specs.Same.{same_name}
+use Rattle.ir_types.specs.NameLaws.{all_true, same_name_true}
 use Rattle.erhl_assert.specs.declared.facts.Assertion.{Assertion}
 use Rattle.erhl_assert.specs.declared.verdict.Reason.TheVariants.{MissingFact, DiffLeft}
 use Rattle.erhl_assert.specs.declared.verdict.Spot.TheVariants as spot

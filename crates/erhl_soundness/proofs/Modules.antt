@@ -2,12 +2,12 @@
 use Rattle.std.proofs.Common.{◌≡◌, ℕ, true, false, ◌&&◌, List, [], ◌∷◌, Option, None, Some, MatchOption, map, option_and_then, inl, inr, sym, subst, subst₂, ⊎_elim}
 use Rattle.std.specs.List.{AllByRecursion}
 use Rattle.std.proofs.lemmas.Bool.{cond-true, cond-false, cases_Bool}
-use Rattle.ir_core.specs.declared.names.Name.{Name}
+use Rattle.ir_types.specs.declared.names.Name.{Name}
 use Rattle.ir_core.specs.declared.functions.Function.{Function}
 use Rattle.ir_core.specs.declared.functions.Module.{Module}
 use Rattle.ir_core.specs.Modules.{Scope, scope_of}
-use Rattle.ir_core.specs.Same.{same_list, same_name, same_ty}
-use Rattle.ir_core.proofs.SameLaws.{left_true, same_name_true}
+use Rattle.ir_types.specs.Same.{same_list, same_name, same_ty}
+use Rattle.ir_types.specs.NameLaws.{left_true, same_name_true}
 use Rattle.ir_machine.specs.declared.items.Item.{Item}
 use Rattle.ir_machine.specs.declared.items.Input.{Input}
 use Rattle.ir_machine.specs.State.{State}

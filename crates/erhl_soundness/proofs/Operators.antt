@@ -1,6 +1,6 @@
 -- Operators on related values have related outcomes.
 use Rattle.std.proofs.Common.{◌≡◌, true, cond, not, ◌||◌, Bool, false, Option, None, Some, refl}
-use Rattle.ir_core.proofs.SameLaws.{all_true}
+use Rattle.ir_types.specs.NameLaws.{all_true}
 use Rattle.ir_core.specs.declared.values.Value.{Value}
 use Rattle.ir_core.specs.declared.values.Value.TheVariants.{Poison}
 use Rattle.ir_core.specs.declared.values.Kind.{Kind}
@@ -8,7 +8,7 @@ use Rattle.ir_core.specs.declared.values.Kind.TheVariants as kind
 use Rattle.ir_core.specs.declared.operands.BinOp.{BinOp}
 use Rattle.ir_core.specs.declared.operands.CastOp.{CastOp}
 use Rattle.ir_core.specs.declared.operands.Pred.{Pred}
-use Rattle.ir_core.specs.declared.operands.Ty.{Ty}
+use Rattle.ir_types.specs.declared.ty.Ty.{Ty}
 use Rattle.ir_core.specs.Types.{converts, kind_of}
 use Rattle.ir_core.specs.declared.operands.Flags.{Flags}
 use Rattle.ir_values.specs.declared.operations.Outcome.{Outcome}

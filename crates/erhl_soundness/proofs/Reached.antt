@@ -5,11 +5,11 @@ use Rattle.std.specs.List.{AllByRecursion, Contains, cons_option, position_from,
 use Rattle.std.proofs.lemmas.Bool.{cases_Bool, cond-true, cond-false, false≢true, false_from_ne_true}
 use Rattle.std.proofs.lemmas.List.Elements.{Contains-append_right}
 use Rattle.std.proofs.lemmas.Iterator.Adapters.{position_from-zero}
-use Rattle.ir_core.specs.declared.names.Name.{Name}
+use Rattle.ir_types.specs.declared.names.Name.{Name}
 use Rattle.ir_core.specs.declared.functions.Block.{Block}
 use Rattle.ir_core.specs.Functions.{successors_of}
-use Rattle.ir_core.specs.Same.{same_name}
-use Rattle.ir_core.proofs.SameLaws.{same_name_true, same_name_refl}
+use Rattle.ir_types.specs.Same.{same_name}
+use Rattle.ir_types.specs.NameLaws.{same_name_true, same_name_refl}
 use Rattle.name_index.specs.Among.{place_among}
 use Rattle.flow_solver.specs.Ways.{led_to, IsPath, last_of}
 use Rattle.flow_solver.specs.Near.{is_reached}

@@ -11,9 +11,10 @@ use Rattle.ir_core.specs.declared.operands.CastOp.{CastOp}
 use Rattle.ir_core.specs.declared.expressions.Expr.{Expr}
 use Rattle.ir_core.specs.declared.expressions.Expr.TheVariants.{Plain, Binary, Icmp, Cast, Select}
 use Rattle.ir_core.specs.declared.operands.Operand.{Operand}
-use Rattle.ir_core.specs.declared.operands.Ty.TheVariants.{Int}
-use Rattle.ir_core.specs.Same.{same_ty}
-use Rattle.ir_core.proofs.SameLaws.{right_true, same_ty_true}
+use Rattle.ir_types.specs.declared.ty.Ty.TheVariants.{Int}
+use Rattle.ir_types.specs.Same.{same_ty}
+use Rattle.ir_types.specs.NameLaws.{right_true}
+use Rattle.ir_types.proofs.SameLaws.{same_ty_true}
 use Rattle.ir_values.specs.Selections.{select_outcome}
 use Rattle.ir_core.specs.Types.{converts, kind_of}
 use Rattle.ir_core.specs.Expressions.{type_of, map_atom, map_expr, atom_has, expr_has}

@@ -1,7 +1,7 @@
 -- Registers stay related over an aligned line, but for those that it lets differ.
 use Rattle.std.proofs.Common.{◌≡◌, ◌⊎◌, inl, inr, Bool, true, false, ◌&&◌, cond, List, Option, None, Some, refl, sym, ap, ◌∙◌, subst, subst₂, ⊎_elim}
 use Rattle.std.proofs.lemmas.Bool.{false≢true, cond_both, cases_Bool}
-use Rattle.ir_core.specs.declared.names.Name.{Name}
+use Rattle.ir_types.specs.declared.names.Name.{Name}
 use Rattle.ir_core.specs.declared.values.Value.{Value}
 use Rattle.ir_core.specs.declared.values.Value.TheVariants.{Poison}
 use Rattle.ir_core.specs.declared.values.Kind.{Kind}
@@ -17,12 +17,15 @@ use Rattle.ir_core.specs.declared.expressions.Expr.{Expr}
 use Rattle.ir_core.specs.declared.expressions.Expr.TheVariants as expr
 use Rattle.ir_core.specs.declared.expressions.Reg.{Reg}
 use Rattle.ir_core.specs.declared.expressions.Reg.TheVariants as reg
-use Rattle.ir_core.specs.Same.{same_name, same_ty, same_op, same_cast, same_pred, same_reg}
-use Rattle.ir_core.proofs.SameLaws.{left_true, right_true, same_name_true, same_name_refl, same_ty_true, same_op_true, same_cast_true, same_pred_true, same_reg_true}
+use Rattle.ir_types.specs.Same.{same_name, same_ty}
+use Rattle.ir_core.specs.Same.{same_op, same_cast, same_pred, same_reg}
+use Rattle.ir_types.specs.NameLaws.{left_true, right_true, same_name_true, same_name_refl}
+use Rattle.ir_types.proofs.SameLaws.{same_ty_true}
+use Rattle.ir_core.proofs.SameLaws.{same_op_true, same_cast_true, same_pred_true, same_reg_true}
 use Rattle.ir_values.specs.Values.{same_kind}
 use Rattle.ir_values.specs.Laws.{flags_among}
 use Rattle.ir_core.specs.declared.operands.CastOp.{CastOp}
-use Rattle.ir_core.specs.declared.operands.Ty.{Ty}
+use Rattle.ir_types.specs.declared.ty.Ty.{Ty}
 use Rattle.ir_values.specs.Selections.{select_outcome}
 use Rattle.ir_core.specs.Types.{converts, kind_of}
 use Rattle.ir_core.specs.Expressions.{type_of, operands_in}

@@ -2,14 +2,14 @@
 use Rattle.std.proofs.Common.{◌≡◌, ◌⊎◌, inl, inr, Bool, true, false, cond, ℕ, zero, suc, List, [], ◌∷◌, map, Option, None, Some, refl, ap, ◌∙◌, ⊎_elim}
 use Rattle.std.specs.List.{AllByRecursion}
 use Rattle.std.proofs.lemmas.Bool.{cases_Bool, cond-true, cond-false}
-use Rattle.ir_core.specs.declared.names.Name.{Name}
+use Rattle.ir_types.specs.declared.names.Name.{Name}
 use Rattle.ir_core.specs.declared.functions.Instr.{Instr}
 use Rattle.ir_core.specs.declared.functions.Block.{Block}
 use Rattle.ir_core.specs.declared.functions.Function.{Function}
 use Rattle.ir_core.specs.Functions.{successors_of}
 use Rattle.ir_core.specs.Modules.{Scope}
-use Rattle.ir_core.specs.Same.{same_name}
-use Rattle.ir_core.proofs.SameLaws.{same_name_true}
+use Rattle.ir_types.specs.Same.{same_name}
+use Rattle.ir_types.specs.NameLaws.{same_name_true}
 use Rattle.ir_machine.specs.Registers.{Registers}
 use Rattle.ir_machine.specs.State.{Frame, no_world, State, Running, Over}
 use Rattle.ir_machine.specs.Machine.{block_named}

@@ -1,7 +1,7 @@
 -- THE INVARIANT of two sides, and what changes of ghost registers do to what is read.
 use Rattle.std.proofs.Common.{◌≡◌, false, Option, None, Some, refl, ap, ◌∙◌}
-use Rattle.ir_core.specs.declared.names.Name.{Name}
-use Rattle.ir_core.specs.declared.operands.Ty.{Ty}
+use Rattle.ir_types.specs.declared.names.Name.{Name}
+use Rattle.ir_types.specs.declared.ty.Ty.{Ty}
 use Rattle.ir_core.specs.declared.operands.Atom.TheVariants.{Register}
 use Rattle.ir_core.specs.declared.values.Value.{Value}
 use Rattle.ir_core.specs.declared.values.Value.TheVariants.{Poison}
@@ -13,7 +13,7 @@ use Rattle.ir_core.specs.Expressions.{type_of}
 use Rattle.ir_core.specs.Modules.{Scope}
 use Rattle.ir_core.specs.Same.{same_reg}
 use Rattle.ir_core.specs.Types.{kind_of}
-use Rattle.ir_core.proofs.SameLaws.{same_name_refl}
+use Rattle.ir_types.specs.NameLaws.{same_name_refl}
 use Rattle.ir_values.specs.declared.operations.Outcome.TheVariants.{Gives}
 use Rattle.ir_values.specs.Values.{IsInKind}
 use Rattle.ir_values.proofs.KindLaws.{same_kind_refl}

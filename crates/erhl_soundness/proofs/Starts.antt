@@ -3,16 +3,17 @@ use Rattle.std.proofs.Common.{◌≡◌, inl, true, false, ◌&&◌, ℕ, suc, L
 use Rattle.std.specs.List.{AllByRecursion, zip}
 use Rattle.std.specs.Option.{option_map}
 use Rattle.std.proofs.lemmas.Bool.{cond-true, cond-false, cond_both, cases_Bool}
-use Rattle.ir_core.specs.declared.names.Name.{Name}
-use Rattle.ir_core.specs.declared.operands.Ty.{Ty}
+use Rattle.ir_types.specs.declared.names.Name.{Name}
+use Rattle.ir_types.specs.declared.ty.Ty.{Ty}
 use Rattle.ir_core.specs.declared.functions.Instr.{Instr}
 use Rattle.ir_core.specs.declared.functions.Param.{Param}
 use Rattle.ir_core.specs.declared.functions.Block.{Block}
 use Rattle.ir_core.specs.declared.functions.Function.{Function}
 use Rattle.ir_core.specs.Functions.{successors_of}
-use Rattle.ir_core.specs.Same.{same_list, same_name, same_ty}
+use Rattle.ir_types.specs.Same.{same_list, same_name, same_ty}
 use Rattle.ir_core.specs.Types.{kind_of}
-use Rattle.ir_core.proofs.SameLaws.{left_true, right_true, same_list_true, same_nat_true, same_name_true, same_ty_true}
+use Rattle.ir_types.specs.NameLaws.{left_true, right_true, same_list_true, same_nat_true, same_name_true}
+use Rattle.ir_types.proofs.SameLaws.{same_ty_true}
 use Rattle.ir_values.proofs.OperationLaws.{less_defined_refl}
 use Rattle.ir_machine.specs.declared.items.Input.{Input}
 use Rattle.ir_machine.specs.declared.items.Shown.{Shown}

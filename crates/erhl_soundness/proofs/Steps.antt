@@ -4,9 +4,9 @@ use Rattle.std.specs.Prelude.{find}
 use Rattle.std.specs.Option.{option_or, option_map}
 use Rattle.std.specs.List.{AllByRecursion, list_any}
 use Rattle.std.proofs.lemmas.Bool.{cond_both, cases_Bool, not-true, false≢true}
-use Rattle.ir_core.specs.declared.names.Name.{Name}
-use Rattle.ir_core.specs.declared.operands.Ty.{Ty}
-use Rattle.ir_core.specs.declared.operands.Ty.TheVariants as ty
+use Rattle.ir_types.specs.declared.names.Name.{Name}
+use Rattle.ir_types.specs.declared.ty.Ty.{Ty}
+use Rattle.ir_types.specs.declared.ty.Ty.TheVariants as ty
 use Rattle.ir_core.specs.declared.operands.Atom.TheVariants.{Register}
 use Rattle.ir_core.specs.declared.values.Value.{Value}
 use Rattle.ir_core.specs.declared.values.Kind.{Kind}
@@ -19,9 +19,11 @@ use Rattle.ir_core.specs.Expressions.{Expr0, type_of, expr_has}
 use Rattle.ir_core.specs.Functions.{typed_of}
 use Rattle.ir_core.specs.Modules.{Scope}
 use Rattle.ir_core.specs.Ranges as ranges
-use Rattle.ir_core.specs.Same.{same_name, same_reg}
+use Rattle.ir_types.specs.Same.{same_name}
+use Rattle.ir_core.specs.Same.{same_reg}
 use Rattle.ir_core.specs.Types.{kind_of, converts}
-use Rattle.ir_core.proofs.SameLaws.{left_true, right_true, same_reg_true}
+use Rattle.ir_types.specs.NameLaws.{left_true, right_true}
+use Rattle.ir_core.proofs.SameLaws.{same_reg_true}
 use Rattle.ir_values.specs.declared.operations.Outcome.{Outcome}
 use Rattle.ir_values.specs.declared.operations.Outcome.TheVariants.{Gives, Trap}
 use Rattle.ir_values.specs.Operations.{IsOutcomeLessDefined, GivesInKind}
@@ -99,7 +101,7 @@ gives_value reading e h = value_of (outcome reading e) (no_trap reading e h)
 
 type_has_kind : (t : Ty) → has_values t ≡ true → (k : Kind) × (kind_of t ≡ Some k)
 type_has_kind (ty.Int width) h = (kind.Int width, ap (λ b. cond b (Some (kind.Int width)) None) h)
-type_has_kind ty.Void h = absurd (false≢true h)
+type_has_kind t h = absurd (false≢true h)
 
 expr_has_kind : (e : Expr0) → has_type e ≡ true → (k : Kind) × (kind_of_expr e ≡ Some k)
 expr_has_kind (Plain o) h = type_has_kind o.ty h

@@ -3,8 +3,8 @@ use Rattle.std.proofs.Common.{◌≡◌, ◌⊎◌, inl, inr, Bool, true, false,
 use Rattle.std.specs.List.{AllByRecursion, list_any}
 use Rattle.std.proofs.lemmas.Bool.{cond_both, or_cases, or_left, or_right, false≢true}
 use Rattle.std.proofs.lemmas.List.{append-nil}
-use Rattle.ir_core.specs.declared.names.Name.{Name}
-use Rattle.ir_core.specs.declared.operands.Ty.{Ty}
+use Rattle.ir_types.specs.declared.names.Name.{Name}
+use Rattle.ir_types.specs.declared.ty.Ty.{Ty}
 use Rattle.ir_core.specs.declared.operands.Operand.{Operand}
 use Rattle.ir_core.specs.declared.values.Value.{Value}
 use Rattle.ir_core.specs.declared.values.Value.TheVariants.{Num, Undef, Poison}
@@ -14,9 +14,10 @@ use Rattle.ir_core.specs.declared.functions.Term.{Term}
 use Rattle.ir_core.specs.declared.functions.Term.TheVariants.{Ret, RetVoid, Br, CondBr, Switch, Unreachable}
 use Rattle.ir_core.specs.declared.functions.Module.{Module}
 use Rattle.ir_core.specs.Functions.{successors_of}
-use Rattle.ir_core.specs.Same.{same_list, same_name, same_ty}
+use Rattle.ir_types.specs.Same.{same_list, same_name, same_ty}
 use Rattle.ir_core.specs.Types.{kind_of, number_at}
-use Rattle.ir_core.proofs.SameLaws.{left_true, right_true, same_list_true, same_nat_true, same_name_true, same_name_refl, same_ty_true}
+use Rattle.ir_types.specs.NameLaws.{left_true, right_true, same_list_true, same_nat_true, same_name_true, same_name_refl}
+use Rattle.ir_types.proofs.SameLaws.{same_ty_true}
 use Rattle.ir_machine.specs.declared.items.Item.{Item}
 use Rattle.ir_machine.specs.declared.items.Item.TheVariants.{Turn, Wrong}
 use Rattle.ir_machine.specs.declared.items.Choice.TheVariants.{Go, Pick}

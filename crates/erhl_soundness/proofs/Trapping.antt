@@ -5,8 +5,8 @@ use Rattle.ir_core.specs.declared.values.Value.{Value}
 use Rattle.ir_core.specs.declared.values.Value.TheVariants.{Num, Poison}
 use Rattle.ir_core.specs.declared.values.Kind.{Kind}
 use Rattle.ir_core.specs.declared.values.Kind.TheVariants as kind
-use Rattle.ir_core.specs.declared.operands.Ty.{Ty}
-use Rattle.ir_core.specs.declared.operands.Ty.TheVariants as ty
+use Rattle.ir_types.specs.declared.ty.Ty.{Ty}
+use Rattle.ir_types.specs.declared.ty.Ty.TheVariants as ty
 use Rattle.ir_core.specs.declared.operands.Const.TheVariants as constant
 use Rattle.ir_core.specs.declared.operands.Atom.{Atom}
 use Rattle.ir_core.specs.declared.operands.Atom.TheVariants as atom
@@ -19,7 +19,7 @@ use Rattle.ir_core.specs.declared.expressions.Expr.{Expr}
 use Rattle.ir_core.specs.declared.expressions.Expr.TheVariants.{Plain, Binary, Icmp, Cast, Select}
 use Rattle.ir_values.specs.Selections.{select_outcome}
 use Rattle.ir_core.specs.Types.{converts, fits, is_width, kind_of}
-use Rattle.ir_core.proofs.SameLaws.{left_true, right_true}
+use Rattle.ir_types.specs.NameLaws.{left_true, right_true}
 use Rattle.ir_values.specs.declared.operations.Outcome.{Outcome}
 use Rattle.ir_values.specs.declared.operations.Outcome.TheVariants.{Gives, Trap}
 use Rattle.ir_values.specs.Results.{is_division, is_signed_division}
@@ -98,11 +98,11 @@ module _ {R : Type 0} (reading : Kind → R → Value) where
   divisor_no_trap : (op : BinOp) (flags : Flags) (t : Ty) (a : Value) (b : Atom R) → divides_all op t b ≡ true
       → binary_at op flags (kind_of t) a (atom_value reading (kind_of t) b) ≡ Trap → ⊥
   divisor_no_trap op flags (ty.Int width) a (atom.Constant (constant.Number n)) h e = number_no_trap op flags width n (is_width width) a h e
-  divisor_no_trap op flags ty.Void a (atom.Constant (constant.Number n)) h e = cc
-  divisor_no_trap op flags ty.Void a (atom.Constant constant.Undef) h e = cc
-  divisor_no_trap op flags ty.Void a (atom.Register r) h e = cc
   divisor_no_trap op flags (ty.Int width) a (atom.Constant constant.Undef) h e = cc
   divisor_no_trap op flags (ty.Int width) a (atom.Register r) h e = cc
+  divisor_no_trap op flags t a (atom.Constant (constant.Number n)) h e = cc
+  divisor_no_trap op flags t a (atom.Constant constant.Undef) h e = cc
+  divisor_no_trap op flags t a (atom.Register r) h e = cc
 
   other_no_trap : (op : BinOp) (flags : Flags) (k : Option Kind) (a b : Value) → is_division op ≡ false → binary_at op flags k a b ≡ Trap → ⊥
   other_no_trap op flags None a b h e = cc

@@ -1,9 +1,9 @@
 -- Functions, rules and hints written out, for the law that says how facts are counted.
 use Rattle.std.specs.Prelude.{ℕ, Bool, true, false, List, [], ◌∷◌, None, Some}
-use Rattle.ir_core.specs.declared.names.Name.TheVariants.{Number}
-use Rattle.ir_core.specs.declared.operands.Ty.TheVariants.{Int}
+use Rattle.ir_types.specs.declared.names.Name.TheVariants.{Number}
+use Rattle.ir_types.specs.declared.ty.Ty.TheVariants.{Int}
 use Rattle.ir_core.specs.declared.operands.Const.TheVariants as constant
-use Rattle.ir_core.specs.declared.names.Name.{Name}
+use Rattle.ir_types.specs.declared.names.Name.{Name}
 use Rattle.ir_core.specs.declared.operands.Atom.{Atom}
 use Rattle.ir_core.specs.declared.operands.Atom.TheVariants.{Constant, Register}
 use Rattle.ir_core.specs.declared.operands.BinOp.{BinOp}

@@ -1,6 +1,6 @@
 -- What is judged of edges, phis, ghost registers and loops: checks written out. And a premise that the soundness theorem needs.
 use Rattle.std.specs.Prelude.{◌≡◌, [], ◌∷◌}
-use Rattle.ir_core.specs.declared.names.Name.TheVariants.{Number}
+use Rattle.ir_types.specs.declared.names.Name.TheVariants.{Number}
 use Rattle.ir_core.specs.declared.expressions.Reg.TheVariants.{Now, Old, Ghost}
 use Rattle.ir_core.specs.declared.functions.Module.{Module}
 use Rattle.ir_core.specs.Modules.{scope_of, definitions_of}

@@ -1,6 +1,6 @@
 //! The names of the registers that facts speak of.
 ghost use Rattle.std.specs.Prelude.{◌≡◌, OnOk};
-ghost use Rattle.ir_core.specs.Same.{same_name};
+ghost use Rattle.ir_types.specs.Same.{same_name};
 ghost use Rattle.indexmap.specs.IndexSet.{insert_key};
 ghost use Rattle.fact_sets.specs.Names.{with_atom, with_expr, with_named, IsKept};
 

@@ -1,6 +1,6 @@
 //! Facts between two operands, found by either of them.
 ghost use Rattle.std.specs.Prelude.{◌≡◌, List, [], ◌++◌, OnOk};
-ghost use Rattle.ir_core.specs.declared.names.Name.{Name};
+ghost use Rattle.ir_types.specs.declared.names.Name.{Name};
 ghost use Rattle.ir_core.specs.declared.expressions.Reg.TheVariants.{Now};
 ghost use Rattle.ir_core.specs.Expressions.{map_atom};
 ghost use Rattle.erhl_assert.specs.declared.facts.Fact.{Fact};

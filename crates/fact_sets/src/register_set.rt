@@ -2,7 +2,7 @@ ghost use Rattle.std.specs.Prelude.{◌≡◌, [], IfOk, OnOk, OnErr, not, filte
 ghost use Rattle.ir_core.specs.declared.expressions.Reg.TheVariants.{Now};
 ghost use Rattle.erhl_assert.specs.Sides.{has_reg};
 ghost use Rattle.std.specs.List.{list_any};
-ghost use Rattle.ir_core.specs.Same.{same_name};
+ghost use Rattle.ir_types.specs.Same.{same_name};
 ghost use Rattle.erhl_assert.specs.Named.{name_of};
 ghost use Rattle.erhl_assert.specs.Postcondition.{with_reg, without_reg};
 ghost use Rattle.fact_sets.specs.Names.{of_kind, no_names, with_register, without_register, with_registers};

@@ -7,15 +7,16 @@ ghost use Rattle.ir_values.specs.Values.{same_kind};
 ghost use Rattle.erhl_assert.specs.Steps.{is_other};
 ghost use Rattle.function_lookup.specs.Defining.{definition_of, some_other_kind};
 
-use ir_core::{Block, Expr0, Function, Instr, Kind, Name, Param, Phi, Ty, kind_of};
+use contents::Exact;
+use ir_core::{BitType, Block, Expr0, Function, Instr, Kind, Name, Param, Phi, Ty, kind_of};
 use line_align::{ByName, Named};
 use std::alloc::{AllocError, Global};
 
-/// A register's definition, lent: its name and its type.
-#[derive(Drop, Clone, Copy)]
+/// A register's definition: its name, lent, and its type.
+#[derive(Drop)]
 pub(crate) struct Definition<'a> {
     pub(crate) name: &'a Name,
-    pub(crate) ty: &'a Ty,
+    pub(crate) ty: Ty,
 }
 
 impl<'a> Named for Definition<'a> {
@@ -26,15 +27,21 @@ impl<'a> Named for Definition<'a> {
     }
 }
 
+fn defined<'a>(alloc: Global, name: &'a Name, ty: &Ty) -> Result<Definition<'a>, AllocError>
+    ensures { IfOk result (λ definition. definition_of definition ≡ (name.now, ty.now)) }
+{
+    Ok(Definition {
+        name,
+        ty: ty.copy(alloc)?,
+    })
+}
+
 fn note_params<'a>(params: &'a [Param], found: &mut Vec<Definition<'a>>) -> Result<(), AllocError>
     ensures { OnOk result
         (map definition_of found.new.items ≡ map definition_of found.old.items ++ map (λ p. (p.name, p.ty)) params.now) }
 {
     for param in params {
-        found.push(Definition {
-            name: &param.name,
-            ty: &param.ty,
-        })?;
+        found.push(defined(*found.allocator(), &param.name, &param.ty)?)?;
     }
     Ok(())
 }
@@ -44,10 +51,7 @@ fn note_phis<'a>(phis: &'a [Phi], found: &mut Vec<Definition<'a>>) -> Result<(),
         (map definition_of found.new.items ≡ map definition_of found.old.items ++ phi_registers phis.now) }
 {
     for phi in phis {
-        found.push(Definition {
-            name: &phi.name,
-            ty: &phi.ty,
-        })?;
+        found.push(defined(*found.allocator(), &phi.name, &phi.ty)?)?;
     }
     Ok(())
 }
@@ -55,12 +59,10 @@ fn note_phis<'a>(phis: &'a [Phi], found: &mut Vec<Definition<'a>>) -> Result<(),
 fn note_lines<'a>(lines: &'a [Instr], found: &mut Vec<Definition<'a>>) -> Result<(), AllocError>
     ensures { OnOk result (map definition_of found.new.items ≡ map definition_of found.old.items ++ set_by lines.now) }
 {
+    let bit = BitType::new();
     for line in lines {
         let Instr::Calm(calm) = line;
-        found.push(Definition {
-            name: &calm.name,
-            ty: calm.right.ty(),
-        })?;
+        found.push(defined(*found.allocator(), &calm.name, calm.right.ty(&bit))?)?;
     }
     Ok(())
 }
@@ -110,9 +112,10 @@ fn same_kind(a: &Option<Kind>, b: &Option<Kind>) -> bool
 fn some_other_kind(definitions: &[&Definition<'_>], expr: &Expr0) -> bool
     ensures { result ≡ some_other_kind expr.now (map (λ d. d.now) definitions.now) }
 {
-    let kind = kind_of(expr.ty());
+    let bit = BitType::new();
+    let kind = kind_of(expr.ty(&bit));
     for definition in definitions {
-        if !same_kind(&kind_of(definition.ty), &kind) {
+        if !same_kind(&kind_of(&definition.ty), &kind) {
             return true;
         }
     }

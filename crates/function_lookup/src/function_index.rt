@@ -23,8 +23,12 @@ struct IndexedBlock<'a> {
 impl<'a> Model for IndexedBlock<'a> {
     ghost use Rattle.std.specs.Prelude.{◌≡◌};
     ghost use Rattle.ir_core.specs.declared.functions.Block.{Block};
+    ghost use Rattle.std.specs.Coded.{codes};
+    ghost use Rattle.ir_types.specs.contracts.ty.Ty as ty;
 
     ghost Value = { Block };
+
+    ghost coded = { Prim.hlevel (codes, ty.the_row.coded) };
 
     ghost view = { λ it. it.block.now };
 
@@ -82,8 +86,12 @@ impl<'a> Model for FunctionParts<'a> {
     ghost use Rattle.std.specs.Prelude.{◌≡◌, map, IfSome};
     ghost use Rattle.ir_core.specs.Functions.{typed_of};
     ghost use Rattle.function_lookup.specs.Defining.{definition_of};
+    ghost use Rattle.std.specs.Coded.{codes};
+    ghost use Rattle.ir_types.specs.contracts.ty.Ty as ty;
 
     ghost Value = { Function };
+
+    ghost coded = { Prim.hlevel (codes, ty.the_row.coded) };
 
     ghost view = { λ it. it.defining.now };
 
@@ -149,8 +157,12 @@ impl<'b, 'a> Model for FunctionIndex<'b, 'a> {
     ghost use Rattle.std.specs.Prelude.{◌≡◌, [], map, IfSome};
     ghost use Rattle.ir_core.specs.Functions.{typed_of};
     ghost use Rattle.function_lookup.specs.Defining.{definition_of};
+    ghost use Rattle.std.specs.Coded.{codes};
+    ghost use Rattle.ir_types.specs.contracts.ty.Ty as ty;
 
     ghost Value = { Function };
+
+    ghost coded = { Prim.hlevel (codes, ty.the_row.coded) };
 
     ghost view = { λ it. it.defining.now };
 

@@ -1,6 +1,6 @@
 -- The text of an expression or a name spells one thing, and none where it has a fault: its grammar is unambiguous.
-use Rattle.ir_core.specs.declared.names.Sigil.{Sigil}
-use Rattle.ir_core.specs.declared.names.Sigil.TheVariants.{Local, Global}
+use Rattle.ir_types.specs.declared.names.Sigil.{Sigil}
+use Rattle.ir_types.specs.declared.names.Sigil.TheVariants.{Local, Global}
 use Rattle.predictive.proofs.Selects.{unambiguous}
 use Rattle.ir_grammar.specs.Rules.{grammar}
 use Rattle.ir_grammar.proofs.Reading.{expression_text}

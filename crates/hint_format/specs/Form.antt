@@ -7,14 +7,14 @@ use Rattle.serde_json.specs.Data.{Data, string, array, no_items, item}
 use Rattle.serde_json.specs.Find.{as_number, as_u64}
 use Rattle.serde_json.specs.Written.{compact_text}
 use Rattle.ir_core.specs.declared.limits.Limit.TheVariants as limit
-use Rattle.ir_core.specs.declared.names.Name.{Name}
-use Rattle.ir_core.specs.declared.names.Sigil.{Sigil}
-use Rattle.ir_core.specs.declared.names.Sigil.TheVariants.{Local, Global}
+use Rattle.ir_types.specs.declared.names.Name.{Name}
+use Rattle.ir_types.specs.declared.names.Sigil.{Sigil}
+use Rattle.ir_types.specs.declared.names.Sigil.TheVariants.{Local, Global}
 use Rattle.ir_core.specs.declared.expressions.Reg.{Reg}
 use Rattle.ir_core.specs.declared.expressions.Reg.TheVariants.{Now, Old, Ghost}
 use Rattle.ir_core.specs.Expressions.{Expr0, expr_has}
 use Rattle.ir_core.specs.Limits.{text_limit}
-use Rattle.ir_core.specs.Same.{same_name}
+use Rattle.ir_types.specs.Same.{same_name}
 use Rattle.ir_spelling.specs.Faults.{IsShort}
 use Rattle.ir_spelling.specs.Spells.{SpellsExpression, SpellsName}
 use Rattle.ir_printer.specs.Printed.{printed_name, printed_expr, printed_register}

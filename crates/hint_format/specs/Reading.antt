@@ -2,8 +2,8 @@
 use Rattle.std.specs.Prelude.{◌⊎◌, if◌then◌else◌, ℕ, List, Ok, Err}
 use Rattle.std.proofs.Common.{inl, inr}
 use Rattle.std.specs.Str.{bytes_eq}
-use Rattle.ir_core.specs.declared.names.Name.{Name}
-use Rattle.ir_core.specs.declared.names.Sigil.{Sigil}
+use Rattle.ir_types.specs.declared.names.Name.{Name}
+use Rattle.ir_types.specs.declared.names.Sigil.{Sigil}
 use Rattle.ir_core.specs.Expressions.{Expr0}
 use Rattle.ir_printer.specs.Printed.{printed_name}
 use Rattle.ir_spelling.specs.declared.fault.TextFault.{TextFault}

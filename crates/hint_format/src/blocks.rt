@@ -8,7 +8,7 @@ use crate::facts::FactForm;
 use crate::steps::{EdgeForm, PlacedStepForm};
 use crate::texts::{NameText, RegisterText};
 use contents::Seq;
-use erhl_assert::{Assertion, HintBlock, Letter};
+use erhl_assert::{Assertion, HeldBlock, HintBlock, Letter};
 use ir_core::{Name, Sigil};
 use json_forms::{
     Failure, RowForm, Text, TextForm, has_members, member, optional, optional_list, under_key,
@@ -23,7 +23,7 @@ use std::alloc::Global;
 pub(crate) struct BlockForm;
 
 impl RowForm for BlockForm {
-    type Value = HintBlock;
+    type Value = HeldBlock;
 
     type Index = NameIndex;
 
@@ -39,9 +39,9 @@ impl RowForm for BlockForm {
         &self,
         alloc: Global,
         index: &mut NameIndex,
-        _before: &[HintBlock],
+        _before: &[HeldBlock],
         value: &Value<'_>,
-    ) -> Result<HintBlock, Failure> {
+    ) -> Result<HeldBlock, Failure> {
         let optional = ["diff", "edges", "lines", "src", "steps", "tgt"];
         if !has_members(value, &["at"], &optional) {
             return Err(unfit(alloc));
@@ -56,7 +56,7 @@ impl RowForm for BlockForm {
 }
 
 /// The hint of the block of that name.
-fn named_block(alloc: Global, name: Name, value: &Value<'_>) -> Result<HintBlock, Failure>
+fn named_block(alloc: Global, name: Name, value: &Value<'_>) -> Result<HeldBlock, Failure>
     ensures answers { Answers result (named_block read_leaves name (view value.now)) }
     ensures named { IfOk result (λ block. block.at ≡ name) }
 {
@@ -67,13 +67,14 @@ fn named_block(alloc: Global, name: Name, value: &Value<'_>) -> Result<HintBlock
     let src = optional_list(alloc, value, "src", &FactForm { may_be_old })?;
     let steps = optional_list(alloc, value, "steps", &PlacedStepForm)?;
     let tgt = optional_list(alloc, value, "tgt", &FactForm { may_be_old })?;
-    Ok(HintBlock {
+    let hint = HintBlock {
         at: name,
         lines,
         entry: Assertion { src, tgt, diff },
         steps,
         edges,
-    })
+    };
+    Ok(HeldBlock::new(alloc, hint)?)
 }
 
 /// One letter for each line.

@@ -6,7 +6,7 @@ ghost use Rattle.ir_printer.specs.Printed.{printed_name};
 ghost use Rattle.json_forms.specs.Answers.{Answers};
 ghost use Rattle.json_forms.specs.Forms.{read_then};
 ghost use Rattle.ir_core.specs.declared.expressions.Reg.TheVariants.{Now, Ghost};
-ghost use Rattle.ir_core.specs.declared.names.Sigil.TheVariants.{Local};
+ghost use Rattle.ir_types.specs.declared.names.Sigil.TheVariants.{Local};
 ghost use Rattle.ir_core.specs.Expressions.{atom_has, expr_has};
 ghost use Rattle.erhl_assert.specs.Edges.{is_old};
 ghost use Rattle.hint_format.specs.Form.{behind, expression_of_text, ghost_or_now, old_register, register_of_text};

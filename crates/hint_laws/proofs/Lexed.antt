@@ -4,9 +4,9 @@ use Rattle.std.specs.List.{list_all, take_while}
 use Rattle.std.proofs.lemmas.Bool.{and_parts, not-true, cond-true, cond-false}
 use Rattle.std.proofs.lemmas.List.Sums.{take_while-cons}
 use Rattle.std.proofs.Math.Seq.{drop-append_seam}
-use Rattle.ir_core.specs.declared.names.Sigil.{Sigil}
-use Rattle.ir_core.specs.declared.names.Sigil.TheVariants.{Local, Global}
-use Rattle.ir_core.specs.declared.names.Name.{Name}
+use Rattle.ir_types.specs.declared.names.Sigil.{Sigil}
+use Rattle.ir_types.specs.declared.names.Sigil.TheVariants.{Local, Global}
+use Rattle.ir_types.specs.declared.names.Name.{Name}
 use Rattle.ir_lexer.specs.declared.token.TokenKind.{TokenKind}
 use Rattle.ir_lexer.specs.Cut.{Cut, token, behind, cut}
 use Rattle.ir_lexer.specs.Names.{name_at}

@@ -8,7 +8,7 @@ use Rattle.ir_core.specs.declared.expressions.Reg.{Reg}
 use Rattle.ir_core.specs.declared.expressions.Select.{Select}
 use Rattle.ir_core.specs.declared.operands.Atom.{Atom}
 use Rattle.ir_core.specs.declared.operands.Operand.{Operand}
-use Rattle.ir_core.specs.declared.operands.Ty.{Ty}
+use Rattle.ir_types.specs.declared.ty.Ty.{Ty}
 use Rattle.ir_core.specs.Expressions.{Expr0}
 use Rattle.ir_core.specs.Words as words
 use Rattle.ir_lexer.specs.declared.token.TokenKind.{TokenKind}

@@ -4,8 +4,8 @@ use Rattle.std.specs.List.{list_all}
 use Rattle.std.specs.Char.{is_ascii_digit}
 use Rattle.std.specs.Fmt.{decimal, digits}
 use Rattle.std.proofs.lemmas.Bool.{agree_below_at, and_from, and_parts, cond-true, leb-true}
-use Rattle.ir_core.specs.declared.operands.Ty.{Ty}
-use Rattle.ir_core.specs.declared.operands.Ty.TheVariants.{Int, Void}
+use Rattle.ir_types.specs.declared.ty.Ty.{Ty}
+use Rattle.ir_types.specs.declared.ty.Ty.TheVariants.{Int}
 use Rattle.ir_core.specs.Types.{is_width}
 use Rattle.ir_lexer.specs.declared.token.TokenKind.{TokenKind}
 use Rattle.ir_lexer.specs.Pieces.{plain}
@@ -24,15 +24,15 @@ use Rattle.hint_laws.proofs.TokenWords as kinds
 -- the width of an integer type
 abbrev pub width : Ty → ℕ
 width (Int w) = w
-width Void = 0
+width t = 0
 
 pub type_is : (t : Ty) → IsWritableType t → t ≡ Int (width t)
 type_is (Int w) writable = refl
-type_is Void none = absurd none
+type_is t none = absurd none
 
 pub width_is : (t : Ty) → IsWritableType t → is_width (width t) ≡ true
 width_is (Int w) writable = writable
-width_is Void none = absurd none
+width_is t none = absurd none
 
 pub at_least_one : (w : ℕ) → is_width w ≡ true → 0 < w
 at_least_one w is = omega (arith, leb-true 1 w (and_parts _ _ is).0)
@@ -53,7 +53,7 @@ pub type_reads : (t : Ty) → IsWritableType t → Reads (printed_type t) (type_
 type_reads (Int w) writable =
     let small : w < 2 ^ 64 = omega (arith, at_most_64 w writable) in
     reads.word (105 ∷ decimal w) (letter_first (decimal w) (decimal_means w small).all)
-type_reads Void none = absurd none
+type_reads t none = absurd none
 
 -- ---- the symbol
 
@@ -79,4 +79,4 @@ width_said = width_word
 pub type_symbol : (t : Ty) → IsWritableType t → (start end : ℕ)
     → symbol_at Logic (type_token t) start end ≡ Width (record { what = width t; start = start; end = end })
 type_symbol (Int w) writable start end = ap (λ said. word_symbol said start end) (width_said w writable)
-type_symbol Void none start end = absurd none
+type_symbol t none start end = absurd none

@@ -8,13 +8,13 @@ use Rattle.std.proofs.lemmas.Bool.{and_parts, cond_both, cond-true, eqb-true, le
 use Rattle.std.proofs.lemmas.Bool.Decides.{nat_tests}
 use Rattle.ir_core.specs.declared.expressions.Reg.{Reg}
 use Rattle.ir_core.specs.declared.expressions.Reg.TheVariants.{Now, Old, Ghost}
-use Rattle.ir_core.specs.declared.names.Name.{Name}
-use Rattle.ir_core.specs.declared.names.Sigil.TheVariants.{Local}
+use Rattle.ir_types.specs.declared.names.Name.{Name}
+use Rattle.ir_types.specs.declared.names.Sigil.TheVariants.{Local}
 use Rattle.ir_core.specs.declared.operands.Atom.{Atom}
 use Rattle.ir_core.specs.declared.operands.Atom.TheVariants.{Constant, Register}
 use Rattle.ir_core.specs.declared.operands.Const.TheVariants as const
-use Rattle.ir_core.specs.declared.operands.Ty.{Ty}
-use Rattle.ir_core.specs.declared.operands.Ty.TheVariants.{Int, Void}
+use Rattle.ir_types.specs.declared.ty.Ty.{Ty}
+use Rattle.ir_types.specs.declared.ty.Ty.TheVariants.{Int, Void}
 use Rattle.ir_core.specs.Ranges.{IsNameInRange}
 use Rattle.ir_core.specs.Types.{is_width}
 use Rattle.ir_core.specs.Words as words
@@ -214,4 +214,4 @@ atom_read w (Register r) is writable = register_read w r writable
 
 pub value_read : (t : Ty) (atom : Atom Reg) → IsWritableType t → IsWritableAtom t atom → ReadsValue (width t) atom (printed_atom printed_register t atom)
 value_read (Int w) atom typed writable = atom_read w atom typed writable
-value_read Void atom none writable = absurd none
+value_read t atom none writable = absurd none

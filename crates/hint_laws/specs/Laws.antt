@@ -7,11 +7,11 @@ use Rattle.ir_core.specs.declared.expressions.Reg.{Reg}
 use Rattle.ir_core.specs.declared.expressions.Reg.TheVariants.{Now, Old, Ghost}
 use Rattle.ir_core.specs.declared.operands.Atom.{Atom}
 use Rattle.ir_core.specs.declared.operands.Atom.TheVariants.{Constant, Register}
-use Rattle.ir_core.specs.declared.names.Name.{Name}
-use Rattle.ir_core.specs.declared.names.Sigil.{Sigil}
+use Rattle.ir_types.specs.declared.names.Name.{Name}
+use Rattle.ir_types.specs.declared.names.Sigil.{Sigil}
 use Rattle.ir_core.specs.declared.operands.Operand.{Operand}
-use Rattle.ir_core.specs.declared.operands.Ty.{Ty}
-use Rattle.ir_core.specs.declared.operands.Ty.TheVariants as ty
+use Rattle.ir_types.specs.declared.ty.Ty.{Ty}
+use Rattle.ir_types.specs.declared.ty.Ty.TheVariants as ty
 use Rattle.ir_core.specs.Expressions.{Expr0, operands_in, type_of}
 use Rattle.ir_core.specs.Limits.{text_limit}
 use Rattle.ir_core.specs.Ranges.{AreFlagsInRange, IsNameInRange}
@@ -54,7 +54,7 @@ IsWritableAtom t (Register r) = IsWritableRegister r
 -- an integer type of 1 to 64 bits
 abbrev pub IsWritableType : Ty → Type 0
 IsWritableType (ty.Int width) = is_width width ≡ true
-IsWritableType ty.Void = ⊥
+IsWritableType t = ⊥
 
 abbrev pub IsWritableOperand : Operand Reg → Type 0
 IsWritableOperand o = IsWritableType o.ty × IsWritableAtom o.ty o.atom

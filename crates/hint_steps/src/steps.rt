@@ -16,7 +16,7 @@ use erhl_assert::{Fact, GhostStep, HintStep, Reason, RuleStep, SameStep, Side, e
 use erhl_sides::Sides;
 use fact_sets::IndexedSet;
 use function_lookup::FunctionIndex;
-use ir_core::{Atom, Expr, Expr0, Limit, Operand, Reg};
+use ir_core::{Atom, BitType, Expr, Expr0, Limit, Operand, Reg};
 use rule_base::{Fitness, RuleSet, has_type};
 use std::alloc::{AllocError, Global};
 
@@ -94,7 +94,8 @@ fn unfit(alloc: Global) -> Result<Reason, AllocError>
 fn register_at(alloc: Global, expr: &Expr0, register: &Reg) -> Result<Expr0, AllocError>
     ensures { IfOk result (λ made. made ≡ edges.register_at (type_of expr.now) register.now) }
 {
-    let ty = expr.ty().copy(alloc)?;
+    let bit = BitType::new();
+    let ty = expr.ty(&bit).copy(alloc)?;
     let atom = Atom::Register(register.copy(alloc)?);
     Ok(Expr::Plain(Operand { ty, atom }))
 }

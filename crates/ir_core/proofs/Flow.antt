@@ -9,18 +9,18 @@ use Rattle.ir_core.specs.declared.functions.Entry.{Entry}
 use Rattle.ir_core.specs.declared.functions.Function.{Function}
 use Rattle.ir_core.specs.declared.functions.Term.{Term}
 use Rattle.ir_core.specs.declared.functions.Term.TheVariants.{Ret, RetVoid, Br, Unreachable}
-use Rattle.ir_core.specs.declared.names.Name.{Name}
+use Rattle.ir_types.specs.declared.names.Name.{Name}
 use Rattle.ir_core.specs.declared.operands.Atom.{Atom}
 use Rattle.ir_core.specs.declared.operands.Atom.TheVariants.{Constant, Register}
 use Rattle.ir_core.specs.declared.operands.Const.TheVariants as constant
 use Rattle.ir_core.specs.declared.operands.Operand.{Operand}
-use Rattle.ir_core.specs.declared.operands.Ty.TheVariants.{Int, Void}
+use Rattle.ir_types.specs.declared.ty.Ty.TheVariants.{Int, Void}
 use Rattle.ir_core.specs.Examples.{alone, f, held, number, x, y}
 use Rattle.ir_core.specs.FlowExamples.{before_return, behind_phi, branching, choosing, ending, from_f, joining, looping, of_end, switching, z}
 use Rattle.ir_core.specs.FlowLaws.{CasesAreApart, JumpsGoToBlocks, PathsDefine, PhisFollowEdges}
 use Rattle.ir_core.specs.Functions.{cases_of, edges_into, names_in, operands_at_end, operands_in_block, params_of, registers_of, successors_of, typed_of}
 use Rattle.ir_core.specs.Ranges.{IsCaseInRange, IsInRange, IsNameInRange, IsOperandInRange}
-use Rattle.ir_core.specs.Same.{same_name}
+use Rattle.ir_types.specs.Same.{same_name}
 use Rattle.ir_core.specs.WellFormed.{AllUseDefined, BlockUsesDefined, BranchesOn, HasCases, HasShape, HasType, IsDefined, IsFunctionDefined, IsPath, PathUsesDefined, PhisUseDefined, Returns}
 use Rattle.ir_core.proofs.Operations.{other_type}
 use Rattle.ir_core.proofs.WellFormed.{in_none, in_one, in_two, name_f, name_x, name_y}

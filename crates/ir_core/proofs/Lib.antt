@@ -5,3 +5,4 @@ pub mod Shapes
 pub mod Operations
 pub mod Mapped
 pub mod Flow
+pub mod TypeExamples

@@ -3,7 +3,7 @@ use Rattle.std.proofs.Common.{◌≡◌, refl, ap, map}
 use Rattle.ir_core.specs.declared.expressions.Expr.{Expr}
 use Rattle.ir_core.specs.declared.expressions.Expr.TheVariants as expr
 use Rattle.ir_core.specs.declared.expressions.Reg.{Reg}
-use Rattle.ir_core.specs.declared.names.Name.{Name}
+use Rattle.ir_types.specs.declared.names.Name.{Name}
 use Rattle.ir_core.specs.declared.operands.Atom.{Atom}
 use Rattle.ir_core.specs.declared.operands.Atom.TheVariants.{Constant, Register}
 use Rattle.ir_core.specs.declared.operands.Operand.{Operand}

@@ -5,12 +5,12 @@ use Rattle.ir_core.specs.declared.operands.BinOp.TheVariants.{Add, UDiv, And}
 use Rattle.ir_core.specs.declared.operands.CastOp.{CastOp}
 use Rattle.ir_core.specs.declared.operands.CastOp.TheVariants.{ZExt, SExt, Trunc, BitCast}
 use Rattle.ir_core.specs.declared.operands.Flags.{Flags}
-use Rattle.ir_core.specs.declared.operands.Ty.{Ty}
-use Rattle.ir_core.specs.declared.operands.Ty.TheVariants.{Int, Void}
+use Rattle.ir_types.specs.declared.ty.Ty.{Ty}
+use Rattle.ir_types.specs.declared.ty.Ty.TheVariants.{Int, Void}
 use Rattle.ir_core.specs.Examples.{alone, compared, f, of_cast, of_flags, of_select, returning_nothing, x}
 use Rattle.ir_core.specs.Laws.{ComparisonsGiveBits, ConversionsChangeWidths, FlagsHaveOperators, LacksShapeAlone, SelectionsHaveOneType, VoidReturns}
 use Rattle.ir_core.specs.Ranges.{IsInRange, IsTypeInRange, may_have}
-use Rattle.ir_core.specs.Same.{same_ty}
+use Rattle.ir_types.specs.Same.{same_ty}
 use Rattle.ir_core.specs.Types.{converts, fits, is_width}
 use Rattle.ir_core.specs.WellFormed.{HasShape, IsDefined, IsWellFormed}
 use Rattle.ir_core.proofs.WellFormed.{defined, in_none, in_one, name_f, name_x}

@@ -1,9 +1,8 @@
 -- The tests of specs/Same are true exactly of equal things: two laws for each. Where a test takes the test of its elements
 -- or registers, its laws take theirs.
-use Rattle.std.proofs.Common.{◌≡◌, ◌∙◌, ℕ, zero, suc, Bool, true, false, ◌&&◌, refl, sym, ap, subst}
-use Rattle.ir_core.specs.declared.names.Name.{Name}
-use Rattle.ir_core.specs.declared.operands.Ty.{Ty}
-use Rattle.ir_core.specs.declared.operands.Ty.TheVariants as ty
+use Rattle.std.proofs.Common.{◌≡◌, ◌∙◌, ℕ, zero, suc, Bool, true, false, ◌&&◌, refl, sym, ap}
+use Rattle.ir_types.specs.declared.names.Name.{Name}
+use Rattle.ir_types.specs.declared.ty.Ty.{Ty}
 use Rattle.ir_core.specs.declared.operands.Const.{Const}
 use Rattle.ir_core.specs.declared.operands.Const.TheVariants as constant
 use Rattle.ir_core.specs.declared.operands.Atom.{Atom}
@@ -24,11 +23,10 @@ use Rattle.ir_core.specs.declared.expressions.Cast.{Cast}
 use Rattle.ir_core.specs.declared.expressions.Select.{Select}
 use Rattle.ir_core.specs.declared.expressions.Expr.{Expr}
 use Rattle.ir_core.specs.declared.expressions.Expr.TheVariants as expr
-pub use Rattle.ir_core.specs.NameLaws.{left_true, right_true, all_true, same_list_true, same_list_refl, same_nat_true, same_nat_refl, same_name_true, same_name_refl}
-use Rattle.ir_core.specs.Same.{same_bool, same_name, same_ty, same_const, same_atom, same_operand, op_code, same_op, cast_code, same_cast, pred_code, same_pred, same_flags, same_reg, same_binary, same_icmp, same_conversion, same_select, same_expr, IsEquality}
-
-pub equality : {A : Type 0} (same : A → A → Bool) → ((a b : A) → same a b ≡ true → a ≡ b) → ((a : A) → same a a ≡ true) → IsEquality same
-equality same true_of refl_of a b = (true_of a b, λ e. subst (λ c. same a c ≡ true) e (refl_of a))
+use Rattle.ir_types.specs.NameLaws.{left_true, right_true, all_true, same_nat_true, same_nat_refl, same_name_true, same_name_refl}
+use Rattle.ir_types.specs.Same.{same_name, same_ty}
+use Rattle.ir_types.proofs.SameLaws.{same_ty_true, same_ty_refl}
+use Rattle.ir_core.specs.Same.{same_bool, same_const, same_atom, same_operand, op_code, same_op, cast_code, same_cast, pred_code, same_pred, same_flags, same_reg, same_binary, same_icmp, same_conversion, same_select, same_expr}
 
 pub same_bool_true : (a b : Bool) → same_bool a b ≡ true → a ≡ b
 same_bool_true true true h = refl
@@ -39,16 +37,6 @@ same_bool_true false false h = refl
 pub same_bool_refl : (a : Bool) → same_bool a a ≡ true
 same_bool_refl true = refl
 same_bool_refl false = refl
-
-pub same_ty_true : (a b : Ty) → same_ty a b ≡ true → a ≡ b
-same_ty_true (ty.Int v) (ty.Int w) h = ap ty.Int (same_nat_true v w h)
-same_ty_true ty.Void ty.Void h = refl
-same_ty_true (ty.Int v) ty.Void h = cc
-same_ty_true ty.Void (ty.Int w) h = cc
-
-pub same_ty_refl : (a : Ty) → same_ty a a ≡ true
-same_ty_refl (ty.Int v) = same_nat_refl v
-same_ty_refl ty.Void = refl
 
 pub same_const_true : (a b : Const) → same_const a b ≡ true → a ≡ b
 same_const_true (constant.Number m) (constant.Number n) h = ap constant.Number (same_nat_true m n h)

@@ -2,15 +2,15 @@
 use Rattle.std.proofs.Common.{◌≡◌, zero, suc, ◌<◌, true, false, [], ◌∷◌, codes, refl, ap, arith}
 use Rattle.std.proofs.lemmas.List.Sorted.{length_permutation}
 use Rattle.std.specs.List.{Contains}
-use Rattle.ir_core.specs.declared.names.Name.{Name}
-use Rattle.ir_core.specs.declared.names.Name.TheVariants.{Text}
+use Rattle.ir_types.specs.declared.names.Name.{Name}
+use Rattle.ir_types.specs.declared.names.Name.TheVariants.{Text}
 use Rattle.ir_core.specs.declared.operands.Atom.TheVariants.{Register}
-use Rattle.ir_core.specs.declared.operands.Ty.{Ty}
-use Rattle.ir_core.specs.declared.operands.Ty.TheVariants.{Int, Void}
+use Rattle.ir_types.specs.declared.ty.Ty.{Ty}
+use Rattle.ir_types.specs.declared.ty.Ty.TheVariants.{Int, Void}
 use Rattle.ir_core.specs.Examples.{block, f, name_set_twice, no_operator, number, other_result, other_width, phi_of_no_edge, phi_of_nothing, returning, void_number, void_parameter, x, y}
 use Rattle.ir_core.specs.Laws.{DebugNamesAreNot, FunctionsOfOneNameAreNot, FunctionsWithoutBlocksAreNot, LinesWithoutOperatorsAreNot, NamesSetTwiceAreNot, OtherResultsAreNot, OtherWidthsAreNot, PhisOfNoEdgeAreNot, PhisOfNothingAreNot, VoidNumbersAreNot, VoidParametersAreNot}
 use Rattle.ir_core.specs.Ranges.{IsFunctionInRange, IsNameInRange}
-use Rattle.ir_core.specs.Same.{same_ty}
+use Rattle.ir_types.specs.Same.{same_ty}
 use Rattle.ir_core.specs.WellFormed.{IsFunctionDefined}
 use Rattle.ir_core.proofs.WellFormed.{defined, name_f, name_x, name_y}
 

@@ -3,15 +3,15 @@ use Rattle.std.proofs.Common.{◌≡◌, suc, zero, true, false, List, [], ◌�
 use Rattle.std.specs.List.{Contains}
 use Rattle.ir_core.specs.declared.functions.Block.{Block}
 use Rattle.ir_core.specs.declared.functions.Function.{Function}
-use Rattle.ir_core.specs.declared.names.Name.{Name}
-use Rattle.ir_core.specs.declared.names.Name.TheVariants.{Text}
+use Rattle.ir_types.specs.declared.names.Name.{Name}
+use Rattle.ir_types.specs.declared.names.Name.TheVariants.{Text}
 use Rattle.ir_core.specs.declared.operands.Atom.TheVariants.{Register}
-use Rattle.ir_core.specs.declared.operands.Ty.TheVariants.{Int}
+use Rattle.ir_types.specs.declared.ty.Ty.TheVariants.{Int}
 use Rattle.ir_core.specs.Examples.{add, block, f, function, number, x, y}
 use Rattle.ir_core.specs.Functions.{names_in, params_of, successors_of}
 use Rattle.ir_core.specs.Laws.{EarlyUsesAreNot, EmptyNamesAreNot, TwoBlocksAreWellFormed, WideNumbersAreNot}
 use Rattle.ir_core.specs.Ranges.{IsNameInRange}
-use Rattle.ir_core.specs.Same.{same_name}
+use Rattle.ir_types.specs.Same.{same_name}
 use Rattle.ir_core.specs.WellFormed.{BlockUsesDefined, IsFunctionDefined}
 
 pub in_none : (name : Name) → Contains [] name → ⊥

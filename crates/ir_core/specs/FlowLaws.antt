@@ -1,7 +1,7 @@
 -- Which functions of more than one block are well-formed.
 use Rattle.std.specs.Prelude.{◌≡◌, [], ◌∷◌}
 use Rattle.ir_core.specs.declared.functions.Term.TheVariants.{Br, Unreachable}
-use Rattle.ir_core.specs.declared.operands.Ty.TheVariants.{Int}
+use Rattle.ir_types.specs.declared.ty.Ty.TheVariants.{Int}
 use Rattle.ir_core.specs.Examples.{alone, f, x, y}
 use Rattle.ir_core.specs.FlowExamples.{before_return, branching, choosing, from_f, joining, looping, of_end, one_arm, switching, to_x}
 use Rattle.ir_core.specs.Functions.{successors_of}

@@ -4,13 +4,13 @@ use Rattle.std.specs.Prelude.{◌≡◌, false, true, [], ◌∷◌, map}
 use Rattle.ir_core.specs.declared.expressions.Expr.{Expr}
 use Rattle.ir_core.specs.declared.expressions.Reg.{Reg}
 use Rattle.ir_core.specs.declared.functions.Function.{Function}
-use Rattle.ir_core.specs.declared.names.Name.{Name}
+use Rattle.ir_types.specs.declared.names.Name.{Name}
 use Rattle.ir_core.specs.declared.operands.BinOp.TheVariants as op
 use Rattle.ir_core.specs.declared.operands.CastOp.TheVariants.{ZExt, SExt, Trunc, BitCast}
-use Rattle.ir_core.specs.declared.operands.Ty.TheVariants.{Int, Void}
+use Rattle.ir_types.specs.declared.ty.Ty.TheVariants.{Int, Void}
 use Rattle.ir_core.specs.Examples.{add_exact, add_nuw_nsw, alone, and_nsw, compared, comparing, debug_name, early_use, empty_name, extending, f, held, name_set_twice, no_blocks, no_operator, of_cast, of_select, other_result, other_width, phi_of_no_edge, phi_of_nothing, returning_nothing, selecting, two_blocks, two_of_one_name, udiv_exact, udiv_nuw, void_number, void_parameter, wide_number, x, y}
 use Rattle.ir_core.specs.Expressions.{expr_has, map_expr, map_operand, operands_in, type_of}
-use Rattle.ir_core.specs.Same.{same_name}
+use Rattle.ir_types.specs.Same.{same_name}
 use Rattle.ir_core.specs.Ranges.{IsInRange, may_leave, may_wrap}
 use Rattle.ir_core.specs.WellFormed.{HasShape, IsDefined, IsWellFormed}
 

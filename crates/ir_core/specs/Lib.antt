@@ -5,8 +5,6 @@ pub mod Same
 pub mod Expressions
 pub mod Words
 pub mod Modules
-pub mod NameLaws
-pub mod Hashed
 pub mod Functions
 pub mod Order
 pub mod Ranges
@@ -15,3 +13,4 @@ pub mod Examples
 pub mod Laws
 pub mod FlowExamples
 pub mod FlowLaws
+pub mod TypeLaws

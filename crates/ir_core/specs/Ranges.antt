@@ -9,8 +9,8 @@ use Rattle.ir_core.specs.declared.functions.Function.{Function}
 use Rattle.ir_core.specs.declared.functions.Instr.{Instr}
 use Rattle.ir_core.specs.declared.functions.Instr.TheVariants as instr
 use Rattle.ir_core.specs.declared.functions.Module.{Module}
-use Rattle.ir_core.specs.declared.names.Name.{Name}
-use Rattle.ir_core.specs.declared.names.Name.TheVariants.{Text, Number}
+use Rattle.ir_types.specs.declared.names.Name.{Name}
+use Rattle.ir_types.specs.declared.names.Name.TheVariants.{Text, Number}
 use Rattle.ir_core.specs.declared.operands.Atom.{Atom}
 use Rattle.ir_core.specs.declared.operands.Atom.TheVariants.{Constant, Register}
 use Rattle.ir_core.specs.declared.operands.BinOp.{BinOp}
@@ -18,8 +18,8 @@ use Rattle.ir_core.specs.declared.operands.BinOp.TheVariants.{Add, Sub, Mul, Shl
 use Rattle.ir_core.specs.declared.operands.Const.TheVariants as constant
 use Rattle.ir_core.specs.declared.operands.Flags.{Flags}
 use Rattle.ir_core.specs.declared.operands.Operand.{Operand}
-use Rattle.ir_core.specs.declared.operands.Ty.{Ty}
-use Rattle.ir_core.specs.declared.operands.Ty.TheVariants as ty
+use Rattle.ir_types.specs.declared.ty.Ty.{Ty}
+use Rattle.ir_types.specs.declared.ty.Ty.TheVariants as ty
 use Rattle.ir_core.specs.Functions.{cases_of, line_count, names_of, operands_in_block, typed_of}
 use Rattle.ir_core.specs.Limits.{line_limit}
 use Rattle.ir_core.specs.Types.{constant_fits, is_width}
@@ -32,10 +32,11 @@ abbrev pub IsNameInRange : Name → Type 0
 IsNameInRange (Text bytes) = (0 < length bytes) × AreBytes bytes
 IsNameInRange (Number n) = n < 2 ^ 32
 
--- an integer has 1 to 64 bits
+-- an integer has 1 to 64 bits; no text writes a type yet that is none, nor `void`
 abbrev pub IsTypeInRange : Ty → Type 0
 IsTypeInRange (ty.Int width) = is_width width ≡ true
 IsTypeInRange ty.Void = Unit {0}
+IsTypeInRange t = ⊥
 
 -- A number has no more bits than its type: 255 is one of `i8`, 256 is none.
 abbrev pub IsAtomInRange : {R : Type 0} → Ty → Atom R → Type 0

@@ -1,10 +1,7 @@
 -- Whether two parts of a syntax tree are the same, as tests that compute. Each is true exactly of equal things, which is
 -- the contract of `tests_are_equality`.
-use Rattle.std.specs.Prelude.{◌≡◌, ◌↔◌, ℕ, Bool, true, false, ◌&&◌, List, [], ◌∷◌, nat_eq}
-use Rattle.ir_core.specs.declared.names.Name.{Name}
-use Rattle.ir_core.specs.declared.names.Name.TheVariants as name
-use Rattle.ir_core.specs.declared.operands.Ty.{Ty}
-use Rattle.ir_core.specs.declared.operands.Ty.TheVariants as ty
+use Rattle.std.specs.Prelude.{ℕ, Bool, true, false, ◌&&◌, nat_eq}
+use Rattle.ir_types.specs.Same.{same_name, same_ty}
 use Rattle.ir_core.specs.declared.operands.Const.{Const}
 use Rattle.ir_core.specs.declared.operands.Const.TheVariants as constant
 use Rattle.ir_core.specs.declared.operands.Atom.{Atom}
@@ -26,28 +23,10 @@ use Rattle.ir_core.specs.declared.expressions.Select.{Select}
 use Rattle.ir_core.specs.declared.expressions.Expr.{Expr}
 use Rattle.ir_core.specs.declared.expressions.Expr.TheVariants as expr
 
-abbrev pub same_list : {A : Type 0} → (A → A → Bool) → List A → List A → Bool
-same_list same [] [] = true
-same_list same (x ∷ xs) (y ∷ ys) = same x y && same_list same xs ys
-same_list same [] (y ∷ ys) = false
-same_list same (x ∷ xs) [] = false
-
 abbrev pub same_bool : Bool → Bool → Bool
 same_bool true b = b
 same_bool false true = false
 same_bool false false = true
-
-abbrev pub same_name : Name → Name → Bool
-same_name (name.Text a) (name.Text b) = same_list nat_eq a b
-same_name (name.Number m) (name.Number n) = nat_eq m n
-same_name (name.Text a) (name.Number n) = false
-same_name (name.Number m) (name.Text b) = false
-
-abbrev pub same_ty : Ty → Ty → Bool
-same_ty (ty.Int v) (ty.Int w) = nat_eq v w
-same_ty ty.Void ty.Void = true
-same_ty (ty.Int v) ty.Void = false
-same_ty ty.Void (ty.Int w) = false
 
 abbrev pub same_const : Const → Const → Bool
 same_const (constant.Number m) (constant.Number n) = nat_eq m n
@@ -144,7 +123,3 @@ same_expr same (expr.Icmp a) (expr.Icmp b) = same_icmp same a b
 same_expr same (expr.Cast a) (expr.Cast b) = same_conversion same a b
 same_expr same (expr.Select a) (expr.Select b) = same_select same a b
 same_expr same a b = false
-
--- the test is true exactly of equal things
-abbrev pub IsEquality : {A : Type 0} → (A → A → Bool) → Type 0
-IsEquality {A} same = (a b : A) → (same a b ≡ true) ↔ (a ≡ b)

@@ -4,11 +4,11 @@ use Rattle.ir_core.specs.declared.operands.CastOp.{CastOp}
 use Rattle.ir_core.specs.declared.operands.CastOp.TheVariants as conversion
 use Rattle.ir_core.specs.declared.operands.Const.{Const}
 use Rattle.ir_core.specs.declared.operands.Const.TheVariants as constant
-use Rattle.ir_core.specs.declared.operands.Ty.{Ty}
-use Rattle.ir_core.specs.declared.operands.Ty.TheVariants as ty
+use Rattle.ir_types.specs.declared.ty.Ty.{Ty}
+use Rattle.ir_types.specs.declared.ty.Ty.TheVariants as ty
 use Rattle.ir_core.specs.declared.values.Kind.{Kind}
 use Rattle.ir_core.specs.declared.values.Kind.TheVariants as kind
-use Rattle.ir_core.specs.Same.{same_ty}
+use Rattle.ir_types.specs.Same.{same_ty}
 
 -- an integer has 1 to 64 bits
 abbrev pub is_width : ℕ → Bool
@@ -21,26 +21,25 @@ fits number width = nat_lt number (2 ^ width)
 -- A number at a type: an integer is kept modulo 2 to its width, so that 511 at i8 is 255.
 abbrev pub number_at : Ty → ℕ → ℕ
 number_at (ty.Int width) n = n % 2 ^ width
-number_at ty.Void n = n
+number_at t n = n
 
 -- the constant is one of the type's values, or undef
 abbrev pub constant_fits : Ty → Const → Bool
 constant_fits (ty.Int width) (constant.Number n) = fits n width
 constant_fits (ty.Int width) constant.Undef = true
-constant_fits ty.Void c = false
+constant_fits t c = false
 
 -- integers of 1 to 64 bits have a kind; other types have no values
 abbrev pub kind_of : Ty → Option Kind
 kind_of (ty.Int width) = cond (is_width width) (Some (kind.Int width)) None
-kind_of ty.Void = None
+kind_of t = None
 
 -- ---- conversions
 
 -- an integer type of fewer bits than another
 abbrev pub is_narrower : Ty → Ty → Bool
 is_narrower (ty.Int few) (ty.Int many) = nat_lt few many
-is_narrower (ty.Int few) ty.Void = false
-is_narrower ty.Void t = false
+is_narrower from to = false
 
 -- A conversion leads from one type to another: `zext` and `sext` to a wider one, `trunc` to a narrower one, `bitcast` to the same.
 abbrev pub converts : CastOp → Ty → Ty → Bool

@@ -13,12 +13,12 @@ use Rattle.ir_core.specs.declared.functions.Module.{Module}
 use Rattle.ir_core.specs.declared.functions.Phi.{Phi}
 use Rattle.ir_core.specs.declared.functions.Term.{Term}
 use Rattle.ir_core.specs.declared.functions.Term.TheVariants as term
-use Rattle.ir_core.specs.declared.names.Name.{Name}
+use Rattle.ir_types.specs.declared.names.Name.{Name}
 use Rattle.ir_core.specs.declared.operands.Atom.{Atom}
 use Rattle.ir_core.specs.declared.operands.Atom.TheVariants.{Constant, Register}
 use Rattle.ir_core.specs.declared.operands.Operand.{Operand}
-use Rattle.ir_core.specs.declared.operands.Ty.{Ty}
-use Rattle.ir_core.specs.declared.operands.Ty.TheVariants as ty
+use Rattle.ir_types.specs.declared.ty.Ty.{Ty}
+use Rattle.ir_types.specs.declared.ty.Ty.TheVariants as ty
 use Rattle.ir_core.specs.Functions.{edges_into, function_names, is_debug, names_in, names_of, operands_at_end, operands_in_block, operands_of, params_of, phi_registers, registers_of, set_by, successors_of, typed_of}
 use Rattle.ir_core.specs.Order.{AreNew}
 use Rattle.ir_core.specs.Ranges.{IsInRange}
@@ -29,7 +29,7 @@ use Rattle.ir_core.specs.Types.{converts, number_at}
 -- a type of values
 abbrev pub IsFirstClass : Ty → Type 0
 IsFirstClass (ty.Int width) = Unit {0}
-IsFirstClass ty.Void = ⊥
+IsFirstClass t = ⊥
 
 -- the stated type is the register's own; a constant's is one of values
 abbrev pub HasType : List (Name × Ty) → Ty → Atom Name → Type 0
@@ -38,7 +38,7 @@ HasType registers t (Register name) = Contains registers (name, t)
 
 abbrev pub IsInteger : Ty → Type 0
 IsInteger (ty.Int width) = Unit {0}
-IsInteger ty.Void = ⊥
+IsInteger t = ⊥
 
 -- An operator over operands of types that it takes, and no operand alone: a binary one and `icmp` take integers, and `select` takes
 -- an i1 and two arms of one type.

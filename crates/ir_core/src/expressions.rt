@@ -1,7 +1,7 @@
 ghost use Rattle.std.specs.Prelude.{◌≡◌};
 ghost use Rattle.ir_core.specs.Expressions.{type_of};
 
-use crate::{Atom, BinOp, CastOp, Flags, Name, Operand, Pred, Ty};
+use crate::{Atom, BinOp, BitType, CastOp, Flags, Name, Operand, Pred, Ty};
 use contents::Exact;
 use std::alloc::{AllocError, Global};
 
@@ -22,9 +22,6 @@ impl Drop for Reg {
         }
     }
 }
-
-/// `i1`, the type of what a comparison gives.
-const BIT: &'static Ty = &Ty::Int(1);
 
 /// The right side of a line, or an expression of the logic, over the registers that it names: one operand, or one
 /// operator over operands. No text has a line of one operand alone.
@@ -51,13 +48,13 @@ impl<R: Drop> Drop for Expr<R> {
 impl<R> Expr<R> {
     /// The type of what it gives, as the text states it: a comparison's is `i1`, a conversion's the one that stands behind `to`, a
     /// selection's that of its first arm.
-    pub fn ty(&self) -> &Ty
+    pub fn ty<'a>(&'a self, bit: &'a BitType) -> &'a Ty
         ensures { result.now ≡ type_of self.now }
     {
         match self {
             Expr::Plain(operand) => &operand.ty,
             Expr::Binary(binary) => &binary.ty,
-            Expr::Icmp(_) => BIT,
+            Expr::Icmp(_) => bit.get(),
             Expr::Cast(cast) => &cast.to,
             Expr::Select(select) => &select.left.ty,
         }

@@ -3,6 +3,7 @@ ghost use Rattle.ir_core.specs.Laws.{OtherWidthsAreNot, OtherResultsAreNot, Void
 ghost use Rattle.ir_core.specs.Laws.{LinesWithoutOperatorsAreNot, PhisOfNoEdgeAreNot, PhisOfNothingAreNot};
 ghost use Rattle.ir_core.specs.Laws.{FunctionsOfOneNameAreNot, NamesSetTwiceAreNot, DebugNamesAreNot, FunctionsWithoutBlocksAreNot};
 ghost use Rattle.ir_core.specs.Laws.{ConversionsChangeWidths, SelectionsHaveOneType, ComparisonsGiveBits, FlagsHaveOperators, OperatorsOfFlags, VoidReturns, ExpressionsAreRead, ExpressionsAreMapped};
+ghost use Rattle.ir_core.specs.TypeLaws.{IntegersHaveKinds, OtherTypesAreNot};
 ghost use Rattle.ir_core.specs.FlowLaws.{JumpsGoToBlocks, PhisFollowEdges, CasesAreApart, PathsDefine, SuccessorsInOrder};
 
 /// Empty on purpose: its contract is the law.
@@ -25,6 +26,16 @@ pub fn examples_of_types()
     ensures other_result { OtherResultsAreNot }
     ensures void_parameter { VoidParametersAreNot }
     ensures void_number { VoidNumbersAreNot }
+{}
+
+/// Empty on purpose: its contract is the law.
+///
+/// An integer of 1 to 64 bits has a kind, and no other type has one. No parameter nor what is returned is of such a type in a module that
+/// has shape, and no function of a well-formed one has it for its result.
+#[tactic(auto, using(crate::proofs::TypeExamples::integers_have_kinds, crate::proofs::TypeExamples::other_types_are_not))]
+pub fn examples_of_kinds()
+    ensures kinds { IntegersHaveKinds }
+    ensures other_types { OtherTypesAreNot }
 {}
 
 /// Empty on purpose: its contract is the law.

@@ -4,34 +4,35 @@
 //! A value of these types is plain data to a contract: two are equal exactly where `Exact::is` says so.
 #![tactic(auto)]
 
+mod bit_type;
 mod bits;
 mod expressions;
 mod functions;
 mod laws;
 mod limits;
-mod names;
 mod operands;
 mod same;
 mod types;
 mod values;
 mod words;
 
+pub use bit_type::BitType;
 pub use bits::Bits;
 pub use expressions::{Binary, Cast, Expr, Expr0, Icmp, Reg, Select};
 pub use functions::{
     Block, Calm, Case, CondBr, Entry, Function, Instr, Module, Param, Phi, Switch, Term,
 };
+pub use ir_types::{Name, Sigil, Ty, same_name, same_ty};
 pub use laws::{
-    examples_of_control_flow, examples_of_expressions, examples_of_lines,
+    examples_of_control_flow, examples_of_expressions, examples_of_kinds, examples_of_lines,
     examples_of_names_and_blocks, examples_of_operations, examples_of_types,
     examples_of_well_formedness,
 };
 pub use limits::Limit;
-pub use names::{Name, Sigil};
-pub use operands::{Atom, BinOp, CastOp, Const, Flags, Operand, Pred, Ty};
+pub use operands::{Atom, BinOp, CastOp, Const, Flags, Operand, Pred};
 pub use same::{
-    same_cast, same_const, same_expr, same_flags, same_name, same_name_atom, same_name_operand,
-    same_op, same_pred, same_reg, same_reg_atom, same_reg_operand, same_ty, tests_are_equality,
+    same_cast, same_const, same_expr, same_flags, same_name_atom, same_name_operand, same_op,
+    same_pred, same_reg, same_reg_atom, same_reg_operand, tests_are_equality,
 };
 pub use types::{converts, fits, is_width, kind_of};
 pub use values::{Kind, Value};

@@ -1,25 +1,9 @@
 ghost use Rattle.std.specs.Prelude.{◌≡◌};
 ghost use Rattle.ir_core.specs.Same as same;
 
-use crate::{Bits, Name};
+use crate::{Bits, Ty};
 use contents::Exact;
 use std::alloc::{AllocError, Global};
-
-/// A type (LangRef 3.7, Type System).
-pub enum Ty {
-    /// `iN`, of that many bits.
-    Int(u32),
-    Void,
-}
-
-impl Drop for Ty {
-    fn drop(self) {
-        match self {
-            Ty::Int(_) => {}
-            Ty::Void => {}
-        }
-    }
-}
 
 /// A constant (LangRef 3.7, Constants). What it is worth depends on the type that stands beside it.
 pub enum Const {
@@ -113,23 +97,6 @@ pub enum Pred {
     Sge,
     Slt,
     Sle,
-}
-
-impl Exact for Ty {
-    fn is(&self, other: &Ty) -> bool {
-        match (self, other) {
-            (Ty::Int(mine), Ty::Int(theirs)) => *mine == *theirs,
-            (Ty::Void, Ty::Void) => true,
-            _ => false,
-        }
-    }
-
-    fn copy(&self, _alloc: Global) -> Result<Ty, AllocError> {
-        match self {
-            Ty::Int(width) => Ok(Ty::Int(*width)),
-            Ty::Void => Ok(Ty::Void),
-        }
-    }
 }
 
 impl Exact for Const {

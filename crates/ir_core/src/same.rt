@@ -1,23 +1,10 @@
 //! Exact comparison, said as the tests of `specs/Same.antt`, with which definitions compute.
 ghost use Rattle.std.specs.Prelude.{◌≡◌};
 ghost use Rattle.ir_core.specs.Same as same;
+ghost use Rattle.ir_types.specs.Same.{IsEquality, same_name, same_ty};
 
-use crate::{Atom, BinOp, CastOp, Const, Expr0, Flags, Name, Operand, Pred, Reg, Ty};
+use crate::{Atom, BinOp, CastOp, Const, Expr0, Flags, Name, Operand, Pred, Reg};
 use contents::Exact;
-
-#[tactic(auto, using(crate::proofs::SameLaws::same_name_true, crate::proofs::SameLaws::same_name_refl))]
-pub fn same_name(a: &Name, b: &Name) -> bool
-    ensures { result ≡ same.same_name a.now b.now }
-{
-    a.is(b)
-}
-
-#[tactic(auto, using(crate::proofs::SameLaws::same_ty_true, crate::proofs::SameLaws::same_ty_refl))]
-pub fn same_ty(a: &Ty, b: &Ty) -> bool
-    ensures { result ≡ same.same_ty a.now b.now }
-{
-    a.is(b)
-}
 
 #[tactic(auto, using(crate::proofs::SameLaws::same_const_true, crate::proofs::SameLaws::same_const_refl))]
 pub fn same_const(a: &Const, b: &Const) -> bool
@@ -70,7 +57,7 @@ pub fn same_expr(a: &Expr0, b: &Expr0) -> bool
 
 #[tactic(auto, using(crate::proofs::SameLaws::same_name_atom_true, crate::proofs::SameLaws::same_name_atom_refl))]
 pub fn same_name_atom(a: &Atom<Name>, b: &Atom<Name>) -> bool
-    ensures { result ≡ same.same_atom same.same_name a.now b.now }
+    ensures { result ≡ same.same_atom same_name a.now b.now }
 {
     a.is(b)
 }
@@ -84,7 +71,7 @@ pub fn same_reg_atom(a: &Atom<Reg>, b: &Atom<Reg>) -> bool
 
 #[tactic(auto, using(crate::proofs::SameLaws::same_name_operand_true, crate::proofs::SameLaws::same_name_operand_refl))]
 pub fn same_name_operand(a: &Operand<Name>, b: &Operand<Name>) -> bool
-    ensures { result ≡ same.same_operand same.same_name a.now b.now }
+    ensures { result ≡ same.same_operand same_name a.now b.now }
 {
     a.is(b)
 }
@@ -98,20 +85,20 @@ pub fn same_reg_operand(a: &Operand<Reg>, b: &Operand<Reg>) -> bool
 
 /// Empty on purpose: its contract is the law.
 ///
-/// Each of the tests above is true exactly of equal things.
+/// Each of the tests above, and of names and types, is true exactly of equal things.
 pub fn tests_are_equality()
-    ensures names { same.IsEquality same.same_name }
-    ensures types { same.IsEquality same.same_ty }
-    ensures constants { same.IsEquality same.same_const }
-    ensures operators { same.IsEquality same.same_op }
-    ensures conversions { same.IsEquality same.same_cast }
-    ensures predicates { same.IsEquality same.same_pred }
-    ensures flags { same.IsEquality same.same_flags }
-    ensures registers { same.IsEquality same.same_reg }
-    ensures atoms { same.IsEquality (same.same_atom same.same_name) }
-    ensures operands { same.IsEquality (same.same_operand same.same_name) }
-    ensures lines { same.IsEquality (same.same_expr same.same_name) }
-    ensures atoms_in_logic { same.IsEquality (same.same_atom same.same_reg) }
-    ensures operands_in_logic { same.IsEquality (same.same_operand same.same_reg) }
-    ensures expressions { same.IsEquality (same.same_expr same.same_reg) }
+    ensures names { IsEquality same_name }
+    ensures types { IsEquality same_ty }
+    ensures constants { IsEquality same.same_const }
+    ensures operators { IsEquality same.same_op }
+    ensures conversions { IsEquality same.same_cast }
+    ensures predicates { IsEquality same.same_pred }
+    ensures flags { IsEquality same.same_flags }
+    ensures registers { IsEquality same.same_reg }
+    ensures atoms { IsEquality (same.same_atom same_name) }
+    ensures operands { IsEquality (same.same_operand same_name) }
+    ensures lines { IsEquality (same.same_expr same_name) }
+    ensures atoms_in_logic { IsEquality (same.same_atom same.same_reg) }
+    ensures operands_in_logic { IsEquality (same.same_operand same.same_reg) }
+    ensures expressions { IsEquality (same.same_expr same.same_reg) }
 {}

@@ -31,7 +31,7 @@ pub fn kind_of(ty: &Ty) -> Option<Kind>
                 None
             }
         }
-        Ty::Void => None,
+        _ => None,
     }
 }
 

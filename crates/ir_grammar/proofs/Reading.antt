@@ -1,8 +1,8 @@
 -- Each rule makes what is written as its right side, and each thing that is written has a derivation.
 use Rattle.std.proofs.Common.{◌≡◌, ℕ, zero, suc, Bool, List, [], ◌∷◌, ◌++◌, length, nat_lt, true, false, Option, Some, None, refl, append_assoc, ◌∙◌}
 use Rattle.std.specs.List.{flat_map}
-use Rattle.ir_core.specs.declared.names.Name.{Name}
-use Rattle.ir_core.specs.declared.names.Name.TheVariants as name_of
+use Rattle.ir_types.specs.declared.names.Name.{Name}
+use Rattle.ir_types.specs.declared.names.Name.TheVariants as name_of
 use Rattle.ir_core.specs.declared.operands.CastOp.TheVariants.{Trunc}
 use Rattle.ir_core.specs.declared.operands.Pred.TheVariants.{Eq}
 use Rattle.ir_grammar.specs.declared.operators.ExactOp.TheVariants.{LShr}

@@ -1,7 +1,7 @@
 -- A tree of each form, the places in it counted as if it stood at the beginning of a text, and the symbols of its tokens.
 use Rattle.std.specs.Prelude.{ℕ, Bool, true, false, List, [], ◌∷◌, codes, Some, None}
-use Rattle.ir_core.specs.declared.names.Name.{Name}
-use Rattle.ir_core.specs.declared.names.Name.TheVariants as name
+use Rattle.ir_types.specs.declared.names.Name.{Name}
+use Rattle.ir_types.specs.declared.names.Name.TheVariants as name
 use Rattle.ir_core.specs.declared.operands.CastOp.TheVariants.{ZExt}
 use Rattle.ir_core.specs.declared.operands.Pred.TheVariants.{Ult}
 use Rattle.ir_lexer.specs.declared.token.Number.{Number}

@@ -1,6 +1,6 @@
 -- The kinds of symbols: what a symbol of a kind says beside its kind, and how that stands on the stack.
 use Rattle.std.specs.Prelude.{ℕ, zero, suc, Bool, List, [], ◌∷◌, Option, Some, None}
-use Rattle.ir_core.specs.declared.names.Name.{Name}
+use Rattle.ir_types.specs.declared.names.Name.{Name}
 use Rattle.ir_core.specs.declared.operands.CastOp.{CastOp}
 use Rattle.ir_core.specs.declared.operands.Pred.{Pred as Predicate}
 use Rattle.ir_lexer.specs.declared.token.Number.{Number as Numeral}

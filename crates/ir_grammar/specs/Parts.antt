@@ -1,6 +1,6 @@
 -- What a part of the stack is, if it is one of this form: of one of four groups, and in that of one form.
 use Rattle.std.specs.Prelude.{ℕ, Bool, List, Option, Some, None, option_and_then}
-use Rattle.ir_core.specs.declared.names.Name.{Name}
+use Rattle.ir_types.specs.declared.names.Name.{Name}
 use Rattle.ir_core.specs.declared.operands.CastOp.{CastOp}
 use Rattle.ir_core.specs.declared.operands.Pred.{Pred as Predicate}
 use Rattle.ir_lexer.specs.declared.token.Number.{Number}

@@ -1,6 +1,6 @@
 -- The grammar, without shared beginnings, and what each rule makes.
 use Rattle.std.specs.Prelude.{ℕ, true, false, List, [], ◌∷◌, Option, Some, None}
-use Rattle.ir_core.specs.declared.names.Name.{Name}
+use Rattle.ir_types.specs.declared.names.Name.{Name}
 use Rattle.ir_grammar.specs.declared.parts.Part.{Part}
 use Rattle.ir_grammar.specs.declared.trees.BehindText.{BehindText}
 use Rattle.ir_grammar.specs.declared.trees.BehindText.TheVariants as behind_text

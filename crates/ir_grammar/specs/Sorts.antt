@@ -2,7 +2,7 @@
 -- on the stack as a leaf.
 use Rattle.std.specs.Prelude.{ℕ, zero, suc, Bool, List, [], ◌∷◌, map, Option}
 use Rattle.std.specs.List.{flat_map}
-use Rattle.ir_core.specs.declared.names.Name.{Name}
+use Rattle.ir_types.specs.declared.names.Name.{Name}
 use Rattle.ir_grammar.specs.declared.operators.FlagWord.{FlagWord}
 use Rattle.ir_grammar.specs.declared.parts.Atom.TheVariants as atom
 use Rattle.ir_grammar.specs.declared.parts.Leaf.TheVariants as leaf

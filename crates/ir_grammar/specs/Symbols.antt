@@ -1,6 +1,6 @@
 -- Symbols: what a tree is written as, and what symbol a token is.
 use Rattle.std.specs.Prelude.{ℕ, suc, Bool, ◌==◌, List, if◌then◌else◌}
-use Rattle.ir_core.specs.declared.names.Name.{Name}
+use Rattle.ir_types.specs.declared.names.Name.{Name}
 use Rattle.ir_core.specs.declared.operands.CastOp.{CastOp}
 use Rattle.ir_core.specs.declared.operands.Pred.{Pred as Predicate}
 use Rattle.ir_lexer.specs.declared.token.Number.{Number}

@@ -1,9 +1,9 @@
 -- The grammar: how each thing is written, as symbols.
 use Rattle.std.specs.Prelude.{ℕ, Bool, true, false, List, [], ◌∷◌, ◌++◌, map, Option, Some, None}
 use Rattle.std.specs.List.{flat_map}
-use Rattle.ir_core.specs.declared.names.Name.{Name}
-use Rattle.ir_core.specs.declared.names.Sigil.{Sigil}
-use Rattle.ir_core.specs.declared.names.Sigil.TheVariants as sigil
+use Rattle.ir_types.specs.declared.names.Name.{Name}
+use Rattle.ir_types.specs.declared.names.Sigil.{Sigil}
+use Rattle.ir_types.specs.declared.names.Sigil.TheVariants as sigil
 use Rattle.ir_grammar.specs.declared.trees.BinaryText.{BinaryText}
 use Rattle.ir_grammar.specs.declared.trees.BehindText.{BehindText}
 use Rattle.ir_grammar.specs.declared.trees.BehindText.TheVariants as behind_text

@@ -9,7 +9,7 @@ use Rattle.std.proofs.lemmas.Bool.Decides.{nat_tests}
 use Rattle.std.proofs.lemmas.List.{length-drop, length-take-le, take-take}
 use Rattle.std.proofs.lemmas.List.Sums.{take_while-cons}
 use Rattle.ir_core.specs.Names.{is_name_byte}
-use Rattle.ir_core.specs.declared.names.Name.TheVariants.{Number, Text}
+use Rattle.ir_types.specs.declared.names.Name.TheVariants.{Number, Text}
 use Rattle.ir_lexer.specs.declared.token.Number as numbers
 use Rattle.ir_lexer.specs.declared.token.TokenKind.{TokenKind}
 use Rattle.ir_lexer.specs.declared.token.TokenKind.TheVariants as kind

@@ -1,8 +1,8 @@
 -- The name after a sigil.
 use Rattle.std.specs.Prelude.{ℕ, ◌+◌, ◌^◌, ◌==◌, List, [], ◌∷◌, length, Option, Some, None, if◌then◌else◌}
 use Rattle.std.specs.Char.{is_ascii_digit}
-use Rattle.ir_core.specs.declared.names.Name.{Name}
-use Rattle.ir_core.specs.declared.names.Name.TheVariants.{Text, Number}
+use Rattle.ir_types.specs.declared.names.Name.{Name}
+use Rattle.ir_types.specs.declared.names.Name.TheVariants.{Text, Number}
 use Rattle.ir_lexer.specs.declared.names.NameSpan.{NameSpan}
 use Rattle.ir_lexer.specs.declared.names.NameSpan.TheVariants as span
 use Rattle.ir_core.specs.Names.{is_name_byte}

@@ -2,8 +2,8 @@
 use Rattle.std.specs.Prelude.{ℕ, ◌+◌, ◌^◌, ◌==◌, ◌≤◌, Bool, true, false, ◌&&◌, List, [], ◌∷◌, length, drop, Option, Some, None, if◌then◌else◌, codes}
 use Rattle.std.specs.Str.{bytes_eq}
 use Rattle.ir_core.specs.Names.{is_name_byte}
-use Rattle.ir_core.specs.declared.names.Name.{Name}
-use Rattle.ir_core.specs.declared.names.Name.TheVariants as name
+use Rattle.ir_types.specs.declared.names.Name.{Name}
+use Rattle.ir_types.specs.declared.names.Name.TheVariants as name
 use Rattle.ir_lexer.specs.declared.names.NameSpan.{NameSpan}
 use Rattle.ir_lexer.specs.declared.names.NameSpan.TheVariants as span
 use Rattle.ir_lexer.specs.declared.pieces.Outline.{Outline}

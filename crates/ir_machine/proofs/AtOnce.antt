@@ -1,13 +1,13 @@
 -- Runs of one step, and lines of constants.
 use Rattle.std.proofs.Common.{◌≡◌, ◌⊎◌, inl, inr, ℕ, suc, List, [], ◌∷◌, ◌++◌, Option, None, Some, MatchOption, refl, sym, ap, ◌∙◌, subst}
 use Rattle.std.proofs.lemmas.List.{append-nil}
-use Rattle.ir_core.specs.declared.names.Name.{Name}
+use Rattle.ir_types.specs.declared.names.Name.{Name}
 use Rattle.ir_core.specs.declared.operands.Atom.TheVariants.{Register}
-use Rattle.ir_core.specs.declared.operands.Ty.TheVariants.{Void}
+use Rattle.ir_types.specs.declared.ty.Ty.TheVariants.{Void}
 use Rattle.ir_core.specs.declared.functions.Block.{Block}
 use Rattle.ir_core.specs.declared.functions.Module.{Module}
 use Rattle.ir_core.specs.declared.functions.Term.TheVariants.{RetVoid}
-use Rattle.ir_core.proofs.SameLaws.{same_name_refl}
+use Rattle.ir_types.specs.NameLaws.{same_name_refl}
 use Rattle.ir_machine.specs.declared.items.Item.{Item}
 use Rattle.ir_machine.specs.declared.items.Item.TheVariants.{Turn, Returned, Wrong}
 use Rattle.ir_machine.specs.State.{no_world, State, Over, Running}

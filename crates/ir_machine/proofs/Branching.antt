@@ -6,7 +6,7 @@ use Rattle.ir_core.specs.declared.functions.CondBr.{CondBr as CondBrLine}
 use Rattle.ir_core.specs.declared.functions.Switch.{Switch as SwitchLine}
 use Rattle.ir_core.specs.declared.functions.Term.{Term}
 use Rattle.ir_core.specs.declared.functions.Term.TheVariants.{CondBr, Switch}
-use Rattle.ir_core.specs.declared.names.Name.{Name}
+use Rattle.ir_types.specs.declared.names.Name.{Name}
 use Rattle.ir_core.specs.declared.values.Value.{Value}
 use Rattle.ir_core.specs.declared.values.Value.TheVariants as value
 use Rattle.ir_core.specs.Functions.{successors_of}

@@ -4,11 +4,11 @@ use Rattle.std.proofs.lemmas.List.{take-append-drop, take-set, drop-set, take_mo
 use Rattle.std.proofs.Math.ListN.{drop_of_length-le}
 use Rattle.std.specs.Prelude.{Result, Ok, Err, OnOk, OnErr}
 use Rattle.std.proofs.Math.Seq.{drop-cons}
-use Rattle.ir_core.specs.declared.names.Name.{Name}
+use Rattle.ir_types.specs.declared.names.Name.{Name}
 use Rattle.ir_core.specs.declared.values.Value.{Value}
 use Rattle.ir_core.specs.declared.values.Kind.{Kind}
-use Rattle.ir_core.specs.Same.{same_name}
-use Rattle.ir_core.proofs.SameLaws.{same_name_true, same_name_refl}
+use Rattle.ir_types.specs.Same.{same_name}
+use Rattle.ir_types.specs.NameLaws.{same_name_true, same_name_refl}
 use Rattle.ir_values.specs.Values.{IsInKindOf}
 use Rattle.ir_machine.specs.declared.registers.Assigned.{Assigned}
 use Rattle.ir_machine.specs.Registers.{Held, Registers, no_registers, holding, AreInKind}

@@ -2,8 +2,8 @@
 use Rattle.std.proofs.Common.{[], ◌∷◌, Some, refl, inr}
 use Rattle.ir_core.specs.declared.functions.Term.{Term}
 use Rattle.ir_core.specs.declared.functions.Term.TheVariants.{Br, Unreachable}
-use Rattle.ir_core.specs.declared.names.Name.TheVariants.{Number}
-use Rattle.ir_core.specs.declared.operands.Ty.TheVariants.{Void}
+use Rattle.ir_types.specs.declared.names.Name.TheVariants.{Number}
+use Rattle.ir_types.specs.declared.ty.Ty.TheVariants.{Void}
 use Rattle.ir_machine.specs.declared.items.Item.TheVariants.{Turn, Returned, Wrong}
 use Rattle.ir_machine.specs.declared.items.Shown.TheVariants as shown
 use Rattle.ir_machine.specs.Examples.{number}

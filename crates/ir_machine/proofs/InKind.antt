@@ -2,7 +2,7 @@
 use Rattle.std.proofs.Common.{◌≡◌, ℕ, ◌<◌, ◌^◌, Bool, true, false, cond, List, [], ◌∷◌, Option, None, Some, refl, sym, subst}
 use Rattle.std.specs.Prelude.{nat_le, nat_lt, option_and_then}
 use Rattle.std.proofs.lemmas.Bool.{leb-true, ltb-true}
-use Rattle.ir_core.specs.declared.names.Name.{Name}
+use Rattle.ir_types.specs.declared.names.Name.{Name}
 use Rattle.ir_core.specs.declared.values.Value.{Value}
 use Rattle.ir_core.specs.declared.values.Value.TheVariants as value
 use Rattle.ir_core.specs.declared.values.Kind.{Kind}
@@ -16,8 +16,8 @@ use Rattle.ir_core.specs.declared.operands.BinOp.{BinOp}
 use Rattle.ir_core.specs.declared.operands.CastOp.{CastOp}
 use Rattle.ir_core.specs.declared.operands.Flags.{Flags}
 use Rattle.ir_core.specs.declared.operands.Pred.{Pred}
-use Rattle.ir_core.specs.declared.operands.Ty.{Ty}
-use Rattle.ir_core.specs.declared.operands.Ty.TheVariants as ty
+use Rattle.ir_types.specs.declared.ty.Ty.{Ty}
+use Rattle.ir_types.specs.declared.ty.Ty.TheVariants as ty
 use Rattle.ir_core.specs.declared.expressions.Expr.{Expr}
 use Rattle.ir_core.specs.declared.expressions.Expr.TheVariants as expr
 use Rattle.ir_core.specs.declared.functions.Instr.{Instr}
@@ -41,8 +41,9 @@ use Rattle.ir_machine.specs.declared.items.Item.{Item}
 use Rattle.ir_machine.specs.declared.items.Shown.{Shown}
 use Rattle.ir_machine.specs.declared.items.Shown.TheVariants as shown
 use Rattle.ir_machine.specs.declared.items.Input.{Input}
-use Rattle.ir_core.proofs.SameLaws.{left_true, right_true, same_ty_true}
-use Rattle.ir_core.specs.Same.{same_ty}
+use Rattle.ir_types.specs.NameLaws.{left_true, right_true}
+use Rattle.ir_types.proofs.SameLaws.{same_ty_true}
+use Rattle.ir_types.specs.Same.{same_ty}
 use Rattle.ir_core.specs.Types.{converts, is_width, kind_of}
 use Rattle.ir_core.specs.Expressions.{type_of}
 use Rattle.ir_machine.specs.Registers.{Registers, no_registers, read, set, AreInKind, constant_value, atom_at, atom_value, operand_value, binary_at, icmp_at, cast_at, selects, outcome}
@@ -127,7 +128,7 @@ width_of width false is k e = cc
 
 pub kind_has_width : (t : Ty) (k : Kind) → kind_of t ≡ Some k → HasWidth k
 kind_has_width (ty.Int width) k e = width_of width (is_width width) refl k e
-kind_has_width ty.Void k e = cc
+kind_has_width t k e = cc
 
 abbrev pub AllInKind : List Pending → Type 0
 AllInKind [] = Unit {0}

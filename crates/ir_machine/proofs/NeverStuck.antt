@@ -3,7 +3,7 @@ use Rattle.std.proofs.Common.{◌≡◌, ◌↔◌, ◌^◌, ℕ, map, Bool, tru
 use Rattle.std.specs.Prelude.{nat_lt}
 use Rattle.std.proofs.lemmas.Bool.{lt-ltb}
 use Rattle.std.proofs.lemmas.Nat.{pow_pos}
-use Rattle.ir_core.specs.declared.names.Name.{Name}
+use Rattle.ir_types.specs.declared.names.Name.{Name}
 use Rattle.ir_core.specs.declared.values.Value.{Value}
 use Rattle.ir_core.specs.declared.values.Value.TheVariants as value
 use Rattle.ir_core.specs.declared.values.Kind.{Kind}
@@ -30,7 +30,7 @@ use Rattle.ir_machine.specs.State.{Frame, Pending, World, State, Running, Over}
 use Rattle.ir_machine.specs.Machine.{Asks, Does, Ask, Never, Made, Follows, asks, block_named, branch, entering, gone, is_label, is_pick, jump, picked, show, set_to, frame_step, term_step, return_step, return_void}
 use Rattle.ir_machine.specs.Choices.{Lacks, NoStep, answer, RunsAnswer}
 use Rattle.ir_machine.specs.Refinement.{IsEnd, EndTheRun, NoneIsStuck, EndsAreShown}
-use Rattle.ir_core.proofs.SameLaws.{same_name_refl}
+use Rattle.ir_types.specs.NameLaws.{same_name_refl}
 use Rattle.ir_machine.proofs.Trees.{AllDo, all_do_branch, all_do_jump, all_do_made, all_do_show, all_do_set_to}
 
 abbrev CanStep : Asks → Type 0

@@ -1,20 +1,20 @@
 -- Which of the modules written out refine which.
 use Rattle.std.proofs.Common.{◌≡◌, ◌⊎◌, inl, inr, ℕ, Bool, true, false, cond, List, [], ◌∷◌, Option, None, Some, MatchOption, refl, sym, ◌∙◌, subst, arith}
 use Rattle.std.specs.Prelude.{option_and_then}
-use Rattle.ir_core.specs.declared.names.Name.{Name}
+use Rattle.ir_types.specs.declared.names.Name.{Name}
 use Rattle.ir_core.specs.declared.values.Value.TheVariants as value
 use Rattle.ir_core.specs.declared.values.Kind.TheVariants.{Int}
 use Rattle.ir_core.specs.declared.operands.Const.{Const}
 use Rattle.ir_core.specs.declared.operands.Const.TheVariants as constant
-use Rattle.ir_core.specs.declared.operands.Ty.TheVariants as ty
+use Rattle.ir_types.specs.declared.ty.Ty.TheVariants as ty
 use Rattle.ir_core.specs.declared.operands.Atom.{Atom}
 use Rattle.ir_core.specs.declared.operands.Atom.TheVariants.{Constant, Register}
 use Rattle.ir_core.specs.declared.functions.Instr.{Instr}
 use Rattle.ir_core.specs.declared.functions.Param.{Param}
 use Rattle.ir_core.specs.declared.functions.Function.{Function}
 use Rattle.ir_core.specs.declared.functions.Module.{Module}
-use Rattle.ir_core.proofs.SameLaws.{same_name_refl}
-use Rattle.ir_core.specs.Same.{same_name}
+use Rattle.ir_types.specs.NameLaws.{same_name_refl}
+use Rattle.ir_types.specs.Same.{same_name}
 use Rattle.ir_machine.specs.declared.items.Item.{Item}
 use Rattle.ir_machine.specs.declared.items.Item.TheVariants.{Turn, Wrong}
 use Rattle.ir_machine.specs.declared.items.Shown.TheVariants as shown

@@ -17,12 +17,12 @@ use Rattle.ir_core.specs.declared.functions.Param.{Param}
 use Rattle.ir_core.specs.declared.functions.Phi.{Phi}
 use Rattle.ir_core.specs.declared.functions.Term.{Term}
 use Rattle.ir_core.specs.declared.functions.Term.TheVariants.{Ret, RetVoid, Br, CondBr, Switch, Unreachable}
-use Rattle.ir_core.specs.declared.names.Name.{Name}
+use Rattle.ir_types.specs.declared.names.Name.{Name}
 use Rattle.ir_core.specs.declared.operands.Atom.{Atom}
 use Rattle.ir_core.specs.declared.operands.Atom.TheVariants.{Constant, Register}
 use Rattle.ir_core.specs.declared.operands.Operand.{Operand}
-use Rattle.ir_core.specs.declared.operands.Ty.{Ty}
-use Rattle.ir_core.specs.declared.operands.Ty.TheVariants as ty
+use Rattle.ir_types.specs.declared.ty.Ty.{Ty}
+use Rattle.ir_types.specs.declared.ty.Ty.TheVariants as ty
 use Rattle.ir_core.specs.declared.values.Kind.{Kind}
 use Rattle.ir_core.specs.declared.values.Kind.TheVariants.{Int}
 use Rattle.ir_core.specs.declared.values.Value.{Value}
@@ -30,10 +30,10 @@ use Rattle.ir_core.specs.declared.values.Value.TheVariants as value
 use Rattle.ir_core.specs.Expressions.{type_of}
 use Rattle.ir_core.specs.Functions.{edges_into, names_in, operands_at_end, operands_of, params_of, phi_registers, registers_of, set_by, successors_of, typed_of}
 use Rattle.ir_core.specs.Ranges.{IsFunctionInRange, IsTypeInRange}
-use Rattle.ir_core.specs.Same.{same_name}
+use Rattle.ir_types.specs.Same.{same_name}
 use Rattle.ir_core.specs.Types.{kind_of, number_at}
 use Rattle.ir_core.specs.WellFormed.{AllUseDefined, FitsEdges, HasBlockShape, HasFunctionShape, IsFirstClass, IsFunctionDefined, IsPath, IsWellFormed, LinesUseDefined, PathUsesDefined, UsesDefined}
-use Rattle.ir_core.proofs.SameLaws.{same_name_refl, same_name_true}
+use Rattle.ir_types.specs.NameLaws.{same_name_refl, same_name_true}
 use Rattle.ir_machine.specs.declared.items.Choice.{Choice}
 use Rattle.ir_machine.specs.declared.items.Choice.TheVariants.{Go, Pick}
 use Rattle.ir_machine.specs.declared.items.Input.{Input}
@@ -129,7 +129,7 @@ phis_set old from (p ∷ ps) registers names kinds sets =
 
 kind_in_range : (t : Ty) → IsFirstClass t → IsTypeInRange t → (k : Kind) × (kind_of t ≡ Some k)
 kind_in_range (ty.Int width) first range = (Int width, rw range refl)
-kind_in_range ty.Void first range = absurd first
+kind_in_range t first range = absurd first
 
 kinds_of : (f : Function) (b : Block) → HasFunctionShape f → IsFunctionInRange f → Contains f.blocks b → AllByRecursion HasKind (registers_of b)
 kinds_of f b shape range inside =

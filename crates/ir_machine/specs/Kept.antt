@@ -2,12 +2,12 @@
 use Rattle.std.specs.Prelude.{cond, List, [], ◌∷◌, Option, None, Some}
 use Rattle.std.specs.Coded.{Unit-prop, le_prop}
 use mathlib.Core.HLevel.{Π_prop}
-use Rattle.ir_core.specs.declared.names.Name.{Name}
+use Rattle.ir_types.specs.declared.names.Name.{Name}
 use Rattle.ir_core.specs.declared.values.Value.{Value}
 use Rattle.ir_core.specs.declared.values.Value.TheVariants.{Num, Undef, Poison}
 use Rattle.ir_core.specs.declared.values.Kind.{Kind}
 use Rattle.ir_core.specs.declared.values.Kind.TheVariants.{Int}
-use Rattle.ir_core.specs.Same.{same_name}
+use Rattle.ir_types.specs.Same.{same_name}
 use Rattle.ir_values.specs.Values.{IsInKind}
 use Rattle.ir_machine.specs.declared.registers.Assigned.{Assigned}
 use Rattle.ir_machine.specs.Registers.{Held, Registers, no_registers, read, AreInKind}

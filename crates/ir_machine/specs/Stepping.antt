@@ -1,7 +1,7 @@
 -- Words of private functions. What a step of the code is to the tree that it answers, and where a jump lands.
 use Rattle.std.specs.Prelude.{◌≡◌, List, [], ◌∷◌, Option, None, Some, Result, IfOk, IsErrOf, slice_get}
 use Rattle.ir_core.specs.declared.functions.Function.{Function}
-use Rattle.ir_core.specs.declared.names.Name.{Name}
+use Rattle.ir_types.specs.declared.names.Name.{Name}
 use Rattle.ir_machine.specs.declared.items.Choice.{Choice}
 use Rattle.ir_machine.specs.declared.items.Item.TheVariants.{Turn}
 use Rattle.ir_machine.specs.declared.jumping.Landing.{Landing}

@@ -1,7 +1,7 @@
 //! Where a terminator leads within its function: the block of a label, entered with its phis set at once.
 ghost use Rattle.std.specs.Prelude.{◌≡◌, ◌<◌, length, [], map, None, slice_get, MatchOption, IfOk, IfSome};
 ghost use Rattle.ir_core.specs.Functions.{successors_of};
-ghost use Rattle.ir_core.specs.Same as same;
+ghost use Rattle.ir_types.specs.Same as same;
 ghost use Rattle.ir_core.specs.declared.functions.Case.{Case};
 ghost use Rattle.std.specs.List.{list_any};
 ghost use Rattle.ir_core.specs.Types as types;
@@ -124,7 +124,7 @@ fn number_at(ty: &Ty, number: u64) -> u64
                 number
             }
         }
-        Ty::Void => number,
+        _ => number,
     }
 }
 

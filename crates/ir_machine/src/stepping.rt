@@ -20,7 +20,9 @@ use crate::jumping::{case_of, jump, side_of, told_label};
 use crate::operands::{operand_value, outcome};
 use crate::{Chooser, Item, Place, Progress, RunState, StepEnd, Stepped};
 use contents::Seq;
-use ir_core::{Block, Calm, Function, Instr, Kind, Module, Name, Operand, Term, Value, kind_of};
+use ir_core::{
+    BitType, Block, Calm, Function, Instr, Kind, Module, Name, Operand, Term, Value, kind_of,
+};
 use ir_values::Outcome;
 use std::alloc::{AllocError, Global};
 
@@ -240,11 +242,12 @@ fn do_line(
         (registers_in state.new.registers ≡ registers_in state.old.registers) }
     ensures memory { IsErr result → IsErrOf result StepEnd.Memory }
 {
+    let bit = BitType::new();
     match outcome(&state.registers, &line.right) {
         Outcome::Gives(value) => {
             state
                 .registers
-                .set(alloc, &line.name, kind_of(line.right.ty()), value)?;
+                .set(alloc, &line.name, kind_of(line.right.ty(&bit)), value)?;
             state.place = Some(Place {
                 function: place.function,
                 block: place.block,

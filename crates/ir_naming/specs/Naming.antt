@@ -1,9 +1,9 @@
 -- What the definitions of a text are called, and what the text claims of their names (LangRef 3.7, Identifiers).
 use Rattle.std.specs.Prelude.{ℕ, ◌+◌, ◌-◌, ◌^◌, List, [], ◌∷◌, ◌++◌, map, Option, Some, None, if◌then◌else◌, nat_lt}
 use Rattle.std.specs.List.{flat_map}
-use Rattle.ir_core.specs.declared.names.Name.{Name}
-use Rattle.ir_core.specs.declared.names.Name.TheVariants.{Text, Number}
-use Rattle.ir_core.specs.declared.operands.Ty.TheVariants.{Int}
+use Rattle.ir_types.specs.declared.names.Name.{Name}
+use Rattle.ir_types.specs.declared.names.Name.TheVariants.{Text, Number}
+use Rattle.ir_types.specs.declared.ty.Ty.TheVariants.{Int}
 use Rattle.ir_core.specs.Expressions.{type_of}
 use Rattle.ir_grammar.specs.declared.trees.BlockText.{BlockText}
 use Rattle.ir_grammar.specs.declared.trees.BranchText.{BranchText}

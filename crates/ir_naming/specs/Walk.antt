@@ -1,6 +1,6 @@
 -- Words of private functions: what is counted so far.
 use Rattle.std.specs.Prelude.{◌≤◌, List, [], ◌∷◌, ◌++◌, length}
-use Rattle.ir_core.specs.declared.names.Name.{Name}
+use Rattle.ir_types.specs.declared.names.Name.{Name}
 use Rattle.name_claims.specs.declared.claims.Meaning.{Meaning}
 use Rattle.ir_naming.specs.declared.tally.Tally.{Tally}
 use Rattle.ir_naming.specs.Naming.{Thing, definition_of, definitions_from, due_after, due_behind, due_from, name_claims, name_claims_from}

@@ -5,14 +5,14 @@ use Rattle.std.proofs.lemmas.List.{map-append}
 use Rattle.std.proofs.lemmas.List.Elements.{filter_map-append}
 use Rattle.ir_core.specs.declared.functions.Block.{Block}
 use Rattle.ir_core.specs.declared.functions.Param.{Param}
-use Rattle.ir_core.specs.declared.names.Name.{Name}
-use Rattle.ir_core.specs.declared.operands.Ty.{Ty}
+use Rattle.ir_types.specs.declared.names.Name.{Name}
+use Rattle.ir_types.specs.declared.ty.Ty.{Ty}
 use Rattle.ir_core.specs.Expressions.{type_of}
 use Rattle.ir_core.specs.Functions.{block_names, names_of, phi_registers, register_of, registers_of, set_by, typed_of}
 use Rattle.ir_core.specs.Functions as core
-use Rattle.ir_core.specs.NameLaws.{same_name_true}
-use Rattle.ir_core.specs.Same.{same_name, same_ty}
-use Rattle.ir_core.proofs.SameLaws.{same_ty_true}
+use Rattle.ir_types.specs.NameLaws.{same_name_true}
+use Rattle.ir_types.specs.Same.{same_name, same_ty}
+use Rattle.ir_types.proofs.SameLaws.{same_ty_true}
 use Rattle.ir_grammar.specs.declared.trees.BlockText.{BlockText}
 use Rattle.ir_grammar.specs.declared.trees.DefinitionText.{DefinitionText}
 use Rattle.ir_grammar.specs.declared.trees.LineText.{LineText}

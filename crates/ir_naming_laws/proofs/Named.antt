@@ -6,7 +6,7 @@ use Rattle.ir_core.specs.Limits.{line_limit}
 use Rattle.ir_core.specs.Order.{AreInOrder}
 use Rattle.ir_core.specs.declared.functions.Function.{Function}
 use Rattle.ir_core.specs.declared.functions.Module.{Module}
-use Rattle.ir_core.specs.declared.names.Name.{Name}
+use Rattle.ir_types.specs.declared.names.Name.{Name}
 use Rattle.ir_grammar.specs.declared.trees.BlockText.{BlockText}
 use Rattle.ir_grammar.specs.declared.trees.DefinitionText.{DefinitionText}
 use Rattle.ir_grammar.specs.declared.trees.ModuleText.{ModuleText}

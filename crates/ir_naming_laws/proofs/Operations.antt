@@ -12,7 +12,7 @@ use Rattle.ir_core.specs.declared.operands.CastOp.{CastOp}
 use Rattle.ir_core.specs.declared.operands.Flags.{Flags}
 use Rattle.ir_core.specs.declared.operands.Operand.{Operand}
 use Rattle.ir_core.specs.declared.operands.Pred.{Pred}
-use Rattle.ir_core.specs.declared.operands.Ty.{Ty}
+use Rattle.ir_types.specs.declared.ty.Ty.{Ty}
 use Rattle.ir_grammar.specs.declared.trees.BinaryText.{BinaryText}
 use Rattle.ir_grammar.specs.declared.trees.CastText.{CastText}
 use Rattle.ir_grammar.specs.declared.trees.CompareText.{CompareText}

@@ -4,8 +4,8 @@ use Rattle.ir_core.specs.declared.functions.CondBr.{CondBr as Condition}
 use Rattle.ir_core.specs.declared.functions.Switch.{Switch as Cases}
 use Rattle.ir_core.specs.declared.functions.Term.{Term}
 use Rattle.ir_core.specs.declared.functions.Term.TheVariants.{Ret, RetVoid, Br, CondBr, Switch, Unreachable}
-use Rattle.ir_core.specs.declared.names.Name.{Name}
-use Rattle.ir_core.specs.declared.operands.Ty.{Ty}
+use Rattle.ir_types.specs.declared.names.Name.{Name}
+use Rattle.ir_types.specs.declared.ty.Ty.{Ty}
 use Rattle.ir_grammar.specs.declared.trees.BranchText.{BranchText}
 use Rattle.ir_grammar.specs.declared.trees.BranchText.TheVariants as branch
 use Rattle.ir_grammar.specs.declared.trees.ConditionText.{ConditionText}

@@ -1,16 +1,16 @@
 -- Each printed text is of ASCII bytes alone.
-use Rattle.std.proofs.Common.{◌≡◌, ℕ, zero, suc, ◌-◌, ◌/◌, ◌%◌, ◌^◌, ◌<◌, ◌&&◌, Bool, true, false, true≢false, not, cond, List, [], ◌∷◌, ◌++◌, codes, arith, refl, sym, lit<}
+use Rattle.std.proofs.Common.{◌≡◌, ℕ, zero, suc, ◌-◌, ◌/◌, ◌%◌, ◌^◌, ◌<◌, ◌&&◌, Bool, true, false, true≢false, not, cond, List, [], ◌∷◌, ◌++◌, codes, map, arith, refl, sym, subst, lit<}
 use Rattle.std.specs.Prelude.{◌==◌, nat_le, nat_lt}
 use Rattle.std.proofs.lemmas.Bool.Decides.{nat_tests}
 use Rattle.std.proofs.lemmas.Str.{IsAscii-append}
 use Rattle.std.proofs.lemmas.Str.Ascii.{IsAscii-nil, IsAscii-cons}
 use Rattle.std.specs.Str.{IsAscii}
-use Rattle.std.specs.List.{list_all, flat_map}
+use Rattle.std.specs.List.{AllByRecursion, list_all, flat_map}
 use Rattle.std.specs.Fmt.{digits_onto, digits, decimal, digit_glyph}
-use Rattle.ir_core.specs.declared.names.Name.{Name}
-use Rattle.ir_core.specs.declared.names.Name.TheVariants.{Text, Number}
-use Rattle.ir_core.specs.declared.operands.Ty.{Ty}
-use Rattle.ir_core.specs.declared.operands.Ty.TheVariants.{Int, Void}
+use Rattle.ir_types.specs.declared.names.Name.{Name}
+use Rattle.ir_types.specs.declared.names.Name.TheVariants.{Text, Number}
+use Rattle.ir_types.specs.declared.ty.Ty.{Ty, Int}
+use Rattle.ir_types.proofs.Induction as fold
 use Rattle.ir_core.specs.declared.operands.Const.{Const}
 use Rattle.ir_core.specs.declared.operands.Const.TheVariants as const
 use Rattle.ir_core.specs.declared.operands.Atom.{Atom}
@@ -29,7 +29,8 @@ use Rattle.ir_core.specs.declared.expressions.Expr.{Expr}
 use Rattle.ir_core.specs.declared.expressions.Expr.TheVariants as expr
 use Rattle.ir_core.specs.Names.{is_name_byte, is_plain}
 use Rattle.ir_core.specs.Words.{void_word, false_word, true_word, undef_word, op_word, nuw_word, nsw_word, exact_word, icmp_word, pred_word, cast_word, select_word}
-use Rattle.ir_printer.specs.Printed.{hexadecimal_digit, escaped, quoted, name_text, printed_local, printed_type, is_negative, signed_text, number_text, printed_constant, printed_register, printed_atom, printed_operand, spaced, printed_op, printed_flag, printed_flags, printed_operands, printed_expr}
+use Rattle.ir_printer.specs.Printed.{hexadecimal_digit, escaped, quoted, name_text, printed_local, printed_type, printed_parts, listed, struct_text, type_text, is_negative, signed_text, number_text, printed_constant, printed_register, printed_atom, printed_operand, spaced, printed_op, printed_flag, printed_flags, printed_operands, printed_expr}
+use Rattle.ir_printer.proofs.TypeTexts.{types_by_parts}
 
 record Ascii (bs : List ℕ) : Type 0 where
   bytes : IsAscii bs
@@ -108,9 +109,30 @@ of_name_text (Number n) = of_decimal n
 of_local : (name : Name) → Ascii (printed_local name)
 of_local name = begun 37 (name_text name) (lit< tt) (of_name_text name)
 
+of_listed : (before : List ℕ) (ts : List Ty) → Ascii before → AllByRecursion (λ t. Ascii (printed_parts t)) ts → Ascii (listed before (map printed_parts ts))
+of_listed before [] first all = empty
+of_listed before (t ∷ ts) first all =
+    append (before ++ printed_parts t) (listed (codes ", ") (map printed_parts ts)) (append before (printed_parts t) first all.0) (of_listed (codes ", ") ts (of_small (codes ", ") refl) all.1)
+
+of_struct : (ts : List Ty) → AllByRecursion (λ t. Ascii (printed_parts t)) ts → Ascii (struct_text (map printed_parts ts))
+of_struct [] all = of_small (codes "{}") refl
+of_struct (t ∷ ts) all = append _ (codes " }") (of_listed (codes "{ ") (t ∷ ts) (of_small (codes "{ ") refl) all) (of_small (codes " }") refl)
+
+of_array : (count : ℕ) (element : List ℕ) → Ascii element → Ascii (91 ∷ decimal count ++ codes " x " ++ element ++ 93 ∷ [])
+of_array count element ascii =
+    begun 91 _ (lit< tt) (append (decimal count ++ codes " x " ++ element) (93 ∷ []) (append (decimal count ++ codes " x ") element (append (decimal count) (codes " x ") (of_decimal count) (of_small (codes " x ") refl)) ascii) (begun 93 [] (lit< tt) empty))
+
+of_parts : (t : Ty) → Ascii (printed_parts t)
+of_parts = fold.by_parts (λ t. Ascii (printed_parts t))
+    (λ width. subst Ascii (sym (fold.at_int (List ℕ) type_text width)) (begun 105 (decimal width) (lit< tt) (of_decimal width)))
+    (λ t ascii. subst Ascii (sym (fold.at_ptr (List ℕ) type_text t)) (append (printed_parts t) (42 ∷ []) ascii (begun 42 [] (lit< tt) empty)))
+    (λ count t ascii. subst Ascii (sym (fold.at_array (List ℕ) type_text count t)) (of_array count (printed_parts t) ascii))
+    (λ ts all. subst Ascii (sym (fold.at_struct (List ℕ) type_text ts)) (of_struct ts all))
+    (λ name. subst Ascii (sym (fold.at_named (List ℕ) type_text name)) (of_local name))
+    (subst Ascii (sym (fold.at_void (List ℕ) type_text)) (of_small (void_word) refl))
+
 of_type : (ty : Ty) → Ascii (printed_type ty)
-of_type (Int width) = begun 105 (decimal width) (lit< tt) (of_decimal width)
-of_type Void = of_small (void_word) refl
+of_type t = subst Ascii (sym (types_by_parts t)) (of_parts t)
 
 of_false : Ascii (false_word)
 of_false = of_small (false_word) refl
@@ -123,7 +145,7 @@ of_signed width n = of_choice (is_negative width n) _ _ (λ _. begun 45 _ (lit< 
 
 of_number : (ty : Ty) (n : ℕ) → Ascii (number_text ty n)
 of_number (Int width) n = of_choice (width == 1) _ _ (λ _. of_choice (n == 0) _ _ (λ _. of_false) of_true) (of_signed width n)
-of_number Void n = of_decimal n
+of_number t n = of_decimal n
 
 of_constant : (ty : Ty) (c : Const) → Ascii (printed_constant ty c)
 of_constant ty (const.Number n) = of_number ty n

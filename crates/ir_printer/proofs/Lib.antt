@@ -1,2 +1,4 @@
+pub mod TypeTexts
 pub mod AsciiTexts
 pub mod Powers
+pub mod WrittenTypes

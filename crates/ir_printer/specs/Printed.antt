@@ -2,12 +2,14 @@
 use Rattle.std.specs.Prelude.{ℕ, ◌-◌, ◌/◌, ◌%◌, ◌^◌, ◌==◌, ◌&&◌, Bool, true, not, nat_le, nat_lt, if◌then◌else◌, List, [], ◌∷◌, ◌++◌, codes}
 use Rattle.std.specs.List.{flat_map}
 use Rattle.std.specs.Fmt.{decimal, digit_glyph}
-use Rattle.ir_core.specs.declared.names.Name.{Name}
-use Rattle.ir_core.specs.declared.names.Name.TheVariants.{Text, Number}
-use Rattle.ir_core.specs.declared.names.Sigil.{Sigil}
-use Rattle.ir_core.specs.declared.names.Sigil.TheVariants.{Local, Global}
-use Rattle.ir_core.specs.declared.operands.Ty.{Ty}
-use Rattle.ir_core.specs.declared.operands.Ty.TheVariants.{Int, Void}
+use Rattle.ir_types.specs.declared.names.Name.{Name}
+use Rattle.ir_types.specs.declared.names.Name.TheVariants.{Text, Number}
+use Rattle.ir_types.specs.declared.names.Sigil.{Sigil}
+use Rattle.ir_types.specs.declared.names.Sigil.TheVariants.{Local, Global}
+use Rattle.ir_types.specs.declared.ty.Ty.{Ty, Int, fold-Ty}
+use Rattle.ir_types.specs.declared.ty.Ty.TheOpen.{Ty-F}
+use Rattle.ir_types.specs.declared.ty.Ty.TheOpen as ty
+use Rattle.ir_types.specs.Folded.{folded}
 use Rattle.ir_core.specs.declared.operands.Const.{Const}
 use Rattle.ir_core.specs.declared.operands.Const.TheVariants as const
 use Rattle.ir_core.specs.declared.operands.Atom.{Atom}
@@ -53,9 +55,30 @@ printed_name sigil name = sigil_byte sigil ∷ name_text name
 
 -- ---- types and constants
 
+-- texts one after the other, with this before the first and a comma before each further one
+abbrev pub listed : List ℕ → List (List ℕ) → List ℕ
+listed before [] = []
+listed before (text ∷ more) = before ++ text ++ listed (codes ", ") more
+
+-- `{ i32, i8* }`, of the texts of its fields
+abbrev pub struct_text : List (List ℕ) → List ℕ
+struct_text [] = codes "{}"
+struct_text (field ∷ more) = listed (codes "{ ") (field ∷ more) ++ codes " }"
+
+-- a type, of the texts of its parts: `iN`, `T*`, `[4 x T]`, a struct, `%name` and `void`
+abbrev pub type_text : Ty-F (List ℕ) → List ℕ
+type_text (ty.Int width) = 105 ∷ decimal width
+type_text (ty.Ptr target) = target ++ 42 ∷ []
+type_text (ty.Array count element) = 91 ∷ decimal count ++ codes " x " ++ element ++ 93 ∷ []
+type_text (ty.Struct fields) = struct_text fields
+type_text (ty.Named x) = printed_name Local x
+type_text ty.Void = void_word
+
 abbrev pub printed_type : Ty → List ℕ
-printed_type (Int width) = 105 ∷ decimal width
-printed_type Void = void_word
+printed_type = folded type_text
+
+abbrev pub printed_parts : Ty → List ℕ
+printed_parts = fold-Ty (List ℕ) type_text
 
 -- A number of so many bits is printed as a signed one: it is negative where its highest bit is set.
 abbrev pub is_negative : ℕ → ℕ → Bool
@@ -67,7 +90,7 @@ signed_text width n = if is_negative width n then 45 ∷ decimal (2 ^ width - n)
 -- a number of one bit is a truth value
 abbrev pub number_text : Ty → ℕ → List ℕ
 number_text (Int width) n = if width == 1 then (if n == 0 then false_word else true_word) else signed_text width n
-number_text Void n = decimal n
+number_text t n = decimal n
 
 abbrev pub printed_constant : Ty → Const → List ℕ
 printed_constant ty (const.Number n) = number_text ty n

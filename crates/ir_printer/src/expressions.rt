@@ -3,7 +3,8 @@ ghost use Rattle.ir_core.specs.Words.{nuw_word, nsw_word, exact_word, icmp_word,
 ghost use Rattle.ir_printer.specs.Printed.{printed_local, printed_register, printed_atom, printed_value, printed_operand, spaced, printed_op, printed_flag, printed_flags, printed_operands, printed_binary, printed_icmp, printed_cast, printed_select, printed_expr};
 
 use crate::registers::Register;
-use crate::values::{push_constant, push_type};
+use crate::types::push_type;
+use crate::values::push_constant;
 use ir_core::{
     Atom, BinOp, Binary, Cast, Expr, Expr0, Flags, Icmp, Name, Operand, Select, Ty, cast_word,
     op_word, pred_word,

@@ -4,11 +4,14 @@
 #![tactic(auto)]
 
 mod expressions;
+mod laws;
 mod names;
 mod registers;
+mod types;
 mod values;
 
 pub use expressions::{print_expr, print_right, print_value};
+pub use laws::examples_of_printed_types;
 pub use names::print_name;
 pub use registers::print_register;
-pub use values::print_type;
+pub use types::print_type;

@@ -5,27 +5,6 @@ use crate::names::push_decimal;
 use ir_core::{Const, Ty};
 use std::alloc::{AllocError, Global};
 
-/// `iN` or `void`.
-pub fn print_type(alloc: Global, ty: &Ty) -> Result<Vec<u8>, AllocError>
-    ensures { IfOk result (λ text. text.items ≡ printed_type ty.now) }
-{
-    let mut text = Vec::new(alloc);
-    push_type(&mut text, ty)?;
-    Ok(text)
-}
-
-pub(crate) fn push_type(text: &mut Vec<u8>, ty: &Ty) -> Result<(), AllocError>
-    ensures { OnOk result (text.new.items ≡ text.old.items ++ printed_type ty.now) }
-{
-    match ty {
-        Ty::Int(width) => {
-            text.push(b'i')?;
-            push_decimal(text, *width as u64)
-        }
-        Ty::Void => text.extend_from_slice(b"void"),
-    }
-}
-
 pub(crate) fn push_constant(text: &mut Vec<u8>, ty: &Ty, constant: &Const) -> Result<(), AllocError>
     ensures { OnOk result (text.new.items ≡ text.old.items ++ printed_constant ty.now constant.now) }
 {
@@ -41,7 +20,7 @@ fn push_number(text: &mut Vec<u8>, ty: &Ty, number: u64) -> Result<(), AllocErro
     match ty {
         Ty::Int(1) => text.extend_from_slice(if number == 0 { b"false" } else { b"true" }),
         Ty::Int(width) => push_signed(text, *width, number),
-        Ty::Void => push_decimal(text, number),
+        _ => push_decimal(text, number),
     }
 }
 

@@ -1,5 +1,5 @@
 ghost use Rattle.std.specs.Prelude.{◌≡◌, ◌≤◌, ◌<◌, [], ◌∷◌, length, map, IfOk, IfErr, Err};
-ghost use Rattle.ir_core.specs.declared.names.Name.{Name};
+ghost use Rattle.ir_types.specs.declared.names.Name.{Name};
 ghost use Rattle.ir_core.specs.Limits.{text_limit};
 ghost use Rattle.ir_grammar.specs.declared.words.Language.TheVariants.{Ir};
 ghost use Rattle.ir_grammar.specs.Symbols.{placed_in, symbol_in};

@@ -4,7 +4,7 @@ use Rattle.std.proofs.lemmas.List.{drop_more}
 use Rattle.std.specs.List.{AllByRecursion}
 use Rattle.ir_core.specs.declared.functions.Block.{Block}
 use Rattle.ir_core.specs.declared.functions.Function.{Function}
-use Rattle.ir_core.specs.declared.names.Name.{Name}
+use Rattle.ir_types.specs.declared.names.Name.{Name}
 use Rattle.name_index.specs.Among.{is_among}
 use Rattle.ir_shape.specs.declared.fault.ShapeEnd.{ShapeEnd}
 use Rattle.ir_shape.specs.declared.fault.ShapeEnd.TheVariants as end

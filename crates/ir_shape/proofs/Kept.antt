@@ -3,10 +3,10 @@ use Rattle.std.proofs.Common.{◌≡◌, ◌∙◌, Bool, true, false, cond, [],
 use Rattle.std.specs.Borrow.{Bor}
 use Rattle.std.specs.Map.{lookup}
 use Rattle.indexmap.specs.IndexMap.{insert_entry}
-use Rattle.ir_core.specs.declared.names.Name.{Name}
-use Rattle.ir_core.specs.declared.operands.Ty.{Ty}
-use Rattle.ir_core.specs.NameLaws.{same_name_true}
-use Rattle.ir_core.specs.Same.{same_name}
+use Rattle.ir_types.specs.declared.names.Name.{Name}
+use Rattle.ir_types.specs.declared.ty.Ty.{Ty}
+use Rattle.ir_types.specs.NameLaws.{same_name_true}
+use Rattle.ir_types.specs.Same.{same_name}
 use Rattle.ir_shape.specs.declared.types.Types.{Types as Kept}
 use Rattle.shape_tests.specs.Kinds.{none_typed, or_else, type_at, with_type}
 use Rattle.ir_shape.specs.Typed.{found_in, lent, type_in}

@@ -10,12 +10,12 @@ use Rattle.ir_core.specs.declared.functions.Instr.TheVariants as instr
 use Rattle.ir_core.specs.declared.functions.Param.{Param}
 use Rattle.ir_core.specs.declared.functions.Phi.{Phi}
 use Rattle.ir_core.specs.declared.functions.Term.{Term}
-use Rattle.ir_core.specs.declared.names.Name.{Name}
-use Rattle.ir_core.specs.declared.operands.Ty.{Ty}
+use Rattle.ir_types.specs.declared.names.Name.{Name}
+use Rattle.ir_types.specs.declared.ty.Ty.{Ty}
 use Rattle.ir_core.specs.Expressions.{operands_in, type_of}
 use Rattle.ir_core.specs.Functions.{block_names, edges_into, function_names, is_debug, names_in, names_of, operands_at_end, operands_in_block, operands_of, operands_of_phi, params_of, phi_registers, registers_of, set_by, successors_of, typed_of}
 use Rattle.ir_core.specs.Order.{AreNew}
-use Rattle.ir_core.specs.Same.{same_name}
+use Rattle.ir_types.specs.Same.{same_name}
 use Rattle.ir_core.specs.WellFormed.{BranchesOn, FitsEdges, HasBlockShape, HasCases, HasFunctionShape, Returns, SetsByOperator}
 use Rattle.name_index.specs.Among.{is_among}
 use Rattle.ir_shape.specs.declared.fault.ShapeFault.{ShapeFault}

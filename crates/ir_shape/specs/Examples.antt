@@ -13,16 +13,16 @@ use Rattle.ir_core.specs.declared.functions.Param.{Param}
 use Rattle.ir_core.specs.declared.functions.Phi.{Phi}
 use Rattle.ir_core.specs.declared.functions.Term.{Term}
 use Rattle.ir_core.specs.declared.functions.Term.TheVariants.{Br, CondBr, Ret, Switch}
-use Rattle.ir_core.specs.declared.names.Name.{Name}
-use Rattle.ir_core.specs.declared.names.Name.TheVariants.{Text, Number}
+use Rattle.ir_types.specs.declared.names.Name.{Name}
+use Rattle.ir_types.specs.declared.names.Name.TheVariants.{Text, Number}
 use Rattle.ir_core.specs.declared.operands.Atom.TheVariants.{Constant, Register}
 use Rattle.ir_core.specs.declared.operands.BinOp.TheVariants.{Add}
 use Rattle.ir_core.specs.declared.operands.CastOp.{CastOp}
 use Rattle.ir_core.specs.declared.operands.Const.TheVariants as constant
 use Rattle.ir_core.specs.declared.operands.Operand.{Operand}
 use Rattle.ir_core.specs.declared.operands.Pred.TheVariants.{Eq}
-use Rattle.ir_core.specs.declared.operands.Ty.{Ty}
-use Rattle.ir_core.specs.declared.operands.Ty.TheVariants.{Int, Void}
+use Rattle.ir_types.specs.declared.ty.Ty.{Ty}
+use Rattle.ir_types.specs.declared.ty.Ty.TheVariants.{Int, Void}
 use Rattle.ir_shape.specs.declared.fault.ShapeFault.{ShapeFault}
 use Rattle.shape_tests.specs.declared.kind.ShapeKind.{ShapeKind}
 
@@ -42,10 +42,10 @@ debug = Text (codes "llvm.dbg.x")
 abbrev pub params : List Param
 params = record { name = Number 1; ty = Int 1 } ∷ record { name = Number 8; ty = Int 8 } ∷ record { name = Number 32; ty = Int 32 } ∷ []
 
--- the parameter of that type; `void %32`
+-- the parameter of that integer type; of another type `%32`
 abbrev pub given : Ty → Operand Name
 given (Int width) = record { ty = Int width; atom = Register (Number width) }
-given Void = record { ty = Void; atom = Register (Number 32) }
+given t = record { ty = t; atom = Register (Number 32) }
 
 -- %name = right
 abbrev pub setting : ℕ → Expr Name → Instr

@@ -4,10 +4,10 @@ use Rattle.ir_core.specs.declared.expressions.Expr.TheVariants.{Plain}
 use Rattle.ir_core.specs.declared.functions.Function.{Function}
 use Rattle.ir_core.specs.declared.functions.Module.{Module}
 use Rattle.ir_core.specs.declared.functions.Term.TheVariants.{Ret, RetVoid}
-use Rattle.ir_core.specs.declared.names.Name.TheVariants.{Number}
+use Rattle.ir_types.specs.declared.names.Name.TheVariants.{Number}
 use Rattle.ir_core.specs.declared.operands.Atom.TheVariants.{Register}
 use Rattle.ir_core.specs.declared.operands.CastOp.TheVariants.{ZExt, SExt, Trunc, BitCast}
-use Rattle.ir_core.specs.declared.operands.Ty.TheVariants.{Int, Void}
+use Rattle.ir_types.specs.declared.ty.Ty.TheVariants.{Int, Ptr, Struct, Void}
 use Rattle.ir_core.specs.WellFormed.{HasFunctionShape, HasShape}
 use Rattle.shape_tests.specs.declared.kind.ShapeKind.TheVariants as kind
 use Rattle.ir_shape.specs.Examples.{add, alone, block, branching, cast, cast_of, debug, entering, entry, f, fitting, function, icmp, in_f, in_header, in_y, jumping, last, of_blocks, of_lines, params, phi, returning, select, setting, switching, given, x, y}
@@ -41,6 +41,8 @@ abbrev pub OperandsOfNoInteger : Type 0
 OperandsOfNoInteger =
     (first_fault (of_lines (add 101 Void ∷ [])) ≡ Some (in_f 0 kind.OperandType))
     × (first_fault (of_lines (icmp 101 Void ∷ [])) ≡ Some (in_f 0 kind.OperandType))
+    × (first_fault (of_lines (icmp 101 (Ptr (Int 8)) ∷ [])) ≡ Some (in_f 0 kind.OperandType))
+    × (first_fault (of_lines (select 101 (Int 1) (Struct []) (Struct []) ∷ [])) ≡ Some (in_f 0 kind.OperandType))
     × (first_fault (of_lines (setting 101 (Plain (given (Int 32))) ∷ [])) ≡ Some (in_f 0 kind.OperandType))
 
 abbrev pub ConditionsAndArms : Type 0
@@ -119,11 +121,13 @@ Operands =
     (first_fault (of_lines (cast_of 101 ZExt (record { ty = Int 8; atom = Register (Number 32) }) (Int 64) ∷ [])) ≡ Some (in_f 0 kind.OperandType))
     × (first_fault (alone (function f [] [] (Ret (record { ty = Int 32; atom = Register (Number 8) })))) ≡ Some (in_f 0 kind.OperandType))
 
--- `%101 = bitcast void %101 to void`, and a parameter of type void
+-- `%101 = bitcast void %101 to void`, and a parameter of type void, or of `i8*`
 abbrev pub Registers : Type 0
 Registers =
     (first_fault (of_lines (cast_of 101 BitCast (record { ty = Void; atom = Register (Number 101) }) Void ∷ [])) ≡ Some (in_f 0 kind.OperandType))
     × (first_fault (alone (record { name = f; result = Int 32; params = record { name = x; ty = Void } ∷ params; blocks = last ∷ [] }))
+    ≡ Some (in_header f kind.OperandType))
+    × (first_fault (alone (record { name = f; result = Int 32; params = record { name = x; ty = Ptr (Int 8) } ∷ params; blocks = last ∷ [] }))
     ≡ Some (in_header f kind.OperandType))
 
 -- the first place decides: a line before a terminator, a name before the lines, a function before the next one's name

@@ -8,7 +8,7 @@ use Rattle.ir_core.specs.declared.functions.Instr.TheVariants as instr
 use Rattle.ir_core.specs.declared.functions.Module.{Module}
 use Rattle.ir_core.specs.declared.functions.Phi.{Phi}
 use Rattle.ir_core.specs.declared.limits.Limit.TheVariants.{Lines}
-use Rattle.ir_core.specs.declared.names.Name.{Name}
+use Rattle.ir_types.specs.declared.names.Name.{Name}
 use Rattle.ir_core.specs.Functions.{edges_into, line_count, names_in, params_of, phi_registers, set_by}
 use Rattle.ir_core.specs.Limits.{line_limit}
 use Rattle.name_index.specs.Among.{is_among}

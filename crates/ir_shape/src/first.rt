@@ -13,7 +13,7 @@ use crate::told::{end_kind, line_kind, phi_kind};
 use crate::types::{Types, types_of};
 use crate::{LinePlace, ShapeEnd, ShapeFault};
 use contents::Exact;
-use ir_core::{Block, Function, Instr, Limit, Module, Name, Phi};
+use ir_core::{BitType, Block, Function, Instr, Limit, Module, Name, Phi};
 use shape_tests::{
     LentNames, Row, ShapeKind, block_kind, counts_of, edges_of, header_kind, labels_of, least,
     name_kind, row_of, take_params,
@@ -303,7 +303,11 @@ fn params_fit<'a>(alloc: Global, function: &'a Function) -> Result<LentNames<'a>
     Ok(names)
 }
 
-fn scope_of<'a>(alloc: Global, function: &'a Function) -> Result<Scope<'a>, AllocError>
+fn scope_of<'a>(
+    alloc: Global,
+    bit: &'a BitType,
+    function: &'a Function,
+) -> Result<Scope<'a>, AllocError>
     ensures labels { IfOk result (λ scope. scope.labels ≡ fitting.labels_of «function».now) }
     ensures types { IfOk result (λ scope. type_in scope.types ≡ fitting.types_of «function».now) }
     ensures edges { IfOk result
@@ -311,7 +315,7 @@ fn scope_of<'a>(alloc: Global, function: &'a Function) -> Result<Scope<'a>, Allo
 {
     let labels = labels_of(alloc, function.blocks.as_slice())?;
     let edges = edges_of(alloc, &labels, function.blocks.as_slice())?;
-    let types = types_of(alloc, function)?;
+    let types = types_of(alloc, bit, function)?;
     Ok(Scope {
         labels,
         types,
@@ -331,7 +335,8 @@ fn all_blocks_fit<'a>(
         (IsFirstOf
         (meaning.in_body «function».now (fitting.labels_of «function».now) (fitting.types_of «function».now) params.entry «function».now.blocks)) }
 {
-    let scope = scope_of(alloc, function)?;
+    let bit = BitType::new();
+    let scope = scope_of(alloc, &bit, function)?;
     body_fits(alloc, function, &scope, params, function.blocks.as_slice())
 }
 

@@ -10,7 +10,7 @@ use crate::types::{
     Types, are_entries_known, are_operands_known, end_is_typed, entries_are_typed, is_end_known,
     operands_are_typed,
 };
-use ir_core::{Expr, Instr, Name, Phi, Term, Ty};
+use ir_core::{BitType, Expr, Instr, Name, Phi, Term, Ty};
 use shape_tests::{
     Counts, LentNames, ShapeKind, branch_fits, cases_fit, entries_are_labels, fault_unless,
     fits_edges, is_integer, leads_to, leads_to_labels, return_fits, right_kind,
@@ -24,7 +24,8 @@ fn set_kind(types: &Types, taken: bool, right: &Expr<Name>) -> Option<ShapeKind>
     if taken || !are_operands_known(types, typed, right) {
         return Some(ShapeKind::Name);
     }
-    if !is_integer(right.ty()) || !typed {
+    let bit = BitType::new();
+    if !is_integer(right.ty(&bit)) || !typed {
         return Some(ShapeKind::OperandType);
     }
     right_kind(right)

@@ -9,7 +9,9 @@ ghost use Rattle.shape_tests.specs.Typed.{operands_at};
 ghost use Rattle.ir_shape.specs.Typed.{type_in};
 
 use indexmap::IndexMap;
-use ir_core::{Atom, Block, Entry, Expr, Function, Instr, Name, Param, Phi, Term, Ty, same_ty};
+use ir_core::{
+    Atom, BitType, Block, Entry, Expr, Function, Instr, Name, Param, Phi, Term, Ty, same_ty,
+};
 use shape_tests::is_integer;
 use std::alloc::{AllocError, Global};
 
@@ -74,30 +76,30 @@ impl<'a> Types<'a> {
         Ok(())
     }
 
-    fn put_lines(&mut self, lines: &'a [Instr]) -> Result<(), AllocError>
+    fn put_lines(&mut self, bit: &'a BitType, lines: &'a [Instr]) -> Result<(), AllocError>
         ensures { OnOk result (type_in self.new ≡ with_types (type_in self.old) (functions.set_by lines.now)) }
     {
         for line in lines {
             let Instr::Calm(calm) = line;
-            self.put(&calm.name, calm.right.ty())?;
+            self.put(&calm.name, calm.right.ty(bit))?;
         }
         Ok(())
     }
 
     #[tactic(auto, using(shape_tests::proofs::Typed::types_joined))]
-    fn put_block(&mut self, block: &'a Block) -> Result<(), AllocError>
+    fn put_block(&mut self, bit: &'a BitType, block: &'a Block) -> Result<(), AllocError>
         ensures { OnOk result (type_in self.new ≡ with_types (type_in self.old) (functions.registers_of block.now)) }
     {
         self.put_phis(block.phis.as_slice())?;
-        self.put_lines(block.body.as_slice())
+        self.put_lines(bit, block.body.as_slice())
     }
 
     #[tactic(auto, using(shape_tests::proofs::Typed::types_joined))]
-    fn put_blocks(&mut self, blocks: &'a [Block]) -> Result<(), AllocError>
+    fn put_blocks(&mut self, bit: &'a BitType, blocks: &'a [Block]) -> Result<(), AllocError>
         ensures { OnOk result (type_in self.new ≡ with_types (type_in self.old) (flat_map functions.registers_of blocks.now)) }
     {
         for block in blocks {
-            self.put_block(block)?;
+            self.put_block(bit, block)?;
         }
         Ok(())
     }
@@ -136,12 +138,16 @@ impl<'a> Types<'a> {
 
 /// The types of the function's registers.
 #[tactic(auto, using(shape_tests::proofs::Typed::types_joined))]
-pub(crate) fn types_of<'a>(alloc: Global, function: &'a Function) -> Result<Types<'a>, AllocError>
+pub(crate) fn types_of<'a>(
+    alloc: Global,
+    bit: &'a BitType,
+    function: &'a Function,
+) -> Result<Types<'a>, AllocError>
     ensures { IfOk result (λ types. type_in types ≡ fitting.types_of «function».now) }
 {
     let mut types = Types::new(alloc);
     types.put_params(function.params.as_slice())?;
-    types.put_blocks(function.blocks.as_slice())?;
+    types.put_blocks(bit, function.blocks.as_slice())?;
     Ok(types)
 }
 

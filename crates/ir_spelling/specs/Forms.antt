@@ -1,7 +1,7 @@
 -- What is read of a text: a module, an expression of the logic, or a name.
 use Rattle.std.specs.Prelude.{ℕ, List, [], ◌∷◌}
-use Rattle.ir_core.specs.declared.names.Name.{Name}
-use Rattle.ir_core.specs.declared.names.Sigil.{Sigil}
+use Rattle.ir_types.specs.declared.names.Name.{Name}
+use Rattle.ir_types.specs.declared.names.Sigil.{Sigil}
 use Rattle.ir_grammar.specs.declared.trees.ExprText.{ExprText}
 use Rattle.ir_grammar.specs.declared.trees.ModuleText.{ModuleText}
 use Rattle.ir_grammar.specs.declared.trees.Placed.{Placed}

@@ -1,8 +1,8 @@
 -- What a text spells, however long the text is.
 use Rattle.std.specs.Prelude.{◌≡◌, ℕ, List, map, Option, Some, None, Ok, Err}
 use Rattle.ir_core.specs.declared.functions.Module.{Module}
-use Rattle.ir_core.specs.declared.names.Name.{Name}
-use Rattle.ir_core.specs.declared.names.Sigil.{Sigil}
+use Rattle.ir_types.specs.declared.names.Name.{Name}
+use Rattle.ir_types.specs.declared.names.Sigil.{Sigil}
 use Rattle.ir_core.specs.Expressions.{Expr0}
 use Rattle.ir_core.specs.WellFormed.{IsWellFormed}
 use Rattle.ir_lexer.specs.Cut.{Cut, cut}

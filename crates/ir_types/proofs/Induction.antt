@@ -1,11 +1,12 @@
 -- What holds of each type where it holds of its parts.
-use Rattle.std.proofs.Common.{◌≡◌, ◌∙◌, ℕ, List, [], ◌∷◌, map, sym, ap, subst}
+use Rattle.std.proofs.Common.{◌≡◌, ◌∙◌, ℕ, List, [], ◌∷◌, map, refl, sym, ap, subst}
 use Rattle.std.specs.List.{AllByRecursion}
 use Rattle.ir_types.specs.declared.names.Name.{Name}
 use Rattle.ir_types.specs.declared.ty.Ty.{Ty, Int, Ptr, Array, Struct, Named, Void, roll-Ty, map-Ty, ind-Ty, fold-Ty, fold-roll-Ty}
 use Rattle.ir_types.specs.declared.ty.Ty.TheOpen.{Ty-F}
 use Rattle.ir_types.specs.declared.ty.Ty.TheOpen as ty
 use Rattle.ir_types.specs.declared.ty.Ty.TheViews.{rolls-Int, rolls-Ptr, rolls-Array, rolls-Struct, rolls-Named, rolls-Void}
+use Rattle.ir_types.specs.Folded.{folded}
 
 module _ (P : Ty → Type 0) where
   all_of : (ts : List ((t : Ty) × P t)) → AllByRecursion P (map (λ e. e.0) ts)
@@ -50,3 +51,9 @@ module _ (A : Type 0) (step : Ty-F A → A) where
 
   pub at_void : fold-Ty A step Void ≡ step ty.Void
   at_void = ap (fold-Ty A step) (sym rolls-Void) ∙ fold-roll-Ty A step ty.Void
+
+  pub folded_is : (t : Ty) → folded step t ≡ fold-Ty A step t
+  folded_is (Int width) = sym (at_int width)
+  folded_is (Named x) = sym (at_named x)
+  folded_is Void = sym at_void
+  folded_is t = refl

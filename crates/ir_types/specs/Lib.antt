@@ -1,5 +1,6 @@
 pub mod formers
 pub mod Same
+pub mod Folded
 pub mod NameLaws
 pub mod Hashed
 pub mod Layout

@@ -1,9 +1,9 @@
 -- Whether two names or two types are the same, as tests that compute. Each is true exactly of equal things, which is the
 -- contract of `tests_are_equality`.
-use Rattle.std.specs.Prelude.{◌≡◌, ◌↔◌, Bool, true, false, ◌&&◌, List, [], ◌∷◌, nat_eq}
+use Rattle.std.specs.Prelude.{◌≡◌, ◌↔◌, ℕ, Bool, true, false, ◌&&◌, List, [], ◌∷◌, nat_eq}
 use Rattle.ir_types.specs.declared.names.Name.{Name}
 use Rattle.ir_types.specs.declared.names.Name.TheVariants as name
-use Rattle.ir_types.specs.declared.ty.Ty.{Ty, out-Ty, fold-Ty}
+use Rattle.ir_types.specs.declared.ty.Ty.{Ty, Int, Named, Void, out-Ty, fold-Ty}
 use Rattle.ir_types.specs.declared.ty.Ty.TheOpen.{Ty-F}
 use Rattle.ir_types.specs.declared.ty.Ty.TheOpen as ty
 
@@ -36,8 +36,28 @@ same_level (ty.Named x) (ty.Named y) = same_name x y
 same_level ty.Void ty.Void = true
 same_level a b = false
 
+-- part by part
+abbrev pub same_parts : Ty → Ty → Bool
+same_parts = fold-Ty (Ty → Bool) (λ level t. same_level level (out-Ty t))
+
+abbrev pub is_int : ℕ → Ty → Bool
+is_int v (Int w) = nat_eq v w
+is_int v t = false
+
+abbrev pub is_named : Name → Ty → Bool
+is_named x (Named y) = same_name x y
+is_named x t = false
+
+abbrev pub is_void : Ty → Bool
+is_void Void = true
+is_void t = false
+
+-- A type without parts is the same as one of its kind alone, of its width or its name; others are so where each part is.
 abbrev pub same_ty : Ty → Ty → Bool
-same_ty = fold-Ty (Ty → Bool) (λ level t. same_level level (out-Ty t))
+same_ty (Int v) t = is_int v t
+same_ty (Named x) t = is_named x t
+same_ty Void t = is_void t
+same_ty s t = same_parts s t
 
 -- the test is true exactly of equal things
 abbrev pub IsEquality : {A : Type 0} → (A → A → Bool) → Type 0

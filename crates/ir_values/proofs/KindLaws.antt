@@ -1,6 +1,6 @@
 -- The test of kinds is true exactly of equal kinds, and what lies in every kind.
 use Rattle.std.proofs.Common.{◌≡◌, true, ap}
-use Rattle.ir_core.proofs.SameLaws.{same_nat_true, same_nat_refl}
+use Rattle.ir_types.specs.NameLaws.{same_nat_true, same_nat_refl}
 use Rattle.ir_core.specs.declared.values.Value.TheVariants.{Undef, Poison}
 use Rattle.ir_core.specs.declared.values.Kind.{Kind}
 use Rattle.ir_core.specs.declared.values.Kind.TheVariants.{Int}

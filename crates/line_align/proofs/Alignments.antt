@@ -7,7 +7,7 @@ use Rattle.erhl_assert.specs.declared.hints.Letter.TheVariants.{Both, Source, Ta
 use Rattle.erhl_assert.specs.Alignment.{Line, after_first, aligned}
 use Rattle.line_align.specs.Cursor.{on_source, on_target, left, is_none, stands, aligned_line, is_aligned}
 use Rattle.line_align.specs.Lent.{lines_under}
-use Rattle.ir_core.proofs.SameLaws.{left_true, right_true}
+use Rattle.ir_types.specs.NameLaws.{left_true, right_true}
 
 is_aligned_after : (l : Line) (o : Option (List Line)) → is_aligned (after_first l o) ≡ is_aligned o
 is_aligned_after l None = refl

@@ -6,9 +6,9 @@ use Rattle.std.proofs.lemmas.List.Elements.{filter-append}
 use Rattle.std.proofs.lemmas.List.Quantifiers.{position-Some}
 use Rattle.std.specs.Borrow.{Bor}
 use Rattle.std.specs.Prelude.{find, slice_get}
-use Rattle.ir_core.specs.declared.names.Name.{Name}
-use Rattle.ir_core.specs.NameLaws.{same_name_true, same_name_refl}
-use Rattle.ir_core.specs.Same.{same_name}
+use Rattle.ir_types.specs.declared.names.Name.{Name}
+use Rattle.ir_types.specs.NameLaws.{same_name_true, same_name_refl}
+use Rattle.ir_types.specs.Same.{same_name}
 use Rattle.name_index.specs.Among.{is_among, place_among}
 use Rattle.name_index.proofs.Among.{among_is}
 use Rattle.name_index.proofs.FirstPlaces.{no_place}

@@ -5,9 +5,9 @@ use Rattle.std.proofs.lemmas.List.{drop_all}
 use Rattle.std.specs.Prelude.{Option, None, Some}
 use Rattle.std.specs.List.{zip}
 use Rattle.std.specs.Option.{option_map}
-use Rattle.ir_core.specs.declared.names.Name.{Name}
+use Rattle.ir_types.specs.declared.names.Name.{Name}
 use Rattle.ir_core.specs.declared.functions.Block.{Block}
-use Rattle.ir_core.specs.Same.{same_name}
+use Rattle.ir_types.specs.Same.{same_name}
 use Rattle.ir_machine.proofs.Standing.{drop_at}
 use Rattle.erhl_assert.specs.declared.hints.Letter.{Letter}
 use Rattle.erhl_assert.specs.declared.hints.Hint.{Hint}

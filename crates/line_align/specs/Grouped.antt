@@ -1,8 +1,8 @@
 -- Words of private functions. Things that are kept by their names.
 use Rattle.std.specs.Prelude.{cond, List, [], ◌∷◌, map}
 use Rattle.std.specs.Borrow.{Bor}
-use Rattle.ir_core.specs.declared.names.Name.{Name}
-use Rattle.ir_core.specs.Same.{same_name}
+use Rattle.ir_types.specs.declared.names.Name.{Name}
+use Rattle.ir_types.specs.Same.{same_name}
 
 -- those that are kept for the name: the group at the name's first place
 abbrev pub group_of : {T : Type 0} → Name → List Name → List (List (Bor T)) → List T

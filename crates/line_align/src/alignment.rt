@@ -11,7 +11,7 @@ use crate::alike::{Likeness, all_alike};
 use crate::by_name::ByName;
 use crate::cursor::{is_end, left, on_source, on_target, stands};
 use contents::{Exact, Seq};
-use erhl_assert::{HintBlock, Letter};
+use erhl_assert::{HeldBlock, Letter};
 use ir_core::{Block, Function, Instr, Name, Param, same_name, same_ty};
 use std::alloc::{AllocError, Global};
 
@@ -78,10 +78,20 @@ fn letters_or_both(
     }
 }
 
+/// The letters that a hint gives to so many lines.
+fn letters_of_hint(alloc: Global, hint: &HeldBlock, count: usize) -> Result<Seq<Letter>, AllocError>
+    ensures { IfOk result (λ all. all ≡ alignment.letters_or_both hint.now.lines count) }
+{
+    match hint.whole() {
+        Some(hint) => letters_or_both(alloc, &hint.lines, count),
+        None => all_both(alloc, count),
+    }
+}
+
 /// The letters of a block: those of its hint, or that all of its lines stand on both sides.
 fn letters_of(
     alloc: Global,
-    hints: &ByName<'_, HintBlock>,
+    hints: &ByName<'_, HeldBlock>,
     block: &Block,
 ) -> Result<Seq<Letter>, AllocError>
     ensures { IfOk result
@@ -89,7 +99,7 @@ fn letters_of(
         ≡ alignment.letters_or_both (alignment.block_hint (record { blocks = hints.now }) block.now.name).lines (length block.now.body)) }
 {
     match hints.first(&block.name) {
-        Some(entry) => letters_or_both(alloc, &entry.lines, block.body.len()),
+        Some(entry) => letters_of_hint(alloc, entry, block.body.len()),
         None => all_both(alloc, block.body.len()),
     }
 }
@@ -139,7 +149,7 @@ fn same_header(source: &Function, target: &Function) -> bool
 #[tactic(auto, using(crate::proofs::Lending::block_lent, crate::proofs::Lending::block_unaligned, crate::proofs::Lending::block_misnamed))]
 fn align_block<'a>(
     alloc: Global,
-    hints: &ByName<'_, HintBlock>,
+    hints: &ByName<'_, HeldBlock>,
     source: &'a Block,
     target: &'a Block,
 ) -> Result<Option<AlignedBlock<'a>>, AllocError>
@@ -167,7 +177,7 @@ fn align_block<'a>(
 #[tactic(auto, using(crate::proofs::Lending::blocks_end, crate::proofs::Lending::blocks_short))]
 fn align_blocks<'a>(
     alloc: Global,
-    hints: &ByName<'_, HintBlock>,
+    hints: &ByName<'_, HeldBlock>,
     source: &'a [Block],
     target: &'a [Block],
 ) -> Result<Seq<AlignedBlock<'a>>, AlignEnd>
@@ -203,7 +213,7 @@ pub fn align<'a>(
     alloc: Global,
     source: &'a Function,
     target: &'a Function,
-    hints: &ByName<'_, HintBlock>,
+    hints: &ByName<'_, HeldBlock>,
 ) -> Result<Seq<AlignedBlock<'a>>, AlignEnd>
     ensures { Answers result (alignment.alignment (record { blocks = hints.now }) source.now target.now) }
 {

@@ -1,6 +1,6 @@
 //! Lists of things that are alike in pairs.
 ghost use Rattle.std.specs.Prelude.{◌≡◌};
-ghost use Rattle.ir_core.specs.Same.{same_list};
+ghost use Rattle.ir_types.specs.Same.{same_list};
 
 /// A way in which two things are alike.
 pub trait Likeness<T> {

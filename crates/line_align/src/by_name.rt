@@ -1,8 +1,8 @@
 //! What is found by its name without a walk.
 ghost use Rattle.std.specs.Prelude.{◌≡◌, [], ◌∷◌, ◌++◌, length, map, cond, slice_set, get_or, ◌<◌, find, filter, None, IfOk, OnOk};
 ghost use Rattle.std.specs.Option.{option_copied};
-ghost use Rattle.ir_core.specs.declared.names.Name.{Name};
-ghost use Rattle.ir_core.specs.Same.{same_name};
+ghost use Rattle.ir_types.specs.declared.names.Name.{Name};
+ghost use Rattle.ir_types.specs.Same.{same_name};
 ghost use Rattle.name_index.specs.Among.{place_among};
 ghost use Rattle.line_align.specs.Grouped.{group_of};
 
@@ -23,8 +23,8 @@ pub struct ByName<'a, T: Named> {
 
 impl<'a, T: Named> Model for ByName<'a, T> {
     ghost use Rattle.std.specs.Prelude.{◌≡◌, List, [], filter, length};
-    ghost use Rattle.ir_core.specs.declared.names.Name.{Name};
-    ghost use Rattle.ir_core.specs.Same.{same_name};
+    ghost use Rattle.ir_types.specs.declared.names.Name.{Name};
+    ghost use Rattle.ir_types.specs.Same.{same_name};
     ghost use Rattle.line_align.specs.Grouped.{group_of};
 
     ghost Value = { List T };

@@ -1,12 +1,12 @@
 //! What has a name.
 ghost use Rattle.std.specs.Prelude.{◌≡◌};
 
-use erhl_assert::{FunctionHint, HintBlock, HintEdge};
+use erhl_assert::{FunctionHint, HeldBlock, HintEdge};
 use ir_core::{Block, Entry, Name};
 
 /// What has a name.
 pub trait Named {
-    ghost use Rattle.ir_core.specs.declared.names.Name.{Name};
+    ghost use Rattle.ir_types.specs.declared.names.Name.{Name};
 
     ghost named: { Self → Name };
 
@@ -31,11 +31,11 @@ impl Named for Entry {
     }
 }
 
-impl Named for HintBlock {
+impl Named for HeldBlock {
     ghost named = { λ hint. hint.at };
 
     fn name(&self) -> &Name {
-        &self.at
+        self.name()
     }
 }
 

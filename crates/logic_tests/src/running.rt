@@ -1,5 +1,5 @@
 ghost use Rattle.std.specs.Prelude.{◌≡◌, ◌≢◌, [], ◌∷◌, Option, None, Some, IfOk, IfSome};
-ghost use Rattle.ir_core.specs.declared.names.Name.{Name};
+ghost use Rattle.ir_types.specs.declared.names.Name.{Name};
 ghost use Rattle.ir_machine.specs.Machine as machine;
 ghost use Rattle.ir_machine.specs.State.{Over};
 ghost use Rattle.ir_machine.specs.Places.{state_of};

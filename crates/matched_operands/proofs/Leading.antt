@@ -5,8 +5,9 @@ use Rattle.std.specs.List.{list_any}
 use Rattle.ir_core.specs.declared.operands.Operand.{Operand}
 use Rattle.ir_core.specs.declared.expressions.Reg.{Reg}
 use Rattle.ir_core.specs.declared.expressions.Expr.TheVariants.{Plain, Binary, Icmp, Cast, Select}
-use Rattle.ir_core.specs.Same.{same_expr, same_name, same_reg}
-use Rattle.ir_core.specs.NameLaws.{same_name_refl}
+use Rattle.ir_types.specs.Same.{same_name}
+use Rattle.ir_core.specs.Same.{same_expr, same_reg}
+use Rattle.ir_types.specs.NameLaws.{same_name_refl}
 use Rattle.ir_core.proofs.SameLaws.{same_reg_operand_true}
 use Rattle.erhl_assert.specs.declared.facts.Fact.{Fact}
 use Rattle.erhl_assert.specs.declared.facts.Fact.TheVariants.{LessDef}

@@ -7,7 +7,7 @@ ghost use Rattle.ir_naming.specs.Walk.{HasRoom, with_thing, with_things};
 
 use crate::flow::{name_node, name_term};
 use contents::{Exact, Seq};
-use ir_core::{Block, Calm, Function, Instr, Module, Name, Param, Phi, Ty};
+use ir_core::{BitType, Block, Calm, Function, Instr, Module, Name, Param, Phi, Ty};
 use ir_grammar::{
     BlockText, BodyText, DefinitionText, LineText, ModuleText, ParamText, PhiText, Placed,
 };
@@ -155,7 +155,8 @@ fn name_line(
     } = line;
     claim_operation(alloc, operation.get(), claims)?;
     let right = expression_of(operation.into_inner());
-    let ty = right.ty().copy(alloc)?;
+    let bit = BitType::new();
+    let ty = right.ty(&bit).copy(alloc)?;
     let name = define(alloc, tally, function, register, Meaning::Register(ty))?;
     Ok(Instr::Calm(Calm { name, right }))
 }

@@ -4,9 +4,9 @@ use Rattle.std.proofs.lemmas.List.{at_drop_more, drop_more}
 use Rattle.std.specs.Map.{lookup}
 use Rattle.std.specs.Prelude.{◌&&◌, ◌||◌, is_none, nat_lt, option_map}
 use Rattle.indexmap.specs.IndexMap.{insert_entry}
-use Rattle.ir_core.specs.declared.names.Name.{Name}
-use Rattle.ir_core.specs.NameLaws.{left_true, name_equivalence, right_true, same_name_refl, same_name_true}
-use Rattle.ir_core.specs.Same.{same_name}
+use Rattle.ir_types.specs.declared.names.Name.{Name}
+use Rattle.ir_types.specs.NameLaws.{left_true, name_equivalence, right_true, same_name_refl, same_name_true}
+use Rattle.ir_types.specs.Same.{same_name}
 use Rattle.name_claims.specs.declared.claims.Definition.{Definition}
 use Rattle.name_claims.specs.Faults.{find, is_defined, repeats}
 use Rattle.name_claims.specs.Indexes.{AreAllNew, at_name, first_at, is_below, or_else}

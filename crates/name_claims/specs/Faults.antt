@@ -1,9 +1,9 @@
 -- Which claim of a text is at fault, and which fault is the first one.
 use Rattle.std.specs.Prelude.{◌≡◌, ℕ, ◌==◌, Bool, false, ◌&&◌, ◌||◌, List, [], ◌∷◌, Option, Some, None, if◌then◌else◌, nat_lt, slice_get, take}
 use Rattle.std.specs.List.{Contains, list_any}
-use Rattle.ir_core.specs.declared.names.Name.{Name}
-use Rattle.ir_core.specs.declared.operands.Ty.{Ty}
-use Rattle.ir_core.specs.Same.{same_name, same_ty}
+use Rattle.ir_types.specs.declared.names.Name.{Name}
+use Rattle.ir_types.specs.declared.ty.Ty.{Ty}
+use Rattle.ir_types.specs.Same.{same_name, same_ty}
 use Rattle.name_claims.specs.declared.claims.Claim.{Claim}
 use Rattle.name_claims.specs.declared.claims.Count.{Count}
 use Rattle.name_claims.specs.declared.claims.Definition.{Definition}

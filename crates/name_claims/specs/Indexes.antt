@@ -1,8 +1,8 @@
 -- Words of private functions: an index of the first definition of each name, and the first fault as it is found from the left.
 use Rattle.std.specs.Prelude.{◌≡◌, ℕ, suc, Bool, true, false, List, [], ◌∷◌, Option, Some, None, if◌then◌else◌, option_map, nat_lt}
 use Rattle.indexmap.specs.IndexMap.{get_by}
-use Rattle.ir_core.specs.declared.names.Name.{Name}
-use Rattle.ir_core.specs.Same.{same_name}
+use Rattle.ir_types.specs.declared.names.Name.{Name}
+use Rattle.ir_types.specs.Same.{same_name}
 use Rattle.name_claims.specs.declared.claims.Claim.{Claim}
 use Rattle.name_claims.specs.declared.claims.Definition.{Definition}
 use Rattle.name_claims.specs.declared.claims.Fault.{Fault}

@@ -24,7 +24,7 @@ impl<'a> Drop for Index<'a> {
 
 impl<'a> Index<'a> {
     ghost use Rattle.std.specs.Prelude.{[], ◌&&◌, OnOk, is_none};
-    ghost use Rattle.ir_core.specs.declared.names.Name.{Name};
+    ghost use Rattle.ir_types.specs.declared.names.Name.{Name};
     ghost use Rattle.name_claims.specs.Indexes.{position, or_else, at_name, Indexes};
 
     /// No name is defined, and there is room for so many.

@@ -2,9 +2,9 @@
 use Rattle.std.proofs.Common.{◌≡◌, ◌∙◌, ⊎_elim, zero, suc, ◌<◌, ℕ, true, false, List, [], ◌∷◌, length, sym, ap, arith}
 use Rattle.std.proofs.lemmas.Bool.{or_cases, or_left, or_right}
 use Rattle.std.specs.List.{Contains, slice_index_or}
-use Rattle.ir_core.specs.declared.names.Name.{Name}
-use Rattle.ir_core.specs.NameLaws.{same_name_true, same_name_refl}
-use Rattle.ir_core.specs.Same.{same_name}
+use Rattle.ir_types.specs.declared.names.Name.{Name}
+use Rattle.ir_types.specs.NameLaws.{same_name_true, same_name_refl}
+use Rattle.ir_types.specs.Same.{same_name}
 use Rattle.name_index.specs.Among.{is_among}
 
 pub among_is : (name : Name) (names : List Name) → is_among name names ≡ true → Contains names name

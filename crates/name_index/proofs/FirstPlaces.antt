@@ -8,9 +8,9 @@ use Rattle.std.proofs.lemmas.List.Sums.{fails_before_first}
 use Rattle.std.specs.List.{Contains, position_from, position_or_len}
 use Rattle.std.specs.Map.{lookup}
 use Rattle.indexmap.specs.IndexMap.{insert_entry}
-use Rattle.ir_core.specs.declared.names.Name.{Name}
-use Rattle.ir_core.specs.NameLaws.{same_name_refl, same_name_true}
-use Rattle.ir_core.specs.Same.{same_name}
+use Rattle.ir_types.specs.declared.names.Name.{Name}
+use Rattle.ir_types.specs.NameLaws.{same_name_refl, same_name_true}
+use Rattle.ir_types.specs.Same.{same_name}
 use Rattle.name_index.specs.Among.{place_among}
 use Rattle.name_index.specs.Places.{placed}
 

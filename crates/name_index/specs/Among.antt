@@ -1,8 +1,8 @@
 -- Whether a name is one of several.
 use Rattle.std.specs.Prelude.{ℕ, Bool, List, Option}
 use Rattle.std.specs.List.{list_any, position}
-use Rattle.ir_core.specs.declared.names.Name.{Name}
-use Rattle.ir_core.specs.Same.{same_name}
+use Rattle.ir_types.specs.declared.names.Name.{Name}
+use Rattle.ir_types.specs.Same.{same_name}
 
 -- `x` is among `x` and 7, and 8 is not.
 abbrev pub is_among : Name → List Name → Bool

@@ -1,8 +1,8 @@
 -- Where names stand first, as an index tells it.
 use Rattle.std.specs.Prelude.{◌≡◌, ℕ, List, Option, Some, if◌then◌else◌}
 use Rattle.indexmap.specs.IndexMap.{get_by}
-use Rattle.ir_core.specs.declared.names.Name.{Name}
-use Rattle.ir_core.specs.Same.{same_name}
+use Rattle.ir_types.specs.declared.names.Name.{Name}
+use Rattle.ir_types.specs.Same.{same_name}
 use Rattle.name_index.specs.declared.places.PlaceIndex.{PlaceIndex}
 use Rattle.name_index.specs.Among.{place_among}
 

@@ -19,7 +19,7 @@ impl Drop for NameIndex {
 
 impl Model for NameIndex {
     ghost use Rattle.std.specs.Prelude.{List};
-    ghost use Rattle.ir_core.specs.declared.names.Name.{Name};
+    ghost use Rattle.ir_types.specs.declared.names.Name.{Name};
 
     ghost Value = { List Name };
 

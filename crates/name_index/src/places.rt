@@ -15,7 +15,7 @@ impl<'a> Drop for PlaceIndex<'a> {
 
 impl<'a> PlaceIndex<'a> {
     ghost use Rattle.std.specs.Prelude.{◌≡◌, [], IfOk, OnOk};
-    ghost use Rattle.ir_core.specs.declared.names.Name.{Name};
+    ghost use Rattle.ir_types.specs.declared.names.Name.{Name};
     ghost use Rattle.name_index.specs.Places.{ArePlaces, place_in, placed};
 
     /// No name has a place, and there is room for so many.

@@ -1,7 +1,7 @@
 -- A book takes what is sound where each of its boxes does.
 use Rattle.std.proofs.Common.{◌≡◌, ℕ, Bool, true, false, cond, List, [], ◌∷◌, nat_eq}
 use Rattle.std.specs.Prelude.{Some}
-use Rattle.ir_core.specs.Same.{same_list}
+use Rattle.ir_types.specs.Same.{same_list}
 use Rattle.ir_core.specs.Modules.{Scope}
 use Rattle.erhl_assert.specs.declared.facts.Schema.{Schema}
 use Rattle.erhl_assert.specs.Facts.{IsSound}

@@ -1,7 +1,7 @@
 -- What the shipped rules take and what they don't, worked out by hand: an example of each case. Numbers are of i8 where no type is named.
 use Rattle.std.specs.Prelude.{◌≡◌, ℕ, Bool, true, false, codes, [], ◌∷◌}
-use Rattle.ir_core.specs.declared.names.Name.TheVariants.{Text}
-use Rattle.ir_core.specs.declared.operands.Ty.TheVariants.{Int}
+use Rattle.ir_types.specs.declared.names.Name.TheVariants.{Text}
+use Rattle.ir_types.specs.declared.ty.Ty.TheVariants.{Int}
 use Rattle.ir_core.specs.declared.operands.Const.TheVariants as constant
 use Rattle.ir_core.specs.declared.operands.Atom.{Atom}
 use Rattle.ir_core.specs.declared.operands.Atom.TheVariants.{Constant, Register}

@@ -3,8 +3,8 @@ use Rattle.std.proofs.Common.{◌≡◌, ℕ, true, ◌&&◌, List, [], Option, 
 use Rattle.std.proofs.lemmas.Bool.{eqb-true}
 use Rattle.ir_core.specs.declared.values.Value.TheVariants.{Num, Undef, Poison}
 use Rattle.ir_core.specs.declared.values.Kind.{Kind}
-use Rattle.ir_core.specs.declared.operands.Ty.{Ty}
-use Rattle.ir_core.specs.declared.operands.Ty.TheVariants as ty
+use Rattle.ir_types.specs.declared.ty.Ty.{Ty}
+use Rattle.ir_types.specs.declared.ty.Ty.TheVariants as ty
 use Rattle.ir_core.specs.declared.operands.Const.TheVariants as constant
 use Rattle.ir_core.specs.declared.operands.Atom.{Atom}
 use Rattle.ir_core.specs.declared.operands.Atom.TheVariants as atom
@@ -12,7 +12,7 @@ use Rattle.ir_core.specs.declared.expressions.Reg.{Reg}
 use Rattle.ir_core.specs.declared.expressions.Expr.TheVariants.{Plain, Binary, Icmp, Cast, Select}
 use Rattle.ir_core.specs.Expressions.{Expr0}
 use Rattle.ir_core.specs.Types.{kind_of}
-use Rattle.ir_core.proofs.SameLaws.{left_true, right_true}
+use Rattle.ir_types.specs.NameLaws.{left_true, right_true}
 use Rattle.ir_values.specs.declared.operations.Outcome.{Outcome}
 use Rattle.ir_values.specs.declared.operations.Outcome.TheVariants.{Gives, Trap}
 use Rattle.ir_values.specs.Operations.{IsOutcomeLessDefined}
@@ -63,17 +63,17 @@ module _ (side : SideState) where
 
   undef_less : (t : Ty) (c : Atom Reg) → is_constant c ≡ true → has_values t ≡ true → atom_fits t c ≡ true
       → IsLessDefined Undef (atom_value (read_reg side) (kind_of t) c)
-  undef_less ty.Void c p v r = absurd (cc)
   undef_less (ty.Int w) (atom.Constant (constant.Number n)) p v r = rw (v, r) tt
   undef_less (ty.Int w) (atom.Constant constant.Undef) p v r = rw v tt
   undef_less (ty.Int w) (atom.Register s) p v r = absurd (cc)
+  undef_less t c p v r = absurd (cc)
 
   number_less : (m : ℕ) (t : Ty) (c : Atom Reg) → may_become (Gives (Num m)) c ≡ true → has_values t ≡ true → atom_fits t c ≡ true
       → IsLessDefined (Num m) (atom_value (read_reg side) (kind_of t) c)
-  number_less m ty.Void c p v r = absurd (cc)
   number_less m (ty.Int w) (atom.Constant (constant.Number n)) p v r = rw (v, r) (ap Num (sym (eqb-true m n p)))
   number_less m (ty.Int w) (atom.Constant constant.Undef) p v r = absurd (cc)
   number_less m (ty.Int w) (atom.Register s) p v r = absurd (cc)
+  number_less m t c p v r = absurd (cc)
 
   become_less : (o : Outcome) (t : Ty) (c : Atom Reg) → may_become o c ≡ true → has_values t ≡ true → atom_fits t c ≡ true
       → IsOutcomeLessDefined o (Gives (atom_value (read_reg side) (kind_of t) c))

@@ -1,8 +1,9 @@
 -- What it is worth that two expressions are of one type.
 use Rattle.std.proofs.Common.{◌≡◌, true, ◌&&◌}
 use Rattle.ir_core.specs.Expressions.{Expr0, type_of}
-use Rattle.ir_core.specs.Same.{same_ty}
-use Rattle.ir_core.proofs.SameLaws.{left_true, right_true, same_ty_true}
+use Rattle.ir_types.specs.Same.{same_ty}
+use Rattle.ir_types.specs.NameLaws.{left_true, right_true}
+use Rattle.ir_types.proofs.SameLaws.{same_ty_true}
 use Rattle.erhl_assert.specs.Typed.{has_type, fits_constants}
 use Rattle.rule_base.specs.Rows.{is_typed, have_one_type}
 

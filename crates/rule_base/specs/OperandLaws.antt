@@ -5,7 +5,7 @@ use Rattle.ir_core.specs.declared.values.Value.{Value}
 use Rattle.ir_core.specs.declared.values.Value.TheVariants.{Poison}
 use Rattle.ir_core.specs.declared.values.Kind.{Kind}
 use Rattle.ir_core.specs.declared.values.Kind.TheVariants as kind
-use Rattle.ir_core.specs.declared.operands.Ty.{Ty}
+use Rattle.ir_types.specs.declared.ty.Ty.{Ty}
 use Rattle.ir_core.specs.declared.operands.Operand.{Operand}
 use Rattle.ir_core.specs.declared.operands.BinOp.{BinOp}
 use Rattle.ir_core.specs.declared.operands.CastOp.{CastOp}
@@ -14,9 +14,12 @@ use Rattle.ir_core.specs.declared.operands.Pred.{Pred}
 use Rattle.ir_core.specs.declared.expressions.Reg.{Reg}
 use Rattle.ir_core.specs.declared.expressions.Expr.TheVariants.{Plain, Binary, Icmp, Cast, Select}
 use Rattle.ir_core.specs.Expressions.{Expr0, operands_in}
-use Rattle.ir_core.specs.Same.{same_atom, same_cast, same_flags, same_list, same_op, same_operand, same_reg, same_ty}
+use Rattle.ir_types.specs.Same.{same_list, same_ty}
+use Rattle.ir_core.specs.Same.{same_atom, same_cast, same_flags, same_op, same_operand, same_reg}
 use Rattle.ir_core.specs.Types.{converts, kind_of}
-use Rattle.ir_core.proofs.SameLaws.{all_true, left_true, right_true, same_cast_true, same_flags_true, same_op_true, same_pred_true, same_reg_atom_true, same_reg_operand_true, same_ty_true}
+use Rattle.ir_types.specs.NameLaws.{all_true, left_true, right_true}
+use Rattle.ir_types.proofs.SameLaws.{same_ty_true}
+use Rattle.ir_core.proofs.SameLaws.{same_cast_true, same_flags_true, same_op_true, same_pred_true, same_reg_atom_true, same_reg_operand_true}
 use Rattle.ir_values.specs.declared.operations.Outcome.{Outcome}
 use Rattle.ir_values.specs.declared.operations.Outcome.TheVariants.{Gives}
 use Rattle.ir_values.specs.Laws.{flags_among}

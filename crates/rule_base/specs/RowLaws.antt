@@ -6,8 +6,8 @@ use Rattle.ir_core.specs.declared.values.Value.{Value}
 use Rattle.ir_core.specs.declared.values.Value.TheVariants as value
 use Rattle.ir_core.specs.declared.values.Kind.{Kind}
 use Rattle.ir_core.specs.declared.values.Kind.TheVariants as kind
-use Rattle.ir_core.specs.declared.operands.Ty.{Ty}
-use Rattle.ir_core.specs.declared.operands.Ty.TheVariants as ty
+use Rattle.ir_types.specs.declared.ty.Ty.{Ty}
+use Rattle.ir_types.specs.declared.ty.Ty.TheVariants as ty
 use Rattle.ir_core.specs.declared.operands.Const.TheVariants as constant
 use Rattle.ir_core.specs.declared.operands.Atom.{Atom}
 use Rattle.ir_core.specs.declared.operands.Atom.TheVariants as atom
@@ -21,7 +21,8 @@ use Rattle.ir_core.specs.Types.{kind_of}
 use Rattle.ir_core.specs.Expressions.{Expr0}
 use Rattle.ir_core.specs.Modules.{Scope}
 use Rattle.ir_core.specs.Same.{same_atom, same_reg, same_expr}
-use Rattle.ir_core.proofs.SameLaws.{left_true, right_true, same_reg_atom_true, same_reg_expr_true}
+use Rattle.ir_types.specs.NameLaws.{left_true, right_true}
+use Rattle.ir_core.proofs.SameLaws.{same_reg_atom_true, same_reg_expr_true}
 use Rattle.ir_values.specs.declared.operations.Outcome.{Outcome}
 use Rattle.ir_values.specs.declared.operations.Outcome.TheVariants.{Gives, Trap}
 use Rattle.ir_values.specs.Values.{IsInKind, IsLessDefined}
@@ -78,12 +79,12 @@ module _ (side : SideState) (fine : IsSideInKind side) where
   -- undef is less defined than a number of its type, and than undef
   undef_less : (t : Ty) (x y : Atom Reg) → is_undef x ≡ true → is_constant y ≡ true → has_values t ≡ true → atom_fits t y ≡ true
       → IsLessDefined (atom_value (read_reg side) (kind_of t) x) (atom_value (read_reg side) (kind_of t) y)
-  undef_less ty.Void x y p q v r = tt
   undef_less (ty.Int w) (atom.Constant constant.Undef) (atom.Constant (constant.Number n)) p q v r = rw (v, r) tt
   undef_less (ty.Int w) (atom.Constant constant.Undef) (atom.Constant constant.Undef) p q v r = rw v tt
   undef_less (ty.Int w) (atom.Constant constant.Undef) (atom.Register s) p q v r = cc
   undef_less (ty.Int w) (atom.Constant (constant.Number n)) y p q v r = cc
   undef_less (ty.Int w) (atom.Register s) y p q v r = cc
+  undef_less t x y p q v r = tt
 
   undef_const_is_sound : (from : List Fact) (to : Fact) → is_undef_const from to ≡ true → Holds side to
   undef_const_is_sound [] (LessDef (Plain a) (Plain b)) h =
@@ -147,9 +148,9 @@ module _ (side : SideState) (fine : IsSideInKind side) where
   zero_right_less : (o : BinOp) (flags : Flags) (t : Ty) (x z : Atom Reg) → keeps_beside_zero o ≡ true → is_zero z ≡ true → has_values t ≡ true
       → atom_fits t z ≡ true → atom_fits t x ≡ true
       → IsOutcomeLessDefined (worth side (Binary (record { op = o; flags = flags; ty = t; left = x; right = z }))) (Gives (atom_value (read_reg side) (kind_of t) x))
-  zero_right_less o flags ty.Void x z k p v q r = tt
   zero_right_less o flags (ty.Int w) x z k p v q r =
       rw (v, zero_is_worth w z p q) (zero_outcome_less o flags w (atom_at (read_reg side) (kind.Int w) x) k (atom_in_kind w x r))
+  zero_right_less o flags t x z k p v q r = tt
 
   zero_right_is_sound : (from : List Fact) (to : Fact) → is_zero_right from to ≡ true → Holds side to
   zero_right_is_sound [] (LessDef (Binary e) (Plain x)) h =

@@ -13,7 +13,8 @@ use Rattle.ir_core.specs.declared.expressions.Binary.{Binary}
 use Rattle.ir_core.specs.declared.expressions.Expr.TheVariants as expr
 use Rattle.ir_core.specs.Expressions.{Expr0, type_of, operands_in}
 use Rattle.ir_core.specs.Modules.{Scope}
-use Rattle.ir_core.specs.Same.{same_list, same_ty, same_atom, same_operand, same_op, same_flags, same_cast, same_pred, same_reg, same_expr}
+use Rattle.ir_types.specs.Same.{same_list, same_ty}
+use Rattle.ir_core.specs.Same.{same_atom, same_operand, same_op, same_flags, same_cast, same_pred, same_reg, same_expr}
 use Rattle.ir_values.specs.declared.operations.Outcome.{Outcome}
 use Rattle.ir_values.specs.declared.operations.Outcome.TheVariants.{Gives, Trap}
 use Rattle.ir_values.specs.Laws.{flags_among}

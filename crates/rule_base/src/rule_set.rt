@@ -1,5 +1,5 @@
 ghost use Rattle.std.specs.Prelude.{◌≡◌, nat_eq};
-ghost use Rattle.ir_core.specs.Same.{same_list};
+ghost use Rattle.ir_types.specs.Same.{same_list};
 ghost use Rattle.ir_core.specs.Modules.{scope_of};
 ghost use Rattle.erhl_assert.specs.Steps.{Rules, AreSound, rule_named};
 ghost use Rattle.std.specs.Option.{option_map};

@@ -1,6 +1,7 @@
 //! The rule `subst`: one operand is made another.
 ghost use Rattle.std.specs.Prelude.{◌≡◌, true, ◌&&◌, ◌||◌, [], ◌∷◌};
-ghost use Rattle.ir_core.specs.Same.{same_reg, same_list, same_operand};
+ghost use Rattle.ir_types.specs.Same.{same_list};
+ghost use Rattle.ir_core.specs.Same.{same_reg, same_operand};
 ghost use Rattle.ir_core.specs.Expressions.{operands_in};
 ghost use Rattle.rule_base.specs.Rows.{is_subst, makes_one, are_alike, one_made};
 

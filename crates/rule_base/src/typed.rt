@@ -5,14 +5,16 @@ ghost use Rattle.ir_machine.specs.Registers.{selects};
 ghost use Rattle.erhl_assert.specs.Typed.{has_values, has_type, constant_fits, atom_fits, fits_constants};
 ghost use Rattle.rule_base.specs.Rows.{is_typed, have_one_type};
 
-use ir_core::{Atom, BinOp, Const, Expr, Expr0, Flags, Reg, Ty, converts, fits, is_width, same_ty};
+use ir_core::{
+    Atom, BinOp, BitType, Const, Expr, Expr0, Flags, Reg, Ty, converts, fits, is_width, same_ty,
+};
 
 fn has_values(ty: &Ty) -> bool
     ensures { result ≡ has_values ty.now }
 {
     match ty {
         Ty::Int(width) => is_width(*width),
-        Ty::Void => false,
+        _ => false,
     }
 }
 
@@ -69,7 +71,7 @@ fn constant_fits(ty: &Ty, constant: &Const) -> bool
     match (ty, constant) {
         (Ty::Int(width), Const::Number(number)) => fits(number.get(), *width),
         (Ty::Int(_), Const::Undef) => true,
-        (Ty::Void, _) => false,
+        _ => false,
     }
 }
 
@@ -109,5 +111,6 @@ fn is_typed(expr: &Expr0) -> bool
 pub(crate) fn have_one_type(a: &Expr0, b: &Expr0) -> bool
     ensures { result ≡ have_one_type a.now b.now }
 {
-    is_typed(a) && is_typed(b) && same_ty(a.ty(), b.ty())
+    let bit = BitType::new();
+    is_typed(a) && is_typed(b) && same_ty(a.ty(&bit), b.ty(&bit))
 }

@@ -5,10 +5,11 @@ use Rattle.std.specs.List.{Contains, list_all}
 use Rattle.std.specs.Map.{lookup}
 use Rattle.indexmap.specs.IndexMap.{insert_entry}
 use Rattle.ir_core.specs.declared.functions.Entry.{Entry}
-use Rattle.ir_core.specs.declared.names.Name.{Name}
+use Rattle.ir_types.specs.declared.names.Name.{Name}
 use Rattle.ir_core.specs.declared.operands.Atom.{Atom}
-use Rattle.ir_core.specs.NameLaws.{same_name_refl, same_name_true}
-use Rattle.ir_core.specs.Same.{same_atom, same_name}
+use Rattle.ir_types.specs.NameLaws.{same_name_refl, same_name_true}
+use Rattle.ir_types.specs.Same.{same_name}
+use Rattle.ir_core.specs.Same.{same_atom}
 use Rattle.ir_core.proofs.SameLaws.{same_name_atom_refl, same_name_atom_true}
 use Rattle.shape_tests.specs.declared.counts.Counts.{Counts}
 use Rattle.shape_tests.specs.declared.counts.Firsts.{Firsts}

@@ -1,7 +1,7 @@
 -- The edges into a block, and the entries of its phis.
 use Rattle.std.proofs.Common.{◌≡◌, ◌∙◌, ◌&&◌, Bool, true, false, List, [], ◌∷◌, ◌++◌, refl, sym, ap}
 use Rattle.std.specs.List.{list_all}
-use Rattle.ir_core.specs.declared.names.Name.{Name}
+use Rattle.ir_types.specs.declared.names.Name.{Name}
 use Rattle.shape_tests.specs.Edges.{agrees}
 use Rattle.shape_tests.specs.Kinds.{same_counts}
 

@@ -9,11 +9,12 @@ use Rattle.ir_core.specs.declared.functions.Block.{Block}
 use Rattle.ir_core.specs.declared.functions.Entry.{Entry}
 use Rattle.ir_core.specs.declared.functions.Function.{Function}
 use Rattle.ir_core.specs.declared.functions.Phi.{Phi}
-use Rattle.ir_core.specs.declared.names.Name.{Name}
+use Rattle.ir_types.specs.declared.names.Name.{Name}
 use Rattle.ir_core.specs.declared.operands.Atom.{Atom}
 use Rattle.ir_core.specs.Functions.{edges_into}
-use Rattle.ir_core.specs.NameLaws.{same_name_refl, same_name_true, same_nat_refl, same_nat_true}
-use Rattle.ir_core.specs.Same.{same_atom, same_name}
+use Rattle.ir_types.specs.NameLaws.{same_name_refl, same_name_true, same_nat_refl, same_nat_true}
+use Rattle.ir_types.specs.Same.{same_name}
+use Rattle.ir_core.specs.Same.{same_atom}
 use Rattle.ir_core.specs.WellFormed.{FitsEdges}
 use Rattle.ir_core.proofs.SameLaws.{same_name_atom_refl, same_name_atom_true}
 use Rattle.shape_tests.specs.Edges.{agrees, alike_with}

@@ -8,15 +8,15 @@ use Rattle.ir_core.specs.declared.functions.Block.{Block}
 use Rattle.ir_core.specs.declared.functions.Case.{Case}
 use Rattle.ir_core.specs.declared.functions.Term.{Term}
 use Rattle.ir_core.specs.declared.functions.Term.TheVariants as term
-use Rattle.ir_core.specs.declared.names.Name.{Name}
-use Rattle.ir_core.specs.declared.operands.Ty.{Ty}
-use Rattle.ir_core.specs.declared.operands.Ty.TheVariants as ty
+use Rattle.ir_types.specs.declared.names.Name.{Name}
+use Rattle.ir_types.specs.declared.ty.Ty.{Ty}
+use Rattle.ir_types.specs.declared.ty.Ty.TheVariants as ty
 use Rattle.ir_core.specs.Functions.{successors_of}
-use Rattle.ir_core.specs.NameLaws.{same_nat_refl, same_nat_true}
+use Rattle.ir_types.specs.NameLaws.{same_nat_refl, same_nat_true}
 use Rattle.ir_core.specs.Order.{AreNew}
-use Rattle.ir_core.specs.Same.{same_name, same_ty}
+use Rattle.ir_types.specs.Same.{same_name, same_ty}
 use Rattle.ir_core.specs.WellFormed.{BranchesOn, HasCases, IsInteger, IsOperator, Returns}
-use Rattle.ir_core.proofs.SameLaws.{same_ty_refl, same_ty_true}
+use Rattle.ir_types.proofs.SameLaws.{same_ty_refl, same_ty_true}
 use Rattle.shape_tests.specs.Kinds.{are_apart, branch_fits, cases_fit, is_integer, leads_to, numbers_of, return_fits, right_kind}
 use Rattle.shape_tests.proofs.Tests.{both_hold, both_left, both_right, fits_by, none_by, not_true}
 
@@ -24,11 +24,11 @@ use Rattle.shape_tests.proofs.Tests.{both_hold, both_left, both_right, fits_by, 
 
 pub integer_by : (t : Ty) → is_integer t ≡ true → IsInteger t
 integer_by (ty.Int width) e = tt
-integer_by ty.Void e = cc
+integer_by t e = cc
 
 pub integer_is : (t : Ty) → IsInteger t → is_integer t ≡ true
 integer_is (ty.Int width) is = refl
-integer_is ty.Void is = absurd is
+integer_is t is = absurd is
 
 pub operator_by : (e : Expr Name) → right_kind e ≡ None → IsOperator e
 operator_by (expr.Plain o) none = cc

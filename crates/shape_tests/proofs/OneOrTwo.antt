@@ -1,7 +1,7 @@
 -- Lists of one name or two.
 use Rattle.std.proofs.Common.{◌≡◌, ◌∙◌, List, [], ◌∷◌, length, get_or, sym, ap, arith}
 use Rattle.std.specs.Borrow.{Bor}
-use Rattle.ir_core.specs.declared.names.Name.{Name}
+use Rattle.ir_types.specs.declared.names.Name.{Name}
 use Rattle.shape_tests.specs.Edges.{named}
 
 pub one_name : (xs : List (Bor Name)) (x : Bor Name) → length xs ≡ 1 → x ≡ get_or xs 0 x → named xs ≡ x.now ∷ []

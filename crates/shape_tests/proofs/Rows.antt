@@ -6,10 +6,10 @@ use Rattle.std.specs.Borrow.{Bor}
 use Rattle.std.specs.List.{AllByRecursion, Contains, filter, list_any}
 use Rattle.std.specs.Option.{option_copied}
 use Rattle.ir_core.specs.declared.functions.Block.{Block}
-use Rattle.ir_core.specs.declared.names.Name.{Name}
+use Rattle.ir_types.specs.declared.names.Name.{Name}
 use Rattle.ir_core.specs.Functions.{successors_of}
-use Rattle.ir_core.specs.NameLaws.{same_name_refl, same_name_true}
-use Rattle.ir_core.specs.Same.{same_name}
+use Rattle.ir_types.specs.NameLaws.{same_name_refl, same_name_true}
+use Rattle.ir_types.specs.Same.{same_name}
 use Rattle.name_index.specs.Among.{is_among, place_among}
 use Rattle.name_index.proofs.FirstPlaces.{no_place, place_is}
 use Rattle.shape_tests.specs.declared.row.Row.{Row}

@@ -4,9 +4,9 @@ use Rattle.std.proofs.lemmas.List.Sorted.{IsPermutation-refl}
 use Rattle.std.specs.Borrow.{Bor}
 use Rattle.std.specs.List.{Contains}
 use Rattle.ir_core.specs.declared.functions.Entry.{Entry}
-use Rattle.ir_core.specs.declared.names.Name.{Name}
-use Rattle.ir_core.specs.NameLaws.{same_name_refl, same_name_true}
-use Rattle.ir_core.specs.Same.{same_name}
+use Rattle.ir_types.specs.declared.names.Name.{Name}
+use Rattle.ir_types.specs.NameLaws.{same_name_refl, same_name_true}
+use Rattle.ir_types.specs.Same.{same_name}
 use Rattle.shape_tests.specs.Edges.{named}
 use Rattle.shape_tests.specs.Kinds.{are_alike, froms_of, same_counts}
 use Rattle.shape_tests.proofs.Entries.{are_alike_is, permutation_is}

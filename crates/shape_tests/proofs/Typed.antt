@@ -6,18 +6,18 @@ use Rattle.std.specs.List.{AllByRecursion, Contains, flat_map}
 use Rattle.std.specs.Map.{lookup}
 use Rattle.indexmap.specs.IndexMap.{insert_entry}
 use Rattle.ir_core.specs.declared.functions.Block.{Block}
-use Rattle.ir_core.specs.declared.names.Name.{Name}
+use Rattle.ir_types.specs.declared.names.Name.{Name}
 use Rattle.ir_core.specs.declared.operands.Atom.{Atom}
 use Rattle.ir_core.specs.declared.operands.Atom.TheVariants.{Constant, Register}
 use Rattle.ir_core.specs.declared.operands.Operand.{Operand}
-use Rattle.ir_core.specs.declared.operands.Ty.{Ty}
-use Rattle.ir_core.specs.declared.operands.Ty.TheVariants as ty
+use Rattle.ir_types.specs.declared.ty.Ty.{Ty}
+use Rattle.ir_types.specs.declared.ty.Ty.TheVariants as ty
 use Rattle.ir_core.specs.Functions.{names_in, registers_of}
-use Rattle.ir_core.specs.NameLaws.{same_name_refl, same_name_true}
+use Rattle.ir_types.specs.NameLaws.{same_name_refl, same_name_true}
 use Rattle.ir_core.specs.Order.{AreNew}
-use Rattle.ir_core.specs.Same.{same_name}
+use Rattle.ir_types.specs.Same.{same_name}
 use Rattle.ir_core.specs.WellFormed.{HasType, IsFirstClass}
-use Rattle.ir_core.proofs.SameLaws.{same_ty_refl, same_ty_true}
+use Rattle.ir_types.proofs.SameLaws.{same_ty_refl, same_ty_true}
 use Rattle.shape_tests.specs.Kinds.{Types, are_known, are_typed, has_type, is_integer, is_known, is_type, none_typed, or_else, type_at, with_type, with_types}
 use Rattle.shape_tests.proofs.Tests.{all_tested, both_hold, both_left, both_right, each_tested, mapped_all}
 
@@ -130,11 +130,11 @@ there_found (r ∷ rs) taken n t new (suc k, within, is) =
 
 pub value_by : (t : Ty) → is_integer t ≡ true → IsFirstClass t
 value_by (ty.Int width) e = tt
-value_by ty.Void e = cc
+value_by t e = cc
 
 pub value_is : (t : Ty) → IsFirstClass t → is_integer t ≡ true
 value_is (ty.Int width) is = refl
-value_is ty.Void is = absurd is
+value_is t is = absurd is
 
 pub operand_by : (rs : List (Name × Ty)) (t : Ty) (a : Atom Name) → has_type (with_types none_typed rs) t a ≡ true → HasType rs t a
 operand_by rs t (Constant c) e = value_by t e

@@ -3,9 +3,10 @@ use Rattle.std.specs.Prelude.{ℕ, ◌+◌, ◌&&◌, Bool, true, List, [], ◌�
 use Rattle.std.specs.Borrow.{Bor}
 use Rattle.indexmap.specs.IndexMap.{get_by}
 use Rattle.ir_core.specs.declared.functions.Entry.{Entry}
-use Rattle.ir_core.specs.declared.names.Name.{Name}
+use Rattle.ir_types.specs.declared.names.Name.{Name}
 use Rattle.ir_core.specs.declared.operands.Atom.{Atom}
-use Rattle.ir_core.specs.Same.{same_atom, same_name}
+use Rattle.ir_types.specs.Same.{same_name}
+use Rattle.ir_core.specs.Same.{same_atom}
 use Rattle.shape_tests.specs.declared.counts.Counts.{Counts}
 use Rattle.shape_tests.specs.declared.counts.Firsts.{Firsts}
 

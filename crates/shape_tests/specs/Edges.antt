@@ -4,9 +4,10 @@ use Rattle.std.specs.Borrow.{Bor}
 use Rattle.std.specs.List.{filter, flat_map}
 use Rattle.ir_core.specs.declared.functions.Block.{Block}
 use Rattle.ir_core.specs.declared.functions.Entry.{Entry}
-use Rattle.ir_core.specs.declared.names.Name.{Name}
+use Rattle.ir_types.specs.declared.names.Name.{Name}
 use Rattle.ir_core.specs.Functions.{successors_of}
-use Rattle.ir_core.specs.Same.{same_atom, same_name}
+use Rattle.ir_types.specs.Same.{same_name}
+use Rattle.ir_core.specs.Same.{same_atom}
 use Rattle.name_index.specs.Among.{place_among}
 use Rattle.shape_tests.specs.declared.row.Row.{Row}
 use Rattle.shape_tests.specs.declared.row.Row.TheVariants as row

@@ -1,5 +1,5 @@
 -- What is wrong with a line, a terminator, a phi or a name (LangRef 3.7, Well-Formedness, Instruction Reference).
-use Rattle.std.specs.Prelude.{◌+◌, ℕ, ◌&&◌, ◌||◌, Bool, false, true, cond, not, List, [], ◌∷◌, ◌++◌, length, codes, map, nat_eq, nat_lt, Option, None, Some, is_some, if◌then◌else◌}
+use Rattle.std.specs.Prelude.{ℕ, ◌&&◌, ◌||◌, Bool, false, true, cond, not, List, [], ◌∷◌, ◌++◌, length, codes, map, nat_eq, nat_lt, Option, None, Some, is_some, if◌then◌else◌}
 use Rattle.std.specs.List.{count_by, list_all, list_any}
 use Rattle.ir_core.specs.declared.expressions.Cast.{Cast}
 use Rattle.ir_core.specs.declared.expressions.Expr.{Expr}
@@ -15,15 +15,16 @@ use Rattle.ir_core.specs.declared.functions.Param.{Param}
 use Rattle.ir_core.specs.declared.functions.Phi.{Phi}
 use Rattle.ir_core.specs.declared.functions.Term.{Term}
 use Rattle.ir_core.specs.declared.functions.Term.TheVariants as term
-use Rattle.ir_core.specs.declared.names.Name.{Name}
+use Rattle.ir_types.specs.declared.names.Name.{Name}
 use Rattle.ir_core.specs.declared.operands.Atom.{Atom}
 use Rattle.ir_core.specs.declared.operands.Atom.TheVariants.{Constant, Register}
 use Rattle.ir_core.specs.declared.operands.Operand.{Operand}
-use Rattle.ir_core.specs.declared.operands.Ty.{Ty}
-use Rattle.ir_core.specs.declared.operands.Ty.TheVariants as ty
+use Rattle.ir_types.specs.declared.ty.Ty.{Ty}
+use Rattle.ir_types.specs.declared.ty.Ty.TheVariants as ty
 use Rattle.ir_core.specs.Expressions.{operands_in, type_of}
 use Rattle.ir_core.specs.Functions.{is_debug, operands_at_end, operands_of_phi, successors_of, typed_of}
-use Rattle.ir_core.specs.Same.{same_atom, same_name, same_ty}
+use Rattle.ir_types.specs.Same.{same_name, same_ty}
+use Rattle.ir_core.specs.Same.{same_atom}
 use Rattle.ir_core.specs.Types.{converts, number_at}
 use Rattle.name_index.specs.Among.{is_among}
 use Rattle.shape_tests.specs.declared.kind.ShapeKind.{ShapeKind}
@@ -106,7 +107,7 @@ fault_unless fits kind = cond fits None (Some kind)
 
 abbrev pub is_integer : Ty → Bool
 is_integer (ty.Int width) = true
-is_integer ty.Void = false
+is_integer t = false
 
 abbrev pub cast_fits : {R : Type 0} → Cast R → Bool
 cast_fits c = converts c.op c.operand.ty c.to

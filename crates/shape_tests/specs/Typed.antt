@@ -2,9 +2,9 @@
 use Rattle.std.specs.Prelude.{List, map}
 use Rattle.ir_core.specs.declared.functions.Entry.{Entry}
 use Rattle.ir_core.specs.declared.functions.Param.{Param}
-use Rattle.ir_core.specs.declared.names.Name.{Name}
+use Rattle.ir_types.specs.declared.names.Name.{Name}
 use Rattle.ir_core.specs.declared.operands.Operand.{Operand}
-use Rattle.ir_core.specs.declared.operands.Ty.{Ty}
+use Rattle.ir_types.specs.declared.ty.Ty.{Ty}
 use Rattle.ir_core.specs.Functions.{names_in}
 
 -- what a phi of that type gets from its entries

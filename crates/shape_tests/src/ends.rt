@@ -2,11 +2,11 @@
 ghost use Rattle.std.specs.Prelude.{◌≡◌, [], map, IfOk};
 ghost use Rattle.std.specs.List.{list_all, list_any};
 ghost use Rattle.ir_core.specs.declared.functions.Case.{Case};
-ghost use Rattle.ir_core.specs.Same as same;
+ghost use Rattle.ir_types.specs.Same as same;
 ghost use Rattle.ir_core.specs.Types as types;
 ghost use Rattle.shape_tests.specs.Kinds as meaning;
 
-use crate::kinds::{BIT, is_integer};
+use crate::kinds::is_integer;
 use indexmap::IndexSet;
 use ir_core::{Case, Name, Switch, Term, Ty, same_name, same_ty};
 use std::alloc::{AllocError, Global};
@@ -41,7 +41,7 @@ pub fn branch_fits(end: &Term) -> bool
     ensures { result ≡ meaning.branch_fits end.now }
 {
     match end {
-        Term::CondBr(branch) => same_ty(&branch.condition.ty, BIT),
+        Term::CondBr(branch) => same_ty(&branch.condition.ty, &Ty::Int(1)),
         Term::Switch(switch) => is_integer(&switch.value.ty),
         Term::Ret(_) | Term::RetVoid | Term::Br(_) | Term::Unreachable => true,
     }
@@ -70,7 +70,7 @@ fn number_at(ty: &Ty, number: u64) -> u64
                 number
             }
         }
-        Ty::Void => number,
+        _ => number,
     }
 }
 

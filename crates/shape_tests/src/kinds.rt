@@ -8,15 +8,12 @@ ghost use Rattle.shape_tests.specs.Kinds as meaning;
 use crate::kind::ShapeKind;
 use ir_core::{Cast, Expr, Function, Name, Param, Select, Ty, converts, same_ty};
 
-/// `i1`, the type of conditions.
-pub(crate) const BIT: &'static Ty = &Ty::Int(1);
-
 pub fn is_integer(ty: &Ty) -> bool
     ensures { result ≡ meaning.is_integer ty.now }
 {
     match ty {
         Ty::Int(_) => true,
-        Ty::Void => false,
+        _ => false,
     }
 }
 
@@ -52,7 +49,7 @@ fn cast_fits(cast: &Cast<Name>) -> bool
 fn select_fits(select: &Select<Name>) -> bool
     ensures { result ≡ meaning.select_fits select.now }
 {
-    same_ty(&select.condition.ty, BIT) && same_ty(&select.left.ty, &select.right.ty)
+    same_ty(&select.condition.ty, &Ty::Int(1)) && same_ty(&select.left.ty, &select.right.ty)
 }
 
 pub fn right_kind(right: &Expr<Name>) -> Option<ShapeKind>

@@ -19,7 +19,7 @@ impl<'a> Drop for LentNames<'a> {
 
 impl<'a> Model for LentNames<'a> {
     ghost use Rattle.std.specs.Prelude.{List, map};
-    ghost use Rattle.ir_core.specs.declared.names.Name.{Name};
+    ghost use Rattle.ir_types.specs.declared.names.Name.{Name};
 
     ghost Value = { List Name };
 

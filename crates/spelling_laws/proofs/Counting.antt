@@ -4,7 +4,7 @@ use Rattle.std.specs.List.{AllByRecursion, flat_map, sum_by}
 use Rattle.std.proofs.lemmas.List.{append-nil}
 use Rattle.std.proofs.lemmas.List.Sums.{sum_by-cons}
 use Rattle.std.proofs.lemmas.Bool.Decides.{eqb_tells}
-use Rattle.ir_core.specs.declared.names.Name.{Name}
+use Rattle.ir_types.specs.declared.names.Name.{Name}
 use Rattle.ir_core.specs.Limits.{line_limit}
 use Rattle.ir_grammar.specs.declared.operators.FlagWord.{FlagWord}
 use Rattle.ir_grammar.specs.declared.trees.BlockText.{BlockText}

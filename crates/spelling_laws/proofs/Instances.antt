@@ -1,8 +1,8 @@
 -- Modules, expressions and names are forms of text with what is asked of one.
 use Rattle.std.proofs.Common.{◌≡◌, ◌⊎◌, ℕ, List, [], ◌∷◌, map, inl, inr, refl, sym, ◌∙◌}
-use Rattle.ir_core.specs.declared.names.Name.{Name}
-use Rattle.ir_core.specs.declared.names.Sigil.{Sigil}
-use Rattle.ir_core.specs.declared.names.Sigil.TheVariants.{Local, Global}
+use Rattle.ir_types.specs.declared.names.Name.{Name}
+use Rattle.ir_types.specs.declared.names.Sigil.{Sigil}
+use Rattle.ir_types.specs.declared.names.Sigil.TheVariants.{Local, Global}
 use Rattle.ir_grammar.specs.declared.trees.Placed.{Placed}
 use Rattle.ir_grammar.specs.Rules.{grammar, meaning, written_at}
 use Rattle.ir_grammar.specs.Symbols.{Symbol, kind_of}

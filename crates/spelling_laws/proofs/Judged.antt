@@ -1,5 +1,5 @@
 -- Each text of a module, an expression or a name is judged.
-use Rattle.ir_core.specs.declared.names.Sigil.{Sigil}
+use Rattle.ir_types.specs.declared.names.Sigil.{Sigil}
 use Rattle.ir_naming.specs.Expressions.{IsNameOf, NamesExpression}
 use Rattle.ir_naming.specs.Spells.{NamesModule}
 use Rattle.ir_spelling.specs.Forms.{expression_form, module_form, name_form}

@@ -7,7 +7,7 @@ use Rattle.std.specs.Str.{bytes_eq}
 use Rattle.std.proofs.lemmas.Bool.{and_parts, cond_both}
 use Rattle.std.proofs.lemmas.Bool.Decides.{nat_tests}
 use Rattle.std.proofs.lemmas.List.Sums.{take_while-cons}
-use Rattle.ir_core.specs.declared.names.Name.TheVariants.{Text}
+use Rattle.ir_types.specs.declared.names.Name.TheVariants.{Text}
 use Rattle.ir_core.specs.Names.{is_name_byte}
 use Rattle.ir_core.specs.Ranges.{AreBytes, IsNameInRange}
 use Rattle.ir_lexer.specs.declared.strings.Symbol.{Symbol}

@@ -14,11 +14,11 @@ use Rattle.ir_core.specs.declared.functions.Phi.{Phi}
 use Rattle.ir_core.specs.declared.functions.Switch.{Switch as Switching}
 use Rattle.ir_core.specs.declared.functions.Term.{Term}
 use Rattle.ir_core.specs.declared.functions.Term.TheVariants.{Ret, RetVoid, Br, CondBr, Switch, Unreachable}
-use Rattle.ir_core.specs.declared.names.Name.{Name}
+use Rattle.ir_types.specs.declared.names.Name.{Name}
 use Rattle.ir_core.specs.declared.operands.Atom.{Atom}
 use Rattle.ir_core.specs.declared.operands.Operand.{Operand}
-use Rattle.ir_core.specs.declared.operands.Ty.{Ty}
-use Rattle.ir_core.specs.declared.operands.Ty.TheVariants.{Int}
+use Rattle.ir_types.specs.declared.ty.Ty.{Ty}
+use Rattle.ir_types.specs.declared.ty.Ty.TheVariants.{Int}
 use Rattle.ir_core.specs.Expressions.{operands_in, type_of}
 use Rattle.ir_core.specs.Functions.{operands_at_end, operands_in_block, operands_of, operands_of_phi, phi_registers, registers_of, set_by, typed_of}
 use Rattle.ir_grammar.specs.declared.trees.BlockText.{BlockText}

@@ -2,7 +2,7 @@
 use Rattle.std.specs.Prelude.{◌≡◌, ◌⊎◌, ◌≤◌, ℕ, List, length, None}
 use Rattle.std.specs.List.{AllByRecursion}
 use Rattle.ir_core.specs.declared.functions.Module.{Module}
-use Rattle.ir_core.specs.declared.names.Sigil.{Sigil}
+use Rattle.ir_types.specs.declared.names.Sigil.{Sigil}
 use Rattle.ir_core.specs.Limits.{text_limit}
 use Rattle.ir_core.specs.Order.{IsInOrder}
 use Rattle.ir_core.specs.Ranges.{AreBytes, IsInRange}

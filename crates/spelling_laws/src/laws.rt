@@ -1,4 +1,4 @@
-ghost use Rattle.ir_core.specs.declared.names.Sigil.{Sigil};
+ghost use Rattle.ir_types.specs.declared.names.Sigil.{Sigil};
 ghost use Rattle.ir_naming.specs.Expressions.{IsNameOf, NamesExpression};
 ghost use Rattle.ir_naming.specs.Spells.{NamesModule};
 ghost use Rattle.ir_spelling.specs.Forms.{expression_form, module_form, name_form};

@@ -1,8 +1,10 @@
+use contents::Seq;
 use ir_core::{
     Atom, BinOp, Binary, Bits, Cast, CastOp, Const, Expr, Expr0, Flags, Icmp, Name, Operand, Pred,
     Reg, Select, Ty,
 };
 use ir_printer::{print_expr, print_register, print_type, print_value};
+use ir_types::Shared;
 use std::alloc::{AllocError, Global};
 use std::test::*;
 
@@ -131,10 +133,27 @@ fn numbers_are_signed(rt: HostRuntime) {
     }
 }
 
+/// `[4 x { i32, i8* }]`
+fn array(alloc: Global) -> Result<Ty, AllocError> {
+    let mut fields = Seq::new(alloc);
+    fields.push(Ty::Int(32))?;
+    fields.push(Ty::Ptr(Shared::new(alloc, Ty::Int(8))?))?;
+    let fields = Ty::Struct(Shared::new(alloc, fields)?);
+    Ok(Ty::Array(4, Shared::new(alloc, fields)?))
+}
+
+fn is_array_printed(alloc: Global) -> bool {
+    match array(alloc) {
+        Ok(array) => is_type(alloc, &array, "[4 x { i32, i8* }]"),
+        Err(_) => false,
+    }
+}
+
 #[test]
 fn types_are_printed(rt: HostRuntime) {
     assert!(rt; is_type(rt.alloc(), &Ty::Int(32), "i32"));
     assert!(rt; is_type(rt.alloc(), &Ty::Void, "void"));
+    assert!(rt; is_array_printed(rt.alloc()));
 }
 
 #[test]

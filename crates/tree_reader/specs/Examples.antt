@@ -1,6 +1,6 @@
 -- The expression `i32 %x`, its tokens, what they say, and its tree.
 use Rattle.std.specs.Prelude.{List, [], ◌∷◌, codes}
-use Rattle.ir_core.specs.declared.names.Name.TheVariants as name
+use Rattle.ir_types.specs.declared.names.Name.TheVariants as name
 use Rattle.ir_grammar.specs.declared.trees.ExprText.{ExprText}
 use Rattle.ir_grammar.specs.declared.trees.ExprText.TheVariants.{Plain}
 use Rattle.ir_grammar.specs.declared.trees.ValueText.TheVariants as value

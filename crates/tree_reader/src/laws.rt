@@ -1,6 +1,6 @@
 ghost use Rattle.std.specs.Prelude.{◌≡◌, ℕ, List, Result, [], ◌∷◌, codes, map};
-ghost use Rattle.ir_core.specs.declared.names.Name.{Name};
-ghost use Rattle.ir_core.specs.declared.names.Sigil.{Sigil};
+ghost use Rattle.ir_types.specs.declared.names.Name.{Name};
+ghost use Rattle.ir_types.specs.declared.names.Sigil.{Sigil};
 ghost use Rattle.ir_grammar.specs.declared.trees.ExprText.{ExprText as Expression};
 ghost use Rattle.ir_grammar.specs.declared.trees.ModuleText.{ModuleText as Module};
 ghost use Rattle.ir_grammar.specs.declared.trees.Placed.{Placed as PlacedName};

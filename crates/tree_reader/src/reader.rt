@@ -1,5 +1,5 @@
 ghost use Rattle.std.specs.Prelude.{◌≡◌, [], ◌∷◌, IfOk, map};
-ghost use Rattle.ir_core.specs.declared.names.Sigil.TheVariants.{Local, Global as GlobalSigil};
+ghost use Rattle.ir_types.specs.declared.names.Sigil.TheVariants.{Local, Global as GlobalSigil};
 ghost use Rattle.ir_grammar.specs.declared.words.Language.TheVariants.{Ir, Logic};
 ghost use Rattle.ir_grammar.specs.Symbols.{kind_in, symbol_in};
 ghost use Rattle.ir_grammar.specs.Written as write;

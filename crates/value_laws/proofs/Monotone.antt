@@ -1,7 +1,7 @@
 -- More defined operands and fewer flags give a more defined outcome.
 use Rattle.std.proofs.Common.{◌≡◌, ℕ, ◌-◌, ◌^◌, Bool, true, false, not, ◌&&◌, ◌||◌, cond, refl}
 use Rattle.std.specs.Prelude.{nat_eq}
-use Rattle.ir_core.proofs.SameLaws.{left_true, right_true}
+use Rattle.ir_types.specs.NameLaws.{left_true, right_true}
 use Rattle.ir_core.specs.declared.values.Value.{Value}
 use Rattle.ir_core.specs.declared.values.Value.TheVariants.{Num, Undef, Poison}
 use Rattle.ir_core.specs.declared.values.Kind.TheVariants.{Int}

@@ -4,8 +4,8 @@ use Rattle.std.specs.List.{AllByRecursion, flat_map, list_all}
 use Rattle.ir_core.specs.declared.functions.Block.{Block}
 use Rattle.ir_core.specs.declared.functions.Function.{Function}
 use Rattle.ir_core.specs.declared.functions.Param.{Param}
-use Rattle.ir_core.specs.declared.names.Name.{Name}
-use Rattle.ir_core.specs.declared.operands.Ty.{Ty}
+use Rattle.ir_types.specs.declared.names.Name.{Name}
+use Rattle.ir_types.specs.declared.ty.Ty.{Ty}
 use Rattle.ir_core.specs.Functions.{block_names, is_debug, names_in, names_of, operands_in_block, params_of, registers_of, typed_of}
 use Rattle.ir_core.specs.WellFormed.{HasBlockShape, HasFunctionShape, IsFirstClass}
 use Rattle.shape_tests.specs.Kinds.{are_new, is_integer, leads_to, with_names}

@@ -4,15 +4,16 @@ use Rattle.std.proofs.lemmas.List.{drop_more, get_or-map}
 use Rattle.std.proofs.lemmas.List.Elements.{Contains-append_left, Contains-append_right}
 use Rattle.std.specs.List.{AllByRecursion, Contains, flat_map}
 use Rattle.ir_core.specs.declared.functions.Block.{Block}
+use Rattle.ir_core.specs.declared.functions.Calm.{Calm}
 use Rattle.ir_core.specs.declared.functions.Instr.{Instr}
 use Rattle.ir_core.specs.declared.functions.Instr.TheVariants as instr
-use Rattle.ir_core.specs.declared.names.Name.{Name}
-use Rattle.ir_core.specs.declared.operands.Ty.{Ty}
+use Rattle.ir_types.specs.declared.names.Name.{Name}
+use Rattle.ir_types.specs.declared.ty.Ty.{Ty}
 use Rattle.ir_core.specs.Expressions.{type_of}
 use Rattle.ir_core.specs.Functions.{block_names, registers_of, set_by}
-use Rattle.ir_core.specs.NameLaws.{same_name_true}
-use Rattle.ir_core.specs.Same.{same_name, same_ty}
-use Rattle.ir_core.proofs.SameLaws.{same_ty_true}
+use Rattle.ir_types.specs.NameLaws.{same_name_true}
+use Rattle.ir_types.specs.Same.{same_name, same_ty}
+use Rattle.ir_types.proofs.SameLaws.{same_ty_true}
 use Rattle.name_index.specs.Among.{place_among}
 use Rattle.shape_tests.specs.Edges.{HasEdges, edges_among, row_by, with_blocks}
 use Rattle.shape_tests.specs.Kinds.{are_new, with_names}
@@ -114,3 +115,9 @@ edges_kept names rows bs known is =
         go [] all b k within is = absurd (omega arith)
         go (c ∷ cs) all b zero within is = subst (λ (d : Block). Contains names d.name) is all.0
         go (c ∷ cs) all b (suc k) within is = go cs all.1 b k (omega arith) is
+
+-- a line sets the register of that name and type, where the tests say that they are its own
+pub calm_sets : (c : Calm) (name : Name) (ty : Ty) → same_name name c.name ≡ true → same_ty ty (type_of c.right) ≡ true → Contains (set_by (instr.Calm c ∷ [])) (name, ty)
+calm_sets c name ty n t =
+    let one : (c.name, type_of c.right) ≡ (name, ty) = cc (same_name_true name c.name n, same_ty_true ty (type_of c.right) t) in
+    (zero, omega arith, one)

@@ -7,8 +7,8 @@ use Rattle.ir_core.specs.declared.functions.Instr.{Instr}
 use Rattle.ir_core.specs.declared.functions.Instr.TheVariants as instr
 use Rattle.ir_core.specs.declared.functions.Param.{Param}
 use Rattle.ir_core.specs.declared.functions.Phi.{Phi}
-use Rattle.ir_core.specs.declared.names.Name.{Name}
-use Rattle.ir_core.specs.declared.operands.Ty.{Ty}
+use Rattle.ir_types.specs.declared.names.Name.{Name}
+use Rattle.ir_types.specs.declared.ty.Ty.{Ty}
 use Rattle.ir_core.specs.Expressions.{operands_in}
 use Rattle.ir_core.specs.Functions.{block_names, is_debug, names_in, names_of, operands_at_end, operands_of, operands_of_phi, params_of, phi_registers, set_by, typed_of}
 use Rattle.ir_core.specs.WellFormed.{FitsEdges, HasFunctionShape, SetsByOperator}

@@ -8,9 +8,9 @@ use Rattle.ir_core.specs.declared.functions.Instr.TheVariants as instr
 use Rattle.ir_core.specs.declared.functions.Param.{Param}
 use Rattle.ir_core.specs.declared.functions.Phi.{Phi}
 use Rattle.ir_core.specs.declared.functions.Term.{Term}
-use Rattle.ir_core.specs.declared.names.Name.{Name}
+use Rattle.ir_types.specs.declared.names.Name.{Name}
 use Rattle.ir_core.specs.declared.operands.Operand.{Operand}
-use Rattle.ir_core.specs.declared.operands.Ty.{Ty}
+use Rattle.ir_types.specs.declared.ty.Ty.{Ty}
 use Rattle.ir_core.specs.Expressions.{operands_in, type_of}
 use Rattle.ir_core.specs.Functions.{operands_at_end, operands_of_phi, successors_of, typed_of}
 use Rattle.ir_core.specs.WellFormed.{BranchesOn, FitsEdges, HasCases, HasType, IsFirstClass, IsOperator, Returns}

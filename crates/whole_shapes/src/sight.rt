@@ -2,13 +2,17 @@
 ghost use Rattle.std.specs.Prelude.{◌≡◌, [], ◌∷◌, true, map, IfOk, IfSome, IsTrue, OnOk};
 ghost use Rattle.std.specs.List.{Contains, flat_map};
 ghost use Rattle.ir_core.specs.declared.functions.Block.{Block};
+ghost use Rattle.ir_core.specs.Expressions.{type_of};
+ghost use Rattle.ir_types.specs.Same.{same_ty};
 ghost use Rattle.ir_core.specs.Functions.{block_names, names_in, names_of, phi_registers, registers_of, set_by, typed_of};
 ghost use Rattle.name_index.specs.Among.{is_among, place_among};
 ghost use Rattle.shape_tests.specs.Kinds.{are_new, with_name, with_names};
 ghost use Rattle.shape_tests.specs.Typed.{param_names};
 ghost use Rattle.whole_shapes.specs.Whole.{param_registers};
 
-use ir_core::{Block, Function, Instr, Name, Param, Phi, Ty, same_name, same_ty};
+use ir_core::{
+    BitType, Block, Calm, Expr, Function, Instr, Name, Param, Phi, Ty, same_name, same_ty,
+};
 use shape_tests::LentNames;
 use std::alloc::{AllocError, Global};
 
@@ -211,11 +215,26 @@ fn is_phi(phis: &[Phi], place: usize, name: &Name, ty: &Ty) -> bool
     }
 }
 
+/// Whether the type is that of what the right side gives.
+fn is_given(ty: &Ty, right: &Expr<Name>) -> bool
+    ensures { result ≡ same_ty ty.now (type_of right.now) }
+{
+    let bit = BitType::new();
+    same_ty(ty, right.ty(&bit))
+}
+
+fn calm_sets(calm: &Calm, name: &Name, ty: &Ty) -> bool
+    ensures { IsTrue result → Contains (set_by (Instr.Calm calm.now ∷ [])) (name.now, ty.now) }
+{
+    same_name(name, &calm.name) && is_given(ty, &calm.right)
+}
+
 fn sets(line: &Instr, name: &Name, ty: &Ty) -> bool
     ensures { IsTrue result → Contains (set_by (line.now ∷ [])) (name.now, ty.now) }
 {
-    let Instr::Calm(calm) = line;
-    same_name(name, &calm.name) && same_ty(ty, calm.right.ty())
+    match line {
+        Instr::Calm(calm) => calm_sets(calm, name, ty),
+    }
 }
 
 fn is_line(body: &[Instr], place: usize, name: &Name, ty: &Ty) -> bool

@@ -15,7 +15,7 @@ ghost use Rattle.whole_shapes.specs.Whole.{AreTyped, IsBlockWhole, IsEndWhole, I
 
 use crate::leads::edges_of;
 use crate::sight::{Sight, is_of, sight_of};
-use ir_core::{Atom, Block, Entry, Expr, Function, Instr, Name, Phi, Term, Ty};
+use ir_core::{Atom, BitType, Block, Entry, Expr, Function, Instr, Name, Phi, Term, Ty};
 use shape_tests::{
     Counts, Row, branch_fits, cases_fit, counts_of, fits_edges, header_kind, is_integer, leads_to,
     name_kind, return_fits, right_kind, row_of,
@@ -93,7 +93,8 @@ fn is_line_whole(function: &Function, sight: &Sight, line: &Instr) -> bool
     ensures { IsTrue result → IsLineWhole (typed_of «function».now) line.now }
 {
     let Instr::Calm(calm) = line;
-    is_integer(calm.right.ty())
+    let bit = BitType::new();
+    is_integer(calm.right.ty(&bit))
         && is_typed(function, sight, &calm.right)
         && right_kind(&calm.right).is_none()
 }

@@ -1,8 +1,8 @@
 use Rattle.std.proofs.Common.{◌≡◌, ◌+◌, ◌-◌, ◌<◌, ◌∙◌, ℕ, Option, Some, cond, get_or, length, ap, sym, arith}
 use Rattle.std.proofs.lemmas.List.{get_or-map}
 use Rattle.ir_core.specs.declared.functions.Block.{Block}
-use Rattle.ir_core.specs.declared.names.Name.{Name}
-use Rattle.ir_core.specs.Same.{same_name}
+use Rattle.ir_types.specs.declared.names.Name.{Name}
+use Rattle.ir_types.specs.Same.{same_name}
 use Rattle.name_index.proofs.FirstPlaces.{behind_more, behind_none, place_behind}
 use Rattle.definedness.specs.Graph.{labels_in}
 use Rattle.definedness.proofs.Graphs.{length-map}

@@ -1,5 +1,5 @@
 use Rattle.std.proofs.Common.{◌≡◌, ◌≤◌, length}
-use Rattle.ir_core.specs.declared.names.Name.{Name}
+use Rattle.ir_types.specs.declared.names.Name.{Name}
 use Rattle.name_index.specs.Places.{place_in}
 use Rattle.name_index.proofs.FirstPlaces.{place_behind}
 use Rattle.definedness.specs.Graph.{labels_in}

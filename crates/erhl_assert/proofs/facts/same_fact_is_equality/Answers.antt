@@ -1,4 +1,4 @@
-use Rattle.ir_core.proofs.SameLaws.{equality}
+use Rattle.ir_types.proofs.SameLaws.{equality}
 use Rattle.erhl_assert.proofs.SameFact.{same_fact_true, same_fact_refl}
 use Rattle.erhl_assert.proofs.facts.same_fact_is_equality.Goals as goal
 

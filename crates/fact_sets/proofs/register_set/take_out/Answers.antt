@@ -1,7 +1,7 @@
 use Rattle.std.proofs.Common.{not, rules}
 use Rattle.std.proofs.lemmas.Fn.{filter_same}
-use Rattle.ir_core.specs.declared.names.Name.{Name}
-use Rattle.ir_core.specs.Same.{same_name}
+use Rattle.ir_types.specs.declared.names.Name.{Name}
+use Rattle.ir_types.specs.Same.{same_name}
 use Rattle.fact_sets.proofs.register_set.take_out.Goals as goal
 
 pub returns : goal.returns

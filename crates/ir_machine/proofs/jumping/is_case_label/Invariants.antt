@@ -1,6 +1,6 @@
 use Rattle.std.proofs.Common.{◌≡◌, drop}
 use Rattle.std.specs.List.{list_any}
-use Rattle.ir_core.specs.Same.{same_name}
+use Rattle.ir_types.specs.Same.{same_name}
 use Rattle.ir_machine.proofs.Landing.{labels_in}
 use Rattle.ir_machine.proofs.jumping.is_case_label.Given as goal
 

@@ -1,5 +1,5 @@
 use Rattle.std.proofs.Common.{◌≡◌, drop}
-use Rattle.ir_core.specs.Same.{same_list}
+use Rattle.ir_types.specs.Same.{same_list}
 use Rattle.line_align.proofs.alike.all_alike.Given as goal
 
 abbrev pub invariant-loop-a : goal.invariant-loop-a

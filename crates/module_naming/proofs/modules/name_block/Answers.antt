@@ -1,5 +1,5 @@
 use Rattle.std.proofs.Common.{Option, map, ◌++◌, ap, ◌∙◌}
-use Rattle.ir_core.specs.declared.names.Name.{Name}
+use Rattle.ir_types.specs.declared.names.Name.{Name}
 use Rattle.ir_grammar.specs.declared.trees.Placed.{Placed}
 use Rattle.name_claims.specs.declared.claims.Meaning.TheVariants.{Block}
 use Rattle.ir_naming.specs.Naming.{Thing, label_thing, line_thing, phi_thing}

@@ -1,5 +1,5 @@
 use Rattle.std.proofs.Common.{◌≡◌, ◌≤◌, true, drop, length}
-use Rattle.ir_core.specs.declared.names.Name.{Name}
+use Rattle.ir_types.specs.declared.names.Name.{Name}
 use Rattle.name_claims.specs.Indexes.{AreAllNew, position}
 use Rattle.name_claims.proofs.Found.{first_behind}
 use Rattle.name_claims.proofs.index.index_of.Given as goal

@@ -1,7 +1,7 @@
 use Rattle.std.proofs.Common.{◌≡◌, drop}
 use Rattle.std.specs.List.{list_all}
 use Rattle.ir_core.specs.declared.functions.Case.{Case}
-use Rattle.ir_core.specs.Same.{same_ty}
+use Rattle.ir_types.specs.Same.{same_ty}
 use Rattle.shape_tests.proofs.ends.are_typed.Given as goal
 
 abbrev pub invariant-loop-case : goal.invariant-loop-case

@@ -1,7 +1,7 @@
 use Rattle.std.proofs.Common.{◌≡◌, drop, map}
 use Rattle.std.specs.List.{list_any}
 use Rattle.ir_core.specs.declared.functions.Case.{Case}
-use Rattle.ir_core.specs.Same.{same_name}
+use Rattle.ir_types.specs.Same.{same_name}
 use Rattle.shape_tests.proofs.ends.is_case_label.Given as goal
 
 abbrev pub invariant-loop-case : goal.invariant-loop-case

@@ -1,6 +1,6 @@
 use Rattle.std.proofs.Common.{◌≡◌, ◌∙◌, true, false, sym, rules}
 use Rattle.std.specs.Borrow.{Bor}
-use Rattle.ir_core.specs.declared.names.Name.{Name}
+use Rattle.ir_types.specs.declared.names.Name.{Name}
 use Rattle.shape_tests.specs.Edges.{agrees, named}
 use Rattle.shape_tests.specs.Kinds.{froms_of}
 use Rattle.shape_tests.proofs.Tests.{all_more, all_stops}

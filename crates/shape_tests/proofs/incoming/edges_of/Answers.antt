@@ -1,5 +1,5 @@
 use Rattle.std.proofs.Common.{◌∙◌, List, ap, rules}
-use Rattle.ir_core.specs.declared.names.Name.{Name}
+use Rattle.ir_types.specs.declared.names.Name.{Name}
 use Rattle.shape_tests.specs.Edges.{with_blocks}
 use Rattle.shape_tests.proofs.Rows.{all_have_edges, none_need_edges}
 use Rattle.shape_tests.proofs.incoming.edges_of.Goals as goal

@@ -1,6 +1,6 @@
 use Rattle.std.proofs.Common.{◌≡◌, ◌∙◌, [], ◌∷◌, ◌++◌, List, slice_set, slice_index_or, ap, sym, rules}
 use Rattle.std.proofs.lemmas.List.{get_or-map, map-set}
-use Rattle.ir_core.specs.declared.names.Name.{Name}
+use Rattle.ir_types.specs.declared.names.Name.{Name}
 use Rattle.shape_tests.specs.Edges.{names_on, rows_of}
 use Rattle.shape_tests.proofs.incoming.put_at.Goals as goal
 

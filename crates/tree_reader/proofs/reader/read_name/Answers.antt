@@ -1,5 +1,5 @@
 use Rattle.std.proofs.Common.{◌∷◌, [], IfOk, map, subst, sym}
-use Rattle.ir_core.specs.declared.names.Name.{Name}
+use Rattle.ir_types.specs.declared.names.Name.{Name}
 use Rattle.ir_grammar.specs.declared.trees.Placed.{Placed}
 use Rattle.ir_grammar.specs.declared.words.Language.TheVariants.{Ir}
 use Rattle.ir_grammar.specs.Symbols.{symbol_in}

@@ -1,5 +1,5 @@
 use Rattle.std.proofs.Common.{◌≡◌, ◌∙◌, true, List, ap, rules}
-use Rattle.ir_core.specs.declared.names.Name.{Name}
+use Rattle.ir_types.specs.declared.names.Name.{Name}
 use Rattle.shape_tests.specs.Edges.{with_blocks}
 use Rattle.whole_shapes.specs.Whole.{bare_rows}
 use Rattle.whole_shapes.proofs.Sighted.{edges_kept}

@@ -1,6 +1,6 @@
 use Rattle.std.proofs.Common.{◌≡◌, ◌∙◌, true, IsTrue, List, ap, subst, sym, rules}
 use Rattle.ir_core.specs.declared.functions.Entry.{Entry}
-use Rattle.ir_core.specs.declared.names.Name.{Name}
+use Rattle.ir_types.specs.declared.names.Name.{Name}
 use Rattle.ir_core.specs.Functions.{typed_of}
 use Rattle.shape_tests.specs.Edges.{named}
 use Rattle.shape_tests.specs.Kinds.{is_integer, phi_fits}

@@ -1,6 +1,6 @@
 use Rattle.std.proofs.Common.{rules}
 use Rattle.indexmap.specs.IndexMap.{get_by}
-use Rattle.ir_core.specs.Same.{same_name}
+use Rattle.ir_types.specs.Same.{same_name}
 use Rattle.fact_sets.proofs.Nearness.{put_behind}
 use Rattle.fact_sets.proofs.near_facts.NearFacts.put_under.Goals as goal
 

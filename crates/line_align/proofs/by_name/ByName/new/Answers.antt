@@ -1,6 +1,6 @@
 use Rattle.std.proofs.Common.{◌∙◌, ap, filter, take, length, ◌≡◌, arith, rules}
 use Rattle.std.proofs.lemmas.List.{take_all}
-use Rattle.ir_core.specs.Same.{same_name}
+use Rattle.ir_types.specs.Same.{same_name}
 use Rattle.line_align.proofs.by_name.ByName.new.Goals as goal
 
 pub invariant_of-result : goal.invariant_of-result

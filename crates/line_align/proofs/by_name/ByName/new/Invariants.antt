@@ -1,6 +1,6 @@
 use Rattle.std.proofs.Common.{◌≡◌, length, filter, take}
-use Rattle.ir_core.specs.declared.names.Name.{Name}
-use Rattle.ir_core.specs.Same.{same_name}
+use Rattle.ir_types.specs.declared.names.Name.{Name}
+use Rattle.ir_types.specs.Same.{same_name}
 use Rattle.line_align.specs.Grouped.{group_of}
 use Rattle.line_align.proofs.by_name.ByName.new.Given as goal
 

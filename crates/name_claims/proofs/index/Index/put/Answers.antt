@@ -1,5 +1,5 @@
 use Rattle.std.proofs.Common.{Bor, rules}
-use Rattle.ir_core.specs.declared.names.Name.{Name}
+use Rattle.ir_types.specs.declared.names.Name.{Name}
 use Rattle.name_claims.proofs.Found.{put_first}
 use Rattle.name_claims.proofs.index.Index.put.Goals as goal
 

@@ -1,5 +1,5 @@
 use Rattle.std.proofs.Common.{Bor}
-use Rattle.ir_core.specs.declared.names.Name.{Name}
+use Rattle.ir_types.specs.declared.names.Name.{Name}
 use Rattle.name_index.proofs.FirstPlaces.{put_first}
 use Rattle.name_index.proofs.places.PlaceIndex.put.Goals as goal
 

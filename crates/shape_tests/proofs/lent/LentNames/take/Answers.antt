@@ -1,5 +1,5 @@
 use Rattle.std.proofs.Common.{◌∙◌, List, ap}
-use Rattle.ir_core.specs.declared.names.Name.{Name}
+use Rattle.ir_types.specs.declared.names.Name.{Name}
 use Rattle.name_index.specs.Among.{is_among}
 use Rattle.shape_tests.specs.Kinds.{with_name}
 use Rattle.shape_tests.proofs.Borrowed.{among_lent, not_not, put_lent}
