@@ -56,7 +56,7 @@ fn push_parts(text: &mut Vec<u8>, ty: &Ty) -> Result<(), AllocError>
             }
             text.extend_from_slice(b" }")
         }
-        Ty::Named(name) => push_name(text, Sigil::Local, name),
+        Ty::Named(name) => push_name(text, Sigil::Local, name.get()),
         Ty::Void => text.extend_from_slice(b"void"),
     }
 }

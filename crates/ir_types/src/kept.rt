@@ -22,7 +22,7 @@ pub(crate) fn kept_layout(names: &NameMap<Layout>, ty: &Ty) -> Option<Layout>
             Some(array_layout(*count, element))
         }
         Ty::Struct(fields) => kept_struct(names, fields.get().as_slice()),
-        Ty::Named(name) => names.get(name).copied(),
+        Ty::Named(name) => names.get(name.get()).copied(),
         Ty::Void => None,
     }
 }

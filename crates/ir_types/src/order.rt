@@ -75,7 +75,7 @@ fn wait_for(
             }
             Ok(())
         }
-        Ty::Named(name) => match places.get(name) {
+        Ty::Named(name) => match places.get(name.get()) {
             Some(other) => waiting.wait(place, *other),
             None => Ok(()),
         },

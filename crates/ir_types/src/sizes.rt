@@ -55,7 +55,7 @@ fn fields_in<'a>(types: &'a NamedTypes, ty: &'a Ty) -> &'a [Ty]
 {
     match ty {
         Ty::Struct(fields) => fields.get().as_slice(),
-        Ty::Named(name) => match types.fields(name) {
+        Ty::Named(name) => match types.fields(name.get()) {
             Some(fields) => fields.as_slice(),
             None => &[],
         },
