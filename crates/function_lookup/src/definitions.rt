@@ -5,30 +5,59 @@ ghost use Rattle.std.specs.Option.{option_eq};
 ghost use Rattle.ir_core.specs.Functions.{phi_registers, set_by, registers_of, typed_of};
 ghost use Rattle.ir_values.specs.Values.{same_kind};
 ghost use Rattle.erhl_assert.specs.Steps.{is_other};
-ghost use Rattle.function_lookup.specs.Defining.{definition_of, some_other_kind};
+ghost use Rattle.ir_core.specs.Types.{kind_of};
+ghost use Rattle.function_lookup.specs.Defining.{some_other_kind};
 
 use contents::Exact;
 use ir_core::{BitType, Block, Expr0, Function, Instr, Kind, Name, Param, Phi, Ty, kind_of};
 use line_align::{ByName, Named};
 use std::alloc::{AllocError, Global};
+use std::marker::Model;
 
 /// A register's definition: its name, lent, and its type.
-#[derive(Drop)]
 pub(crate) struct Definition<'a> {
-    pub(crate) name: &'a Name,
-    pub(crate) ty: Ty,
+    name: &'a Name,
+    ty: Ty,
+}
+
+impl<'a> Model for Definition<'a> {
+    ghost use Rattle.ir_types.specs.declared.names.Name.{Name};
+    ghost use Rattle.ir_types.specs.declared.ty.Ty.{Ty};
+    ghost use Rattle.std.specs.Coded.{codes};
+    ghost use Rattle.ir_types.specs.contracts.ty.Ty as types;
+
+    ghost Value = { Name × Ty };
+
+    ghost coded = { Prim.hlevel (codes, types.the_row.coded) };
+
+    ghost view = { λ it. (it.name.now, it.ty) };
+}
+
+impl<'a> Drop for Definition<'a> {
+    fn drop(self) {
+        let Definition { name: _, ty: _ } = self;
+    }
 }
 
 impl<'a> Named for Definition<'a> {
-    ghost named = { λ definition. definition.name.now };
+    ghost named = { λ definition. definition.0 };
 
     fn name(&self) -> &Name {
         self.name
     }
 }
 
+impl<'a> Definition<'a> {
+    /// The kind of its type.
+    fn kind(&self) -> Option<Kind>
+        ensures { result ≡ kind_of self.now.1 }
+    {
+        kind_of(&self.ty)
+    }
+}
+
 fn defined<'a>(alloc: Global, name: &'a Name, ty: &Ty) -> Result<Definition<'a>, AllocError>
-    ensures { IfOk result (λ definition. definition_of definition ≡ (name.now, ty.now)) }
+    ensures { IfOk result (λ definition. definition ≡ (name.now, ty.now)) }
 {
     Ok(Definition {
         name,
@@ -37,8 +66,7 @@ fn defined<'a>(alloc: Global, name: &'a Name, ty: &Ty) -> Result<Definition<'a>,
 }
 
 fn note_params<'a>(params: &'a [Param], found: &mut Vec<Definition<'a>>) -> Result<(), AllocError>
-    ensures { OnOk result
-        (map definition_of found.new.items ≡ map definition_of found.old.items ++ map (λ p. (p.name, p.ty)) params.now) }
+    ensures { OnOk result (found.new.items ≡ found.old.items ++ map (λ p. (p.name, p.ty)) params.now) }
 {
     for param in params {
         found.push(defined(*found.allocator(), &param.name, &param.ty)?)?;
@@ -47,8 +75,7 @@ fn note_params<'a>(params: &'a [Param], found: &mut Vec<Definition<'a>>) -> Resu
 }
 
 fn note_phis<'a>(phis: &'a [Phi], found: &mut Vec<Definition<'a>>) -> Result<(), AllocError>
-    ensures { OnOk result
-        (map definition_of found.new.items ≡ map definition_of found.old.items ++ phi_registers phis.now) }
+    ensures { OnOk result (found.new.items ≡ found.old.items ++ phi_registers phis.now) }
 {
     for phi in phis {
         found.push(defined(*found.allocator(), &phi.name, &phi.ty)?)?;
@@ -57,7 +84,7 @@ fn note_phis<'a>(phis: &'a [Phi], found: &mut Vec<Definition<'a>>) -> Result<(),
 }
 
 fn note_lines<'a>(lines: &'a [Instr], found: &mut Vec<Definition<'a>>) -> Result<(), AllocError>
-    ensures { OnOk result (map definition_of found.new.items ≡ map definition_of found.old.items ++ set_by lines.now) }
+    ensures { OnOk result (found.new.items ≡ found.old.items ++ set_by lines.now) }
 {
     let bit = BitType::new();
     for line in lines {
@@ -68,16 +95,14 @@ fn note_lines<'a>(lines: &'a [Instr], found: &mut Vec<Definition<'a>>) -> Result
 }
 
 fn note_block<'a>(block: &'a Block, found: &mut Vec<Definition<'a>>) -> Result<(), AllocError>
-    ensures { OnOk result
-        (map definition_of found.new.items ≡ map definition_of found.old.items ++ registers_of block.now) }
+    ensures { OnOk result (found.new.items ≡ found.old.items ++ registers_of block.now) }
 {
     note_phis(block.phis.as_slice(), found)?;
     note_lines(block.body.as_slice(), found)
 }
 
 fn note_blocks<'a>(blocks: &'a [Block], found: &mut Vec<Definition<'a>>) -> Result<(), AllocError>
-    ensures { OnOk result
-        (map definition_of found.new.items ≡ map definition_of found.old.items ++ flat_map registers_of blocks.now) }
+    ensures { OnOk result (found.new.items ≡ found.old.items ++ flat_map registers_of blocks.now) }
 {
     for block in blocks {
         note_block(block, found)?;
@@ -90,7 +115,7 @@ pub(crate) fn definitions_of(
     alloc: Global,
     function: &Function,
 ) -> Result<Vec<Definition<'_>>, AllocError>
-    ensures { IfOk result (λ found. map definition_of found.items ≡ typed_of «function».now) }
+    ensures { IfOk result (λ found. found.items ≡ typed_of «function».now) }
 {
     let mut found = Vec::new(alloc);
     note_params(function.params.as_slice(), &mut found)?;
@@ -115,7 +140,7 @@ fn some_other_kind(definitions: &[&Definition<'_>], expr: &Expr0) -> bool
     let bit = BitType::new();
     let kind = kind_of(expr.ty(&bit));
     for definition in definitions {
-        if !same_kind(&kind_of(&definition.ty), &kind) {
+        if !same_kind(&definition.kind(), &kind) {
             return true;
         }
     }
@@ -124,7 +149,7 @@ fn some_other_kind(definitions: &[&Definition<'_>], expr: &Expr0) -> bool
 
 /// Whether one of those of the name is of another kind than the expression.
 pub(crate) fn other_among(by_name: &ByName<'_, Definition<'_>>, name: &Name, expr: &Expr0) -> bool
-    ensures { result ≡ list_any (is_other name.now expr.now) (map definition_of by_name.now) }
+    ensures { result ≡ list_any (is_other name.now expr.now) (by_name.now) }
 {
     some_other_kind(by_name.all(name), expr)
 }

@@ -1,11 +1,10 @@
 //! A function, with what is looked up of it by a name.
-ghost use Rattle.std.specs.Prelude.{◌≡◌, [], IfOk, IfSome, map};
+ghost use Rattle.std.specs.Prelude.{◌≡◌, [], IfOk, IfSome};
 ghost use Rattle.std.specs.List.{list_any};
 ghost use Rattle.std.specs.Option.{option_map};
 ghost use Rattle.ir_core.specs.Functions.{typed_of};
 ghost use Rattle.erhl_assert.specs.Edges.{phis_at};
 ghost use Rattle.erhl_assert.specs.Steps.{has_other_kind, is_other};
-ghost use Rattle.function_lookup.specs.Defining.{definition_of};
 
 use crate::definitions::{Definition, definitions_of, other_among};
 use block_phis::Phis;
@@ -83,9 +82,8 @@ pub struct FunctionParts<'a> {
 
 impl<'a> Model for FunctionParts<'a> {
     ghost use Rattle.ir_core.specs.declared.functions.Function.{Function};
-    ghost use Rattle.std.specs.Prelude.{◌≡◌, map, IfSome};
+    ghost use Rattle.std.specs.Prelude.{◌≡◌, IfSome};
     ghost use Rattle.ir_core.specs.Functions.{typed_of};
-    ghost use Rattle.function_lookup.specs.Defining.{definition_of};
     ghost use Rattle.std.specs.Coded.{codes};
     ghost use Rattle.ir_types.specs.contracts.ty.Ty as ty;
 
@@ -96,7 +94,7 @@ impl<'a> Model for FunctionParts<'a> {
     ghost view = { λ it. it.defining.now };
 
     ghost invariant = { λ it. (it.blocks.items ≡ it.defining.now.blocks)
-        × IfSome it.definitions (λ found. map definition_of found.items ≡ typed_of it.defining.now) };
+        × IfSome it.definitions (λ found. found.items ≡ typed_of it.defining.now) };
 }
 
 impl<'a> Drop for FunctionParts<'a> {
@@ -116,7 +114,7 @@ fn definitions_if(
     function: &Function,
 ) -> Result<Option<Vec<Definition<'_>>>, AllocError>
     ensures { IfOk result
-        (λ found. IfSome found (λ all. map definition_of all.items ≡ typed_of «function».now)) }
+        (λ found. IfSome found (λ all. all.items ≡ typed_of «function».now)) }
 {
     if asked {
         Ok(Some(definitions_of(alloc, function)?))
@@ -154,9 +152,8 @@ pub struct FunctionIndex<'b, 'a> {
 
 impl<'b, 'a> Model for FunctionIndex<'b, 'a> {
     ghost use Rattle.ir_core.specs.declared.functions.Function.{Function};
-    ghost use Rattle.std.specs.Prelude.{◌≡◌, [], map, IfSome};
+    ghost use Rattle.std.specs.Prelude.{◌≡◌, [], IfSome};
     ghost use Rattle.ir_core.specs.Functions.{typed_of};
-    ghost use Rattle.function_lookup.specs.Defining.{definition_of};
     ghost use Rattle.std.specs.Coded.{codes};
     ghost use Rattle.ir_types.specs.contracts.ty.Ty as ty;
 
@@ -167,7 +164,7 @@ impl<'b, 'a> Model for FunctionIndex<'b, 'a> {
     ghost view = { λ it. it.defining.now };
 
     ghost invariant = { λ it. (it.blocks ≡ it.defining.now.blocks)
-        × IfSome it.definitions (λ found. map definition_of found ≡ typed_of it.defining.now)
+        × IfSome it.definitions (λ found. found ≡ typed_of it.defining.now)
         × (it.no_phis ≡ []) };
 }
 

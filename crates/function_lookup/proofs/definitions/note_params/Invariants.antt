@@ -1,9 +1,8 @@
 use Rattle.std.proofs.Common.{◌≡◌, ◌++◌, map, drop}
 use Rattle.ir_core.specs.declared.functions.Param.{Param}
-use Rattle.function_lookup.specs.Defining.{definition_of}
 use Rattle.function_lookup.proofs.definitions.note_params.Given as goal
 
 abbrev pub invariant-loop-param : goal.invariant-loop-param
 invariant-loop-param l =
-    map definition_of l.found.items ++ map (λ (p : Param). (p.name, p.ty)) (drop l.param-index l.params)
-    ≡ map definition_of l.initial.found.items ++ map (λ (p : Param). (p.name, p.ty)) l.params
+    l.found.items ++ map (λ (p : Param). (p.name, p.ty)) (drop l.param-index l.params)
+    ≡ l.initial.found.items ++ map (λ (p : Param). (p.name, p.ty)) l.params
