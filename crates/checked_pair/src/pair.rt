@@ -1,5 +1,7 @@
 //! Two functions beside a module, with what is looked up of them by its name.
 ghost use Rattle.std.specs.Prelude.{◌≡◌};
+ghost use Rattle.std.specs.Coded.{codes};
+ghost use Rattle.ir_types.specs.contracts.ty.Ty as ty;
 ghost use Rattle.erhl_assert.specs.Alignment.{no_facts};
 ghost use Rattle.checked_pair.specs.Empty.{IsEmpty};
 
@@ -16,7 +18,7 @@ use std::alloc::{AllocError, Global};
 pub(crate) struct Empty {
     pub(crate) hint: HintBlock,
     pub(crate) nothing: Sides<IndexedSet>,
-    ghost empty: { IsEmpty hint },
+    ghost empty: { IsEmpty hint } by { Prim.hlevel (codes, ty.the_row.coded) },
     ghost none: { nothing ≡ no_facts },
 }
 
