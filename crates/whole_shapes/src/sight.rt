@@ -19,14 +19,14 @@ use std::alloc::{AllocError, Global};
 /// Where a name stands: a parameter's, a block's, or that of the register that a line of a block sets, its phis and body counted
 /// from 0.
 #[derive(Drop, Clone, Copy)]
-pub(crate) enum Home {
+pub enum Home {
     Param(usize),
     Block(usize),
     Line { block: usize, line: usize },
 }
 
 /// The names of a function in their order, and where each stands. That it stands there is to be looked up.
-pub(crate) struct Sight<'a> {
+pub struct Sight<'a> {
     pub(crate) names: LentNames<'a>,
     pub(crate) homes: Vec<Home>,
 }
@@ -150,10 +150,7 @@ fn count_of(function: &Function) -> usize {
 
 /// Where a function's names stand; none, where one stands twice.
 #[tactic(auto, using(shape_tests::proofs::Taken::new_joined, shape_tests::proofs::Taken::names_joined))]
-pub(crate) fn sight_of<'a>(
-    alloc: Global,
-    function: &'a Function,
-) -> Result<Option<Sight<'a>>, AllocError>
+pub fn sight_of<'a>(alloc: Global, function: &'a Function) -> Result<Option<Sight<'a>>, AllocError>
     ensures new { IfOk result (λ found. IfSome found (λ _. are_new [] (names_of «function».now) ≡ true)) }
     ensures names { IfOk result (λ found. IfSome found (λ sight. sight.names ≡ with_names [] (names_of «function».now))) }
 {
@@ -178,6 +175,14 @@ pub(crate) fn place_of(sight: &Sight, name: &Name) -> Option<usize>
     sight.names.position(name)
 }
 
+/// Where a name may stand. That it stands there is to be looked up.
+pub fn home_of(sight: &Sight, name: &Name) -> Option<Home> {
+    match place_of(sight, name) {
+        Some(place) => sight.homes.get(place).copied(),
+        None => None,
+    }
+}
+
 /// Whether what stands at that place among all names is a block of this one.
 pub(crate) fn is_block(blocks: &[Block], sight: &Sight, place: usize, name: &Name) -> bool
     ensures { IsTrue result → Contains (map (λ (b : Block). b.name) blocks.now) name.now }
@@ -197,7 +202,8 @@ fn is_named(blocks: &[Block], place: usize, name: &Name) -> bool
     }
 }
 
-fn is_param(params: &[Param], place: usize, name: &Name, ty: &Ty) -> bool
+/// Whether this parameter is the register of that name and type.
+pub fn is_param(params: &[Param], place: usize, name: &Name, ty: &Ty) -> bool
     ensures { IsTrue result → Contains (param_registers params.now) (name.now, ty.now) }
 {
     match params.get(place) {
@@ -206,7 +212,8 @@ fn is_param(params: &[Param], place: usize, name: &Name, ty: &Ty) -> bool
     }
 }
 
-fn is_phi(phis: &[Phi], place: usize, name: &Name, ty: &Ty) -> bool
+/// Whether this phi sets the register of that name and type.
+pub fn is_phi(phis: &[Phi], place: usize, name: &Name, ty: &Ty) -> bool
     ensures { IsTrue result → Contains (phi_registers phis.now) (name.now, ty.now) }
 {
     match phis.get(place) {
@@ -237,7 +244,8 @@ fn sets(line: &Instr, name: &Name, ty: &Ty) -> bool
     }
 }
 
-fn is_line(body: &[Instr], place: usize, name: &Name, ty: &Ty) -> bool
+/// Whether this line sets the register of that name and type.
+pub fn is_line(body: &[Instr], place: usize, name: &Name, ty: &Ty) -> bool
     ensures { IsTrue result → Contains (set_by body.now) (name.now, ty.now) }
 {
     match body.get(place) {
@@ -246,7 +254,8 @@ fn is_line(body: &[Instr], place: usize, name: &Name, ty: &Ty) -> bool
     }
 }
 
-fn is_in_block(block: &Block, line: usize, name: &Name, ty: &Ty) -> bool
+/// Whether this phi or line of a block, counted together from 0, sets the register of that name and type.
+pub fn is_in_block(block: &Block, line: usize, name: &Name, ty: &Ty) -> bool
     ensures { IsTrue result → Contains (registers_of block.now) (name.now, ty.now) }
 {
     match line.checked_sub(block.phis.len()) {

@@ -1,0 +1,4 @@
+pub mod Placed
+pub mod Settles
+pub mod Edged
+pub mod Finely
