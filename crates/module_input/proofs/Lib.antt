@@ -1,3 +1,4 @@
 pub mod Agree
 pub mod First
+pub mod Seen
 pub mod Told
