@@ -176,6 +176,7 @@ fn along<B: RuleSet>(
 }
 
 /// From what the hint claims at the blocks' start.
+#[inline(never)]
 fn from_start<B: RuleSet>(
     alloc: Global,
     pair: &Pair<'_, '_, '_, B>,

@@ -1,26 +1,30 @@
 //! The verdict on two functions.
-ghost use Rattle.std.specs.Prelude.{◌≡◌, IfOk, IfErr, None, Some, [], cond, map};
+ghost use Rattle.std.specs.Prelude.{◌≡◌, IfOk, IfErr, None, Some, [], cond, map, true};
 ghost use Rattle.ir_core.specs.declared.limits.Limit.{Limit};
 ghost use Rattle.ir_core.specs.declared.limits.Limit.TheVariants.{Facts};
-ghost use Rattle.ir_core.specs.Modules.{scope_of};
+ghost use Rattle.ir_core.specs.Modules.{Scope, scope_of};
 ghost use Rattle.flow_solver.specs.Near.{reached_nodes};
 ghost use Rattle.definedness.specs.Graph.{flow_of};
+ghost use Rattle.erhl_assert.specs.Alignment.{no_facts};
 ghost use Rattle.erhl_assert.specs.Course.{Good, judged_answer};
 ghost use Rattle.erhl_assert.specs.Acceptance as judged;
 ghost use Rattle.erhl_assert.specs.Acceptance.{function_answer};
-ghost use Rattle.erhl_assert.specs.Steps.{beside};
+ghost use Rattle.erhl_assert.specs.Steps.{Rules, beside};
 ghost use Rattle.rule_base.specs.Book.{meanings_of};
 ghost use Rattle.line_align.specs.Lent.{lent_block};
 ghost use Rattle.checked_pair.specs.Asked.{asked};
 ghost use Rattle.checked_pair.specs.Progress.{Answers};
 ghost use Rattle.erhl_checker.specs.Reached.{from_entry_answer};
 
+use crate::alike::functions_alike;
 use block_checker::{CheckEnd, FunctionIndex, FunctionParts, Pair, block_answer};
 use contents::Exact;
 use definedness::reached;
 use erhl_assert::{
     Assertion, HeldBlock, Hint, HintEdge, HintStep, PlacedStep, Reason, Spot, Verdict,
 };
+use erhl_sides::Sides;
+use fact_sets::IndexedSet;
 use flow_solver::reached_nodes_are_reached;
 use ir_core::{Function, Module};
 use line_align::{AlignEnd, AlignedBlock, ByName, align};
@@ -226,7 +230,9 @@ fn aligned_answer<'a, B: RuleSet>(
     parts_answer(alloc, module, book, hints, &source, &target, blocks)
 }
 
-pub(crate) fn function_answer<B: RuleSet>(
+/// The answer on two functions, of whose blocks much is looked up by their names.
+#[inline(never)]
+fn looked_up_answer<B: RuleSet>(
     alloc: Global,
     module: &Module,
     book: &B,
@@ -261,6 +267,47 @@ pub(crate) fn function_answer<B: RuleSet>(
             AlignEnd::Memory => Err(CheckEnd::Memory),
         },
     }
+}
+
+/// Whether the functions are valid at once: the hint says nothing, and nothing of them need be looked up.
+#[tactic(auto, using(crate::proofs::AtOnce::valid_at_once))]
+fn is_valid_at_once(
+    alloc: Global,
+    hint: &Hint,
+    nothing: &Sides<IndexedSet>,
+    source: &Function,
+    target: &Function,
+) -> Result<bool, AllocError>
+    requires { nothing.now ≡ no_facts }
+    ensures { IfOk result
+        (λ valid. valid ≡ true → (rules : Rules) (scope : Scope)
+        → function_answer (beside rules scope source.now target.now hint.now) ≡ Some Verdict.Valid) }
+{
+    if hint.blocks.is_empty() {
+        functions_alike(alloc, nothing, source, target)
+    } else {
+        Ok(false)
+    }
+}
+
+/// The answer on two functions, with the knowledge of nothing.
+pub(crate) fn function_answer<B: RuleSet>(
+    alloc: Global,
+    module: &Module,
+    book: &B,
+    hint: &Hint,
+    nothing: &Sides<IndexedSet>,
+    source: &Function,
+    target: &Function,
+) -> Result<Verdict, CheckEnd>
+    requires { nothing.now ≡ no_facts }
+    ensures { Answers result
+        (function_answer (beside (B.rules book.now) (scope_of «module».now) source.now target.now hint.now)) }
+{
+    if is_valid_at_once(alloc, hint, nothing, source, target)? {
+        return Ok(Verdict::Valid);
+    }
+    looked_up_answer(alloc, module, book, hint, source, target)
 }
 
 /// Checks one function against another, beside a module: `Valid` exactly where the pair is accepted under the hint, and else
@@ -299,5 +346,6 @@ pub fn check_function(
         book,
         boxes: PhantomData,
     };
-    function_answer(alloc, module, &rules, hint, src, tgt)
+    let nothing = Sides::empty(alloc)?;
+    function_answer(alloc, module, &rules, hint, &nothing, src, tgt)
 }

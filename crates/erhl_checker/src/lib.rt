@@ -2,6 +2,7 @@
 //! first place and the first reason.
 #![tactic(auto)]
 
+mod alike;
 mod functions;
 mod modules;
 

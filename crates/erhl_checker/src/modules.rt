@@ -7,6 +7,7 @@ ghost use Rattle.ir_types.specs.Same as same;
 ghost use Rattle.ir_core.specs.Modules.{definitions_of, scope_of};
 ghost use Rattle.ir_machine.specs.Refinement.{Refines};
 ghost use Rattle.erhl_assert.specs.Acceptance as acceptance;
+ghost use Rattle.erhl_assert.specs.Alignment.{no_facts};
 ghost use Rattle.erhl_assert.specs.Steps.{beside};
 ghost use Rattle.rule_base.specs.Book.{meanings_of};
 ghost use Rattle.erhl_soundness.specs.Laws.{ArePhisApart};
@@ -16,7 +17,9 @@ use crate::functions::function_answer;
 use block_checker::CheckEnd;
 use contents::{Exact, Seq};
 use erhl_assert::{Difference, FunctionHint, Hint, Hints, ModuleVerdict, Verdict};
+use erhl_sides::Sides;
 use erhl_soundness::accepted_modules_refine;
+use fact_sets::IndexedSet;
 use ir_core::{Function, Module, Param, same_name, same_ty};
 use line_align::{ByName, Likeness, all_alike};
 use rule_base::{InferRule, LentBook, RuleBook, RuleSet};
@@ -64,21 +67,23 @@ fn hinted_answer<B: RuleSet>(
     module: &Module,
     book: &B,
     hints: &ByName<'_, FunctionHint>,
+    nothing: &Sides<IndexedSet>,
     source: &Function,
     target: &Function,
 ) -> Result<Verdict, CheckEnd>
+    requires { nothing.now ≡ no_facts }
     ensures { Answers result
         (acceptance.function_answer
         (beside (B.rules book.now) (scope_of «module».now) source.now target.now
         (acceptance.hint_for (record { functions = hints.now }) source.now.name))) }
 {
     match hints.first(&source.name) {
-        Some(found) => function_answer(alloc, module, book, &found.hint, source, target),
+        Some(found) => function_answer(alloc, module, book, &found.hint, nothing, source, target),
         None => {
             let empty = Hint {
                 blocks: Seq::new(alloc),
             };
-            function_answer(alloc, module, book, &empty, source, target)
+            function_answer(alloc, module, book, &empty, nothing, source, target)
         }
     }
 }
@@ -89,9 +94,11 @@ fn functions_answer<B: RuleSet>(
     module: &Module,
     book: &B,
     hints: &ByName<'_, FunctionHint>,
+    nothing: &Sides<IndexedSet>,
     source: &[Function],
     target: &[Function],
 ) -> Result<ModuleVerdict, CheckEnd>
+    requires { nothing.now ≡ no_facts }
     ensures { Answers result
         (acceptance.functions_answer (B.rules book.now) (scope_of «module».now)
         (record { functions = hints.now }) source.now target.now) }
@@ -100,7 +107,7 @@ fn functions_answer<B: RuleSet>(
     for f in source {
         match rest.split_first() {
             Some((g, after)) => {
-                let verdict = hinted_answer(alloc, module, book, hints, f, g)?;
+                let verdict = hinted_answer(alloc, module, book, hints, nothing, f, g)?;
                 if let Verdict::Refused {
                     block,
                     spot,
@@ -141,7 +148,8 @@ fn module_answer<B: RuleSet>(
     let others = target.functions.as_slice();
     if all_alike(&Signature, functions, others) {
         let hints = ByName::new(alloc, hints.functions.as_slice())?;
-        functions_answer(alloc, source, book, &hints, functions, others)
+        let nothing = Sides::empty(alloc)?;
+        functions_answer(alloc, source, book, &hints, &nothing, functions, others)
     } else {
         Ok(ModuleVerdict::Differs(Difference::Functions))
     }

@@ -3,7 +3,7 @@ use Rattle.ir_core.specs.Modules.{scope_of}
 use Rattle.line_align.specs.Lent.{lent_block}
 use Rattle.checked_pair.proofs.Progressing.{answers_so}
 use Rattle.erhl_checker.proofs.Reaching.{aligned_under, differs_under}
-use Rattle.erhl_checker.proofs.functions.function_answer.Goals as goal
+use Rattle.erhl_checker.proofs.functions.looked_up_answer.Goals as goal
 
 pub returns-in-Ok : goal.returns-in-Ok
 returns-in-Ok g c =
