@@ -4,7 +4,8 @@
 usage: bench/count.py [--program PATH] [--only WORD] [--write FILE]
 
 A row of budgets.tsv has, between tabs: its name, an input, a command, a unit (byte or line), a budget (instructions a unit), the peak of
-memory in MB, and whether the count has to grow linearly (yes or no). Where a unit is neither byte nor line it is what N counts. A budget or
+memory in MB, whether the count has to grow linearly (yes or no), and which part counts: all of it, `judging` (what calls of the crates take
+that ask whether a module is well-formed) or `reading` (all but that). Where a unit is neither byte nor line it is what N counts. A budget or
 a peak that isn't set yet is inf. In a command {} stands for the input's file, HINTS for the hints that belong to it, NONE for hints that
 say nothing, STEP for one step before the first line, with which facts are kept along the block, BASE for a module of one line. An input is
 made by rule: chain:N is a function of N lines of i32, mixed:N one of all operators over integers of several widths, flow:N one of N blocks
@@ -138,6 +139,32 @@ HINTS = {"edges": edge_hints, "ghosts": ghost_hints}
 EMPTY = {"steps": steps(0), "blocks": blocks(0)}
 
 
+# The crates that ask whether a module is well-formed.
+JUDGES = {"whole_functions", "ir_shape", "whole_shapes", "shape_tests", "definedness", "name_index", "flow_solver"}
+
+
+def crate_of(symbol):
+    return re.split(r"::|\W", symbol)[0]
+
+
+def judging(path):
+    """The instructions in calls of the judging crates by module_input, by callgrind's file."""
+    names, total, function, callee, is_call = {}, 0, "", "", False
+    with open(path, encoding="utf-8") as lines:
+        for line in lines:
+            found = re.match(r"(c?fn)=(\(\d+\))(?: (.*))?", line)
+            if found:
+                name = names.setdefault(found.group(2), found.group(3) or "")
+                function, callee = (name, callee) if found.group(1) == "fn" else (function, name)
+            elif line.startswith("calls="):
+                is_call = True
+            elif is_call:
+                is_call = False
+                if crate_of(function) == "module_input" and crate_of(callee) in JUDGES:
+                    total += int(line.split()[-1])
+    return total
+
+
 class Bench:
     def __init__(self, program, folder):
         self.program = program
@@ -156,12 +183,14 @@ class Bench:
         files = {"{}": self.put("input", text), "HINTS": self.put("hints.json", belonging), "NONE": self.put("none.json", NO_HINTS), "STEP": self.put("step.json", ONE_STEP), "BASE": self.put("base.ll", chain(1))}
         return [self.program] + [files.get(word, word) for word in command.split()]
 
-    def count(self, words):
-        """The instructions of a run, its status, and callgrind's file."""
+    def count(self, words, part="all"):
+        """The instructions of a run, or of that part of it, its status, and callgrind's file."""
         out = os.path.join(self.folder, "callgrind.out")
         run = subprocess.run(["valgrind", "--tool=callgrind", f"--callgrind-out-file={out}", *words],
                              stdout=subprocess.DEVNULL, stderr=subprocess.PIPE, text=True)
-        return int(re.search(r"Collected : (\d+)", run.stderr).group(1)), run.returncode, out
+        total = int(re.search(r"Collected : (\d+)", run.stderr).group(1))
+        counted = {"all": total} if part == "all" else {"judging": judging(out), "reading": total - judging(out)}
+        return counted[part], run.returncode, out
 
     def peak(self, words):
         """The peak of memory in MB. A small process of its own measures it: a child's begins at the size of its parent."""
@@ -183,20 +212,20 @@ def by_crate(path):
             elif "sysdeps" in where or "string/" in where:
                 crate = "libc"
             else:
-                crate = re.split(r"::|\W", name)[0]
+                crate = crate_of(name)
             cost[crate] = cost.get(crate, 0) + int(found.group(1).replace(",", ""))
     return sorted(cost.items(), key=lambda row: -row[1])
 
 
 def measure(bench, row, shares):
     """The line that tells of a row, and whether it is within its budgets."""
-    name, source, command, unit, budget, memory, linear = row.rstrip("\n").split("\t")
+    name, source, command, unit, budget, memory, linear, part = row.rstrip("\n").split("\t")
     kind, size = source.split(":")
     size = int(size)
-    start = bench.count(bench.words(command, kind, 0))[0]
-    half = bench.count(bench.words(command, kind, size // 2))[0] - start if linear == "yes" else 0
+    start = bench.count(bench.words(command, kind, 0), part)[0]
+    half = bench.count(bench.words(command, kind, size // 2), part)[0] - start if linear == "yes" else 0
     words = bench.words(command, kind, size)
-    total, status, out = bench.count(words)
+    total, status, out = bench.count(words, part)
     net, units = total - start, len(MAKERS[kind](size)) if unit == "byte" else size
     peak, over = bench.peak(words), []
     if net > float(budget) * units:
@@ -208,7 +237,7 @@ def measure(bench, row, shares):
     told = (f"{name:14} {source:14} {units:9} {unit}s {net:13} instructions {net / units:9.1f} a {unit} (budget {budget})"
             f" {peak:7.1f} MB ({memory}) status {status} {' '.join(over) or 'ok'}")
     lines = [told]
-    if shares:
+    if shares and part == "all":
         lines += [f"    {crate:20} {n:12} {100 * n / total:5.1f} %" for crate, n in by_crate(out)[:14]]
     return "\n".join(lines), not over
 
