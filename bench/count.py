@@ -4,8 +4,8 @@
 usage: bench/count.py [--program PATH] [--only WORD] [--write FILE]
 
 A row of budgets.tsv has, between tabs: its name, an input, a command, a unit (byte or line), a budget (instructions a unit), the peak of
-memory in MB, whether the count has to grow linearly (yes or no), and which part counts: all of it, `judging` (what calls of the crates take
-that ask whether a module is well-formed) or `reading` (all but that). Where a unit is neither byte nor line it is what N counts. A budget or
+memory in MB, whether the count has to grow linearly (yes or no), and which part counts: all of it, `judging` (what the calls take that ask
+whether the modules are well-formed) or `reading` (what getting them from their texts takes, but for that). Where a unit is neither byte nor line it is what N counts. A budget or
 a peak that isn't set yet is inf. In a command {} stands for the input's file, HINTS for the hints that belong to it, NONE for hints that
 say nothing, STEP for one step before the first line, with which facts are kept along the block, BASE for a module of one line. An input is
 made by rule: chain:N is a function of N lines of i32, mixed:N one of all operators over integers of several widths, flow:N one of N blocks
@@ -147,8 +147,8 @@ def crate_of(symbol):
     return re.split(r"::|\W", symbol)[0]
 
 
-def judging(path):
-    """The instructions in calls of the judging crates by module_input, by callgrind's file."""
+def in_calls(path, callers, callees):
+    """The instructions in calls of these crates by those, where functions tell which crates they are, by callgrind's file."""
     names, total, function, callee, is_call = {}, 0, "", "", False
     with open(path, encoding="utf-8") as lines:
         for line in lines:
@@ -160,9 +160,17 @@ def judging(path):
                 is_call = True
             elif is_call:
                 is_call = False
-                if crate_of(function) == "module_input" and crate_of(callee) in JUDGES:
+                if callers(crate_of(function)) and callees(crate_of(callee)):
                     total += int(line.split()[-1])
     return total
+
+
+def judging(path):
+    return in_calls(path, lambda caller: caller == "module_input", lambda callee: callee in JUDGES)
+
+
+def reading(path):
+    return in_calls(path, lambda caller: caller == "crell_program", lambda callee: callee == "module_input") - judging(path)
 
 
 class Bench:
@@ -189,8 +197,8 @@ class Bench:
         run = subprocess.run(["valgrind", "--tool=callgrind", f"--callgrind-out-file={out}", *words],
                              stdout=subprocess.DEVNULL, stderr=subprocess.PIPE, text=True)
         total = int(re.search(r"Collected : (\d+)", run.stderr).group(1))
-        counted = {"all": total} if part == "all" else {"judging": judging(out), "reading": total - judging(out)}
-        return counted[part], run.returncode, out
+        counted = total if part == "all" else {"judging": judging, "reading": reading}[part](out)
+        return counted, run.returncode, out
 
     def peak(self, words):
         """The peak of memory in MB. A small process of its own measures it: a child's begins at the size of its parent."""
