@@ -6,7 +6,7 @@ use Rattle.ir_core.specs.declared.limits.Limit.{Limit}
 use Rattle.ir_core.specs.Limits.{limit_name}
 use Rattle.ir_types.specs.declared.names.Name.{Name}
 use Rattle.ir_types.specs.declared.names.Sigil.TheVariants as sigil
-use Rattle.ir_printer.specs.Printed.{printed_name}
+use Rattle.expression_printer.specs.Printed.{printed_name}
 use Rattle.ir_spelling.specs.declared.fault.TextFault.{TextFault}
 use Rattle.ir_spelling.specs.declared.fault.TextFault.TheVariants as text
 use Rattle.ir_shape.specs.declared.fault.LinePlace.{LinePlace}

@@ -1,7 +1,7 @@
 -- Words of private functions.
 use Rattle.std.specs.Prelude.{ℕ, List, ◌++◌, codes}
 use Rattle.ir_types.specs.declared.names.Sigil.TheVariants as sigil
-use Rattle.ir_printer.specs.Printed.{printed_name}
+use Rattle.expression_printer.specs.Printed.{printed_name}
 use Rattle.definedness.specs.declared.paths.Undefined.{Undefined}
 use Rattle.crell_answers.specs.Answer.{line_text, path_text}
 

@@ -4,7 +4,7 @@ use Rattle.std.specs.Fmt.{decimal}
 use Rattle.ir_types.specs.declared.names.Sigil.TheVariants.{Local, Global}
 use Rattle.ir_core.specs.declared.operands.Operand.{Operand}
 use Rattle.ir_types.specs.declared.names.Name.{Name}
-use Rattle.ir_printer.specs.Printed.{printed_name, printed_register, printed_value}
+use Rattle.expression_printer.specs.Printed.{printed_name, printed_register, printed_value}
 use Rattle.hint_format.specs.Form.{printed_fact}
 use Rattle.erhl_assert.specs.declared.verdict.Reason.{Reason}
 use Rattle.erhl_assert.specs.declared.verdict.Reason.TheVariants.{AlignmentDiffers, KindsDiffer, Unmatched, TargetMayTrap, UnknownRule, RuleUnfit, MissingPremise, MissingFact, DiffLeft}

@@ -1,7 +1,7 @@
 //! What is first at fault in a module's text.
 ghost use Rattle.std.specs.Prelude.{◌≡◌, ◌≢◌, ◌∷◌, ◌++◌, IfOk, OnOk, codes};
 ghost use Rattle.std.specs.Fmt.{decimal};
-ghost use Rattle.ir_printer.specs.Printed.{printed_name};
+ghost use Rattle.expression_printer.specs.Printed.{printed_name};
 ghost use Rattle.module_input.specs.declared.fault.ModuleFault.TheVariants as fault;
 ghost use Rattle.crell_answers.specs.Answer as answer;
 ghost use Rattle.crell_answers.specs.Private.{use_behind};

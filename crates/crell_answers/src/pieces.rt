@@ -1,10 +1,10 @@
 //! Names and numbers, as they stand in answers.
 ghost use Rattle.std.specs.Prelude.{◌≡◌, ◌++◌, OnOk};
 ghost use Rattle.std.specs.Fmt.{decimal};
-ghost use Rattle.ir_printer.specs.Printed.{printed_name};
+ghost use Rattle.expression_printer.specs.Printed.{printed_name};
 
+use expression_printer::print_name;
 use ir_core::{Name, Sigil};
-use ir_printer::print_name;
 use std::alloc::{AllocError, Global};
 
 /// The name behind its sigil.

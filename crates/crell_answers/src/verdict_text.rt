@@ -1,5 +1,5 @@
 ghost use Rattle.std.specs.Prelude.{◌≡◌, ◌++◌, IfOk, OnOk};
-ghost use Rattle.ir_printer.specs.Printed.{printed_name};
+ghost use Rattle.expression_printer.specs.Printed.{printed_name};
 ghost use Rattle.hint_format.specs.Form.{printed_fact};
 ghost use Rattle.crell_answers.specs.VerdictText as spec;
 
@@ -7,9 +7,9 @@ use crate::answer::Answer;
 use crate::pieces::{push_name, push_number};
 use contents::Seq;
 use erhl_assert::{Difference, Fact, ModuleVerdict, Reason, Spot};
+use expression_printer::{print_register, print_value};
 use hint_format::print_fact;
 use ir_core::{Name, Operand, Sigil};
-use ir_printer::{print_register, print_value};
 use std::alloc::{AllocError, Global};
 
 /// The verdict on a line of out: status 0 for a pair that is valid, 1 for one that is refused or differs.

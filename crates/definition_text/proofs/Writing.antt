@@ -5,7 +5,7 @@ use Rattle.ir_core.specs.declared.functions.Block.{Block}
 use Rattle.ir_core.specs.declared.functions.Function.{Function}
 use Rattle.ir_types.specs.declared.names.Name.{Name}
 use Rattle.ir_types.specs.declared.names.Sigil.TheVariants as sigil
-use Rattle.ir_printer.specs.Printed.{printed_name}
+use Rattle.expression_printer.specs.Printed.{printed_name}
 use Rattle.definition_lists.proofs.Unique.{lists_are_one}
 use Rattle.definition_text.specs.Lines.{AreLines, HasLines, registers_text, start_text, starts_text}
 

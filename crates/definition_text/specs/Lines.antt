@@ -5,7 +5,7 @@ use Rattle.ir_core.specs.declared.functions.Block.{Block}
 use Rattle.ir_core.specs.declared.functions.Function.{Function}
 use Rattle.ir_types.specs.declared.names.Name.{Name}
 use Rattle.ir_types.specs.declared.names.Sigil.TheVariants.{Local, Global}
-use Rattle.ir_printer.specs.Printed.{printed_name}
+use Rattle.expression_printer.specs.Printed.{printed_name}
 use Rattle.definition_lists.specs.Definitions.{AreLists}
 
 -- names of registers, each behind a blank: ` %x %y`

@@ -1,11 +1,11 @@
 ghost use Rattle.std.specs.Prelude.{◌≡◌, ◌++◌, ◌∷◌, length, IfOk, OnOk};
 ghost use Rattle.definition_lists.specs.Shown.{list_named, lists_named, named};
-ghost use Rattle.ir_printer.specs.Printed.{printed_name};
+ghost use Rattle.expression_printer.specs.Printed.{printed_name};
 ghost use Rattle.definition_text.specs.Lines.{AreLines, HasLines, list_text, registers_text, start_text, starts_text};
 
 use definition_lists::defined_at_starts;
+use expression_printer::print_name;
 use ir_core::{Block, Function, Name, Sigil};
-use ir_printer::print_name;
 use std::alloc::{AllocError, Global};
 
 /// The name behind its sigil.

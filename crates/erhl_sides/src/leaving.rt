@@ -4,9 +4,9 @@ ghost use Rattle.std.specs.Option.{option_copied};
 ghost use Rattle.erhl_assert.specs.Acceptance.{comes_first, first_of_two, first_printed, left_over};
 ghost use Rattle.erhl_sides.specs.Differing.{is_left_over, first_with};
 
+use expression_printer::print_register;
 use fact_sets::RegisterSet;
 use ir_core::Reg;
-use ir_printer::print_register;
 use std::alloc::{AllocError, Global};
 
 /// Whether the first register's printed form comes before the second's.

@@ -2,7 +2,7 @@
 ghost use Rattle.std.specs.Prelude.{◌≡◌, codes, IfOk, Ok};
 ghost use Rattle.std.specs.Option.{option_copied};
 ghost use Rattle.std.specs.Str.{bytes_eq};
-ghost use Rattle.ir_printer.specs.Printed.{printed_name};
+ghost use Rattle.expression_printer.specs.Printed.{printed_name};
 ghost use Rattle.json_forms.specs.Answers.{Answers};
 ghost use Rattle.json_forms.specs.Forms.{read_then};
 ghost use Rattle.ir_core.specs.declared.expressions.Reg.TheVariants.{Now, Ghost};
@@ -12,8 +12,8 @@ ghost use Rattle.erhl_assert.specs.Edges.{is_old};
 ghost use Rattle.hint_format.specs.Form.{behind, expression_of_text, ghost_or_now, old_register, register_of_text};
 ghost use Rattle.hint_format.specs.Reading.{expression_reading, failure_of, name_reading, read_leaves};
 
+use expression_printer::print_name;
 use ir_core::{Atom, Expr, Expr0, Name, Reg, Sigil};
-use ir_printer::print_name;
 use ir_reader::{read_expr, read_name};
 use ir_spelling::TextFault;
 use json_forms::{Failure, Fault, TextForm, unfit};

@@ -21,7 +21,7 @@ use Rattle.ir_grammar.specs.Written as write
 use Rattle.ir_naming.specs.Expressions.{NamesExpression}
 use Rattle.ir_naming_laws.proofs.Expressions.{expression_right}
 use Rattle.ir_spelling.specs.Spells.{SpellsExpression}
-use Rattle.ir_printer.specs.Printed.{printed_atom, printed_expr, printed_flags, printed_operand, printed_operands, printed_register, printed_type, spaced}
+use Rattle.expression_printer.specs.Printed.{printed_atom, printed_expr, printed_flags, printed_operand, printed_operands, printed_register, printed_type, spaced}
 use Rattle.hint_format.proofs.Alone.{expressions_are_one}
 use Rattle.hint_laws.specs.Laws.{IsWritableExpression, IsWritableOperand, IsWritableType, PrintedExpressionsAreRead, PrintedExpressionsAreApart}
 use Rattle.hint_laws.proofs.OperatorTexts.{is_operator}

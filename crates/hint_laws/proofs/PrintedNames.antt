@@ -2,7 +2,7 @@
 use Rattle.std.proofs.Common.{[], ◌∷◌, refl, ap, sym, ◌∙◌, subst}
 use Rattle.std.proofs.lemmas.List.{append-nil}
 use Rattle.ir_spelling.specs.Spells.{SpellsName}
-use Rattle.ir_printer.specs.Printed.{name_text, sigil_byte, printed_name}
+use Rattle.expression_printer.specs.Printed.{name_text, sigil_byte, printed_name}
 use Rattle.hint_format.proofs.Alone.{names_are_one}
 use Rattle.hint_format.proofs.Readings.{name_read}
 use Rattle.hint_laws.specs.Laws.{PrintedNamesAreRead, PrintedNamesAreApart, PrintedNamesAreKeys}

@@ -8,7 +8,7 @@ use Rattle.ir_core.specs.Words as words
 use Rattle.ir_lexer.specs.declared.token.TokenKind.{TokenKind}
 use Rattle.ir_lexer.specs.Pieces.{plain}
 use Rattle.ir_lexer.specs.Pieces.Piece.{BadByte, Token}
-use Rattle.ir_printer.specs.Printed.{printed_flags, spaced}
+use Rattle.expression_printer.specs.Printed.{printed_flags, spaced}
 use Rattle.hint_laws.proofs.TokenWords.{tokens_of}
 use Rattle.hint_laws.proofs.TokenWords as kinds_word
 use Rattle.hint_laws.proofs.Lexed.{Lexes, stops}

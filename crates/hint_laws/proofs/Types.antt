@@ -13,7 +13,7 @@ use Rattle.ir_grammar.specs.declared.words.Language.TheVariants.{Logic}
 use Rattle.ir_grammar.specs.declared.words.Word.TheVariants as word
 use Rattle.ir_grammar.specs.Symbols.{Width, symbol_at, word_symbol}
 use Rattle.ir_grammar.specs.Words.{are_width, width_of, word_of, word_said}
-use Rattle.ir_printer.specs.Printed.{printed_type}
+use Rattle.expression_printer.specs.Printed.{printed_type}
 use Rattle.hint_laws.specs.Laws.{IsWritableType}
 use Rattle.hint_laws.proofs.Decimals.{decimal_means}
 use Rattle.hint_laws.proofs.ReadTexts.{IsWord, Reads}

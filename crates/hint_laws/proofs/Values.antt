@@ -35,8 +35,8 @@ use Rattle.ir_grammar.specs.Words.{truth_text}
 use Rattle.ir_grammar.specs.Written as write
 use Rattle.ir_naming.specs.Expressions.{IsLogicAtom, register_of}
 use Rattle.ir_naming.specs.Values.{IsNumber, kept, truth}
-use Rattle.ir_printer.specs.Printed.{is_negative, name_text, printed_atom, printed_local, printed_register, signed_text, spaced}
-use Rattle.ir_printer.proofs.Powers.{power_is_two_halves}
+use Rattle.expression_printer.specs.Printed.{is_negative, name_text, printed_atom, printed_local, printed_register, signed_text, spaced}
+use Rattle.expression_printer.proofs.Powers.{power_is_two_halves}
 use Rattle.hint_laws.specs.Laws.{IsWritableAtom, IsWritableRegister, IsWritableType}
 use Rattle.hint_laws.proofs.Decimals.{decimal_means}
 use Rattle.hint_laws.proofs.Lexed as lexed

@@ -17,7 +17,7 @@ use Rattle.ir_core.specs.Limits.{text_limit}
 use Rattle.ir_core.specs.Ranges.{AreFlagsInRange, IsNameInRange}
 use Rattle.ir_core.specs.Types.{constant_fits, is_width}
 use Rattle.ir_spelling.specs.Spells.{SpellsExpression, SpellsName}
-use Rattle.ir_printer.specs.Printed.{printed_name, printed_register, printed_expr}
+use Rattle.expression_printer.specs.Printed.{printed_name, printed_register, printed_expr}
 use Rattle.erhl_assert.specs.declared.facts.Fact.{Fact}
 use Rattle.erhl_assert.specs.declared.facts.Fact.TheVariants.{LessDef}
 use Rattle.erhl_assert.specs.Edges.{is_old}

@@ -1,9 +1,9 @@
 use contents::Seq;
+use expression_printer::{print_expr, print_register, print_type, print_value};
 use ir_core::{
     Atom, BinOp, Binary, Bits, Cast, CastOp, Const, Expr, Expr0, Flags, Icmp, Name, Operand, Pred,
     Reg, Select, Ty,
 };
-use ir_printer::{print_expr, print_register, print_type, print_value};
 use ir_types::Shared;
 use std::alloc::{AllocError, Global};
 use std::test::*;

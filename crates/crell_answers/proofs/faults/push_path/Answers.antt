@@ -2,7 +2,7 @@ use Rattle.std.proofs.Common.{◌≡◌, ◌∙◌, ◌<◌, ◌≤◌, ℕ, ◌
 use Rattle.std.proofs.lemmas.List.{append-nil, at_drop_all, drop_more}
 use Rattle.ir_types.specs.declared.names.Name.{Name}
 use Rattle.ir_types.specs.declared.names.Sigil.TheVariants as sigil
-use Rattle.ir_printer.specs.Printed.{printed_name}
+use Rattle.expression_printer.specs.Printed.{printed_name}
 use Rattle.crell_answers.specs.Answer.{path_text}
 use Rattle.crell_answers.proofs.faults.push_path.Goals as goal
 

@@ -1,0 +1,120 @@
+ghost use Rattle.std.specs.Prelude.{◌≡◌, ◌++◌, ◌<◌, true, if◌then◌else◌, OnOk, IfOk};
+ghost use Rattle.std.specs.Char.{is_ascii_digit};
+ghost use Rattle.std.specs.List.{list_all};
+ghost use Rattle.std.specs.Fmt.{decimal};
+ghost use Rattle.ir_core.specs.Names.{is_name_byte, is_plain};
+ghost use Rattle.expression_printer.specs.Printed.{hexadecimal_digit, escaped, quoted, sigil_byte, name_text, printed_name};
+
+use ir_core::{Name, Sigil};
+use std::alloc::{AllocError, Global};
+
+/// The name with its sigil: plain where a name may stand without quotes, else quoted.
+pub fn print_name(alloc: Global, sigil: Sigil, name: &Name) -> Result<Vec<u8>, AllocError>
+    ensures { IfOk result (λ text. text.items ≡ printed_name sigil name.now) }
+{
+    let mut text = Vec::new(alloc);
+    push_name(&mut text, sigil, name)?;
+    Ok(text)
+}
+
+pub(crate) fn push_name(text: &mut Vec<u8>, sigil: Sigil, name: &Name) -> Result<(), AllocError>
+    ensures { OnOk result (text.new.items ≡ text.old.items ++ printed_name sigil name.now) }
+{
+    text.push(sigil_of(sigil))?;
+    match name {
+        Name::Text(bytes) => push_text_name(text, bytes.as_slice()),
+        Name::Number(number) => push_decimal(text, *number as u64),
+    }
+}
+
+fn sigil_of(sigil: Sigil) -> u8
+    ensures { result ≡ sigil_byte sigil }
+{
+    match sigil {
+        Sigil::Local => b'%',
+        Sigil::Global => b'@',
+    }
+}
+
+fn push_text_name(text: &mut Vec<u8>, bytes: &[u8]) -> Result<(), AllocError>
+    ensures { OnOk result (text.new.items ≡ text.old.items ++ (if is_plain bytes.now then bytes.now else quoted bytes.now)) }
+{
+    if may_stand_plain(bytes) {
+        text.extend_from_slice(bytes)
+    } else {
+        push_quoted(text, bytes)
+    }
+}
+
+fn is_a_digit(byte: u8) -> bool
+    ensures { result ≡ is_ascii_digit byte }
+{
+    b'0' <= byte && byte <= b'9'
+}
+
+fn may_be_in_name(byte: u8) -> bool
+    ensures { result ≡ is_name_byte byte }
+{
+    (b'A' <= byte && byte <= b'Z')
+        || (b'a' <= byte && byte <= b'z')
+        || is_a_digit(byte)
+        || byte == b'-'
+        || byte == b'$'
+        || byte == b'.'
+        || byte == b'_'
+}
+
+fn may_stand_plain(bytes: &[u8]) -> bool
+    ensures { result ≡ is_plain bytes.now }
+{
+    !bytes.is_empty() && !is_a_digit(bytes[0]) && may_all_be_in_name(bytes)
+}
+
+fn may_all_be_in_name(bytes: &[u8]) -> bool
+    ensures { result ≡ list_all is_name_byte bytes.now }
+{
+    bytes.iter().all(|byte| may_be_in_name(*byte))
+}
+
+fn push_quoted(text: &mut Vec<u8>, bytes: &[u8]) -> Result<(), AllocError>
+    ensures { OnOk result (text.new.items ≡ text.old.items ++ quoted bytes.now) }
+{
+    text.push(b'"')?;
+    for byte in bytes {
+        push_escaped(text, *byte)?;
+    }
+    text.push(b'"')?;
+    Ok(())
+}
+
+fn push_escaped(text: &mut Vec<u8>, byte: u8) -> Result<(), AllocError>
+    ensures { OnOk result (text.new.items ≡ text.old.items ++ escaped byte) }
+{
+    if b' ' <= byte && byte <= b'~' && byte != b'"' && byte != b'\\' {
+        text.push(byte)?;
+    } else {
+        text.push(b'\\')?;
+        text.push(last_digit(byte / 16))?;
+        text.push(last_digit(byte))?;
+    }
+    Ok(())
+}
+
+/// The last hexadecimal digit of a number.
+fn last_digit(value: u8) -> u8
+    ensures { result ≡ hexadecimal_digit value }
+{
+    let digit = value % 16;
+    if digit < 10 {
+        b'0' + digit
+    } else {
+        b'A' - 10 + digit
+    }
+}
+
+pub(crate) fn push_decimal(text: &mut Vec<u8>, number: u64) -> Result<(), AllocError>
+    ensures { OnOk result (text.new.items ≡ text.old.items ++ decimal number) }
+{
+    let digits = number.to_string(*text.allocator())?;
+    text.extend_from_slice(digits.as_bytes())
+}
