@@ -8,7 +8,7 @@ ghost use Rattle.erhl_assert.specs.Facts.{expr_names};
 ghost use Rattle.erhl_assert.specs.Postcondition.{left_side};
 ghost use Rattle.erhl_assert.specs.Edges.{old_of, as_old};
 
-use contents::Exact;
+use contents::{Boxed, Exact};
 use erhl_assert::Fact;
 use ir_core::{
     Atom, Binary, BitType, Calm, Cast, Expr, Expr0, Icmp, Name, Operand, Reg, Select, same_name,
@@ -117,7 +117,10 @@ fn named_expr<R: Named>(alloc: Global, expr: &Expr<R>) -> Result<Expr0, AllocErr
         Expr::Binary(binary) => Ok(Expr::Binary(named_binary(alloc, binary)?)),
         Expr::Icmp(icmp) => Ok(Expr::Icmp(named_icmp(alloc, icmp)?)),
         Expr::Cast(cast) => Ok(Expr::Cast(named_cast(alloc, cast)?)),
-        Expr::Select(select) => Ok(Expr::Select(named_select(alloc, select)?)),
+        Expr::Select(select) => Ok(Expr::Select(Boxed::new(
+            alloc,
+            named_select(alloc, select.get())?,
+        )?)),
     }
 }
 
@@ -191,6 +194,7 @@ pub fn names(name: &Name, expr: &Expr<Name>) -> bool
         Expr::Icmp(icmp) => is_named(name, &icmp.left) || is_named(name, &icmp.right),
         Expr::Cast(cast) => is_named(name, &cast.operand.atom),
         Expr::Select(select) => {
+            let select = select.get();
             is_named(name, &select.condition.atom)
                 || is_named(name, &select.left.atom)
                 || is_named(name, &select.right.atom)

@@ -126,7 +126,7 @@ fn rights_agree<S: FactSet>(known: &Sides<S>, s: &Expr<Name>, t: &Expr<Name>) ->
         (Expr::Binary(a), Expr::Binary(b)) => binaries_agree(known, a, b),
         (Expr::Icmp(a), Expr::Icmp(b)) => comparisons_agree(known, a, b),
         (Expr::Cast(a), Expr::Cast(b)) => conversions_agree(known, a, b),
-        (Expr::Select(a), Expr::Select(b)) => selections_agree(known, a, b),
+        (Expr::Select(a), Expr::Select(b)) => selections_agree(known, a.get(), b.get()),
         _ => false,
     }
 }

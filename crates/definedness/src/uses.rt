@@ -145,7 +145,7 @@ fn note_expr<'a>(
         Expr::Binary(binary) => note_two(known, block, line, &binary.left, &binary.right, uses)?,
         Expr::Icmp(icmp) => note_two(known, block, line, &icmp.left, &icmp.right, uses)?,
         Expr::Cast(cast) => note_atom(known, block, line, &cast.operand.atom, uses)?,
-        Expr::Select(select) => note_select(known, block, line, select, uses)?,
+        Expr::Select(select) => note_select(known, block, line, select.get(), uses)?,
     }
     Ok(())
 }

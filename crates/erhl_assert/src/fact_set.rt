@@ -75,6 +75,7 @@ pub fn expr_names(register: &Reg, expr: &Expr0) -> bool
         Expr::Icmp(icmp) => atom_names(register, &icmp.left) || atom_names(register, &icmp.right),
         Expr::Cast(cast) => atom_names(register, &cast.operand.atom),
         Expr::Select(select) => {
+            let select = select.get();
             atom_names(register, &select.condition.atom)
                 || atom_names(register, &select.left.atom)
                 || atom_names(register, &select.right.atom)

@@ -32,6 +32,7 @@ fn feed_expr<H: Hasher>(expr: &Expr0, state: &mut H)
         }
         Expr::Cast(cast) => feed_atom(&cast.operand.atom, state),
         Expr::Select(select) => {
+            let select = select.get();
             feed_atom(&select.condition.atom, state);
             feed_atom(&select.left.atom, state);
             feed_atom(&select.right.atom, state);

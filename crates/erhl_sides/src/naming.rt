@@ -51,6 +51,7 @@ fn expr_has<T: Sort>(sort: &T, expr: &Expr0) -> bool
         Expr::Icmp(icmp) => atom_has(sort, &icmp.left) || atom_has(sort, &icmp.right),
         Expr::Cast(cast) => atom_has(sort, &cast.operand.atom),
         Expr::Select(select) => {
+            let select = select.get();
             atom_has(sort, &select.condition.atom)
                 || atom_has(sort, &select.left.atom)
                 || atom_has(sort, &select.right.atom)

@@ -306,11 +306,14 @@ impl<S: FactSet> Sides<S> {
             Expr::Binary(binary) => self.differing_in_two(&binary.left, &binary.right),
             Expr::Icmp(icmp) => self.differing_in_two(&icmp.left, &icmp.right),
             Expr::Cast(cast) => self.differing_in(&cast.operand.atom),
-            Expr::Select(select) => self.differing_in_three(
-                &select.condition.atom,
-                &select.left.atom,
-                &select.right.atom,
-            ),
+            Expr::Select(select) => {
+                let select = select.get();
+                self.differing_in_three(
+                    &select.condition.atom,
+                    &select.left.atom,
+                    &select.right.atom,
+                )
+            }
         }
     }
 

@@ -39,7 +39,7 @@ fn push_expr<R: Register>(text: &mut Vec<u8>, expr: &Expr<R>) -> Result<(), Allo
         Expr::Binary(binary) => push_binary(text, binary),
         Expr::Icmp(icmp) => push_icmp(text, icmp),
         Expr::Cast(cast) => push_cast(text, cast),
-        Expr::Select(select) => push_select(text, select),
+        Expr::Select(select) => push_select(text, select.get()),
     }
 }
 

@@ -51,6 +51,7 @@ fn add_expr(alloc: Global, expr: &Expr0, names: &mut IndexSet<Name>) -> Result<(
         }
         Expr::Cast(cast) => add_atom(alloc, &cast.operand.atom, names),
         Expr::Select(select) => {
+            let select = select.get();
             add_atom(alloc, &select.condition.atom, names)?;
             add_atom(alloc, &select.left.atom, names)?;
             add_atom(alloc, &select.right.atom, names)

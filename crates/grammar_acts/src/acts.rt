@@ -334,6 +334,7 @@ fn select(parts: &mut Stack<Part>, alloc: Global) -> Result<(), AllocError>
         then,
         other,
     };
+    let select = Boxed::new(alloc, select)?;
     push_operation(parts, alloc, OperationText::Select(select))
 }
 

@@ -70,6 +70,7 @@ fn names_old(expression: &Expr0) -> bool
         Expr::Icmp(icmp) => is_old_atom(&icmp.left) || is_old_atom(&icmp.right),
         Expr::Cast(cast) => is_old_atom(&cast.operand.atom),
         Expr::Select(select) => {
+            let select = select.get();
             is_old_atom(&select.condition.atom)
                 || is_old_atom(&select.left.atom)
                 || is_old_atom(&select.right.atom)

@@ -2,7 +2,7 @@ ghost use Rattle.std.specs.Prelude.{◌≡◌};
 ghost use Rattle.ir_core.specs.Expressions.{type_of};
 
 use crate::{Atom, BinOp, BitType, CastOp, Flags, Name, Operand, Pred, Ty};
-use contents::Exact;
+use contents::{Boxed, Exact};
 use std::alloc::{AllocError, Global};
 
 /// A register of the logic (Crellvm): as the function has it now, as it was before the edge that is being
@@ -24,13 +24,13 @@ impl Drop for Reg {
 }
 
 /// The right side of a line, or an expression of the logic, over the registers that it names: one operand, or one
-/// operator over operands. No text has a line of one operand alone.
+/// operator over operands. No text has a line of one operand alone. A selection is boxed, so that the others take no more room than they need.
 pub enum Expr<R> {
     Plain(Operand<R>),
     Binary(Binary<R>),
     Icmp(Icmp<R>),
     Cast(Cast<R>),
-    Select(Select<R>),
+    Select(Boxed<Select<R>>),
 }
 
 impl<R: Drop> Drop for Expr<R> {
@@ -56,7 +56,7 @@ impl<R> Expr<R> {
             Expr::Binary(binary) => &binary.ty,
             Expr::Icmp(_) => bit.get(),
             Expr::Cast(cast) => &cast.to,
-            Expr::Select(select) => &select.left.ty,
+            Expr::Select(select) => &select.get().left.ty,
         }
     }
 }
@@ -232,7 +232,7 @@ impl<R: Exact> Exact for Expr<R> {
             (Expr::Binary(mine), Expr::Binary(theirs)) => mine.is(theirs),
             (Expr::Icmp(mine), Expr::Icmp(theirs)) => mine.is(theirs),
             (Expr::Cast(mine), Expr::Cast(theirs)) => mine.is(theirs),
-            (Expr::Select(mine), Expr::Select(theirs)) => mine.is(theirs),
+            (Expr::Select(mine), Expr::Select(theirs)) => mine.get().is(theirs.get()),
             _ => false,
         }
     }
@@ -243,7 +243,10 @@ impl<R: Exact> Exact for Expr<R> {
             Expr::Binary(binary) => Ok(Expr::Binary(binary.copy(alloc)?)),
             Expr::Icmp(icmp) => Ok(Expr::Icmp(icmp.copy(alloc)?)),
             Expr::Cast(cast) => Ok(Expr::Cast(cast.copy(alloc)?)),
-            Expr::Select(select) => Ok(Expr::Select(select.copy(alloc)?)),
+            Expr::Select(select) => {
+                let copied = select.get().copy(alloc)?;
+                Ok(Expr::Select(Boxed::new(alloc, copied)?))
+            }
         }
     }
 }

@@ -90,13 +90,13 @@ pub struct SelectText {
     pub other: OperandText,
 }
 
-/// An operation as it is written.
+/// An operation as it is written. A selection is boxed, so that the others take no more room than they need.
 #[derive(Drop)]
 pub enum OperationText {
     Binary(BinaryText),
     Compare(CompareText),
     Cast(CastText),
-    Select(SelectText),
+    Select(Boxed<SelectText>),
 }
 
 /// An expression of the logic as it is written: `iN V`, or an operation.

@@ -169,6 +169,6 @@ pub(crate) fn outcome(registers: &RegisterFile, right: &Expr<Name>) -> Outcome
         Expr::Binary(binary) => binary_outcome(registers, binary),
         Expr::Icmp(icmp) => icmp_outcome(registers, icmp),
         Expr::Cast(cast) => cast_outcome(registers, cast),
-        Expr::Select(select) => select_outcome(registers, select),
+        Expr::Select(select) => select_outcome(registers, select.get()),
     }
 }

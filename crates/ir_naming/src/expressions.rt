@@ -6,7 +6,7 @@ ghost use Rattle.ir_naming.specs.Expressions.{expression_claims, logic_atom, log
 use crate::constants::{built, int_of};
 use crate::operands::claim_int;
 use crate::values::{flags_of, name_of};
-use contents::Seq;
+use contents::{Boxed, Seq};
 use ir_core::{Atom, Binary, Cast, Const, Expr, Expr0, Icmp, Name, Operand, Reg, Select, Ty};
 use ir_grammar::{
     BinaryText, CastText, CompareText, ExprText, OperandText, OperationText, SelectText, Tag,
@@ -105,24 +105,27 @@ fn logic_select(select: SelectText) -> Select<Reg>
     }
 }
 
-fn logic_operation(operation: OperationText) -> Expr0
-    ensures { result ≡ meaning.expression_by logic_atom operation }
+fn logic_operation(alloc: Global, operation: OperationText) -> Result<Expr0, AllocError>
+    ensures { IfOk result (λ expr. expr ≡ meaning.expression_by logic_atom operation) }
 {
     match operation {
-        OperationText::Binary(binary) => Expr::Binary(logic_binary(binary)),
-        OperationText::Compare(compare) => Expr::Icmp(logic_compare(compare)),
-        OperationText::Cast(cast) => Expr::Cast(logic_cast(cast)),
-        OperationText::Select(select) => Expr::Select(logic_select(select)),
+        OperationText::Binary(binary) => Ok(Expr::Binary(logic_binary(binary))),
+        OperationText::Compare(compare) => Ok(Expr::Icmp(logic_compare(compare))),
+        OperationText::Cast(cast) => Ok(Expr::Cast(logic_cast(cast))),
+        OperationText::Select(select) => {
+            let select = logic_select(select.into_inner());
+            Ok(Expr::Select(Boxed::new(alloc, select)?))
+        }
     }
 }
 
 /// The expression that is built of the text.
-fn logic_expression(text: ExprText) -> Expr0
-    ensures { result ≡ logic_expression text }
+fn logic_expression(alloc: Global, text: ExprText) -> Result<Expr0, AllocError>
+    ensures { IfOk result (λ expr. expr ≡ logic_expression text) }
 {
     match text {
-        ExprText::Plain(operand) => Expr::Plain(logic_operand(operand)),
-        ExprText::Operation(operation) => logic_operation(operation.into_inner()),
+        ExprText::Plain(operand) => Ok(Expr::Plain(logic_operand(operand))),
+        ExprText::Operation(operation) => logic_operation(alloc, operation.into_inner()),
     }
 }
 
@@ -176,7 +179,7 @@ fn claim_operation_ranges(
             claim_pair_ranges(&compare.left, &compare.right, claims)
         }
         OperationText::Cast(cast) => claim_operand_range(&cast.from, claims),
-        OperationText::Select(select) => claim_select_ranges(select, claims),
+        OperationText::Select(select) => claim_select_ranges(select.get(), claims),
     }
 }
 
@@ -221,5 +224,5 @@ pub fn name_expression(alloc: Global, text: ExprText) -> Result<(Expr0, Vec<Item
     ensures claims { IfOk result (λ named. named.1.items ≡ expression_claims text) }
 {
     let items = items_from(alloc, &text)?;
-    Ok((logic_expression(text), items))
+    Ok((logic_expression(alloc, text)?, items))
 }

@@ -161,7 +161,7 @@ pub fn claim_operation(
         OperationText::Binary(binary) => claim_pair(alloc, &binary.left, &binary.right, claims),
         OperationText::Compare(compare) => claim_pair(alloc, &compare.left, &compare.right, claims),
         OperationText::Cast(cast) => claim_operand(alloc, &cast.from, claims),
-        OperationText::Select(select) => claim_select(alloc, select, claims),
+        OperationText::Select(select) => claim_select(alloc, select.get(), claims),
     }
 }
 

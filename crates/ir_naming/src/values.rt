@@ -1,14 +1,16 @@
 //! What values, operands and operations name, each taken by what is built of it.
-ghost use Rattle.std.specs.Prelude.{◌≡◌, ◌||◌, false};
+ghost use Rattle.std.specs.Prelude.{◌≡◌, ◌||◌, false, IfOk};
 ghost use Rattle.std.specs.List.{list_any};
 ghost use Rattle.ir_naming.specs.Values as meaning;
 
 use crate::constants::{built, int_of};
+use contents::Boxed;
 use ir_core::{Atom, Binary, Cast, Const, Expr, Flags, Icmp, Name, Operand, Select, Ty};
 use ir_grammar::{
     BinaryText, CastText, CompareText, FlagWord, OperandText, OperationText, OperatorText, Placed,
     SelectText, ValueText,
 };
+use std::alloc::{AllocError, Global};
 use typed_grammars::Stack;
 
 fn is_nuw(word: FlagWord) -> bool
@@ -161,13 +163,16 @@ fn select_of(select: SelectText) -> Select<Name>
 }
 
 /// What the operation names.
-pub fn expression_of(operation: OperationText) -> Expr<Name>
-    ensures { result ≡ meaning.expression_of operation }
+pub fn expression_of(alloc: Global, operation: OperationText) -> Result<Expr<Name>, AllocError>
+    ensures { IfOk result (λ expr. expr ≡ meaning.expression_of operation) }
 {
     match operation {
-        OperationText::Binary(binary) => Expr::Binary(binary_of(binary)),
-        OperationText::Compare(compare) => Expr::Icmp(compare_of(compare)),
-        OperationText::Cast(cast) => Expr::Cast(cast_of(cast)),
-        OperationText::Select(select) => Expr::Select(select_of(select)),
+        OperationText::Binary(binary) => Ok(Expr::Binary(binary_of(binary))),
+        OperationText::Compare(compare) => Ok(Expr::Icmp(compare_of(compare))),
+        OperationText::Cast(cast) => Ok(Expr::Cast(cast_of(cast))),
+        OperationText::Select(select) => {
+            let select = select_of(select.into_inner());
+            Ok(Expr::Select(Boxed::new(alloc, select)?))
+        }
     }
 }

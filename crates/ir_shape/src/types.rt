@@ -162,6 +162,7 @@ fn operands_are_known(types: &Types, right: &Expr<Name>) -> bool
         Expr::Icmp(icmp) => types.is_known(&icmp.left) && types.is_known(&icmp.right),
         Expr::Cast(cast) => types.is_known(&cast.operand.atom),
         Expr::Select(select) => {
+            let select = select.get();
             types.is_known(&select.condition.atom)
                 && types.is_known(&select.left.atom)
                 && types.is_known(&select.right.atom)
@@ -184,6 +185,7 @@ pub(crate) fn operands_are_typed(types: &Types, right: &Expr<Name>) -> bool
         }
         Expr::Cast(cast) => types.has_type(&cast.operand.ty, &cast.operand.atom),
         Expr::Select(select) => {
+            let select = select.get();
             types.has_type(&select.condition.ty, &select.condition.atom)
                 && types.has_type(&select.left.ty, &select.left.atom)
                 && types.has_type(&select.right.ty, &select.right.atom)

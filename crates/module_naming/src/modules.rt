@@ -154,7 +154,7 @@ fn name_line(
         operation,
     } = line;
     claim_operation(alloc, operation.get(), claims)?;
-    let right = expression_of(operation.into_inner());
+    let right = expression_of(alloc, operation.into_inner())?;
     let bit = BitType::new();
     let ty = right.ty(&bit).copy(alloc)?;
     let name = define(alloc, tally, function, register, Meaning::Register(ty))?;

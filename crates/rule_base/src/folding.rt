@@ -47,6 +47,7 @@ fn is_over_numbers(expr: &Expr0) -> bool
         Expr::Icmp(icmp) => is_number(&icmp.left) && is_number(&icmp.right),
         Expr::Cast(cast) => is_number(&cast.operand.atom),
         Expr::Select(select) => {
+            let select = select.get();
             is_number(&select.condition.atom)
                 && is_number(&select.left.atom)
                 && is_number(&select.right.atom)
@@ -106,7 +107,7 @@ fn folded(expr: &Expr0) -> Outcome
         Expr::Binary(binary) => folded_binary(binary),
         Expr::Icmp(icmp) => folded_icmp(icmp),
         Expr::Cast(cast) => folded_cast(cast),
-        Expr::Select(select) => folded_select(select),
+        Expr::Select(select) => folded_select(select.get()),
     }
 }
 

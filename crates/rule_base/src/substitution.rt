@@ -92,7 +92,7 @@ fn one_made(before: &Operand<Reg>, after: &Operand<Reg>, e: &Expr0, f: &Expr0) -
             },
         ),
         (Expr::Cast(x), Expr::Cast(y)) => lone_made(before, after, &x.operand, &y.operand),
-        (Expr::Select(x), Expr::Select(y)) => one_of_three(before, after, x, y),
+        (Expr::Select(x), Expr::Select(y)) => one_of_three(before, after, x.get(), y.get()),
         _ => false,
     }
 }

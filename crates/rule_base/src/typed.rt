@@ -59,6 +59,7 @@ pub fn has_type(expr: &Expr0) -> bool
                 && converts(cast.op, &cast.operand.ty, &cast.to)
         }
         Expr::Select(select) => {
+            let select = select.get();
             has_values(&select.left.ty)
                 && selects(&select.condition.ty, &select.left.ty, &select.right.ty)
         }
@@ -95,6 +96,7 @@ fn fits_constants(expr: &Expr0) -> bool
         Expr::Icmp(icmp) => atom_fits(&icmp.ty, &icmp.left) && atom_fits(&icmp.ty, &icmp.right),
         Expr::Cast(cast) => atom_fits(&cast.operand.ty, &cast.operand.atom),
         Expr::Select(select) => {
+            let select = select.get();
             atom_fits(&select.condition.ty, &select.condition.atom)
                 && atom_fits(&select.left.ty, &select.left.atom)
                 && atom_fits(&select.right.ty, &select.right.atom)

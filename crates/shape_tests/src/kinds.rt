@@ -60,7 +60,7 @@ pub fn right_kind(right: &Expr<Name>) -> Option<ShapeKind>
         Expr::Binary(binary) => fault_unless(is_integer(&binary.ty), ShapeKind::OperandType),
         Expr::Icmp(icmp) => fault_unless(is_integer(&icmp.ty), ShapeKind::OperandType),
         Expr::Cast(cast) => fault_unless(cast_fits(cast), ShapeKind::CastWidth),
-        Expr::Select(select) => fault_unless(select_fits(select), ShapeKind::OperandType),
+        Expr::Select(select) => fault_unless(select_fits(select.get()), ShapeKind::OperandType),
     }
 }
 

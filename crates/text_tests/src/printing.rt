@@ -1,4 +1,4 @@
-use contents::Seq;
+use contents::{Boxed, Seq};
 use expression_printer::{print_expr, print_register, print_type, print_value};
 use ir_core::{
     Atom, BinOp, Binary, Bits, Cast, CastOp, Const, Expr, Expr0, Flags, Icmp, Name, Operand, Pred,
@@ -111,12 +111,15 @@ fn is_cast(alloc: Global, op: CastOp, from: u32, to: u32, wanted: &str) -> bool 
 
 /// Whether the choice by `%0` between these, which are of that width, is printed so.
 fn is_select(alloc: Global, width: u32, left: u64, right: u32, wanted: &str) -> bool {
-    let select = Expr::Select(Select {
+    let select = Select {
         condition: operand(1, register(0)),
         left: operand(width, constant(left)),
         right: operand(width, register(right)),
-    });
-    is_expr(alloc, &select, wanted)
+    };
+    match Boxed::new(alloc, select) {
+        Ok(select) => is_expr(alloc, &Expr::Select(select), wanted),
+        Err(_) => false,
+    }
 }
 
 #[test]

@@ -1,4 +1,4 @@
-use contents::Text;
+use contents::{Boxed, Text};
 use ir_core::{Atom, BinOp, Binary, Expr, Expr0, Flags, Name, Operand, Reg, Select, Ty, same_expr};
 use ir_reader::{TextFault, read_expr};
 use std::alloc::{AllocError, Global};
@@ -59,11 +59,12 @@ fn sum(alloc: Global) -> Result<Expr0, AllocError> {
 }
 
 fn selection(alloc: Global) -> Result<Expr0, AllocError> {
-    Ok(Expr::Select(Select {
+    let select = Select {
         condition: operand(1, register(Reg::Ghost(name(alloc, b'c')?))),
         left: operand(32, register(Reg::Now(name(alloc, b'x')?))),
         right: operand(32, register(Reg::Old(name(alloc, b'y')?))),
-    }))
+    };
+    Ok(Expr::Select(Boxed::new(alloc, select)?))
 }
 
 #[test]

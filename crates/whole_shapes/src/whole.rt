@@ -48,6 +48,7 @@ fn is_typed(function: &Function, sight: &Sight, right: &Expr<Name>) -> bool
         }
         Expr::Cast(cast) => has_type(function, sight, &cast.operand.ty, &cast.operand.atom),
         Expr::Select(select) => {
+            let select = select.get();
             has_type(
                 function,
                 sight,
