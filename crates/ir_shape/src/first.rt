@@ -19,7 +19,6 @@ use shape_tests::{
     name_kind, row_of, take_params,
 };
 use std::alloc::{AllocError, Global};
-use whole_shapes::is_whole;
 
 /// What is known of a function before its blocks are read: their names, the types of its registers, and the edges that enter the blocks
 /// that have phis, at the places of their names.
@@ -340,16 +339,11 @@ fn all_blocks_fit<'a>(
     body_fits(alloc, function, &scope, params, function.blocks.as_slice())
 }
 
-/// Whether a function has no fault, whose name may be taken. Nearly all have none, which is seen at once.
+/// Whether a function has no fault, whose name may be taken.
 fn function_fits(alloc: Global, taken: bool, function: &Function) -> Result<(), ShapeEnd>
     ensures fits { IfOk result (λ _. meaning.in_function taken «function».now ≡ []) }
     ensures fault { IfErr result (IsFirstOf (meaning.in_function taken «function».now)) }
 {
-    if !taken {
-        if is_whole(alloc, function)? {
-            return Ok(());
-        }
-    }
     header_fits(alloc, &function.name, name_kind(taken, &function.name))?;
     let params = params_fit(alloc, function)?;
     all_blocks_fit(alloc, function, params)

@@ -169,7 +169,7 @@ pub fn sight_of<'a>(alloc: Global, function: &'a Function) -> Result<Option<Sigh
 }
 
 /// The place of a name among all.
-pub(crate) fn place_of(sight: &Sight, name: &Name) -> Option<usize>
+fn place_of(sight: &Sight, name: &Name) -> Option<usize>
     ensures { result ≡ place_among name.now sight.now.names }
 {
     sight.names.position(name)
@@ -180,25 +180,6 @@ pub fn home_of(sight: &Sight, name: &Name) -> Option<Home> {
     match place_of(sight, name) {
         Some(place) => sight.homes.get(place).copied(),
         None => None,
-    }
-}
-
-/// Whether what stands at that place among all names is a block of this one.
-pub(crate) fn is_block(blocks: &[Block], sight: &Sight, place: usize, name: &Name) -> bool
-    ensures { IsTrue result → Contains (map (λ (b : Block). b.name) blocks.now) name.now }
-{
-    match sight.homes.get(place).copied() {
-        Some(Home::Block(block)) => is_named(blocks, block, name),
-        _ => false,
-    }
-}
-
-fn is_named(blocks: &[Block], place: usize, name: &Name) -> bool
-    ensures { IsTrue result → Contains (map (λ (b : Block). b.name) blocks.now) name.now }
-{
-    match blocks.get(place) {
-        Some(block) => same_name(name, &block.name),
-        None => false,
     }
 }
 
@@ -261,30 +242,5 @@ pub fn is_in_block(block: &Block, line: usize, name: &Name, ty: &Ty) -> bool
     match line.checked_sub(block.phis.len()) {
         Some(place) => is_line(block.body.as_slice(), place, name, ty),
         None => is_phi(block.phis.as_slice(), line, name, ty),
-    }
-}
-
-fn is_in_blocks(blocks: &[Block], place: usize, line: usize, name: &Name, ty: &Ty) -> bool
-    ensures { IsTrue result → Contains (flat_map registers_of blocks.now) (name.now, ty.now) }
-{
-    match blocks.get(place) {
-        Some(block) => is_in_block(block, line, name, ty),
-        None => false,
-    }
-}
-
-/// Whether a function's register of that name is of the type.
-pub(crate) fn is_of(function: &Function, sight: &Sight, name: &Name, ty: &Ty) -> bool
-    ensures { IsTrue result → Contains (typed_of «function».now) (name.now, ty.now) }
-{
-    let Some(place) = place_of(sight, name) else {
-        return false;
-    };
-    match sight.homes.get(place).copied() {
-        Some(Home::Param(param)) => is_param(function.params.as_slice(), param, name, ty),
-        Some(Home::Line { block, line }) => {
-            is_in_blocks(function.blocks.as_slice(), block, line, name, ty)
-        }
-        _ => false,
     }
 }
