@@ -19,6 +19,15 @@ impl<V: Drop> NameMap<V> {
     ghost use Rattle.ir_types.specs.declared.names.Name.{Name};
     ghost use Rattle.ir_types.specs.Kept.{value_of, and_value};
 
+    /// No name has a value. Takes no memory.
+    pub(crate) fn new(alloc: Global) -> NameMap<V>
+        ensures { (name : Name) → value_of result name ≡ None }
+    {
+        NameMap {
+            values: IndexMap::new(alloc),
+        }
+    }
+
     /// No name has a value, and there is room for so many.
     pub(crate) fn with_room(alloc: Global, names: usize) -> Result<NameMap<V>, AllocError>
         ensures { IfOk result (λ map. (name : Name) → value_of map name ≡ None) }

@@ -42,7 +42,7 @@ impl Drop for NamedTypes {
 }
 
 impl NamedTypes {
-    ghost use Rattle.std.specs.Prelude.{◌≡◌, ◌<◌, true, length, map, IfOk, IfSome};
+    ghost use Rattle.std.specs.Prelude.{◌≡◌, ◌<◌, [], true, length, map, IfOk, IfSome};
     ghost use Rattle.std.specs.Option.{option_copied, option_map, is_some};
     ghost use Rattle.ir_types.specs.Kept as kept;
     ghost use Rattle.ir_types.specs.Named.{fields_of, layout_of, offset_in};
@@ -58,6 +58,17 @@ impl NamedTypes {
             fields,
             layouts,
         })
+    }
+
+    /// No type is named. Takes no memory.
+    pub fn none(alloc: Global) -> NamedTypes
+        ensures { result ≡ [] }
+    {
+        NamedTypes {
+            types: Seq::new(alloc),
+            fields: NameMap::new(alloc),
+            layouts: NameMap::new(alloc),
+        }
     }
 
     pub fn as_slice(&self) -> &[NamedTy]
