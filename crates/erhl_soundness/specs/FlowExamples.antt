@@ -213,7 +213,7 @@ doubled a = record {
 }
 
 abbrev pub module_of : Function → Module
-module_of f = record { functions = f ∷ [] }
+module_of f = record { types = []; functions = f ∷ [] }
 
 -- it claims that %3 is 1
 abbrev pub claiming_one : Hint

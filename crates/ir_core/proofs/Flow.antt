@@ -71,6 +71,8 @@ each_path g lines edges first further path are goes =
 before_shape : (t : Term) → edges_into (before_return t) f ≡ [] → AllByRecursion (λ (o : Operand Name). HasType (typed_of (before_return t)) o.ty o.atom) (flat_map operands_in_block (before_return t).blocks)
     → AllByRecursion (Contains (f ∷ x ∷ [])) (successors_of t) → BranchesOn t → Returns Void t → HasCases t → HasShape (alone (before_return t))
 before_shape t not_entered operands labels branches returns cases = record {
+  types_apart = tt;
+  types = tt;
   functions = (
     record {
       first = _;
@@ -99,19 +101,22 @@ before_defined t uses = (
 
 before_range : (t : Term) → AllByRecursion IsOperandInRange (flat_map operands_in_block (before_return t).blocks)
     → AllByRecursion IsCaseInRange (flat_map (λ (b : Block). cases_of b.term) (before_return t).blocks) → IsInRange (alone (before_return t))
-before_range t operands cases = (
-  record {
-    name = name_f;
-    names = (name_f, (name_x, tt));
-    result = tt;
-    registers = tt;
-    operands = operands;
-    flags = tt;
-    cases = cases;
-    lines = omega arith;
-  },
-  tt,
-)
+before_range t operands cases = record {
+  types = tt;
+  functions = (
+    record {
+      name = name_f;
+      names = (name_f, (name_x, tt));
+      result = tt;
+      registers = tt;
+      operands = operands;
+      flags = tt;
+      cases = cases;
+      lines = omega arith;
+    },
+    tt,
+  );
+}
 
 -- ---- jumps
 
@@ -119,19 +124,22 @@ to_known : Contains (f ∷ x ∷ []) x
 to_known = (1, omega arith, refl)
 
 of_end_range : (t : Term) → operands_at_end t ≡ [] → cases_of t ≡ [] → IsInRange (alone (of_end t))
-of_end_range t operands cases = (
-  record {
-    name = name_f;
-    names = (name_f, tt);
-    result = tt;
-    registers = tt;
-    operands = subst (λ (os : List (Operand Name)). AllByRecursion IsOperandInRange (os ++ [])) (sym operands) tt;
-    flags = tt;
-    cases = subst (λ (cs : List Case). AllByRecursion IsCaseInRange (cs ++ [])) (sym cases) tt;
-    lines = omega arith;
-  },
-  tt,
-)
+of_end_range t operands cases = record {
+  types = tt;
+  functions = (
+    record {
+      name = name_f;
+      names = (name_f, tt);
+      result = tt;
+      registers = tt;
+      operands = subst (λ (os : List (Operand Name)). AllByRecursion IsOperandInRange (os ++ [])) (sym operands) tt;
+      flags = tt;
+      cases = subst (λ (cs : List Case). AllByRecursion IsCaseInRange (cs ++ [])) (sym cases) tt;
+      lines = omega arith;
+    },
+    tt,
+  );
+}
 
 of_end_defined : (t : Term) → operands_at_end t ≡ [] → IsDefined (alone (of_end t))
 of_end_defined t operands = (
@@ -167,6 +175,8 @@ jumps_go_to_blocks = record {
   );
   nowhere = record {
     shape = record {
+      types_apart = tt;
+      types = tt;
       functions = (
         record {
           first = _;
@@ -201,19 +211,22 @@ jumps_go_to_blocks = record {
 -- ---- phis
 
 joining_range : (entries : List Entry) → AllByRecursion IsOperandInRange (flat_map operands_in_block (joining entries).blocks) → IsInRange (alone (joining entries))
-joining_range entries operands = (
-  record {
-    name = name_f;
-    names = (name_f, (name_x, (name_y, tt)));
-    result = tt;
-    registers = (refl, tt);
-    operands = operands;
-    flags = tt;
-    cases = tt;
-    lines = omega arith;
-  },
-  tt,
-)
+joining_range entries operands = record {
+  types = tt;
+  functions = (
+    record {
+      name = name_f;
+      names = (name_f, (name_x, (name_y, tt)));
+      result = tt;
+      registers = (refl, tt);
+      operands = operands;
+      flags = tt;
+      cases = tt;
+      lines = omega arith;
+    },
+    tt,
+  );
+}
 
 -- entries of constants use no registers
 joining_defined : (entries : List Entry) → ((taken : List Name) (from : Name) → PhisUseDefined taken from (behind_phi entries RetVoid)) → IsDefined (alone (joining entries))
@@ -247,6 +260,8 @@ pub phis_follow_edges : PhisFollowEdges
 phis_follow_edges = record {
   alike = record {
     shape = record {
+      types_apart = tt;
+      types = tt;
       functions = (
         record {
           first = _;
@@ -337,7 +352,7 @@ cases_are_apart = record {
   out_of_range = (
     switch_shape _ refl (to_known, (to_known, tt)) (record { typed = (refl, tt); apart = (number_in_none 0, tt) }),
     switch_defined _,
-    λ range. let wide = range.0.cases.0.1 in cc,
+    λ range. let wide = range.functions.0.cases.0.1 in cc,
   );
 }
 
@@ -375,6 +390,8 @@ pub paths_define : PathsDefine
 paths_define = record {
   one_arm = (
     record {
+      types_apart = tt;
+      types = tt;
       functions = (
         record {
           first = _;
@@ -400,22 +417,27 @@ paths_define = record {
     λ defined.
         let uses = defined.0 (ending f (branching (Int 1) x y)) _ (ending y (Ret (held (Int 32) z)) ∷ []) refl ((2, omega arith, refl), (1, omega arith, refl), tt) in
         in_none z uses.2.0,
-    (
-      record {
-        name = name_f;
-        names = (name_f, (name_x, (name_z, (name_y, tt))));
-        result = refl;
-        registers = (refl, tt);
-        operands = ((refl, refl), ((refl, refl), ((refl, refl), ((refl, tt), tt))));
-        flags = (refl, tt);
-        cases = tt;
-        lines = omega arith;
-      },
-      tt,
-    ),
+    record {
+      types = tt;
+      functions = (
+        record {
+          name = name_f;
+          names = (name_f, (name_x, (name_z, (name_y, tt))));
+          result = refl;
+          registers = (refl, tt);
+          operands = ((refl, refl), ((refl, refl), ((refl, refl), ((refl, tt), tt))));
+          flags = (refl, tt);
+          cases = tt;
+          lines = omega arith;
+        },
+        tt,
+      );
+    },
   );
   looping = record {
     shape = record {
+      types_apart = tt;
+      types = tt;
       functions = (
         record {
           first = _;
@@ -446,18 +468,21 @@ paths_define = record {
       names = (in_none f, tt);
     };
     defined = (each_path looping loop_lines loop_edges, tt);
-    range = (
-      record {
-        name = name_f;
-        names = (name_f, (name_x, (name_y, tt)));
-        result = tt;
-        registers = (refl, tt);
-        operands = ((refl, refl), ((refl, tt), tt));
-        flags = tt;
-        cases = tt;
-        lines = omega arith;
-      },
-      tt,
-    );
+    range = record {
+      types = tt;
+      functions = (
+        record {
+          name = name_f;
+          names = (name_f, (name_x, (name_y, tt)));
+          result = tt;
+          registers = (refl, tt);
+          operands = ((refl, refl), ((refl, tt), tt));
+          flags = tt;
+          cases = tt;
+          lines = omega arith;
+        },
+        tt,
+      );
+    };
   };
 }

@@ -6,3 +6,4 @@ pub mod Operations
 pub mod Mapped
 pub mod Flow
 pub mod TypeExamples
+pub mod NamedExamples

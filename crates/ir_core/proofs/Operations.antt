@@ -23,6 +23,8 @@ other_type v w same other e =
 
 cast_shape : (op : CastOp) (v w : ℕ) → converts op (Int v) (Int w) ≡ true → HasShape (alone (of_cast op (Int v) (Int w)))
 cast_shape op v w h = record {
+  types_apart = tt;
+  types = tt;
   functions = (
     record {
       first = _;
@@ -44,19 +46,22 @@ cast_defined : (op : CastOp) (v w : ℕ) → IsDefined (alone (of_cast op (Int v
 cast_defined op v w = (defined (of_cast op (Int v) (Int w)) _ [] refl refl ((tt, tt), (tt, tt)), tt)
 
 cast_range : (op : CastOp) (v w : ℕ) → is_width v ≡ true → fits 1 v ≡ true → is_width w ≡ true → IsInRange (alone (of_cast op (Int v) (Int w)))
-cast_range op v w width one to = (
-  record {
-    name = name_f;
-    names = (name_f, (name_x, tt));
-    result = refl;
-    registers = (to, tt);
-    operands = ((width, one), ((refl, refl), tt));
-    flags = (tt, tt);
-    cases = tt;
-    lines = omega arith;
-  },
-  tt,
-)
+cast_range op v w width one to = record {
+  types = tt;
+  functions = (
+    record {
+      name = name_f;
+      names = (name_f, (name_x, tt));
+      result = refl;
+      registers = (to, tt);
+      operands = ((width, one), ((refl, refl), tt));
+      flags = (tt, tt);
+      cases = tt;
+      lines = omega arith;
+    },
+    tt,
+  );
+}
 
 cast_stands : (op : CastOp) (v w : ℕ) → converts op (Int v) (Int w) ≡ true → is_width v ≡ true → fits 1 v ≡ true → is_width w ≡ true
     → IsWellFormed (alone (of_cast op (Int v) (Int w)))
@@ -91,24 +96,29 @@ select_defined c l r = (defined (of_select (Int c) (Int l) (Int r)) _ [] refl re
 
 select_range : (c l r : ℕ) → is_width c ≡ true → fits 1 c ≡ true → is_width l ≡ true → fits 1 l ≡ true → is_width r ≡ true → fits 1 r ≡ true
     → IsInRange (alone (of_select (Int c) (Int l) (Int r)))
-select_range c l r c_width c_fits l_width l_fits r_width r_fits = (
-  record {
-    name = name_f;
-    names = (name_f, (name_x, tt));
-    result = refl;
-    registers = (l_width, tt);
-    operands = ((c_width, c_fits), ((l_width, l_fits), ((r_width, r_fits), ((refl, refl), tt))));
-    flags = (tt, tt);
-    cases = tt;
-    lines = omega arith;
-  },
-  tt,
-)
+select_range c l r c_width c_fits l_width l_fits r_width r_fits = record {
+  types = tt;
+  functions = (
+    record {
+      name = name_f;
+      names = (name_f, (name_x, tt));
+      result = refl;
+      registers = (l_width, tt);
+      operands = ((c_width, c_fits), ((l_width, l_fits), ((r_width, r_fits), ((refl, refl), tt))));
+      flags = (tt, tt);
+      cases = tt;
+      lines = omega arith;
+    },
+    tt,
+  );
+}
 
 pub selections_have_one_type : SelectionsHaveOneType
 selections_have_one_type = record {
   select = record {
     shape = record {
+      types_apart = tt;
+      types = tt;
       functions = (
         record {
           first = _;
@@ -145,6 +155,8 @@ selections_have_one_type = record {
 pub comparisons_give_bits : ComparisonsGiveBits
 comparisons_give_bits = record {
   shape = record {
+    types_apart = tt;
+    types = tt;
     functions = (
       record {
         first = _;
@@ -162,25 +174,30 @@ comparisons_give_bits = record {
     names = (in_none f, tt);
   };
   defined = (defined compared _ [] refl refl ((tt, (tt, tt)), ((zero, omega arith, refl), tt)), tt);
-  range = (
-    record {
-      name = name_f;
-      names = (name_f, (name_x, tt));
-      result = refl;
-      registers = (refl, tt);
-      operands = ((refl, refl), ((refl, refl), ((refl, tt), tt)));
-      flags = (tt, tt);
-      cases = tt;
-      lines = omega arith;
-    },
-    tt,
-  );
+  range = record {
+    types = tt;
+    functions = (
+      record {
+        name = name_f;
+        names = (name_f, (name_x, tt));
+        result = refl;
+        registers = (refl, tt);
+        operands = ((refl, refl), ((refl, refl), ((refl, tt), tt)));
+        flags = (tt, tt);
+        cases = tt;
+        lines = omega arith;
+      },
+      tt,
+    );
+  };
 }
 
 -- ---- flags
 
 flags_shape : (op : BinOp) (flags : Flags) → HasShape (alone (of_flags op flags))
 flags_shape op flags = record {
+  types_apart = tt;
+  types = tt;
   functions = (
     record {
       first = _;
@@ -205,24 +222,27 @@ flags_stand : (op : BinOp) (flags : Flags) → may_have op flags ≡ true → Is
 flags_stand op flags h = record {
   shape = flags_shape op flags;
   defined = flags_defined op flags;
-  range = (
-    record {
-      name = name_f;
-      names = (name_f, (name_x, tt));
-      result = refl;
-      registers = (refl, tt);
-      operands = ((refl, refl), ((refl, refl), ((refl, refl), tt)));
-      flags = (h, tt);
-      cases = tt;
-      lines = omega arith;
-    },
-    tt,
-  );
+  range = record {
+    types = tt;
+    functions = (
+      record {
+        name = name_f;
+        names = (name_f, (name_x, tt));
+        result = refl;
+        registers = (refl, tt);
+        operands = ((refl, refl), ((refl, refl), ((refl, refl), tt)));
+        flags = (h, tt);
+        cases = tt;
+        lines = omega arith;
+      },
+      tt,
+    );
+  };
 }
 
 may_not : (op : BinOp) (flags : Flags) → may_have op flags ≡ false → IsInRange (alone (of_flags op flags)) → ⊥
 may_not op flags not range =
-    let may : may_have op flags ≡ true = range.0.flags.0 in
+    let may : may_have op flags ≡ true = range.functions.0.flags.0 in
     cc
 
 pub flags_have_operators : FlagsHaveOperators
@@ -240,24 +260,29 @@ nothing_defined : (ty : Ty) → IsDefined (alone (returning_nothing ty))
 nothing_defined ty = (defined (returning_nothing ty) _ [] refl refl tt, tt)
 
 nothing_range : (ty : Ty) → IsTypeInRange ty → IsInRange (alone (returning_nothing ty))
-nothing_range ty result = (
-  record {
-    name = name_f;
-    names = (name_f, tt);
-    result = result;
-    registers = tt;
-    operands = tt;
-    flags = tt;
-    cases = tt;
-    lines = omega arith;
-  },
-  tt,
-)
+nothing_range ty result = record {
+  types = tt;
+  functions = (
+    record {
+      name = name_f;
+      names = (name_f, tt);
+      result = result;
+      registers = tt;
+      operands = tt;
+      flags = tt;
+      cases = tt;
+      lines = omega arith;
+    },
+    tt,
+  );
+}
 
 pub void_returns : VoidReturns
 void_returns = record {
   void = record {
     shape = record {
+      types_apart = tt;
+      types = tt;
       functions = (
         record {
           first = _;

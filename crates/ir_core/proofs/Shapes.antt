@@ -26,19 +26,22 @@ pub other_widths_are_not : OtherWidthsAreNot
 other_widths_are_not = (
   λ shape. no_other_width (Int 64) (Int 32) x refl refl shape.functions.0.operands.0,
   (defined other_width (block y [] (Int 32) (Register x)) [] refl refl ((zero, omega arith, refl), tt), tt),
-  (
-    record {
-      name = name_f;
-      names = (name_x, (name_y, tt));
-      result = refl;
-      registers = (refl, tt);
-      operands = ((refl, tt), tt);
-      flags = tt;
-      cases = tt;
-      lines = omega arith;
-    },
-    tt,
-  ),
+  record {
+    types = tt;
+    functions = (
+      record {
+        name = name_f;
+        names = (name_x, (name_y, tt));
+        result = refl;
+        registers = (refl, tt);
+        operands = ((refl, tt), tt);
+        flags = tt;
+        cases = tt;
+        lines = omega arith;
+      },
+      tt,
+    );
+  },
 )
 
 pub other_results_are_not : OtherResultsAreNot
@@ -48,38 +51,44 @@ other_results_are_not = (
       let both : true ≡ false = ap (same_ty (Int 64)) returns in
       cc,
   (defined other_result (block y [] (Int 64) (Register x)) [] refl refl ((zero, omega arith, refl), tt), tt),
-  (
-    record {
-      name = name_f;
-      names = (name_x, (name_y, tt));
-      result = refl;
-      registers = (refl, tt);
-      operands = ((refl, tt), tt);
-      flags = tt;
-      cases = tt;
-      lines = omega arith;
-    },
-    tt,
-  ),
+  record {
+    types = tt;
+    functions = (
+      record {
+        name = name_f;
+        names = (name_x, (name_y, tt));
+        result = refl;
+        registers = (refl, tt);
+        operands = ((refl, tt), tt);
+        flags = tt;
+        cases = tt;
+        lines = omega arith;
+      },
+      tt,
+    );
+  },
 )
 
 pub void_parameters_are_not : VoidParametersAreNot
 void_parameters_are_not = (
   λ shape. shape.functions.0.registers.0,
   (defined void_parameter (block y [] (Int 32) (number 0)) [] refl refl (tt, tt), tt),
-  (
-    record {
-      name = name_f;
-      names = (name_x, (name_y, tt));
-      result = refl;
-      registers = (tt, tt);
-      operands = ((refl, refl), tt);
-      flags = tt;
-      cases = tt;
-      lines = omega arith;
-    },
-    tt,
-  ),
+  record {
+    types = tt;
+    functions = (
+      record {
+        name = name_f;
+        names = (name_x, (name_y, tt));
+        result = refl;
+        registers = (tt, tt);
+        operands = ((refl, refl), tt);
+        flags = tt;
+        cases = tt;
+        lines = omega arith;
+      },
+      tt,
+    );
+  },
 )
 
 pub void_numbers_are_not : VoidNumbersAreNot
@@ -94,19 +103,22 @@ pub lines_without_operators_are_not : LinesWithoutOperatorsAreNot
 lines_without_operators_are_not = (
   λ shape. shape.functions.0.each.0.operators.0,
   (defined no_operator _ [] refl refl ((tt, tt), ((zero, omega arith, refl), tt)), tt),
-  (
-    record {
-      name = name_f;
-      names = (name_f, (name_x, tt));
-      result = refl;
-      registers = (refl, tt);
-      operands = ((refl, refl), ((refl, tt), tt));
-      flags = (tt, tt);
-      cases = tt;
-      lines = omega arith;
-    },
-    tt,
-  ),
+  record {
+    types = tt;
+    functions = (
+      record {
+        name = name_f;
+        names = (name_f, (name_x, tt));
+        result = refl;
+        registers = (refl, tt);
+        operands = ((refl, refl), ((refl, tt), tt));
+        flags = (tt, tt);
+        cases = tt;
+        lines = omega arith;
+      },
+      tt,
+    );
+  },
 )
 
 pub phis_of_no_edge_are_not : PhisOfNoEdgeAreNot
@@ -115,19 +127,22 @@ phis_of_no_edge_are_not = (
       let many : 1 ≡ 0 = length_permutation _ _ shape.functions.0.each.0.phis.0.edges in
       absurd (omega (arith, many)),
   (defined phi_of_no_edge _ [] refl refl ((zero, omega arith, refl), tt), tt),
-  (
-    record {
-      name = name_f;
-      names = (name_y, (name_x, tt));
-      result = refl;
-      registers = (refl, tt);
-      operands = ((refl, refl), ((refl, tt), tt));
-      flags = tt;
-      cases = tt;
-      lines = omega arith;
-    },
-    tt,
-  ),
+  record {
+    types = tt;
+    functions = (
+      record {
+        name = name_f;
+        names = (name_y, (name_x, tt));
+        result = refl;
+        registers = (refl, tt);
+        operands = ((refl, refl), ((refl, tt), tt));
+        flags = tt;
+        cases = tt;
+        lines = omega arith;
+      },
+      tt,
+    );
+  },
 )
 
 pub phis_of_nothing_are_not : PhisOfNothingAreNot
@@ -136,19 +151,22 @@ phis_of_nothing_are_not = (
       let some : 0 < 0 = shape.functions.0.each.0.phis.0.some in
       absurd (omega (arith, some)),
   (defined phi_of_nothing _ [] refl refl ((zero, omega arith, refl), tt), tt),
-  (
-    record {
-      name = name_f;
-      names = (name_y, (name_x, tt));
-      result = refl;
-      registers = (refl, tt);
-      operands = ((refl, tt), tt);
-      flags = tt;
-      cases = tt;
-      lines = omega arith;
-    },
-    tt,
-  ),
+  record {
+    types = tt;
+    functions = (
+      record {
+        name = name_f;
+        names = (name_y, (name_x, tt));
+        result = refl;
+        registers = (refl, tt);
+        operands = ((refl, tt), tt);
+        flags = tt;
+        cases = tt;
+        lines = omega arith;
+      },
+      tt,
+    );
+  },
 )
 
 -- ---- names and blocks
@@ -172,26 +190,29 @@ pub functions_of_one_name_are_not : FunctionsOfOneNameAreNot
 functions_of_one_name_are_not = (
   λ shape. shape.names.1.0 (zero, omega arith, refl),
   (returning_defined f, (returning_defined f, tt)),
-  (returning_in_range f name_f, (returning_in_range f name_f, tt)),
+  record { types = tt; functions = (returning_in_range f name_f, (returning_in_range f name_f, tt)) },
 )
 
 pub names_set_twice_are_not : NamesSetTwiceAreNot
 names_set_twice_are_not = (
   λ shape. shape.functions.0.names.1.1.0 (1, omega arith, refl),
   (defined name_set_twice _ [] refl refl ((tt, (tt, tt)), ((tt, (tt, tt)), ((1, omega arith, refl), tt))), tt),
-  (
-    record {
-      name = name_f;
-      names = (name_f, (name_x, (name_x, tt)));
-      result = refl;
-      registers = (refl, (refl, tt));
-      operands = ((refl, refl), ((refl, refl), ((refl, refl), ((refl, refl), ((refl, tt), tt)))));
-      flags = (refl, (refl, tt));
-      cases = tt;
-      lines = omega arith;
-    },
-    tt,
-  ),
+  record {
+    types = tt;
+    functions = (
+      record {
+        name = name_f;
+        names = (name_f, (name_x, (name_x, tt)));
+        result = refl;
+        registers = (refl, (refl, tt));
+        operands = ((refl, refl), ((refl, refl), ((refl, refl), ((refl, refl), ((refl, tt), tt)))));
+        flags = (refl, (refl, tt));
+        cases = tt;
+        lines = omega arith;
+      },
+      tt,
+    );
+  },
 )
 
 pub debug_names_are_not : DebugNamesAreNot
@@ -200,10 +221,13 @@ debug_names_are_not = (
       let name : true ≡ false = shape.functions.0.name in
       cc,
   (returning_defined (Text (codes "llvm.dbg.value")), tt),
-  (
-    returning_in_range (Text (codes "llvm.dbg.value")) (omega arith, (omega arith, (omega arith, (omega arith, (omega arith, (omega arith, (omega arith, (omega arith, (omega arith, (omega arith, (omega arith, (omega arith, (omega arith, (omega arith, (omega arith, tt))))))))))))))),
-    tt,
-  ),
+  record {
+    types = tt;
+    functions = (
+      returning_in_range (Text (codes "llvm.dbg.value")) (omega arith, (omega arith, (omega arith, (omega arith, (omega arith, (omega arith, (omega arith, (omega arith, (omega arith, (omega arith, (omega arith, (omega arith, (omega arith, (omega arith, (omega arith, tt))))))))))))))),
+      tt,
+    );
+  },
 )
 
 pub functions_without_blocks_are_not : FunctionsWithoutBlocksAreNot
@@ -217,17 +241,20 @@ functions_without_blocks_are_not = (
         absurd cc,
     tt,
   ),
-  (
-    record {
-      name = name_f;
-      names = tt;
-      result = refl;
-      registers = tt;
-      operands = tt;
-      flags = tt;
-      cases = tt;
-      lines = omega arith;
-    },
-    tt,
-  ),
+  record {
+    types = tt;
+    functions = (
+      record {
+        name = name_f;
+        names = tt;
+        result = refl;
+        registers = tt;
+        operands = tt;
+        flags = tt;
+        cases = tt;
+        lines = omega arith;
+      },
+      tt,
+    );
+  },
 )

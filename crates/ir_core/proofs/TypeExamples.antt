@@ -20,5 +20,5 @@ other_types_are_not = record {
   pointer = λ shape. shape.functions.0.registers.0;
   array = λ shape. shape.functions.0.registers.0;
   named = λ shape. shape.functions.0.operands.0;
-  result = λ range. range.0.result;
+  result = λ range. range.functions.0.result;
 }

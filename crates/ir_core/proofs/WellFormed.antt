@@ -50,6 +50,8 @@ name_y = (omega arith, (omega arith, tt))
 pub two_blocks_are_well_formed : TwoBlocksAreWellFormed
 two_blocks_are_well_formed = record {
   shape = record {
+    types_apart = tt;
+    types = tt;
     functions = (
       record {
         first = block x [] (Int 32) (number 0);
@@ -67,24 +69,29 @@ two_blocks_are_well_formed = record {
     names = (in_none f, tt);
   };
   defined = (defined (function (Int 32) f (block x [] (Int 32) (number 0) ∷ block y [] (Int 32) (number 0) ∷ [])) (block x [] (Int 32) (number 0)) (block y [] (Int 32) (number 0) ∷ []) refl refl (tt, tt), tt);
-  range = (
-    record {
-      name = name_f;
-      names = (name_x, (name_y, tt));
-      result = refl;
-      registers = tt;
-      operands = ((refl, refl), ((refl, refl), tt));
-      flags = tt;
-      cases = tt;
-      lines = omega arith;
-    },
-    tt,
-  );
+  range = record {
+    types = tt;
+    functions = (
+      record {
+        name = name_f;
+        names = (name_x, (name_y, tt));
+        result = refl;
+        registers = tt;
+        operands = ((refl, refl), ((refl, refl), tt));
+        flags = tt;
+        cases = tt;
+        lines = omega arith;
+      },
+      tt,
+    );
+  };
 }
 
 pub empty_names_are_not : EmptyNamesAreNot
 empty_names_are_not = (
   record {
+    types_apart = tt;
+    types = tt;
     functions = (
       record {
         first = block x [] (Int 32) (number 0);
@@ -102,12 +109,14 @@ empty_names_are_not = (
     names = (in_none _, tt);
   },
   (defined (function (Int 32) (Text []) (block x [] (Int 32) (number 0) ∷ [])) (block x [] (Int 32) (number 0)) [] refl refl (tt, tt), tt),
-  λ range. absurd (omega (arith, range.0.name.0)),
+  λ range. absurd (omega (arith, range.functions.0.name.0)),
 )
 
 pub early_uses_are_not : EarlyUsesAreNot
 early_uses_are_not = (
   record {
+    types_apart = tt;
+    types = tt;
     functions = (
       record {
         first = block f (add x (Register y) (number 0) ∷ add y (number 1) (number 2) ∷ []) (Int 32) (Register x);
@@ -127,24 +136,29 @@ early_uses_are_not = (
   λ defined.
       let uses = defined.0 (block f (add x (Register y) (number 0) ∷ add y (number 1) (number 2) ∷ []) (Int 32) (Register x)) [] [] refl tt in
       in_none y uses.0.0,
-  (
-    record {
-      name = name_f;
-      names = (name_f, (name_x, (name_y, tt)));
-      result = refl;
-      registers = (refl, (refl, tt));
-      operands = ((refl, tt), ((refl, refl), ((refl, refl), ((refl, refl), ((refl, tt), tt)))));
-      flags = (refl, (refl, tt));
-      cases = tt;
-      lines = omega arith;
-    },
-    tt,
-  ),
+  record {
+    types = tt;
+    functions = (
+      record {
+        name = name_f;
+        names = (name_f, (name_x, (name_y, tt)));
+        result = refl;
+        registers = (refl, (refl, tt));
+        operands = ((refl, tt), ((refl, refl), ((refl, refl), ((refl, refl), ((refl, tt), tt)))));
+        flags = (refl, (refl, tt));
+        cases = tt;
+        lines = omega arith;
+      },
+      tt,
+    );
+  },
 )
 
 pub wide_numbers_are_not : WideNumbersAreNot
 wide_numbers_are_not = (
   record {
+    types_apart = tt;
+    types = tt;
     functions = (
       record {
         first = block x [] (Int 8) (number 256);
@@ -162,5 +176,5 @@ wide_numbers_are_not = (
     names = (in_none f, tt);
   },
   (defined (function (Int 8) f (block x [] (Int 8) (number 256) ∷ [])) (block x [] (Int 8) (number 256)) [] refl refl (tt, tt), tt),
-  λ range. let wide = range.0.operands.0.1 in cc,
+  λ range. let wide = range.functions.0.operands.0.1 in cc,
 )

@@ -1,5 +1,5 @@
 -- Modules written out, for the laws that say which are well-formed.
-use Rattle.std.specs.Prelude.{ℕ, true, false, List, [], ◌∷◌, codes}
+use Rattle.std.specs.Prelude.{ℕ, true, false, List, [], ◌∷◌, codes, None, Some}
 use Rattle.ir_core.specs.declared.expressions.Expr.{Expr}
 use Rattle.ir_core.specs.declared.expressions.Expr.TheVariants as expr
 use Rattle.ir_core.specs.declared.functions.Block.{Block}
@@ -10,6 +10,7 @@ use Rattle.ir_core.specs.declared.functions.Module.{Module}
 use Rattle.ir_core.specs.declared.functions.Phi.{Phi}
 use Rattle.ir_core.specs.declared.functions.Entry.{Entry}
 use Rattle.ir_core.specs.declared.functions.Term.TheVariants.{Ret, RetVoid}
+use Rattle.ir_types.specs.declared.named.NamedTy.{NamedTy}
 use Rattle.ir_types.specs.declared.names.Name.{Name}
 use Rattle.ir_types.specs.declared.names.Name.TheVariants.{Text}
 use Rattle.ir_core.specs.declared.operands.Atom.{Atom}
@@ -22,8 +23,7 @@ use Rattle.ir_core.specs.declared.operands.Const.TheVariants as constant
 use Rattle.ir_core.specs.declared.operands.Flags.{Flags}
 use Rattle.ir_core.specs.declared.operands.Operand.{Operand}
 use Rattle.ir_core.specs.declared.operands.Pred.TheVariants.{Eq}
-use Rattle.ir_types.specs.declared.ty.Ty.{Ty}
-use Rattle.ir_types.specs.declared.ty.Ty.TheVariants.{Int, Void}
+use Rattle.ir_types.specs.declared.ty.Ty.{Ty, Int, Ptr, Array, Struct, Named, Void}
 
 abbrev pub number : ℕ → Atom Name
 number n = Constant (constant.Number n)
@@ -57,7 +57,7 @@ function ty name blocks = record { name = name; result = ty; params = []; blocks
 
 -- that function alone
 abbrev pub defining : Ty → Name → List Block → Module
-defining ty name blocks = record { functions = function ty name blocks ∷ [] }
+defining ty name blocks = record { types = []; functions = function ty name blocks ∷ [] }
 
 -- define i32 @f() { x: ret i32 0  y: ret i32 0 }
 abbrev pub two_blocks : Module
@@ -142,11 +142,53 @@ abbrev pub debug_name : Function
 debug_name = returning (Text (codes "llvm.dbg.value"))
 
 abbrev pub alone : Function → Module
-alone g = record { functions = g ∷ [] }
+alone g = record { types = []; functions = g ∷ [] }
 
 -- that function twice
 abbrev pub two_of_one_name : Module
-two_of_one_name = record { functions = returning f ∷ returning f ∷ [] }
+two_of_one_name = record { types = []; functions = returning f ∷ returning f ∷ [] }
+
+-- ---- of named types alone
+
+-- %name = type { fields }
+abbrev pub struct : Name → List Ty → NamedTy
+struct name fields = record { name = name; fields = Some fields }
+
+abbrev pub naming : List NamedTy → Module
+naming types = record { types = types; functions = [] }
+
+-- %x = type { i32, %y* }  %y = type { %x, %f* }  %f = type opaque
+abbrev pub three_types : Module
+three_types =
+    naming (struct x (Int 32 ∷ Ptr (Named y) ∷ []) ∷ struct y (Named x ∷ Ptr (Named f) ∷ []) ∷ record { name = f; fields = None } ∷ [])
+
+-- %x = type { i32, %x* }
+abbrev pub linked_type : Module
+linked_type = naming (struct x (Int 32 ∷ Ptr (Named x) ∷ []) ∷ [])
+
+-- %x = type { [2 x %x] }
+abbrev pub type_in_itself : Module
+type_in_itself = naming (struct x (Array 2 (Named x) ∷ []) ∷ [])
+
+-- %x = type { i32 }  %y = type { i8 }
+abbrev pub two_types : Module
+two_types = naming (struct x (Int 32 ∷ []) ∷ struct y (Int 8 ∷ []) ∷ [])
+
+-- %x = type { i32 }  %x = type { i8 }
+abbrev pub types_of_one_name : Module
+types_of_one_name = naming (struct x (Int 32 ∷ []) ∷ struct x (Int 8 ∷ []) ∷ [])
+
+-- %x = type { i32, { i8, %y* } }
+abbrev pub unknown_type : Module
+unknown_type = naming (struct x (Int 32 ∷ Struct (Int 8 ∷ Ptr (Named y) ∷ []) ∷ []) ∷ [])
+
+-- %x = type { i65 }
+abbrev pub wide_field : Module
+wide_field = naming (struct x (Int 65 ∷ []) ∷ [])
+
+-- %"" = type { i32 }
+abbrev pub nameless_type : Module
+nameless_type = naming (struct (Text []) (Int 32 ∷ []) ∷ [])
 
 -- ---- of one line, after which nothing of it is used
 

@@ -6,6 +6,7 @@ pub mod Expressions
 pub mod Words
 pub mod Modules
 pub mod Functions
+pub mod TypeNames
 pub mod Order
 pub mod Ranges
 pub mod WellFormed

@@ -9,6 +9,7 @@ use Rattle.ir_core.specs.declared.functions.Function.{Function}
 use Rattle.ir_core.specs.declared.functions.Instr.{Instr}
 use Rattle.ir_core.specs.declared.functions.Instr.TheVariants as instr
 use Rattle.ir_core.specs.declared.functions.Module.{Module}
+use Rattle.ir_types.specs.declared.named.NamedTy.{NamedTy}
 use Rattle.ir_types.specs.declared.names.Name.{Name}
 use Rattle.ir_types.specs.declared.names.Name.TheVariants.{Text, Number}
 use Rattle.ir_core.specs.declared.operands.Atom.{Atom}
@@ -20,6 +21,7 @@ use Rattle.ir_core.specs.declared.operands.Flags.{Flags}
 use Rattle.ir_core.specs.declared.operands.Operand.{Operand}
 use Rattle.ir_types.specs.declared.ty.Ty.{Ty}
 use Rattle.ir_types.specs.declared.ty.Ty.TheVariants as ty
+use Rattle.ir_types.specs.Named.{fields_or_none}
 use Rattle.ir_core.specs.Functions.{cases_of, line_count, names_of, operands_in_block, typed_of}
 use Rattle.ir_core.specs.Limits.{line_limit}
 use Rattle.ir_core.specs.Types.{constant_fits, is_width}
@@ -87,5 +89,11 @@ pub record IsFunctionInRange (f : Function) : Type 0 where
   pub cases : AllByRecursion IsCaseInRange (flat_map (λ (b : Block). cases_of b.term) f.blocks)
   pub lines : line_count f ≤ line_limit
 
-abbrev pub IsInRange : Module → Type 0
-IsInRange m = AllByRecursion IsFunctionInRange m.functions
+-- a named type has a name, and fields whose types are in range
+pub record IsNamedTypeInRange (t : NamedTy) : Type 0 where
+  pub name : IsNameInRange t.name
+  pub fields : AllByRecursion IsTypeInRange (fields_or_none t.fields)
+
+pub record IsInRange (m : Module) : Type 0 where
+  pub types : AllByRecursion IsNamedTypeInRange m.types
+  pub functions : AllByRecursion IsFunctionInRange m.functions

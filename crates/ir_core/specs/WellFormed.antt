@@ -13,6 +13,7 @@ use Rattle.ir_core.specs.declared.functions.Module.{Module}
 use Rattle.ir_core.specs.declared.functions.Phi.{Phi}
 use Rattle.ir_core.specs.declared.functions.Term.{Term}
 use Rattle.ir_core.specs.declared.functions.Term.TheVariants as term
+use Rattle.ir_types.specs.declared.named.NamedTy.{NamedTy}
 use Rattle.ir_types.specs.declared.names.Name.{Name}
 use Rattle.ir_core.specs.declared.operands.Atom.{Atom}
 use Rattle.ir_core.specs.declared.operands.Atom.TheVariants.{Constant, Register}
@@ -22,6 +23,7 @@ use Rattle.ir_types.specs.declared.ty.Ty.TheVariants as ty
 use Rattle.ir_core.specs.Functions.{edges_into, function_names, is_debug, names_in, names_of, operands_at_end, operands_in_block, operands_of, params_of, phi_registers, registers_of, set_by, successors_of, typed_of}
 use Rattle.ir_core.specs.Order.{AreNew}
 use Rattle.ir_core.specs.Ranges.{IsInRange}
+use Rattle.ir_core.specs.TypeNames.{names_in_struct, type_names}
 use Rattle.ir_core.specs.Types.{converts, number_at}
 
 -- ---- shape: names and labels are unique and known, edges and phis agree, and so do types
@@ -109,7 +111,13 @@ pub record HasFunctionShape (f : Function) : Type 0 where
   pub operands : AllByRecursion (λ (o : Operand Name). HasType (typed_of f) o.ty o.atom) (flat_map operands_in_block f.blocks)
   pub each : AllByRecursion (HasBlockShape f) f.blocks
 
+-- Each named type that stands in a type of those names is one of them: it may be the type itself, also without a pointer.
+abbrev pub NamesTypes : List Name → NamedTy → Type 0
+NamesTypes names t = AllByRecursion (Contains names) (names_in_struct t)
+
 pub record HasShape (m : Module) : Type 0 where
+  pub types_apart : AreNew [] (type_names m)
+  pub types : AllByRecursion (NamesTypes (type_names m)) m.types
   pub functions : AllByRecursion HasFunctionShape m.functions
   pub names : AreNew [] (function_names m)
 

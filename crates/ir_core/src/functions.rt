@@ -1,5 +1,6 @@
 use crate::{Atom, Bits, Expr, Name, Operand, Ty};
 use contents::Seq;
+use ir_types::NamedTypes;
 
 /// `name = right`: a line that sets a register and does nothing else.
 pub struct Calm {
@@ -180,13 +181,17 @@ impl Drop for Function {
     }
 }
 
-/// A module: its definitions in the order of the file.
+/// A module: the types that it names and its definitions, each in the order of the file.
 pub struct Module {
+    pub types: NamedTypes,
     pub functions: Seq<Function>,
 }
 
 impl Drop for Module {
     fn drop(self) {
-        let Module { functions: _ } = self;
+        let Module {
+            types: _,
+            functions: _,
+        } = self;
     }
 }

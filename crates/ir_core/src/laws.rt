@@ -3,7 +3,7 @@ ghost use Rattle.ir_core.specs.Laws.{OtherWidthsAreNot, OtherResultsAreNot, Void
 ghost use Rattle.ir_core.specs.Laws.{LinesWithoutOperatorsAreNot, PhisOfNoEdgeAreNot, PhisOfNothingAreNot};
 ghost use Rattle.ir_core.specs.Laws.{FunctionsOfOneNameAreNot, NamesSetTwiceAreNot, DebugNamesAreNot, FunctionsWithoutBlocksAreNot};
 ghost use Rattle.ir_core.specs.Laws.{ConversionsChangeWidths, SelectionsHaveOneType, ComparisonsGiveBits, FlagsHaveOperators, OperatorsOfFlags, VoidReturns, ExpressionsAreRead, ExpressionsAreMapped};
-ghost use Rattle.ir_core.specs.TypeLaws.{IntegersHaveKinds, OtherTypesAreNot};
+ghost use Rattle.ir_core.specs.TypeLaws.{IntegersHaveKinds, NamedTypesAreInRange, NamedTypesAreKnown, OtherTypesAreNot};
 ghost use Rattle.ir_core.specs.FlowLaws.{JumpsGoToBlocks, PhisFollowEdges, CasesAreApart, PathsDefine, SuccessorsInOrder};
 
 /// Empty on purpose: its contract is the law.
@@ -30,12 +30,22 @@ pub fn examples_of_types()
 
 /// Empty on purpose: its contract is the law.
 ///
-/// An integer of 1 to 64 bits has a kind, and no other type has one. No parameter nor what is returned is of such a type in a module that
-/// has shape, and no function of a well-formed one has it for its result.
+/// `i1` and `i64` have a kind; `i0`, `i65`, `void`, a pointer, an array, a struct and a named type have none. Some modules have no shape in
+/// which a parameter or what is returned is of such a type, and one is out of range that has a function of one for its result.
 #[tactic(auto, using(crate::proofs::TypeExamples::integers_have_kinds, crate::proofs::TypeExamples::other_types_are_not))]
 pub fn examples_of_kinds()
     ensures kinds { IntegersHaveKinds }
     ensures other_types { OtherTypesAreNot }
+{}
+
+/// Empty on purpose: its contract is the law.
+///
+/// A module may name types that hold one another or themselves, by pointers or without. None has shape of which two types have one name, or
+/// one names a type, behind a pointer too, that isn't there. None is in range of which a type has an empty name or a field of `i65`.
+#[tactic(auto, using(crate::proofs::NamedExamples::named_types_are_known, crate::proofs::NamedExamples::named_types_are_in_range))]
+pub fn examples_of_named_types()
+    ensures known { NamedTypesAreKnown }
+    ensures range { NamedTypesAreInRange }
 {}
 
 /// Empty on purpose: its contract is the law.

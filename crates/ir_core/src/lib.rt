@@ -9,6 +9,7 @@ mod bits;
 mod expressions;
 mod functions;
 mod laws;
+mod layout;
 mod limits;
 mod operands;
 mod same;
@@ -22,12 +23,13 @@ pub use expressions::{Binary, Cast, Expr, Expr0, Icmp, Reg, Select};
 pub use functions::{
     Block, Calm, Case, CondBr, Entry, Function, Instr, Module, Param, Phi, Switch, Term,
 };
-pub use ir_types::{Name, Sigil, Ty, same_name, same_ty};
+pub use ir_types::{Name, NamedTy, NamedTypes, Shared, Sigil, SizeFault, Ty, same_name, same_ty};
 pub use laws::{
     examples_of_control_flow, examples_of_expressions, examples_of_kinds, examples_of_lines,
-    examples_of_names_and_blocks, examples_of_operations, examples_of_types,
-    examples_of_well_formedness,
+    examples_of_named_types, examples_of_names_and_blocks, examples_of_operations,
+    examples_of_types, examples_of_well_formedness,
 };
+pub use layout::{align_of, field_offset, fits_block, size_of};
 pub use limits::Limit;
 pub use operands::{Atom, BinOp, CastOp, Const, Flags, Operand, Pred};
 pub use same::{

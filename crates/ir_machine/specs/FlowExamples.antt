@@ -33,7 +33,7 @@ abbrev pub function : Ty → List Block → Function
 function ty blocks = record { name = Number 0; result = ty; params = []; blocks = blocks }
 
 abbrev pub alone : Function → Module
-alone f = record { functions = f ∷ [] }
+alone f = record { types = []; functions = f ∷ [] }
 
 -- define void @0() { 1: PHIS  TERM }
 abbrev pub ending : List Phi → Term → Module

@@ -110,4 +110,4 @@ function_of d = record {
 }
 
 abbrev pub module_of : ModuleText → Module
-module_of m = record { functions = map function_of m.definitions }
+module_of m = record { types = []; functions = map function_of m.definitions }

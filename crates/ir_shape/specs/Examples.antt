@@ -126,7 +126,7 @@ function name phis lines end = of_blocks name (block (Number 0) phis lines end �
 
 -- the module of that function alone
 abbrev pub alone : Function → Module
-alone of = record { functions = of ∷ [] }
+alone of = record { types = []; functions = of ∷ [] }
 
 -- the function @f of these lines alone, returning %32
 abbrev pub of_lines : List Instr → Module

@@ -98,7 +98,7 @@ Cases =
 abbrev pub Names : Type 0
 Names =
     (first_fault (alone (function debug [] [] returning)) ≡ Some (in_header debug kind.Name))
-    × (first_fault (record { functions = function f [] [] returning ∷ function f [] [] returning ∷ [] }) ≡ Some (in_header f kind.Name))
+    × (first_fault (record { types = []; functions = function f [] [] returning ∷ function f [] [] returning ∷ [] }) ≡ Some (in_header f kind.Name))
     × (first_fault (alone (record { name = f; result = Int 32; params = record { name = x; ty = Int 1 } ∷ record { name = x; ty = Int 8 } ∷ []; blocks = last ∷ [] }))
     ≡ Some (in_header f kind.Name))
     × (first_fault (of_lines (add 101 (Int 32) ∷ add 101 (Int 32) ∷ [])) ≡ Some (in_f 1 kind.Name))
@@ -140,7 +140,7 @@ NamesComeBeforeLines = first_fault (alone (function debug [] (add 101 Void ∷ [
 
 abbrev pub FunctionsComeInOrder : Type 0
 FunctionsComeInOrder =
-    first_fault (record { functions = function f [] [] RetVoid ∷ function debug [] [] returning ∷ [] }) ≡ Some (in_f 0 kind.ReturnType)
+    first_fault (record { types = []; functions = function f [] [] RetVoid ∷ function debug [] [] returning ∷ [] }) ≡ Some (in_f 0 kind.ReturnType)
 
 -- At one place the first kind counts: of a line that converts an unknown register, or the i8 of an i32, to too few bits; and of a block
 -- with an earlier one's name, the first line of which uses an unknown register.
