@@ -6,4 +6,5 @@ pub mod Operations
 pub mod Mapped
 pub mod Flow
 pub mod TypeExamples
+pub mod TypeNames
 pub mod NamedExamples

@@ -1,31 +1,16 @@
 -- Modules of named types alone: which parts of well-formedness they have.
-use Rattle.std.proofs.Common.{◌≡◌, ℕ, zero, List, [], ◌∷◌, map, refl, subst, sym, arith}
-use Rattle.std.specs.List.{AllByRecursion, Contains, flat_map}
+use Rattle.std.proofs.Common.{◌≡◌, ℕ, zero, List, [], ◌∷◌, refl, subst, sym, arith}
+use Rattle.std.specs.List.{AllByRecursion, Contains}
 use Rattle.ir_types.specs.declared.named.NamedTy.{NamedTy}
 use Rattle.ir_types.specs.declared.names.Name.{Name}
 use Rattle.ir_types.specs.declared.names.Name.TheVariants.{Text}
-use Rattle.ir_types.specs.declared.ty.Ty.{Ty, Int, Ptr, Array, Struct, Named}
-use Rattle.ir_types.proofs.Induction as fold
+use Rattle.ir_types.specs.declared.ty.Ty.{Int, Ptr, Array, Struct, Named}
 use Rattle.ir_core.specs.Examples.{f, struct, x, y}
 use Rattle.ir_core.specs.TypeLaws.{NamedTypesAreInRange, NamedTypesAreKnown}
-use Rattle.ir_core.specs.TypeNames.{names_at_level, names_in_struct, names_in_type}
+use Rattle.ir_core.specs.TypeNames.{names_in_struct}
 use Rattle.ir_core.specs.WellFormed.{NamesTypes}
+use Rattle.ir_core.proofs.TypeNames.{at_array, at_int, at_named, at_ptr, at_struct}
 use Rattle.ir_core.proofs.WellFormed.{in_none, in_one, in_two, name_x, name_y}
-
-at_int : (width : ℕ) → names_in_type (Int width) ≡ []
-at_int = fold.at_int (List Name) names_at_level
-
-at_ptr : (t : Ty) → names_in_type (Ptr t) ≡ names_in_type t
-at_ptr = fold.at_ptr (List Name) names_at_level
-
-at_array : (n : ℕ) (t : Ty) → names_in_type (Array n t) ≡ names_in_type t
-at_array = fold.at_array (List Name) names_at_level
-
-at_struct : (ts : List Ty) → names_in_type (Struct ts) ≡ flat_map (λ names. names) (map names_in_type ts)
-at_struct = fold.at_struct (List Name) names_at_level
-
-at_named : (x : Name) → names_in_type (Named x) ≡ x ∷ []
-at_named = fold.at_named (List Name) names_at_level
 
 -- the names that stand in it are these
 naming : (names found : List Name) (t : NamedTy) → names_in_struct t ≡ found → AllByRecursion (Contains names) found → NamesTypes names t

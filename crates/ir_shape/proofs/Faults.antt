@@ -6,7 +6,7 @@ use Rattle.ir_types.specs.declared.names.Name.{Name}
 use Rattle.ir_shape.specs.declared.fault.LinePlace.{LinePlace}
 use Rattle.ir_shape.specs.declared.fault.ShapeFault.{ShapeFault}
 use Rattle.shape_tests.specs.declared.kind.ShapeKind.{ShapeKind}
-use Rattle.ir_shape.specs.Shape.{fault_at, first_of, in_kinds, in_line}
+use Rattle.ir_shape.specs.Shape.{fault_at, first_of, in_kinds, in_line, in_name}
 use Rattle.shape_tests.specs.Kinds.{header_kind, least}
 use Rattle.shape_tests.proofs.Tests.{left_none, right_none, joined_none}
 
@@ -33,6 +33,13 @@ kind_none f place (Some k) e = cc
 
 pub fault_none : (f : Name) (place : Option LinePlace) (k : Option ShapeKind) → k ≡ None → fault_at f place k ≡ []
 fault_none f place k e = ap (fault_at f place) e
+
+pub name_none : (name : Name) (k : Option ShapeKind) → in_name name k ≡ [] → k ≡ None
+name_none name None e = refl
+name_none name (Some k) e = cc
+
+pub named_none : (name : Name) (k : Option ShapeKind) → k ≡ None → in_name name k ≡ []
+named_none name k e = ap (in_name name) e
 
 -- parameters without fault have new names
 pub new_where_fits : (f : Function) (new : Bool) → fault_at f.name None (header_kind new f) ≡ [] → new ≡ true

@@ -4,12 +4,13 @@ use Rattle.std.proofs.lemmas.List.{drop_more}
 use Rattle.std.specs.List.{AllByRecursion}
 use Rattle.ir_core.specs.declared.functions.Block.{Block}
 use Rattle.ir_core.specs.declared.functions.Function.{Function}
+use Rattle.ir_types.specs.declared.named.NamedTy.{NamedTy}
 use Rattle.ir_types.specs.declared.names.Name.{Name}
 use Rattle.name_index.specs.Among.{is_among}
 use Rattle.ir_shape.specs.declared.fault.ShapeEnd.{ShapeEnd}
 use Rattle.ir_shape.specs.declared.fault.ShapeEnd.TheVariants as end
 use Rattle.ir_shape.specs.declared.fault.ShapeFault.{ShapeFault}
-use Rattle.ir_shape.specs.Shape.{IsEndOf, IsFirstOf, IsShort, first_of, in_block, in_blocks, in_function, in_functions, with_block}
+use Rattle.ir_shape.specs.Shape.{IsEndOf, IsFirstOf, IsShort, first_of, in_block, in_blocks, in_function, in_functions, in_type, in_types, with_block}
 use Rattle.shape_tests.specs.Kinds.{Types, with_name}
 
 first_joined : (xs ys : List ShapeFault) (f : ShapeFault) → first_of xs ≡ Some f → first_of (xs ++ ys) ≡ Some f
@@ -27,6 +28,13 @@ pub in_that_function : (names : List Name) (fs : List Function) (k : ℕ) (f : F
 in_that_function names fs k f within at same e is =
     subst (λ faults. IsFirstOf faults e) (sym (ap (in_functions names) (drop_more fs k f within) ∙ ap (λ (g : Function). in_functions names (g ∷ drop (k + 1) fs)) (sym at)) ∙ same)
     (further (in_function (is_among f.name names) f) (in_functions (with_name names f.name) (drop (k + 1) fs)) e is)
+
+-- where the named types before one have none
+pub in_that_type : (known names : List Name) (ts : List NamedTy) (k : ℕ) (t : NamedTy) → k < length ts → t ≡ get_or ts k t → in_types known names (drop k ts) ≡ in_types known [] ts
+    → (e : ShapeEnd) → IsFirstOf (in_type known (is_among t.name names) t) e → IsFirstOf (in_types known [] ts) e
+in_that_type known names ts k t within at same e is =
+    subst (λ faults. IsFirstOf faults e) (sym (ap (in_types known names) (drop_more ts k t within) ∙ ap (λ (u : NamedTy). in_types known names (u ∷ drop (k + 1) ts)) (sym at)) ∙ same)
+    (further (in_type known (is_among t.name names) t) (in_types known (with_name names t.name) (drop (k + 1) ts)) e is)
 
 -- where the blocks before one have none
 pub in_that_block : (f : Function) (labels : List Name) (types : Types) (entry : Name) (earlier taken : List Name) (bs : List Block) (k : ℕ) (b : Block) (faults : List ShapeFault) → k < length bs

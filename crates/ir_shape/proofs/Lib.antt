@@ -3,3 +3,4 @@ pub mod Kept
 pub mod Shapely
 pub mod Found
 pub mod Short
+pub mod TypeNames

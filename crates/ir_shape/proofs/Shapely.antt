@@ -7,27 +7,30 @@ use Rattle.ir_core.specs.declared.functions.Block.{Block}
 use Rattle.ir_core.specs.declared.functions.Function.{Function}
 use Rattle.ir_core.specs.declared.functions.Instr.{Instr}
 use Rattle.ir_core.specs.declared.functions.Instr.TheVariants as instr
+use Rattle.ir_core.specs.declared.functions.Module.{Module}
 use Rattle.ir_core.specs.declared.functions.Param.{Param}
 use Rattle.ir_core.specs.declared.functions.Phi.{Phi}
 use Rattle.ir_core.specs.declared.functions.Term.{Term}
+use Rattle.ir_types.specs.declared.named.NamedTy.{NamedTy}
 use Rattle.ir_types.specs.declared.names.Name.{Name}
 use Rattle.ir_types.specs.declared.ty.Ty.{Ty}
 use Rattle.ir_core.specs.Expressions.{operands_in, type_of}
 use Rattle.ir_core.specs.Functions.{block_names, edges_into, function_names, is_debug, names_in, names_of, operands_at_end, operands_in_block, operands_of, operands_of_phi, params_of, phi_registers, registers_of, set_by, successors_of, typed_of}
 use Rattle.ir_core.specs.Order.{AreNew}
 use Rattle.ir_types.specs.Same.{same_name}
-use Rattle.ir_core.specs.WellFormed.{BranchesOn, FitsEdges, HasBlockShape, HasCases, HasFunctionShape, Returns, SetsByOperator}
+use Rattle.ir_core.specs.TypeNames.{names_in_struct, type_names}
+use Rattle.ir_core.specs.WellFormed.{BranchesOn, FitsEdges, HasBlockShape, HasCases, HasFunctionShape, NamesTypes, Returns, SetsByOperator}
 use Rattle.name_index.specs.Among.{is_among}
 use Rattle.ir_shape.specs.declared.fault.ShapeFault.{ShapeFault}
 use Rattle.shape_tests.specs.declared.kind.ShapeKind.{ShapeKind}
 use Rattle.shape_tests.specs.declared.kind.ShapeKind.TheVariants as kind
 use Rattle.ir_shape.specs.Laws.{FaultlessFunctionsHaveShape, FaultlessModulesHaveShape, ShapelyFunctionsAreFaultless, ShapelyModulesAreFaultless}
 use Rattle.shape_tests.specs.Kinds.{are_known, are_labels, are_new, are_typed, block_kind, branch_fits, cases_fit, end_kind, fault_unless, froms_of, header_kind, is_integer, labels_of, leads_to, name_kind, none_typed, phi_fits, return_fits, right_kind, types_of, with_name, with_names, with_types}
-use Rattle.ir_shape.specs.Shape.{fault_at, first_of, in_block, in_blocks, in_body, in_function, in_functions, line_kinds, phi_kinds, with_block, with_phis}
+use Rattle.ir_shape.specs.Shape.{fault_at, first_of, in_block, in_blocks, in_body, in_function, in_functions, in_type, in_types, known_types, line_kinds, phi_kinds, with_block, with_phis}
 use Rattle.shape_tests.proofs.Entries.{fits_edges_by, fits_edges_is}
 use Rattle.shape_tests.proofs.Fits.{branch_by, branch_is, cases_by, cases_is, edge_none, edges_from, operator_by, operator_is, return_by, return_is}
 use Rattle.shape_tests.proofs.Taken.{Among, all_kept, kept, labels_are, labels_by, new_by, new_is, new_joined, not_taken, old_or_new, put, registers_joined, registers_new}
-use Rattle.ir_shape.proofs.Faults.{AllNone, fault_none, first_none, kind_none, kinds_are, kinds_by}
+use Rattle.ir_shape.proofs.Faults.{AllNone, fault_none, first_none, kind_none, kinds_are, kinds_by, name_none, named_none}
 use Rattle.shape_tests.proofs.Tests.{all_joined, all_left, all_parts, all_right, all_there, both_hold, both_left, both_none, both_right, first_none_left, first_none_right, fits_by, joined_none, left_none, none_by, not_true, one_there, right_none}
 use Rattle.shape_tests.proofs.Typed.{AreTyped, operands_are, operands_by, operands_known, value_by, value_is}
 use Rattle.shape_tests.proofs.Taken.{names_joined}
@@ -420,10 +423,53 @@ functions_are taken (f ∷ fs) new all =
     (function_is f (is_among f.name taken) (not_true (is_among f.name taken) (both_left fresh rest new)) all.0)
     (functions_are (with_name taken f.name) fs (both_right fresh rest new) all.1)
 
+types_by : (names taken : List Name) (ts : List NamedTy) → in_types (with_names [] names) taken ts ≡ []
+    → (are_new taken (map (λ (t : NamedTy). t.name) ts) ≡ true) × AllByRecursion (NamesTypes names) ts
+types_by names taken [] e = (refl, tt)
+types_by names taken (t ∷ ts) e =
+    let known = with_names [] names in
+    let new = not (is_among t.name taken) in
+    let named = are_labels known (names_in_struct t) in
+    let here = left_none (in_type known (is_among t.name taken) t) (in_types known (with_name taken t.name) ts) e in
+    let fits = fits_by (new && named) kind.Name (name_none t.name (fault_unless (new && named) kind.Name) here) in
+    let more = types_by names (with_name taken t.name) ts (right_none (in_type known (is_among t.name taken) t) (in_types known (with_name taken t.name) ts) e) in (
+      both_hold new (are_new (with_name taken t.name) (map (λ (u : NamedTy). u.name) ts)) (both_left new named fits) more.0,
+      (labels_by names (names_in_struct t) (both_right new named fits), more.1),
+    )
+
+types_are : (names taken : List Name) (ts : List NamedTy) → are_new taken (map (λ (t : NamedTy). t.name) ts) ≡ true → AllByRecursion (NamesTypes names) ts
+    → in_types (with_names [] names) taken ts ≡ []
+types_are names taken [] new all = refl
+types_are names taken (t ∷ ts) new all =
+    let known = with_names [] names in
+    let fresh = not (is_among t.name taken) in
+    let named = are_labels known (names_in_struct t) in
+    let rest = are_new (with_name taken t.name) (map (λ (u : NamedTy). u.name) ts) in
+    joined_none (in_type known (is_among t.name taken) t) (in_types known (with_name taken t.name) ts)
+    (named_none t.name (fault_unless (fresh && named) kind.Name)
+    (none_by (fresh && named) kind.Name (both_hold fresh named (both_left fresh rest new) (labels_are names (names_in_struct t) all.0))))
+    (types_are names (with_name taken t.name) ts (both_right fresh rest new) all.1)
+
+abbrev of_types : Module → List ShapeFault
+of_types m = in_types (known_types m.types) [] m.types
+
+abbrev of_functions : Module → List ShapeFault
+of_functions m = in_functions [] m.functions
+
 pub faultless_modules_have_shape : FaultlessModulesHaveShape
 faultless_modules_have_shape m e =
-    let both = functions_by [] m.functions (first_none (in_functions [] m.functions) e) in
-    record { functions = both.1; names = new_by [] (function_names m) both.0 }
+    let none = first_none (of_types m ++ of_functions m) e in
+    let types = types_by (type_names m) [] m.types (left_none (of_types m) (of_functions m) none) in
+    let functions = functions_by [] m.functions (right_none (of_types m) (of_functions m) none) in
+    record {
+      types_apart = new_by [] (type_names m) types.0;
+      types = types.1;
+      functions = functions.1;
+      names = new_by [] (function_names m) functions.0;
+    }
 
 pub shapely_modules_are_faultless : ShapelyModulesAreFaultless
-shapely_modules_are_faultless m shape = ap first_of (functions_are [] m.functions (new_is [] (function_names m) shape.names) shape.functions)
+shapely_modules_are_faultless m shape =
+    ap first_of
+    (joined_none (of_types m) (of_functions m) (types_are (type_names m) [] m.types (new_is [] (type_names m) shape.types_apart) shape.types)
+    (functions_are [] m.functions (new_is [] (function_names m) shape.names) shape.functions))

@@ -13,8 +13,10 @@ use Rattle.ir_core.specs.declared.functions.Param.{Param}
 use Rattle.ir_core.specs.declared.functions.Phi.{Phi}
 use Rattle.ir_core.specs.declared.functions.Term.{Term}
 use Rattle.ir_core.specs.declared.functions.Term.TheVariants.{Br, CondBr, Ret, Switch}
+use Rattle.ir_types.specs.declared.named.NamedTy.{NamedTy}
 use Rattle.ir_types.specs.declared.names.Name.{Name}
 use Rattle.ir_types.specs.declared.names.Name.TheVariants.{Text, Number}
+use Rattle.ir_types.specs.declared.names.Sigil.TheVariants.{Local, Global}
 use Rattle.ir_core.specs.declared.operands.Atom.TheVariants.{Constant, Register}
 use Rattle.ir_core.specs.declared.operands.BinOp.TheVariants.{Add}
 use Rattle.ir_core.specs.declared.operands.CastOp.{CastOp}
@@ -124,6 +126,18 @@ of_blocks name blocks = record { name = name; result = Int 32; params = params; 
 abbrev pub function : Name → List Phi → List Instr → Term → Function
 function name phis lines end = of_blocks name (block (Number 0) phis lines end ∷ last ∷ [])
 
+-- %name = type { fields }
+abbrev pub struct : Name → List Ty → NamedTy
+struct name fields = record { name = name; fields = Some fields }
+
+-- that fault in a named type
+abbrev pub in_named : Name → ShapeKind → ShapeFault
+in_named name kind = record { sigil = Local; function = name; place = None; kind = kind }
+
+-- those named types alone
+abbrev pub naming : List NamedTy → Module
+naming types = record { types = types; functions = [] }
+
 -- the module of that function alone
 abbrev pub alone : Function → Module
 alone of = record { types = []; functions = of ∷ [] }
@@ -134,11 +148,11 @@ of_lines lines = alone (function f [] lines returning)
 
 -- that fault in that line of the block %0 of @f
 abbrev pub in_f : ℕ → ShapeKind → ShapeFault
-in_f line kind = record { function = f; place = Some (record { block = Number 0; line = line }); kind = kind }
+in_f line kind = record { sigil = Global; function = f; place = Some (record { block = Number 0; line = line }); kind = kind }
 
 -- that fault in a function's own name or its parameters
 abbrev pub in_header : Name → ShapeKind → ShapeFault
-in_header name kind = record { function = name; place = None; kind = kind }
+in_header name kind = record { sigil = Global; function = name; place = None; kind = kind }
 
 -- the function @f of a block x: br i1 %1, label %y, label %y and a block y: phis ret i32 %32
 abbrev pub entering : List Phi → Module
@@ -146,4 +160,4 @@ entering phis = alone (of_blocks f (block x [] [] (branching (Int 1) y y) ∷ bl
 
 -- that fault in that line of the block %y of @f
 abbrev pub in_y : ℕ → ShapeKind → ShapeFault
-in_y line kind = record { function = f; place = Some (record { block = y; line = line }); kind = kind }
+in_y line kind = record { sigil = Global; function = f; place = Some (record { block = y; line = line }); kind = kind }

@@ -5,12 +5,13 @@ use Rattle.ir_core.specs.declared.functions.Function.{Function}
 use Rattle.ir_core.specs.declared.functions.Module.{Module}
 use Rattle.ir_core.specs.declared.functions.Term.TheVariants.{Ret, RetVoid}
 use Rattle.ir_types.specs.declared.names.Name.TheVariants.{Number}
+use Rattle.ir_types.specs.declared.names.Sigil.TheVariants.{Global}
 use Rattle.ir_core.specs.declared.operands.Atom.TheVariants.{Register}
 use Rattle.ir_core.specs.declared.operands.CastOp.TheVariants.{ZExt, SExt, Trunc, BitCast}
-use Rattle.ir_types.specs.declared.ty.Ty.TheVariants.{Int, Ptr, Struct, Void}
+use Rattle.ir_types.specs.declared.ty.Ty.TheVariants.{Int, Ptr, Array, Struct, Named, Void}
 use Rattle.ir_core.specs.WellFormed.{HasFunctionShape, HasShape}
 use Rattle.shape_tests.specs.declared.kind.ShapeKind.TheVariants as kind
-use Rattle.ir_shape.specs.Examples.{add, alone, block, branching, cast, cast_of, debug, entering, entry, f, fitting, function, icmp, in_f, in_header, in_y, jumping, last, of_blocks, of_lines, params, phi, returning, select, setting, switching, given, x, y}
+use Rattle.ir_shape.specs.Examples.{add, alone, block, branching, cast, cast_of, debug, entering, entry, f, fitting, function, icmp, in_f, in_header, in_named, in_y, jumping, last, naming, of_blocks, of_lines, params, phi, returning, select, setting, struct, switching, given, x, y}
 use Rattle.ir_shape.specs.Shape.{first_fault, in_function}
 
 -- A module has no fault exactly where it has shape.
@@ -105,7 +106,16 @@ Names =
     × (first_fault (of_lines (add 0 (Int 32) ∷ [])) ≡ Some (in_f 0 kind.Name))
     × (first_fault (of_lines (cast_of 101 ZExt (record { ty = Int 32; atom = Register x }) (Int 64) ∷ [])) ≡ Some (in_f 0 kind.Name))
     × (first_fault (alone (of_blocks f (block (Number 0) [] [] returning ∷ block (Number 8) [] [] returning ∷ [])))
-    ≡ Some (record { function = f; place = Some (record { block = Number 8; line = 0 }); kind = kind.Name }))
+    ≡ Some (record { sigil = Global; function = f; place = Some (record { block = Number 8; line = 0 }); kind = kind.Name }))
+
+-- Two types of one name, the second one of which is told; one that names a type, behind a pointer, that isn't there, behind an opaque one;
+-- the first of two such; and types that hold one another and themselves, which is no fault.
+abbrev pub NamedTypes : Type 0
+NamedTypes =
+    (first_fault (naming (struct x (Int 32 ∷ []) ∷ struct y [] ∷ struct x [] ∷ [])) ≡ Some (in_named x kind.Name))
+    × (first_fault (naming (record { name = x; fields = None } ∷ struct y (Int 32 ∷ Struct (Ptr (Named f) ∷ []) ∷ []) ∷ [])) ≡ Some (in_named y kind.Name))
+    × (first_fault (naming (struct y (Named f ∷ []) ∷ struct x (Named f ∷ []) ∷ [])) ≡ Some (in_named y kind.Name))
+    × (first_fault (naming (struct x (Ptr (Named y) ∷ []) ∷ struct y (Named x ∷ Array 2 (Named y) ∷ []) ∷ [])) ≡ None)
 
 -- A branch to no block, a phi with an entry of none, a block with an earlier one's name, and a function of no blocks.
 abbrev pub Labels : Type 0
@@ -137,6 +147,11 @@ LinesComeBeforeEnds =
 
 abbrev pub NamesComeBeforeLines : Type 0
 NamesComeBeforeLines = first_fault (alone (function debug [] (add 101 Void ∷ []) RetVoid)) ≡ Some (in_header debug kind.Name)
+
+-- a named type before a function
+abbrev pub TypesComeFirst : Type 0
+TypesComeFirst =
+    first_fault (record { types = struct x (Named y ∷ []) ∷ []; functions = function debug [] [] returning ∷ [] }) ≡ Some (in_named x kind.Name)
 
 abbrev pub FunctionsComeInOrder : Type 0
 FunctionsComeInOrder =

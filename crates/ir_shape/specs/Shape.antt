@@ -1,5 +1,5 @@
 -- What is wrong with a module (LangRef 3.7, Well-Formedness), in the order of the places, and what is first.
-use Rattle.std.specs.Prelude.{◌≡◌, ◌≤◌, ◌+◌, ℕ, Bool, List, [], ◌∷◌, ◌++◌, Option, None, Some}
+use Rattle.std.specs.Prelude.{◌≡◌, ◌≤◌, ◌+◌, ℕ, Bool, not, ◌&&◌, List, [], ◌∷◌, ◌++◌, map, Option, None, Some}
 use Rattle.std.specs.List.{AllByRecursion}
 use Rattle.ir_core.specs.declared.functions.Block.{Block}
 use Rattle.ir_core.specs.declared.functions.Function.{Function}
@@ -8,22 +8,35 @@ use Rattle.ir_core.specs.declared.functions.Instr.TheVariants as instr
 use Rattle.ir_core.specs.declared.functions.Module.{Module}
 use Rattle.ir_core.specs.declared.functions.Phi.{Phi}
 use Rattle.ir_core.specs.declared.limits.Limit.TheVariants.{Lines}
+use Rattle.ir_types.specs.declared.named.NamedTy.{NamedTy}
 use Rattle.ir_types.specs.declared.names.Name.{Name}
+use Rattle.ir_types.specs.declared.names.Sigil.{Sigil}
+use Rattle.ir_types.specs.declared.names.Sigil.TheVariants as sigil
 use Rattle.ir_core.specs.Functions.{edges_into, line_count, names_in, params_of, phi_registers, set_by}
 use Rattle.ir_core.specs.Limits.{line_limit}
+use Rattle.ir_core.specs.TypeNames.{names_in_struct}
 use Rattle.name_index.specs.Among.{is_among}
 use Rattle.ir_shape.specs.declared.fault.LinePlace.{LinePlace}
 use Rattle.ir_shape.specs.declared.fault.ShapeEnd.{ShapeEnd}
 use Rattle.ir_shape.specs.declared.fault.ShapeEnd.TheVariants as end
 use Rattle.ir_shape.specs.declared.fault.ShapeFault.{ShapeFault}
 use Rattle.shape_tests.specs.declared.kind.ShapeKind.{ShapeKind}
+use Rattle.shape_tests.specs.declared.kind.ShapeKind.TheVariants as kind
 pub use Rattle.shape_tests.specs.Kinds.{kind_text}
-use Rattle.shape_tests.specs.Kinds.{with_name, with_names, are_new, labels_of, Types, types_of, least, line_kind, end_kind, phi_kind, block_kind, name_kind, header_kind}
+use Rattle.shape_tests.specs.Kinds.{with_name, with_names, are_labels, are_new, fault_unless, labels_of, Types, types_of, least, line_kind, end_kind, phi_kind, block_kind, name_kind, header_kind}
 
 -- the fault of that kind at a place, if there is one
+abbrev pub fault_of : Sigil → Name → Option LinePlace → Option ShapeKind → List ShapeFault
+fault_of sigil name place None = []
+fault_of sigil name place (Some kind) = record { sigil = sigil; function = name; place = place; kind = kind } ∷ []
+
+-- in the named type of that name
+abbrev pub in_name : Name → Option ShapeKind → List ShapeFault
+in_name name kind = fault_of sigil.Local name None kind
+
+-- in the function of that name
 abbrev pub fault_at : Name → Option LinePlace → Option ShapeKind → List ShapeFault
-fault_at function place None = []
-fault_at function place (Some kind) = record { function = function; place = place; kind = kind } ∷ []
+fault_at function place kind = fault_of sigil.Global function place kind
 
 -- in the line of that number
 abbrev pub in_line : Name → Name → ℕ → Option ShapeKind → List ShapeFault
@@ -86,8 +99,22 @@ abbrev pub in_functions : List Name → List Function → List ShapeFault
 in_functions taken [] = []
 in_functions taken (f ∷ fs) = in_function (is_among f.name taken) f ++ in_functions (with_name taken f.name) fs
 
+-- the names of types, each once
+abbrev pub known_types : List NamedTy → List Name
+known_types types = with_names [] (map (λ (t : NamedTy). t.name) types)
+
+-- A named type's name, which may be taken, is new, and each name that stands in the type is one of those that are known.
+abbrev pub in_type : List Name → Bool → NamedTy → List ShapeFault
+in_type known taken t = in_name t.name (fault_unless (not taken && are_labels known (names_in_struct t)) kind.Name)
+
+-- type by type, behind those of the names that are taken
+abbrev pub in_types : List Name → List Name → List NamedTy → List ShapeFault
+in_types known taken [] = []
+in_types known taken (t ∷ ts) = in_type known (is_among t.name taken) t ++ in_types known (with_name taken t.name) ts
+
+-- named types come before functions
 abbrev pub faults_of : Module → List ShapeFault
-faults_of m = in_functions [] m.functions
+faults_of m = in_types (known_types m.types) [] m.types ++ in_functions [] m.functions
 
 abbrev pub first_of : List ShapeFault → Option ShapeFault
 first_of [] = None

@@ -1,6 +1,6 @@
 ghost use Rattle.std.specs.Prelude.{◌≡◌};
 
-use ir_core::{Limit, Name};
+use ir_core::{Limit, Name, Sigil};
 use shape_tests::ShapeKind;
 use std::alloc::AllocError;
 
@@ -12,9 +12,10 @@ pub struct LinePlace {
 }
 
 /// What is wrong with a module, and where: in a line of the function of that name, or, where there is no line, in the
-/// function's own name or its parameters.
+/// function's own name or its parameters. A local name is that of a named type, which has no lines.
 #[derive(Drop)]
 pub struct ShapeFault {
+    pub sigil: Sigil,
     pub function: Name,
     pub place: Option<LinePlace>,
     pub kind: ShapeKind,

@@ -9,11 +9,12 @@ ghost use Rattle.ir_shape.specs.Shape.{IsEndOf, IsFirstOf};
 ghost use Rattle.ir_shape.specs.Typed.{type_in};
 
 use crate::lines::{are_short, is_short};
+use crate::named::types_fit;
 use crate::told::{end_kind, line_kind, phi_kind};
 use crate::types::{Types, types_of};
 use crate::{LinePlace, ShapeEnd, ShapeFault};
 use contents::Exact;
-use ir_core::{BitType, Block, Function, Instr, Limit, Module, Name, Phi};
+use ir_core::{BitType, Block, Function, Instr, Limit, Module, Name, Phi, Sigil};
 use shape_tests::{
     LentNames, Row, ShapeKind, block_kind, counts_of, edges_of, header_kind, labels_of, least,
     name_kind, row_of, take_params,
@@ -46,9 +47,10 @@ fn fault_in_line(
     kind: ShapeKind,
 ) -> Result<ShapeFault, AllocError>
     ensures { IfOk result
-        (λ f. f ≡ record { function = function.now; place = Some (record { block = block.now; line = line }); kind = kind }) }
+        (λ f. f ≡ record { sigil = Sigil.Global; function = function.now; place = Some (record { block = block.now; line = line }); kind = kind }) }
 {
     Ok(ShapeFault {
+        sigil: Sigil::Global,
         function: function.copy(alloc)?,
         place: Some(LinePlace {
             block: block.copy(alloc)?,
@@ -83,6 +85,7 @@ fn header_fits(alloc: Global, function: &Name, found: Option<ShapeKind>) -> Resu
     match found {
         None => Ok(()),
         Some(kind) => Err(ShapeEnd::Fault(ShapeFault {
+            sigil: Sigil::Global,
             function: function.copy(alloc)?,
             place: None,
             kind,
@@ -361,6 +364,15 @@ fn functions_fit(alloc: Global, functions: &[Function]) -> Result<(), ShapeEnd>
     Ok(())
 }
 
+/// Whether a module has no fault: none in its named types, and none in its functions.
+fn module_fits(alloc: Global, module: &Module) -> Result<(), ShapeEnd>
+    ensures fits { IfOk result (λ _. meaning.faults_of «module».now ≡ []) }
+    ensures fault { IfErr result (IsFirstOf (meaning.faults_of «module».now)) }
+{
+    types_fit(alloc, module.types.as_slice())?;
+    functions_fit(alloc, module.functions.as_slice())
+}
+
 /// Whether a module has shape and is within the limit on lines; if not, that it isn't, or the first of its faults in the order of the
 /// file, and at one place the one of the first kind. Takes memory for the names of the module and for the lines of a block.
 pub fn shape(alloc: Global, module: &Module) -> Result<(), ShapeEnd>
@@ -368,11 +380,10 @@ pub fn shape(alloc: Global, module: &Module) -> Result<(), ShapeEnd>
     ensures short { IfOk result (λ _. AllByRecursion meaning.IsShort «module».now.functions) }
     ensures fault { IfErr result (IsEndOf «module».now.functions (meaning.faults_of «module».now)) }
 {
-    let functions = module.functions.as_slice();
-    if !are_short(functions) {
+    if !are_short(module.functions.as_slice()) {
         return Err(ShapeEnd::Limit(Limit::Lines));
     }
-    functions_fit(alloc, functions)
+    module_fits(alloc, module)
 }
 
 /// Whether a function beside a module has shape and is within the limit; if not, the same. Of its own name it is asked alone that it

@@ -1,6 +1,6 @@
 ghost use Rattle.ir_shape.specs.Laws.{FaultlessModulesHaveShape, ShapelyModulesAreFaultless, FaultlessFunctionsHaveShape, ShapelyFunctionsAreFaultless};
-ghost use Rattle.ir_shape.specs.Laws.{FittingLinesHaveNone, OperandsOfNoInteger, ConditionsAndArms, Conversions, Results, Phis, EnteredEntries, Branches, Cases, Names, Labels, Operands, Registers};
-ghost use Rattle.ir_shape.specs.Laws.{LinesComeBeforeEnds, NamesComeBeforeLines, FunctionsComeInOrder, KindsComeInOrder};
+ghost use Rattle.ir_shape.specs.Laws.{FittingLinesHaveNone, OperandsOfNoInteger, ConditionsAndArms, Conversions, Results, Phis, EnteredEntries, Branches, Cases, NamedTypes, Names, Labels, Operands, Registers};
+ghost use Rattle.ir_shape.specs.Laws.{LinesComeBeforeEnds, NamesComeBeforeLines, TypesComeFirst, FunctionsComeInOrder, KindsComeInOrder};
 
 /// Empty on purpose: its contract is the law.
 ///
@@ -47,12 +47,20 @@ pub fn examples_of_shape_faults()
 
 /// Empty on purpose: its contract is the law.
 ///
-/// The first place decides: a line before a terminator, a name before the lines, a function before the next one's name. At one place
-/// the first kind does.
+/// What is at fault in a named type: its name, where an earlier one has it, and a name in it that none has.
+pub fn examples_of_type_faults()
+    ensures { NamedTypes }
+{}
+
+/// Empty on purpose: its contract is the law.
+///
+/// The first place decides: a line before a terminator, a name before the lines, a function before the next one's name, and a named type
+/// before each function. At one place the first kind does.
 #[tactic(auto, unfolding(shape_tests::specs::Kinds::with_type))]
 pub fn examples_of_order()
     ensures ends { LinesComeBeforeEnds }
     ensures names { NamesComeBeforeLines }
+    ensures types { TypesComeFirst }
     ensures functions { FunctionsComeInOrder }
     ensures kinds { KindsComeInOrder }
 {}

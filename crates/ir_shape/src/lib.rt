@@ -6,13 +6,14 @@ mod fault;
 mod first;
 mod laws;
 mod lines;
+mod named;
 mod told;
 mod types;
 
 pub use fault::{LinePlace, ShapeEnd, ShapeFault};
 pub use first::{shape, shape_function};
 pub use laws::{
-    examples_of_order, examples_of_shape_faults, faultless_modules_have_shape,
+    examples_of_order, examples_of_shape_faults, examples_of_type_faults, faultless_modules_have_shape,
     functions_have_shape_or_a_fault, modules_with_shape_are_faultless,
 };
 pub use shape_tests::ShapeKind;
