@@ -115,10 +115,10 @@ abbrev pub place_text : Option LinePlace → List ℕ
 place_text None = []
 place_text (Some place) = line_text place.block place.line
 
--- `a.ll: @f %0 0: cast width`, and `a.ll: @llvm.dbg.x: name` of a function's own name
+-- `a.ll: @f %0 0: cast width`, `a.ll: @llvm.dbg.x: name` of a function's own name, and `a.ll: %x: name` of a named type
 abbrev pub shape_fault : ShapeFault → List ℕ → Answer
 shape_fault f file = fault_of 4 file
-    (codes ": " ++ printed_name sigil.Global f.function ++ place_text f.place ++ codes ": " ++ kind_text f.kind)
+    (codes ": " ++ printed_name f.sigil f.function ++ place_text f.place ++ codes ": " ++ kind_text f.kind)
 
 -- `a.ll: @f %0 0: %x not defined on path %0`
 abbrev pub undefined : Name → Undefined → List ℕ → Answer

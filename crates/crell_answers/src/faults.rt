@@ -150,7 +150,7 @@ fn shape_fault(alloc: Global, found: &ShapeFault, file: &str) -> Result<Answer, 
     ensures { IfOk result (λ a. a ≡ answer.shape_fault found.now file.now) }
 {
     let mut told = Vec::from_slice(alloc, b": ")?;
-    push_name(alloc, &mut told, Sigil::Global, &found.function)?;
+    push_name(alloc, &mut told, found.sigil, &found.function)?;
     push_line_place(alloc, &mut told, &found.place)?;
     told.extend_from_slice(b": ")?;
     told.extend_from_slice(found.kind.text().as_bytes())?;

@@ -164,7 +164,7 @@ block_ready : (m : Module) → IsWellFormed m → (f : Function) (b : Block) (ta
     → ((path : List Block) → IsPath f b path → PathUsesDefined taken b path) → Sets registers (taken ++ names_in (phi_registers b.phis)) → Ready m b.body (at_block f b registers)
 block_ready m well f b taken registers function inside ahead sets =
     let shape : HasFunctionShape f = all_at HasFunctionShape m.functions f well.shape.functions function in
-    let range : IsFunctionInRange f = all_at IsFunctionInRange m.functions f well.range function in
+    let range : IsFunctionInRange f = all_at IsFunctionInRange m.functions f well.range.functions function in
     record {
       function = function;
       block = b;
@@ -259,7 +259,7 @@ jump_ready m well frame world ready to leads = all_do_jump (LeadsReady m) frame 
     let edge = edge_to m frame ready b to leads named in
     let taken = ready.taken ++ names_in (registers_of ready.block) in
     let shape : HasFunctionShape frame.function = all_at HasFunctionShape m.functions frame.function well.shape.functions ready.function in
-    let range : IsFunctionInRange frame.function = all_at IsFunctionInRange m.functions frame.function well.range ready.function in
+    let range : IsFunctionInRange frame.function = all_at IsFunctionInRange m.functions frame.function well.range.functions ready.function in
     let kinds = kinds_of frame.function b shape range edge.0 in
     let before : Sets frame.registers taken = subst (Sets frame.registers) (at_its_end m frame ready) ready.sets in
     let registers = with_phis frame.registers frame.block b.phis frame.registers in

@@ -31,6 +31,7 @@ block b lines result = record { name = b; phis = []; body = lines; term = Ret (r
 -- define i32 @f(PARAMS) { b: LINES  ret i32 RESULT }
 abbrev pub defining : Name → List Param → Name → List Instr → Atom Name → Module
 defining f params b lines result = record {
+  types = [];
   functions = record { name = f; result = Int 32; params = params; blocks = block b lines result ∷ [] } ∷ [];
 }
 

@@ -1,5 +1,5 @@
 -- What module a text names, however long the text is. Places are passed over.
-use Rattle.std.specs.Prelude.{◌≡◌, ℕ, ◌≤◌, List, map, Option, Some, None}
+use Rattle.std.specs.Prelude.{◌≡◌, ℕ, ◌≤◌, List, [], map, Option, Some, None}
 use Rattle.std.specs.List.{AllZip, Contains}
 use Rattle.ir_core.specs.declared.functions.Block.{Block}
 use Rattle.ir_core.specs.declared.functions.Case.{Case}
@@ -150,6 +150,9 @@ pub record NamesFunction (w : DefinitionText) (f : Function) : Type 0 where
 --
 -- `define i8 @g(i1) { br i1 %0, label %2, label %2 phi i8 [ 7, %1 ] ret i8 %3 }` names the module of one function, `g`, whose blocks
 -- are 1, which is without lines and branches to 2 on the register 0, and 2, whose phi, the register 3, is 7 from the block 1.
+--
+-- No definition names a type.
 pub record NamesModule (w : ModuleText) (m : Module) : Type 0 where
+  pub types : m.types ≡ []
   pub functions : AllZip NamesFunction w.definitions m.functions
   pub order : AreInOrder (function_names m)

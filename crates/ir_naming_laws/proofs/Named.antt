@@ -6,6 +6,7 @@ use Rattle.ir_core.specs.Limits.{line_limit}
 use Rattle.ir_core.specs.Order.{AreInOrder}
 use Rattle.ir_core.specs.declared.functions.Function.{Function}
 use Rattle.ir_core.specs.declared.functions.Module.{Module}
+use Rattle.ir_types.specs.declared.named.NamedTy.{NamedTy}
 use Rattle.ir_types.specs.declared.names.Name.{Name}
 use Rattle.ir_grammar.specs.declared.trees.BlockText.{BlockText}
 use Rattle.ir_grammar.specs.declared.trees.DefinitionText.{DefinitionText}
@@ -97,6 +98,7 @@ module_named w faultless within =
     let each = all_mapped IsRightItem item_of w.definitions (all_left IsRightItem (map item_of w.definitions) (module_item w ∷ []) items) in
     let last = all_right IsRightItem (map item_of w.definitions) (module_item w ∷ []) items in
     record {
+      types = refl;
       functions = zip_mapped NamesFunction function_of w.definitions (functions w.definitions each within);
       order = subst AreInOrder (sym (functions_names 0 w.definitions)) (in_order (map function_thing w.definitions) last.0);
     }
@@ -151,8 +153,11 @@ no_fault_of items right f has =
     let some : fault_at item has.2.0 ≡ Some f.reason = has.2.2.2 in
     cc
 
-module_same : (m : Module) (fs : List Function) → m.functions ≡ fs → m ≡ record { functions = fs }
-module_same m fs e = let of : List Function → Module = λ gs. record { functions = gs } in ap of e
+module_same : (m : Module) (fs : List Function) → m.types ≡ [] → m.functions ≡ fs → m ≡ record { types = []; functions = fs }
+module_same m fs none e =
+    let of_types : List NamedTy → Module = λ ts. record { types = ts; functions = m.functions } in
+    let of : List Function → Module = λ gs. record { types = []; functions = gs } in
+    ap of_types none ∙ ap of e
 
 pub module_right : (w : ModuleText) (m : Module) → NamesModule w m → IsFaultless w × IsWithinLines w × (m ≡ module_of w)
 module_right w m n =
@@ -164,5 +169,5 @@ module_right w m n =
     let last : IsRightItem (module_item w) = names_right ds [] things 0 0 order.1 refl refl order.0 order.2 in (
       no_fault_of (claims_of w) (all_append IsRightItem (map item_of w.definitions) (module_item w ∷ []) functions.right (last, tt)),
       functions.few,
-      module_same m (map function_of w.definitions) functions.same,
+      module_same m (map function_of w.definitions) n.types functions.same,
     )

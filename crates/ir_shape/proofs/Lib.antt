@@ -4,3 +4,4 @@ pub mod Shapely
 pub mod Found
 pub mod Short
 pub mod TypeNames
+pub mod TypeExamples

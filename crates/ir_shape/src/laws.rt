@@ -48,6 +48,7 @@ pub fn examples_of_shape_faults()
 /// Empty on purpose: its contract is the law.
 ///
 /// What is at fault in a named type: its name, where an earlier one has it, and a name in it that none has.
+#[tactic(auto, using(crate::proofs::TypeExamples::named_types))]
 pub fn examples_of_type_faults()
     ensures { NamedTypes }
 {}
@@ -56,7 +57,7 @@ pub fn examples_of_type_faults()
 ///
 /// The first place decides: a line before a terminator, a name before the lines, a function before the next one's name, and a named type
 /// before each function. At one place the first kind does.
-#[tactic(auto, unfolding(shape_tests::specs::Kinds::with_type))]
+#[tactic(auto, unfolding(shape_tests::specs::Kinds::with_type), using(crate::proofs::TypeExamples::types_come_first))]
 pub fn examples_of_order()
     ensures ends { LinesComeBeforeEnds }
     ensures names { NamesComeBeforeLines }

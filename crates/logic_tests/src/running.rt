@@ -7,7 +7,7 @@ ghost use Rattle.ir_machine.specs.Places.{state_of};
 use contents::Seq;
 use ir_core::{
     Atom, BinOp, Binary, Bits, Block, Calm, Const, Expr, Flags, Function, Instr, Module, Name,
-    Operand, Param, Term, Ty,
+    NamedTypes, Operand, Param, Term, Ty,
 };
 use ir_machine::{
     Choice, Chooser, Input, Item, Progress, RunState, Shown, StartEnd, StepEnd, start, step,
@@ -98,7 +98,8 @@ fn sample(alloc: Global, flags: Flags, value: Returns) -> Result<Module, AllocEr
             blocks,
         },
     )?;
-    Ok(Module { functions })
+    let types = NamedTypes::none(alloc);
+    Ok(Module { types, functions })
 }
 
 fn input_of(alloc: Global, numbers: &[u64]) -> Result<Input, AllocError> {

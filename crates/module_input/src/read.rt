@@ -73,6 +73,17 @@ fn are_seen(alloc: Global, functions: &[Function]) -> Result<bool, AllocError>
     Ok(true)
 }
 
+/// Whether a module that names no types is seen to be without fault and defined. No is no answer.
+fn is_seen(alloc: Global, module: &Module) -> Result<bool, AllocError>
+    ensures faultless { IfOk result (λ seen. seen ≡ true → first_fault «module».now ≡ None) }
+    ensures defined { IfOk result (λ seen. seen ≡ true → AllByRecursion IsFunctionDefined «module».now.functions) }
+{
+    if module.types.as_slice().is_empty() {
+        return are_seen(alloc, module.functions.as_slice());
+    }
+    Ok(false)
+}
+
 /// Whether a module that is spelled is well-formed; if not, its first fault. Nearly all are, which is seen at once.
 fn fits(alloc: Global, module: &Module) -> Result<(), ModuleFault>
     requires shape { first_fault «module».now ≡ None → HasShape «module».now }
@@ -81,7 +92,7 @@ fn fits(alloc: Global, module: &Module) -> Result<(), ModuleFault>
     ensures defined { IfOk result (λ _. AllByRecursion IsFunctionDefined «module».now.functions) }
     ensures fault { IfErr result (HasFault «module».now) }
 {
-    if are_seen(alloc, module.functions.as_slice())? {
+    if is_seen(alloc, module)? {
         return Ok(());
     }
     shaped(alloc, module)?;

@@ -7,7 +7,9 @@ ghost use Rattle.ir_naming.specs.Walk.{HasRoom, with_thing, with_things};
 
 use crate::flow::{name_node, name_term};
 use contents::{Exact, Seq};
-use ir_core::{BitType, Block, Calm, Function, Instr, Module, Name, Param, Phi, Ty};
+use ir_core::{
+    BitType, Block, Calm, Function, Instr, Module, Name, NamedTypes, Param, Phi, Ty,
+};
 use ir_grammar::{
     BlockText, BodyText, DefinitionText, LineText, ModuleText, ParamText, PhiText, Placed,
 };
@@ -452,5 +454,6 @@ pub fn name_module(alloc: Global, text: ModuleText) -> Result<(Module, Vec<Item>
         definitions,
         claims,
     })?;
-    Ok((Module { functions }, items))
+    let types = NamedTypes::none(alloc);
+    Ok((Module { types, functions }, items))
 }

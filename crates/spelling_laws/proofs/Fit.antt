@@ -1,11 +1,11 @@
 -- A module that a text spells has its names in order, is in range, and has shape where it has no fault.
-use Rattle.std.proofs.Common.{ℕ, List, [], ◌∷◌}
+use Rattle.std.proofs.Common.{ℕ, List, [], ◌∷◌, subst, sym}
 use Rattle.std.specs.List.{AllByRecursion, AllZip}
 use Rattle.ir_core.specs.declared.functions.Function.{Function}
 use Rattle.ir_core.specs.declared.functions.Module.{Module}
 use Rattle.ir_core.specs.Functions.{names_of}
 use Rattle.ir_core.specs.Order.{AreInOrder, IsInOrder}
-use Rattle.ir_core.specs.Ranges.{AreBytes, IsFunctionInRange, IsInRange}
+use Rattle.ir_core.specs.Ranges.{AreBytes, IsFunctionInRange, IsInRange, IsNamedTypeInRange}
 use Rattle.ir_grammar.specs.declared.trees.DefinitionText.{DefinitionText}
 use Rattle.ir_naming.specs.Spells.{NamesFunction}
 use Rattle.ir_shape.specs.Laws.{FaultlessModulesHaveShape}
@@ -43,4 +43,7 @@ pub short : (bytes : List ℕ) (m : Module) → Spells bytes m → AllByRecursio
 short bytes m s = functions_short s.tree.definitions m.functions s.names.functions
 
 pub in_range : (bytes : List ℕ) (m : Module) → AreBytes bytes → Spells bytes m → IsInRange m
-in_range bytes m small s = functions_ranged s.tree.definitions m.functions (spelled_range bytes s.tree small s.symbols) s.names.functions
+in_range bytes m small s = record {
+  types = subst (AllByRecursion IsNamedTypeInRange) (sym s.names.types) tt;
+  functions = functions_ranged s.tree.definitions m.functions (spelled_range bytes s.tree small s.symbols) s.names.functions;
+}

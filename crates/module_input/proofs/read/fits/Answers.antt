@@ -1,20 +1,16 @@
-use Rattle.std.proofs.Common.{◌≡◌, ◌∙◌, [], true, List, ap, subst, sym, rules}
-use Rattle.std.specs.List.{AllByRecursion}
-use Rattle.ir_core.specs.declared.functions.Function.{Function}
-use Rattle.ir_core.specs.WellFormed.{IsFunctionDefined}
-use Rattle.ir_shape.specs.Shape.{first_of, in_functions}
+use Rattle.std.proofs.Common.{◌≡◌, true, rules}
 use Rattle.module_input.proofs.Told.{always_ok, of_shape, undefined_is_first}
 use Rattle.module_input.proofs.read.fits.Goals as goal
 
 pub returns-then-branch-clause-faultless : goal.returns-then-branch-clause-faultless
 returns-then-branch-clause-faultless c =
-    let yes : c.in_ok-are_seen.field-0 ≡ true = search rules in
-    ap first_of (ap (in_functions []) (sym c.as_slice.ensures) ∙ c.in_ok-are_seen.ensures.faultless yes)
+    let yes : c.in_ok-is_seen.field-0 ≡ true = search rules in
+    c.in_ok-is_seen.ensures.faultless yes
 
 pub returns-then-branch-clause-defined : goal.returns-then-branch-clause-defined
 returns-then-branch-clause-defined c =
-    let yes : c.in_ok-are_seen.field-0 ≡ true = search rules in
-    subst (AllByRecursion IsFunctionDefined) c.as_slice.ensures (c.in_ok-are_seen.ensures.defined yes)
+    let yes : c.in_ok-is_seen.field-0 ≡ true = search rules in
+    c.in_ok-is_seen.ensures.defined yes
 
 pub returns-clause-faultless : goal.returns-clause-faultless
 returns-clause-faultless c = always_ok c.all_defined.result _ (search rules)
