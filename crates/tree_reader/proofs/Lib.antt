@@ -2,3 +2,4 @@ pub mod Counting
 pub mod Single
 pub mod Whole
 mod Wide
+pub mod Letters
