@@ -44,6 +44,11 @@ in_that_block f labels types entry earlier taken bs k b faults within at same e 
     subst (λ faults. IsFirstOf faults e) (sym (ap in_these (drop_more bs k b within) ∙ ap (λ (c : Block). in_these (c ∷ drop (k + 1) bs)) (sym at)) ∙ same)
     (further (in_block f labels types entry earlier taken b) (in_blocks f labels types entry (with_name earlier b.name) (with_block taken b) (drop (k + 1) bs)) e is)
 
+-- where the first faults are none, the others decide
+pub others_decide : {A : Type 0} (xs ys : List ShapeFault) → xs ≡ [] → (r : Result A ShapeEnd) → IfErr r (IsFirstOf ys) → IfErr r (IsFirstOf (xs ++ ys))
+others_decide xs ys none (Ok a) is = tt
+others_decide xs ys none (Err e) is = subst (λ (zs : List ShapeFault). IsFirstOf (zs ++ ys) e) (sym none) is
+
 -- within the limit on lines, the first fault is why
 end_by : (fs : List Function) (faults : List ShapeFault) → AllByRecursion IsShort fs → (e : ShapeEnd) → IsFirstOf faults e → IsEndOf fs faults e
 end_by fs faults short (end.Fault f) is = (short, is)
