@@ -13,7 +13,8 @@ mod types;
 pub use fault::{LinePlace, ShapeEnd, ShapeFault};
 pub use first::{shape, shape_function};
 pub use laws::{
-    examples_of_order, examples_of_shape_faults, examples_of_type_faults, faultless_modules_have_shape,
-    functions_have_shape_or_a_fault, modules_with_shape_are_faultless,
+    examples_of_order, examples_of_shape_faults, examples_of_type_faults,
+    faultless_modules_have_shape, functions_have_shape_or_a_fault,
+    modules_with_shape_are_faultless,
 };
 pub use shape_tests::ShapeKind;

@@ -53,12 +53,7 @@ fn names_known(known: &LentNames, named: &NamedTy) -> bool
 }
 
 /// Whether a named type has no fault, whose name may be taken.
-fn type_fits(
-    alloc: Global,
-    known: &LentNames,
-    taken: bool,
-    named: &NamedTy,
-) -> Result<(), ShapeEnd>
+fn type_fits(alloc: Global, known: &LentNames, taken: bool, named: &NamedTy) -> Result<(), ShapeEnd>
     ensures fits { IfOk result (λ _. meaning.in_type known.now taken named.now ≡ []) }
     ensures fault { IfErr result (IsFirstOf (meaning.in_type known.now taken named.now)) }
 {
