@@ -27,8 +27,15 @@ pub fn print_right(alloc: Global, right: &Expr<Name>) -> Result<Vec<u8>, AllocEr
     ensures { IfOk result (λ text. text.items ≡ printed_expr printed_local right.now) }
 {
     let mut text = Vec::new(alloc);
-    push_expr(&mut text, right)?;
+    push_right(&mut text, right)?;
     Ok(text)
+}
+
+/// Puts the right side of a line at the end of the text.
+pub fn push_right(text: &mut Vec<u8>, right: &Expr<Name>) -> Result<(), AllocError>
+    ensures { OnOk result (text.new.items ≡ text.old.items ++ printed_expr printed_local right.now) }
+{
+    push_expr(text, right)
 }
 
 fn push_expr<R: Register>(text: &mut Vec<u8>, expr: &Expr<R>) -> Result<(), AllocError>
@@ -48,8 +55,22 @@ pub fn print_value(alloc: Global, ty: &Ty, value: &Atom<Name>) -> Result<Vec<u8>
     ensures { IfOk result (λ text. text.items ≡ printed_value ty.now value.now) }
 {
     let mut text = Vec::new(alloc);
-    push_atom(&mut text, ty, value)?;
+    push_value(&mut text, ty, value)?;
     Ok(text)
+}
+
+/// Puts a constant or a register of a function, without its type, at the end of the text.
+pub fn push_value(text: &mut Vec<u8>, ty: &Ty, value: &Atom<Name>) -> Result<(), AllocError>
+    ensures { OnOk result (text.new.items ≡ text.old.items ++ printed_value ty.now value.now) }
+{
+    push_atom(text, ty, value)
+}
+
+/// Puts a constant or a register of a function, behind its type, at the end of the text.
+pub fn push_typed_value(text: &mut Vec<u8>, operand: &Operand<Name>) -> Result<(), AllocError>
+    ensures { OnOk result (text.new.items ≡ text.old.items ++ printed_operand printed_local operand.now) }
+{
+    push_operand(text, operand)
 }
 
 fn push_atom<R: Register>(text: &mut Vec<u8>, ty: &Ty, atom: &Atom<R>) -> Result<(), AllocError>

@@ -1,4 +1,4 @@
-ghost use Rattle.std.specs.Prelude.{◌≡◌, ◌++◌, ◌<◌, true, if◌then◌else◌, OnOk, IfOk};
+ghost use Rattle.std.specs.Prelude.{◌≡◌, ◌++◌, ◌∷◌, [], ◌+◌, ◌<◌, true, if◌then◌else◌, OnOk, IfOk};
 ghost use Rattle.std.specs.Char.{is_ascii_digit};
 ghost use Rattle.std.specs.List.{list_all};
 ghost use Rattle.std.specs.Fmt.{decimal};
@@ -17,10 +17,18 @@ pub fn print_name(alloc: Global, sigil: Sigil, name: &Name) -> Result<Vec<u8>, A
     Ok(text)
 }
 
-pub(crate) fn push_name(text: &mut Vec<u8>, sigil: Sigil, name: &Name) -> Result<(), AllocError>
+/// Puts the name with its sigil at the end of the text.
+pub fn push_name(text: &mut Vec<u8>, sigil: Sigil, name: &Name) -> Result<(), AllocError>
     ensures { OnOk result (text.new.items ≡ text.old.items ++ printed_name sigil name.now) }
 {
     text.push(sigil_of(sigil))?;
+    push_name_text(text, name)
+}
+
+/// Puts the name without a sigil, as a label has it, at the end of the text.
+pub fn push_name_text(text: &mut Vec<u8>, name: &Name) -> Result<(), AllocError>
+    ensures { OnOk result (text.new.items ≡ text.old.items ++ name_text name.now) }
+{
     match name {
         Name::Text(bytes) => push_text_name(text, bytes.as_slice()),
         Name::Number(number) => push_decimal(text, *number as u64),
@@ -112,9 +120,24 @@ fn last_digit(value: u8) -> u8
     }
 }
 
+/// The digits, from the first to the last.
+#[tactic(auto, using(crate::proofs::Digits::digit_more, std::proofs::lemmas::Fmt::decimal_digit))]
 pub(crate) fn push_decimal(text: &mut Vec<u8>, number: u64) -> Result<(), AllocError>
     ensures { OnOk result (text.new.items ≡ text.old.items ++ decimal number) }
 {
-    let digits = number.to_string(*text.allocator())?;
-    text.extend_from_slice(digits.as_bytes())
+    if number < 10 {
+        push_digit(text, number)
+    } else {
+        push_decimal(text, number / 10)?;
+        push_digit(text, number % 10)?;
+        Ok(())
+    }
+}
+
+fn push_digit(text: &mut Vec<u8>, digit: u64) -> Result<(), AllocError>
+    requires { digit < 10 }
+    ensures { OnOk result (text.new.items ≡ text.old.items ++ ((48 + digit) ∷ [])) }
+{
+    text.push(b'0' + digit as u8)?;
+    Ok(())
 }

@@ -14,8 +14,9 @@ pub fn print_type(alloc: Global, ty: &Ty) -> Result<Vec<u8>, AllocError>
     Ok(text)
 }
 
+/// Puts the type at the end of the text.
 #[tactic(auto, using(crate::proofs::TypeTexts::types_by_parts))]
-pub(crate) fn push_type(text: &mut Vec<u8>, ty: &Ty) -> Result<(), AllocError>
+pub fn push_type(text: &mut Vec<u8>, ty: &Ty) -> Result<(), AllocError>
     ensures { OnOk result (text.new.items ≡ text.old.items ++ printed_type ty.now) }
 {
     push_parts(text, ty)

@@ -14,7 +14,8 @@ pub(crate) fn push_constant(text: &mut Vec<u8>, ty: &Ty, constant: &Const) -> Re
     }
 }
 
-fn push_number(text: &mut Vec<u8>, ty: &Ty, number: u64) -> Result<(), AllocError>
+/// Puts a number of that type, as a constant has it, at the end of the text.
+pub fn push_number(text: &mut Vec<u8>, ty: &Ty, number: u64) -> Result<(), AllocError>
     ensures { OnOk result (text.new.items ≡ text.old.items ++ number_text ty.now number) }
 {
     match ty {

@@ -1,0 +1,91 @@
+ghost use Rattle.std.specs.Prelude.{◌≡◌, ◌++◌, [], map, OnOk, IfOk};
+ghost use Rattle.std.specs.List.{flat_map};
+ghost use Rattle.expression_printer.specs.Printed.{listed};
+ghost use Rattle.ir_printer.specs.Printed.{param_name, param_text, head_text, function_text, later_function, functions_text, printed_module};
+
+use crate::blocks::push_blocks;
+use expression_printer::{push_name, push_type};
+use ir_core::{Function, Module, Name, Param, Sigil};
+use std::alloc::{AllocError, Global};
+
+/// The module as text: its functions in the order of the file, with a blank line between any two.
+pub fn print_module(alloc: Global, module: &Module) -> Result<Vec<u8>, AllocError>
+    ensures { IfOk result (λ text. text.items ≡ printed_module «module».now) }
+{
+    let mut text = Vec::new(alloc);
+    push_functions(&mut text, module.functions.as_slice())?;
+    Ok(text)
+}
+
+fn push_functions(text: &mut Vec<u8>, functions: &[Function]) -> Result<(), AllocError>
+    ensures { OnOk result (text.new.items ≡ text.old.items ++ functions_text functions.now) }
+{
+    let Some((first, later)) = functions.split_first() else {
+        return Ok(());
+    };
+    push_function(text, first)?;
+    push_later_functions(text, later)
+}
+
+/// Each behind a blank line.
+fn push_later_functions(text: &mut Vec<u8>, functions: &[Function]) -> Result<(), AllocError>
+    ensures { OnOk result (text.new.items ≡ text.old.items ++ flat_map later_function functions.now) }
+{
+    for function in functions {
+        text.push(b'\n')?;
+        push_function(text, function)?;
+    }
+    Ok(())
+}
+
+fn push_function(text: &mut Vec<u8>, function: &Function) -> Result<(), AllocError>
+    ensures { OnOk result (text.new.items ≡ text.old.items ++ function_text «function».now) }
+{
+    push_head(text, function)?;
+    push_blocks(text, function.blocks.as_slice())?;
+    text.extend_from_slice(b"}\n")
+}
+
+fn push_head(text: &mut Vec<u8>, function: &Function) -> Result<(), AllocError>
+    ensures { OnOk result (text.new.items ≡ text.old.items ++ head_text «function».now) }
+{
+    text.extend_from_slice(b"define ")?;
+    push_type(text, &function.result)?;
+    text.push(b' ')?;
+    push_name(text, Sigil::Global, &function.name)?;
+    text.push(b'(')?;
+    push_params(text, function.params.as_slice())?;
+    text.extend_from_slice(b") {\n")
+}
+
+fn push_params(text: &mut Vec<u8>, params: &[Param]) -> Result<(), AllocError>
+    ensures { OnOk result (text.new.items ≡ text.old.items ++ listed [] (map param_text params.now)) }
+{
+    let mut before: &[u8] = b"";
+    for i in 0..params.len() {
+        text.extend_from_slice(before)?;
+        push_param(text, &params[i])?;
+        before = b", ";
+    }
+    Ok(())
+}
+
+/// The type, and the name where there is one.
+fn push_param(text: &mut Vec<u8>, param: &Param) -> Result<(), AllocError>
+    ensures { OnOk result (text.new.items ≡ text.old.items ++ param_text param.now) }
+{
+    push_type(text, &param.ty)?;
+    push_param_name(text, &param.name)
+}
+
+fn push_param_name(text: &mut Vec<u8>, name: &Name) -> Result<(), AllocError>
+    ensures { OnOk result (text.new.items ≡ text.old.items ++ param_name name.now) }
+{
+    match name {
+        Name::Text(_) => {
+            text.push(b' ')?;
+            push_name(text, Sigil::Local, name)
+        }
+        Name::Number(_) => Ok(()),
+    }
+}
