@@ -32,10 +32,12 @@ unfoldable pub usage_text : List ℕ
 usage_text =
     line (codes "usage: crell check SRC TGT HINTS")
     ++ line (codes "       crell defs FILE")
+    ++ line (codes "       crell fmt FILE")
     ++ line (codes "")
     ++ line (codes "check says whether the module in the file TGT refines the one in the file SRC, both textual LLVM IR, by")
     ++ line (codes "the hints in the JSON file HINTS. defs prints for each block of the module in FILE the registers that are")
-    ++ line (codes "defined on every path to its start, or that no path leads there. A file's name doesn't begin with `-`.")
+    ++ line (codes "defined on every path to its start, or that no path leads there. fmt prints the module in FILE as text.")
+    ++ line (codes "A file's name doesn't begin with `-`.")
     ++ line (codes "")
     ++ line (codes "Exit status:")
     ++ line (codes "  0   valid, or printed whole")

@@ -27,11 +27,13 @@ pub fn usage_text() -> &'static [u8]
     ensures { result.now ≡ answer.usage_text }
 {
     b"usage: crell check SRC TGT HINTS\n       \
-crell defs FILE\n\
+crell defs FILE\n       \
+crell fmt FILE\n\
 \n\
 check says whether the module in the file TGT refines the one in the file SRC, both textual LLVM IR, by\n\
 the hints in the JSON file HINTS. defs prints for each block of the module in FILE the registers that are\n\
-defined on every path to its start, or that no path leads there. A file's name doesn't begin with `-`.\n\
+defined on every path to its start, or that no path leads there. fmt prints the module in FILE as text.\n\
+A file's name doesn't begin with `-`.\n\
 \n\
 Exit status:\n  \
 0   valid, or printed whole\n  \

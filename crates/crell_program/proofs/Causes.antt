@@ -18,18 +18,19 @@ use Rattle.crell_io.specs.Shelf.{IfTold}
 use Rattle.crell_io.specs.Sink.{appended}
 use Rattle.crell_answers.specs.declared.answer.Answer.{Answer}
 use Rattle.crell_answers.specs.Answer.{usage, usage_text, module_fault, text_fault, at_fault, printed, read_failed, past_limit, absent}
+use Rattle.crell_program.specs.declared.command.Listing.{Listing}
 use Rattle.crell_program.specs.declared.command.Form.TheVariants.{ModuleText, HintFile}
-use Rattle.crell_program.specs.Command.{File, limit_of, CheckFiles, Command, Check, Defs, files_of}
+use Rattle.crell_program.specs.Command.{File, limit_of, CheckFiles, Command, Check, Print, files_of}
 use Rattle.crell_answers.specs.VerdictText.{verdict_answer}
-use Rattle.crell_program.specs.Due.{ShelfSeen, Held, Missing, Long, Broken, MayCome, DueOfFile, DueOfFiles, DueOfCheck, DueOfDefs, DueOfTexts, IsAtFault, IsReadOnlyAs, SpellsOnly, checked}
+use Rattle.crell_program.specs.Due.{ShelfSeen, Held, Missing, Long, Broken, MayCome, DueOfFile, DueOfFiles, DueOfCheck, DueOfListing, DueOfTexts, IsAtFault, IsReadOnlyAs, SpellsOnly, checked}
 use Rattle.crell_program.specs.Delivery.{SinkSeen, GotAll, GotPart, GotNothing, IsDelivered}
 use Rattle.crell_program.specs.Rows.{Run, IsAnswered, WritingFailed}
-use Rattle.crell_program.specs.Statuses.{AreDefinitions, ReadsHints, SomeOf, IsFit, HasFault, IsPlace, IsPassedLimit, HintsAreAtFault, IsAnswer, IsInvalid, HasNoVerdict, IsUnfit, module_status, text_status, AreJudged, NoneIsAbsent, SomeFileIsUnfit, SomeFileIsLonger, SomeFileIsMissing, IsStatus}
+use Rattle.crell_program.specs.Statuses.{HasListing, ReadsHints, SomeOf, IsFit, HasFault, IsPlace, IsPassedLimit, HintsAreAtFault, IsAnswer, IsInvalid, HasNoVerdict, IsUnfit, module_status, text_status, AreJudged, NoneIsAbsent, SomeFileIsUnfit, SomeFileIsLonger, SomeFileIsMissing, IsStatus}
 use Rattle.crell_program.proofs.Bytes.{if_told, TellsAll, if_all_told, none_absent}
 
 -- what is said at a status
 abbrev pub Says : Run → ℕ → Type 0
-Says run zero = AreDefinitions run.shelf.told run.command (λ lines. GotAll run.out lines)
+Says run zero = HasListing run.shelf.told run.command (λ text. GotAll run.out text)
 Says run (suc zero) = IsAnswer IsInvalid run.rules run.shelf.told run.command
 Says run (suc (suc zero)) = (run.command ≡ None) × GotNothing run.out × GotAll run.err usage_text
 Says run (suc (suc (suc zero))) = SomeFileIsUnfit 3 run.shelf.told run.command × GotNothing run.out
@@ -187,16 +188,17 @@ module _ (rules : Rules) (shelf : ShelfSeen) (out err : SinkSeen) (names : Check
         if_all_told shelf.told (files_of (Check names)) (source ∷ target ∷ hints ∷ []) (AreJudged rules P (Check names)) told (s, t, h, sp.0, tp.0, hp.0, p),
       )
 
-module _ (rules : Rules) (shelf : ShelfSeen) (out err : SinkSeen) (file text : List ℕ) (told : TellsAll shelf.told (files_of (Defs file)) (text ∷ [])) where
-  pub says_defs : (answer : Answer) → DueOfDefs file answer text → SaysOf (command_run rules shelf out err (Defs file)) answer
-  says_defs answer (inl (f, is, e)) =
+module _ (rules : Rules) (shelf : ShelfSeen) (out err : SinkSeen) (listing : Listing) (file text : List ℕ)
+    (told : TellsAll shelf.told (files_of (Print listing file)) (text ∷ [])) where
+  pub says_listing : (answer : Answer) → DueOfListing listing file answer text → SaysOf (command_run rules shelf out err (Print listing file)) answer
+  says_listing answer (inl (f, is, e)) =
       let unfit : IsUnfit (module_status f) ModuleText text = (refl, (f, is, refl)) in
-      let present : NoneIsAbsent shelf.told (files_of (Defs file)) = none_absent shelf.told (files_of (Defs file)) (text ∷ []) told in
-      along (command_run rules shelf out err (Defs file)) answer (module_fault f text file) e
-      (says_unfit rules shelf out err (Defs file) f text file is
+      let present : NoneIsAbsent shelf.told (files_of (Print listing file)) = none_absent shelf.told (files_of (Print listing file)) (text ∷ []) told in
+      along (command_run rules shelf out err (Print listing file)) answer (module_fault f text file) e
+      (says_unfit rules shelf out err (Print listing file) f text file is
       (present, inl (refl, if_told _ text (IsUnfit (module_status f) ModuleText) told.0 unfit)))
-  says_defs answer (inr (m, sp, due)) =
-      along (command_run rules shelf out err (Defs file)) answer (printed due.0) due.2
+  says_listing answer (inr (m, sp, due)) =
+      along (command_run rules shelf out err (Print listing file)) answer (printed due.0) due.2
       (λ to_out to_err. (text, told.0, (m, sp, (due.0, due.1, to_out))))
 
 says_texts : (rules : Rules) (shelf : ShelfSeen) (out err : SinkSeen) (command : Command) (answer : Answer) (texts : List (List ℕ))
@@ -206,9 +208,9 @@ says_texts rules shelf out err (Check names) answer [] told due = absurd due
 says_texts rules shelf out err (Check names) answer (source ∷ []) told due = absurd due
 says_texts rules shelf out err (Check names) answer (source ∷ target ∷ []) told due = absurd due
 says_texts rules shelf out err (Check names) answer (source ∷ target ∷ hints ∷ text ∷ more) told due = absurd due
-says_texts rules shelf out err (Defs file) answer (text ∷ []) told due = says_defs rules shelf out err file text told answer due
-says_texts rules shelf out err (Defs file) answer [] told due = absurd due
-says_texts rules shelf out err (Defs file) answer (text ∷ other ∷ more) told due = absurd due
+says_texts rules shelf out err (Print listing file) answer (text ∷ []) told due = says_listing rules shelf out err listing file text told answer due
+says_texts rules shelf out err (Print listing file) answer [] told due = absurd due
+says_texts rules shelf out err (Print listing file) answer (text ∷ other ∷ more) told due = absurd due
 
 module _ (rules : Rules) (shelf : ShelfSeen) (out err : SinkSeen) (command : Command) where
   says_files : (answer : Answer) → DueOfFiles shelf (files_of command) answer (DueOfTexts rules command answer) → SaysOf (command_run rules shelf out err command) answer

@@ -18,11 +18,12 @@ use Rattle.crell_io.specs.Count.{HasRisen}
 use Rattle.crell_io.specs.Shelf.{Told, IfTold}
 use Rattle.crell_io.specs.Shelf.Told.{NoSuch, Bytes}
 use Rattle.crell_answers.specs.declared.answer.Answer.{Answer}
+use Rattle.crell_program.specs.declared.command.Listing.{Listing}
 use Rattle.crell_program.specs.declared.command.Form.TheVariants.{ModuleText, HintFile}
 use Rattle.crell_answers.specs.Answer.{module_fault, at_fault}
-use Rattle.crell_program.specs.Command.{File, most_bytes, CheckFiles, Command, Check, Defs, files_of}
+use Rattle.crell_program.specs.Command.{File, most_bytes, CheckFiles, Command, Check, Print, files_of}
 use Rattle.crell_answers.specs.VerdictText.{verdict_status, verdict_answer}
-use Rattle.crell_program.specs.Due.{ShelfSeen, Held, Missing, Long, Broken, DueOfFile, DueOfFiles, DueOfCheck, DueOfDefs, DueOfTexts, IsAtFault, checked}
+use Rattle.crell_program.specs.Due.{ShelfSeen, Held, Missing, Long, Broken, DueOfFile, DueOfFiles, DueOfCheck, DueOfListing, DueOfTexts, IsAtFault, checked}
 use Rattle.crell_program.specs.Delivery.{SinkSeen, IsDelivered}
 use Rattle.crell_program.specs.Rows.{Run, IsAnswered, NoFault}
 use Rattle.crell_program.specs.Statuses.{HoldsAllOf, HoldsAll, HasVerdict, AreJudged, FirstIsUnfit, IsInvalid, HasNoVerdict, module_status, HintsHaveFault, fault_status, IsListed, IsAbsent, IsOverlong, FirstUnheldOf, FirstUnheld}
@@ -136,7 +137,7 @@ judged_as excludes rules P Q leads (Check names) answer [] within judged due = a
 judged_as excludes rules P Q leads (Check names) answer (source ∷ []) within judged due = absurd due
 judged_as excludes rules P Q leads (Check names) answer (source ∷ target ∷ []) within judged due = absurd due
 judged_as excludes rules P Q leads (Check names) answer (source ∷ target ∷ hints ∷ text ∷ more) within judged due = absurd due
-judged_as excludes rules P Q leads (Defs file) answer texts within judged due = absurd judged
+judged_as excludes rules P Q leads (Print listing file) answer texts within judged due = absurd judged
 
 -- where the checker says such, the status is this one
 pub judged_so : FaultsExcludeModules → (P : Option ModuleVerdict → Type 0) (known : ℕ) → ((said : Option ModuleVerdict) (file : List ℕ) → P said → (checked said file).status ≡ known)
@@ -183,11 +184,11 @@ module _ (kinds : FaultsAreOfOneKind) (excludes : FaultsExcludeModules) where
   unread_check rules names answer source target hints known short also (inr (form, fit, inr (form_too, fit_too, inr unfit))) (inr (s, sp, inr (t, tp, due))) =
       absurd (not_a_module unfit.0)
 
-  unread_defs : (file : List ℕ) (answer : Answer) (text : List ℕ) (known : ℕ) → length text ≤ text_limit
-      → FirstIsUnfit known (files_of (Defs file)) (text ∷ []) → DueOfDefs file answer text → answer.status ≡ known
-  unread_defs file answer text known short (inl (form, (g, first, same))) (inl (f, is, e)) = by_fault text file answer f g known short is e first same
-  unread_defs file answer text known short (inl (form, (g, first, same))) (inr (m, sp, due)) = absurd (excludes text g m short first.0 first.1 sp.0)
-  unread_defs file answer text known short (inr (form, fit, none)) due = absurd none
+  unread_listing : (listing : Listing) (file : List ℕ) (answer : Answer) (text : List ℕ) (known : ℕ) → length text ≤ text_limit
+      → FirstIsUnfit known (files_of (Print listing file)) (text ∷ []) → DueOfListing listing file answer text → answer.status ≡ known
+  unread_listing listing file answer text known short (inl (form, (g, first, same))) (inl (f, is, e)) = by_fault text file answer f g known short is e first same
+  unread_listing listing file answer text known short (inl (form, (g, first, same))) (inr (m, sp, due)) = absurd (excludes text g m short first.0 first.1 sp.0)
+  unread_listing listing file answer text known short (inr (form, fit, none)) due = absurd none
 
   unread_texts : (rules : Rules) (known : ℕ) (command : Command) (answer : Answer) (texts : List (List ℕ)) → AreWithin (files_of command) texts
       → FirstIsUnfit known (files_of command) texts → DueOfTexts rules command answer texts → answer.status ≡ known
@@ -197,9 +198,9 @@ module _ (kinds : FaultsAreOfOneKind) (excludes : FaultsExcludeModules) where
   unread_texts rules known (Check names) answer (source ∷ []) within unfit due = absurd due
   unread_texts rules known (Check names) answer (source ∷ target ∷ []) within unfit due = absurd due
   unread_texts rules known (Check names) answer (source ∷ target ∷ hints ∷ text ∷ more) within unfit due = absurd due
-  unread_texts rules known (Defs file) answer (text ∷ []) within unfit due = unread_defs file answer text known within.0 unfit due
-  unread_texts rules known (Defs file) answer [] within unfit due = absurd due
-  unread_texts rules known (Defs file) answer (text ∷ other ∷ more) within unfit due = absurd due
+  unread_texts rules known (Print listing file) answer (text ∷ []) within unfit due = unread_listing listing file answer text known within.0 unfit due
+  unread_texts rules known (Print listing file) answer [] within unfit due = absurd due
+  unread_texts rules known (Print listing file) answer (text ∷ other ∷ more) within unfit due = absurd due
 
   pub unread : (run : Run) (status : ℕ) → IsAnswered run status → (fault : ℕ)
       → HoldsAll run.shelf.told run.command (λ command. FirstIsUnfit fault (files_of command)) → NoFault run → (status ≡ fault) ⊎ (status ≡ 8)
@@ -232,8 +233,8 @@ hints_unread_texts excludes rules fault (Check names) answer [] within unfit due
 hints_unread_texts excludes rules fault (Check names) answer (source ∷ []) within unfit due = absurd due
 hints_unread_texts excludes rules fault (Check names) answer (source ∷ target ∷ []) within unfit due = absurd due
 hints_unread_texts excludes rules fault (Check names) answer (source ∷ target ∷ hints ∷ text ∷ more) within unfit due = absurd due
-hints_unread_texts excludes rules fault (Defs file) answer texts within (inl form, fit) due = absurd (not_a_module (sym form))
-hints_unread_texts excludes rules fault (Defs file) answer texts within (inr none, fit) due = absurd none
+hints_unread_texts excludes rules fault (Print listing file) answer texts within (inl form, fit) due = absurd (not_a_module (sym form))
+hints_unread_texts excludes rules fault (Print listing file) answer texts within (inr none, fit) due = absurd none
 
 pub hints_unread : FaultsExcludeModules → (run : Run) (status : ℕ) → IsAnswered run status → (fault : Fault)
     → HoldsAll run.shelf.told run.command (HintsHaveFault fault) → NoFault run → (status ≡ fault_status fault) ⊎ (status ≡ 8)
@@ -241,15 +242,15 @@ hints_unread excludes run status answered fault =
     all_well run.rules run.shelf run.out run.err run.command (HintsHaveFault fault) (fault_status fault) status
     (hints_unread_texts excludes run.rules fault) answered
 
--- what is defined in a well-formed module is printed
+-- what is listed of a well-formed module is printed
 listed_texts : FaultsExcludeModules → (rules : Rules) (command : Command) (answer : Answer) (texts : List (List ℕ))
     → AreWithin (files_of command) texts → IsListed command texts → DueOfTexts rules command answer texts → answer.status ≡ 0
 listed_texts excludes rules (Check names) answer texts within listed due = absurd listed
-listed_texts excludes rules (Defs file) answer (text ∷ []) within listed (inl (f, is, e)) =
+listed_texts excludes rules (Print listing file) answer (text ∷ []) within listed (inl (f, is, e)) =
     absurd (excludes text f listed.0.0 within.0 is.0 is.1 listed.0.1)
-listed_texts excludes rules (Defs file) answer (text ∷ []) within listed (inr (m, sp, due)) = ap (λ (a : Answer). a.status) due.2
-listed_texts excludes rules (Defs file) answer [] within listed due = absurd due
-listed_texts excludes rules (Defs file) answer (text ∷ other ∷ more) within listed due = absurd due
+listed_texts excludes rules (Print listing file) answer (text ∷ []) within listed (inr (m, sp, due)) = ap (λ (a : Answer). a.status) due.2
+listed_texts excludes rules (Print listing file) answer [] within listed due = absurd due
+listed_texts excludes rules (Print listing file) answer (text ∷ other ∷ more) within listed due = absurd due
 
 pub printed : FaultsExcludeModules → (run : Run) (status : ℕ) → IsAnswered run status → HoldsAll run.shelf.told run.command IsListed → NoFault run
     → (status ≡ 0) ⊎ (status ≡ 8)

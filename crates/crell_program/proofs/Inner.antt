@@ -19,10 +19,11 @@ use Rattle.erhl_assert.specs.declared.verdict.ModuleVerdict.{ModuleVerdict}
 use Rattle.erhl_assert.specs.declared.verdict.ModuleVerdict.TheVariants as modules
 use Rattle.crell_io.specs.Shelf.{Told, IfTold}
 use Rattle.crell_answers.specs.declared.answer.Answer.{Answer}
-use Rattle.crell_program.specs.Command.{File, CheckFiles, Command, Check, Defs, files_of}
+use Rattle.crell_program.specs.declared.command.Listing.{Listing}
+use Rattle.crell_program.specs.Command.{File, CheckFiles, Command, Check, Print, files_of}
 use Rattle.crell_program.specs.Fetching.{AreHeld}
 use Rattle.crell_answers.specs.VerdictText.{verdict_status, verdict_answer}
-use Rattle.crell_program.specs.Due.{ShelfSeen, Held, Missing, Long, Broken, DueOfFile, DueOfFiles, DueOfCheck, DueOfDefs, DueOfTexts, IsListing, IsReadOnlyAs, SpellsOnly, checked}
+use Rattle.crell_program.specs.Due.{ShelfSeen, Held, Missing, Long, Broken, DueOfFile, DueOfFiles, DueOfCheck, DueOfListing, DueOfTexts, IsListing, IsReadOnlyAs, SpellsOnly, checked}
 use Rattle.crell_program.specs.Delivery.{SinkSeen, IsDelivered, Untouched}
 use Rattle.crell_program.specs.Rows.{IsAnswered}
 use Rattle.crell_program.specs.Statuses.{AreRefined, IsRefinement, IsRefinementOfBytes, SpellsOne}
@@ -30,7 +31,7 @@ use Rattle.crell_program.proofs.Bytes.{if_told}
 use Rattle.crell_program.proofs.Fetches.{due_of_held}
 use Rattle.crell_program.proofs.FaultStatus.{module_fault_status, fault_status_isnt_zero}
 
-if_ok_then : {A E : Type 0} (r : Result A E) (P Q : A → Type 0) → ((a : A) → P a → Q a) → IfOk r P → IfOk r Q
+pub if_ok_then : {A E : Type 0} (r : Result A E) (P Q : A → Type 0) → ((a : A) → P a → Q a) → IfOk r P → IfOk r Q
 if_ok_then (Ok a) P Q f p = f a p
 if_ok_then (Err e) P Q f p = tt
 
@@ -164,7 +165,7 @@ module _ {E : Type 0} (rules : Rules) (shelf : ShelfSeen) (names : CheckFiles) (
       (λ answer f z. if_told (shelf.told names.source) source (λ a. IfTold (shelf.told names.target) (λ b. AreRefined a b)) all.0.1
       (if_told (shelf.told names.target) target (λ b. AreRefined source b) all.1.0.1 (f z))) refined_texts
 
--- ---- the text of `defs`
+-- ---- the text of `defs` or `fmt`
 
 one_of : (xs : List (List ℕ)) (a : List ℕ) → 1 ≤ length xs → length xs < 2 → a ≡ get_or xs 0 a → xs ≡ a ∷ []
 one_of [] a l m e = absurd (omega arith)
@@ -172,35 +173,36 @@ one_of (x ∷ []) a l m e = cc
 one_of (x ∷ y ∷ xs) a l m e = absurd (omega arith)
 
 -- the text that was fetched is one, lent
-pub held_one : (shelf : ShelfSeen) (name : List ℕ) (files : List File) (texts lent : List (List ℕ)) (a text : List ℕ)
-    → AreHeld shelf files texts → files ≡ files_of (Defs name) → lent ≡ texts → 1 ≤ length lent → length lent < 2 → a ≡ get_or lent 0 a → text ≡ a
-    → AreHeld shelf (files_of (Defs name)) (text ∷ [])
-held_one shelf name files texts lent a text held is same least most at e =
+pub held_one : (shelf : ShelfSeen) (listing : Listing) (name : List ℕ) (files : List File) (texts lent : List (List ℕ)) (a text : List ℕ)
+    → AreHeld shelf files texts → files ≡ files_of (Print listing name) → lent ≡ texts → 1 ≤ length lent → length lent < 2 → a ≡ get_or lent 0 a → text ≡ a
+    → AreHeld shelf (files_of (Print listing name)) (text ∷ [])
+held_one shelf listing name files texts lent a text held is same least most at e =
     let all : texts ≡ text ∷ [] = sym same ∙ one_of lent a least most at ∙ ap (λ (t : List ℕ). t ∷ []) (sym e) in
     subst (λ (fs : List File). AreHeld shelf fs (text ∷ [])) is (subst (λ (ts : List (List ℕ)). AreHeld shelf files ts) all held)
 
-module _ {E : Type 0} (rules : Rules) (shelf : ShelfSeen) (name text : List ℕ) (all : AreHeld shelf (files_of (Defs name)) (text ∷ [])) (r : Result Answer E) where
-  pub file_judged : IfOk r (λ answer. DueOfDefs name answer text)
-      → IfOk r (λ answer. DueOfFiles shelf (files_of (Defs name)) answer (DueOfTexts rules (Defs name) answer))
+module _ {E : Type 0} (rules : Rules) (shelf : ShelfSeen) (listing : Listing) (name text : List ℕ)
+    (all : AreHeld shelf (files_of (Print listing name)) (text ∷ [])) (r : Result Answer E) where
+  pub file_judged : IfOk r (λ answer. DueOfListing listing name answer text)
+      → IfOk r (λ answer. DueOfFiles shelf (files_of (Print listing name)) answer (DueOfTexts rules (Print listing name) answer))
   file_judged due = if_ok_then r _ _
-      (λ answer d. due_of_held shelf (files_of (Defs name)) (text ∷ []) answer (DueOfTexts rules (Defs name) answer) all d) due
+      (λ answer d. due_of_held shelf (files_of (Print listing name)) (text ∷ []) answer (DueOfTexts rules (Print listing name) answer) all d) due
 
-  pub file_spelled : IfOk r (λ answer. answer.status ≡ 0 → SpellsOne text) → IfOk r (λ answer. answer.status ≡ 0 → IsRefinement shelf.told (Defs name))
+  pub file_spelled : IfOk r (λ answer. answer.status ≡ 0 → SpellsOne text) → IfOk r (λ answer. answer.status ≡ 0 → IsRefinement shelf.told (Print listing name))
   file_spelled spelled = if_ok_then r _ _ (λ answer f z. if_told (shelf.told name) text SpellsOne all.0.1 (f z)) spelled
 
-module _ {E : Type 0} (name text : List ℕ) (r : Result Answer E) where
-  -- a module's lines are printed
-  pub lines_judged : (m : Module) → SpellsOnly text m → IfOk r (IsListing m) → IfOk r (λ answer. DueOfDefs name answer text)
-  lines_judged m sp = if_ok_then r (IsListing m) (λ answer. DueOfDefs name answer text) (λ answer listing. inr (m, sp, listing))
+module _ {E : Type 0} (listing : Listing) (name text : List ℕ) (r : Result Answer E) where
+  -- what is listed of a module is printed
+  pub listing_judged : (m : Module) → SpellsOnly text m → IfOk r (IsListing listing m) → IfOk r (λ answer. DueOfListing listing name answer text)
+  listing_judged m sp = if_ok_then r (IsListing listing m) (λ answer. DueOfListing listing name answer text) (λ answer printed. inr (m, sp, printed))
 
-  pub one_spelled : (m : Module) → SpellsOnly text m → IfOk r (IsListing m) → IfOk r (λ answer. answer.status ≡ 0 → SpellsOne text)
-  one_spelled m sp = if_ok_then r (IsListing m) (λ answer. answer.status ≡ 0 → SpellsOne text) (λ answer listing z. (m, sp.0.0, sp.1))
+  pub one_spelled : (m : Module) → SpellsOnly text m → IfOk r (IsListing listing m) → IfOk r (λ answer. answer.status ≡ 0 → SpellsOne text)
+  one_spelled m sp = if_ok_then r (IsListing listing m) (λ answer. answer.status ≡ 0 → SpellsOne text) (λ answer printed z. (m, sp.0.0, sp.1))
 
 -- or its fault is told
-pub fault_listed : {E : Type 0} (name text : List ℕ) (fault : ModuleFault) → IsModuleFault text fault → (r : Result Answer E) → IfOk r (λ _. fault ≢ faults.Memory)
-    → IfOk r (λ a. a ≡ module_fault fault text name) → IfOk r (λ answer. DueOfDefs name answer text)
-fault_listed name text fault is (Ok answer) said e = inl (fault, (is, said), e)
-fault_listed name text fault is (Err end) said e = e
+pub fault_listed : {E : Type 0} (listing : Listing) (name text : List ℕ) (fault : ModuleFault) → IsModuleFault text fault → (r : Result Answer E) → IfOk r (λ _. fault ≢ faults.Memory)
+    → IfOk r (λ a. a ≡ module_fault fault text name) → IfOk r (λ answer. DueOfListing listing name answer text)
+fault_listed listing name text fault is (Ok answer) said e = inl (fault, (is, said), e)
+fault_listed listing name text fault is (Err end) said e = e
 
 pub fault_spelled : {E : Type 0} (name text : List ℕ) (fault : ModuleFault) → (r : Result Answer E)
     → IfOk r (λ a. a ≡ module_fault fault text name) → IfOk r (λ answer. answer.status ≡ 0 → SpellsOne text)

@@ -1,11 +1,13 @@
 -- The words of the command line.
-use Rattle.std.specs.Prelude.{ℕ, Bool, false, ◌&&◌, ◌==◌, not, cond, List, [], ◌∷◌, Option, None, Some, codes}
+use Rattle.std.specs.Prelude.{ℕ, Bool, false, ◌&&◌, ◌==◌, not, cond, List, [], ◌∷◌, Option, None, Some, option_map, codes}
 use Rattle.std.specs.Str.{bytes_eq}
 use Rattle.ir_core.specs.declared.limits.Limit.{Limit}
 use Rattle.ir_core.specs.declared.limits.Limit.TheVariants as limit
 use Rattle.ir_core.specs.Limits.{limit_number}
 use Rattle.crell_program.specs.declared.command.Form.{Form}
 use Rattle.crell_program.specs.declared.command.Form.TheVariants.{ModuleText, HintFile}
+use Rattle.crell_program.specs.declared.command.Listing.{Listing}
+use Rattle.crell_program.specs.declared.command.Listing.TheVariants.{Definitions, ModuleItself}
 use Rattle.crell_program.specs.declared.command.Wanted.{Wanted}
 use Rattle.crell_program.specs.declared.command.FileNames.{FileNames}
 use Rattle.crell_program.specs.declared.command.Request.{Request}
@@ -30,17 +32,17 @@ pub record CheckFiles : Type 0 where
   pub target : List ℕ
   pub hints : List ℕ
 
--- `check`, with its files; `defs`, with the name of its file
+-- `check`, with its files; `defs` and `fmt`, by what they list of a module, with the name of its file
 pub data Command : Type 0 where
   Check : CheckFiles → Command
-  Defs : List ℕ → Command
+  Print : Listing → List ℕ → Command
 
 -- the files that a command reads, in the order in which they are judged
 abbrev pub files_of : Command → List File
 files_of (Check names) =
     record { name = names.source; form = ModuleText } ∷ record { name = names.target; form = ModuleText }
     ∷ record { name = names.hints; form = HintFile } ∷ []
-files_of (Defs file) = record { name = file; form = ModuleText } ∷ []
+files_of (Print listing file) = record { name = file; form = ModuleText } ∷ []
 
 abbrev pub begins_with_dash : List ℕ → Bool
 begins_with_dash [] = false
@@ -52,13 +54,17 @@ check_of command source target hints =
     cond (bytes_eq command (codes "check") && not (begins_with_dash source) && not (begins_with_dash target) && not (begins_with_dash hints))
     (Some (Check (record { source = source; target = target; hints = hints }))) None
 
--- `defs` and the name of a file, which doesn't begin with `-`
-abbrev pub defs_of : List ℕ → List ℕ → Option Command
-defs_of command file = cond (bytes_eq command (codes "defs") && not (begins_with_dash file)) (Some (Defs file)) None
+-- what the command of that word lists
+abbrev pub listing_of : List ℕ → Option Listing
+listing_of command = cond (bytes_eq command (codes "defs")) (Some Definitions) (cond (bytes_eq command (codes "fmt")) (Some ModuleItself) None)
+
+-- `defs` or `fmt`, and the name of a file, which doesn't begin with `-`
+abbrev pub print_of : List ℕ → List ℕ → Option Command
+print_of command file = cond (begins_with_dash file) None (option_map (λ listing. Print listing file) (listing_of command))
 
 -- The words are the program's name, and then these. All other words are no command.
 abbrev pub command_of : List (List ℕ) → Option Command
-command_of (program ∷ command ∷ file ∷ []) = defs_of command file
+command_of (program ∷ command ∷ file ∷ []) = print_of command file
 command_of (program ∷ command ∷ source ∷ target ∷ hints ∷ []) = check_of command source target hints
 command_of words = None
 
@@ -74,13 +80,13 @@ shown_command names = Check (shown_names names)
 
 abbrev pub shown_request : Request → Command
 shown_request (request.Check names) = shown_command names
-shown_request (request.Defs file) = Defs file.now
+shown_request (request.Print listing file) = Print listing file.now
 
 -- Words of private functions: the one command or the other, as the code tells them apart.
 abbrev pub check_in : List (List ℕ) → Option Command
 check_in (program ∷ command ∷ source ∷ target ∷ hints ∷ []) = check_of command source target hints
 check_in words = None
 
-abbrev pub defs_in : List (List ℕ) → Option Command
-defs_in (program ∷ command ∷ file ∷ []) = defs_of command file
-defs_in words = None
+abbrev pub print_in : List (List ℕ) → Option Command
+print_in (program ∷ command ∷ file ∷ []) = print_of command file
+print_in words = None

@@ -17,11 +17,14 @@ use Rattle.erhl_assert.specs.declared.verdict.ModuleVerdict.{ModuleVerdict}
 use Rattle.crell_io.specs.Count.{HasRisen, HasRisenAbove}
 use Rattle.crell_io.specs.Shelf.{Told, IfTold}
 use Rattle.crell_io.specs.Shelf.Told.{NoSuch}
-use Rattle.crell_program.specs.Command.{File, limit_of, most_bytes, CheckFiles, Command, Check, Defs, files_of}
+use Rattle.crell_program.specs.declared.command.Listing.{Listing}
+use Rattle.crell_program.specs.declared.command.Listing.TheVariants.{Definitions, ModuleItself}
+use Rattle.crell_program.specs.Command.{File, limit_of, most_bytes, CheckFiles, Command, Check, Print, files_of}
 use Rattle.crell_answers.specs.declared.answer.Answer.{Answer}
 use Rattle.crell_answers.specs.Answer.{usage, module_fault, at_fault, printed, read_failed, past_limit, absent}
 use Rattle.crell_answers.specs.VerdictText.{verdict_answer}
 use Rattle.definition_text.specs.Lines.{AreLines}
+use Rattle.ir_printer.specs.Printed.{printed_module}
 
 -- what came of asking for a file
 pub data Got : Type 0 where
@@ -102,13 +105,18 @@ DueOfCheck rules names answer source target hints =
     DueOfModule names.target target answer (λ t.
     DueOfHints names.hints hints answer (λ h. answer ≡ checked (module_answer rules s t h) names.source)))
 
--- the lines of a module's functions are printed: for each block what is defined at its start
-abbrev pub IsListing : Module → Answer → Type 0
-IsListing m answer = (lines : List ℕ) × AreLines m.functions lines × (answer ≡ printed lines)
+-- The text is what is listed of the module: for each block of its functions what is defined at its start; or the module itself.
+abbrev pub Lists : Listing → Module → List ℕ → Type 0
+Lists Definitions m text = AreLines m.functions text
+Lists ModuleItself m text = text ≡ printed_module m
 
--- the text of `defs` is judged, and then what is defined in its module is printed
-abbrev pub DueOfDefs : List ℕ → Answer → List ℕ → Type 0
-DueOfDefs file answer text = DueOfModule file text answer (λ m. IsListing m answer)
+-- what is listed of the module is printed
+abbrev pub IsListing : Listing → Module → Answer → Type 0
+IsListing listing m answer = (text : List ℕ) × Lists listing m text × (answer ≡ printed text)
+
+-- the text of `defs` or `fmt` is judged, and then what is listed of its module is printed
+abbrev pub DueOfListing : Listing → List ℕ → Answer → List ℕ → Type 0
+DueOfListing listing file answer text = DueOfModule file text answer (λ m. IsListing listing m answer)
 
 -- the texts of a command's files are there, one for each
 abbrev pub DueOfTexts : Rules → Command → Answer → List (List ℕ) → Type 0
@@ -117,9 +125,9 @@ DueOfTexts rules (Check names) answer [] = ⊥
 DueOfTexts rules (Check names) answer (source ∷ []) = ⊥
 DueOfTexts rules (Check names) answer (source ∷ target ∷ []) = ⊥
 DueOfTexts rules (Check names) answer (source ∷ target ∷ hints ∷ text ∷ more) = ⊥
-DueOfTexts rules (Defs file) answer (text ∷ []) = DueOfDefs file answer text
-DueOfTexts rules (Defs file) answer [] = ⊥
-DueOfTexts rules (Defs file) answer (text ∷ other ∷ more) = ⊥
+DueOfTexts rules (Print listing file) answer (text ∷ []) = DueOfListing listing file answer text
+DueOfTexts rules (Print listing file) answer [] = ⊥
+DueOfTexts rules (Print listing file) answer (text ∷ other ∷ more) = ⊥
 
 -- the answer that is due to these words
 abbrev pub IsDue : Rules → ShelfSeen → Option Command → Answer → Type 0

@@ -9,7 +9,7 @@ use Rattle.crell_answers.specs.Answer.{usage_text}
 use Rattle.crell_program.specs.Command.{Command, files_of}
 use Rattle.crell_program.specs.Due.{ShelfSeen, IsDue}
 use Rattle.crell_program.specs.Delivery.{SinkSeen, IsDelivered, GotAll, GotNothing, Untouched}
-use Rattle.crell_program.specs.Statuses.{IsAnswer, IsInvalid, HasNoVerdict, SomeFileIsUnfit, IsPlace, IsPassedLimit, HintsAreAtFault, HintsHaveFault, fault_status, SomeFileIsLonger, SomeFileIsMissing, HoldsAll, FirstIsUnfit, IsListed, AreDefinitions, HasVerdict, FirstUnheld, IsAbsent, IsOverlong, IsStatus}
+use Rattle.crell_program.specs.Statuses.{IsAnswer, IsInvalid, HasNoVerdict, SomeFileIsUnfit, IsPlace, IsPassedLimit, HintsAreAtFault, HintsHaveFault, fault_status, SomeFileIsLonger, SomeFileIsMissing, HoldsAll, FirstIsUnfit, IsListed, HasListing, HasVerdict, FirstUnheld, IsAbsent, IsOverlong, IsStatus}
 
 -- the rules, the command that the words name, and the shelf and the sinks before the run and after it
 pub record Run : Type 0 where
@@ -38,8 +38,8 @@ NoFault run = (HasRisen run.shelf.faults run.shelf.faults_after → ⊥) × (Has
 pub record KeepsRows (run : Run) (status : ℕ) : Type 0 where
   -- Which answer is due, and that it is delivered; or memory was refused, and no sink was asked.
   pub answered : IsAnswered run status
-  -- `defs` has printed the lines of its file's module, and exactly these.
-  pub listed : status ≡ 0 → AreDefinitions run.shelf.told run.command (λ lines. GotAll run.out lines)
+  -- `defs` has printed the lines of its file's module, `fmt` the module, and exactly that.
+  pub listed : status ≡ 0 → HasListing run.shelf.told run.command (λ text. GotAll run.out text)
   -- The checker refuses the pair.
   pub refused : status ≡ 1 → IsAnswer IsInvalid run.rules run.shelf.told run.command
   -- The words are no command's; then nothing is written to out, and the usage to err.
@@ -59,7 +59,7 @@ pub record KeepsRows (run : Run) (status : ℕ) : Type 0 where
   -- Nothing is written to out but under 0 and 1, and a first part of it under 7.
   pub out_kept : status ≢ 0 → status ≢ 1 → status ≢ 7 → GotNothing run.out
   -- Where all of its files are told and within their limits, and no count of faults rises: the status is that of the first fault of
-  -- the first module that has one, 3, 4 or 9; else 5 or 9 where the hints have a first fault, as it is; else 0 under `defs`, and under `check`
+  -- the first module that has one, 3, 4 or 9; else 5 or 9 where the hints have a first fault, as it is; else 0 under `defs` and `fmt`, and under `check`
   -- 9 where too many facts are known, and else the verdict's; or memory was refused.
   pub unread : (fault : ℕ) → HoldsAll run.shelf.told run.command (λ command. FirstIsUnfit fault (files_of command)) → NoFault run
       → (status ≡ fault) ⊎ (status ≡ 8)

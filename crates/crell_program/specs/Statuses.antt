@@ -24,9 +24,8 @@ use Rattle.crell_io.specs.Shelf.{Told, IfTold, IsBytesAnd}
 use Rattle.crell_io.specs.Shelf.Told.{NoSuch}
 use Rattle.crell_program.specs.declared.command.Form.{Form}
 use Rattle.crell_program.specs.declared.command.Form.TheVariants.{ModuleText, HintFile}
-use Rattle.crell_program.specs.Command.{File, most_bytes, Command, Check, Defs, files_of}
-use Rattle.definition_text.specs.Lines.{AreLines}
-use Rattle.crell_program.specs.Due.{ShelfSeen, Missing, Long, MayCome, IsAtFault, SpellsOnly}
+use Rattle.crell_program.specs.Command.{File, most_bytes, Command, Check, Print, files_of}
+use Rattle.crell_program.specs.Due.{ShelfSeen, Missing, Long, MayCome, IsAtFault, SpellsOnly, Lists}
 
 -- the text spells a module, and no other
 abbrev pub SpellsOne : List ℕ → Type 0
@@ -39,11 +38,11 @@ AreRefined source target = SpellsOne source × SpellsOne target
     × ((s t : Module) → Spells source s → Spells target t
     → (f : Name) (input : Input) (n : ℕ) (items : List Item) → Shows t f input n items → MayShow s f input items)
 
--- The texts of a command's files are such that the command has done what it is for. Those of `check` refine; that of `defs` spells one module, and
--- the rows say what is printed of it.
+-- The texts of a command's files are such that the command has done what it is for. Those of `check` refine; that of `defs` or `fmt` spells one module,
+-- and the rows say what is printed of it.
 abbrev pub IsRefinement : (List ℕ → Told) → Command → Type 0
 IsRefinement told (Check names) = IfTold (told names.source) (λ source. IfTold (told names.target) (λ target. AreRefined source target))
-IsRefinement told (Defs file) = IfTold (told file) SpellsOne
+IsRefinement told (Print listing file) = IfTold (told file) SpellsOne
 
 -- THE HEADLINE. The words are a command's, and if the shelf tells what it holds under the source's and the target's names,
 -- these bytes spell two modules, of which the target's refines the source's, if the command is `check`.
@@ -151,7 +150,7 @@ AreJudged rules P (Check names) [] = ⊥
 AreJudged rules P (Check names) (source ∷ []) = ⊥
 AreJudged rules P (Check names) (source ∷ target ∷ []) = ⊥
 AreJudged rules P (Check names) (source ∷ target ∷ hints ∷ text ∷ more) = ⊥
-AreJudged rules P (Defs file) texts = ⊥
+AreJudged rules P (Print listing file) texts = ⊥
 
 -- The words are a command's, and none of its files is told to be absent. One of them is to hold a module, and if it is told, its
 -- first fault has that status.
@@ -192,19 +191,19 @@ IsAnswer P rules told (Some command) =
 abbrev pub HasVerdict : Rules → (List ℕ → Told) → Option Command → (Option ModuleVerdict → Type 0) → Type 0
 HasVerdict rules told command P = HoldsAll told command (AreJudged rules P)
 
--- of the texts of `defs` there is one, which spells a well-formed module
+-- of the texts of `defs` or `fmt` there is one, which spells a well-formed module
 abbrev pub IsListed : Command → List (List ℕ) → Type 0
 IsListed (Check names) texts = ⊥
-IsListed (Defs file) texts = AllZip (λ (file : File). IsFit file.form) (files_of (Defs file)) texts
+IsListed (Print listing file) texts = AllZip (λ (file : File). IsFit file.form) (files_of (Print listing file)) texts
 
--- Where the command is `defs`: the text of its file, if it is told, spells one module, which is well-formed; and these are the lines of its
--- blocks with the registers that are defined at their starts.
-abbrev pub AreDefinitions : (List ℕ → Told) → Option Command → (List ℕ → Type 0) → Type 0
-AreDefinitions told None P = Unit {0}
-AreDefinitions told (Some (Check names)) P = Unit {0}
-AreDefinitions told (Some (Defs file)) P =
+-- Where the command is `defs` or `fmt`: the text of its file, if it is told, spells one module, which is well-formed; and what is listed of it,
+-- the lines of its blocks with the registers that are defined at their starts, or the module itself, is such.
+abbrev pub HasListing : (List ℕ → Told) → Option Command → (List ℕ → Type 0) → Type 0
+HasListing told None P = Unit {0}
+HasListing told (Some (Check names)) P = Unit {0}
+HasListing told (Some (Print listing file)) P =
     (text : List ℕ) × IfTold (told file) (λ held. text ≡ held)
-    × ((m : Module) × SpellsOnly text m × ((lines : List ℕ) × AreLines m.functions lines × P lines))
+    × ((m : Module) × SpellsOnly text m × ((listed : List ℕ) × Lists listing m listed × P listed))
 
 -- told to be absent
 abbrev pub IsAbsent : (List ℕ → Told) → File → Type 0

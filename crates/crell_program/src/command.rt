@@ -1,5 +1,5 @@
 ghost use Rattle.std.specs.Prelude.{◌≡◌, ◌<◌, ◌^◌, ◌-◌, map, string_bytes, option_map};
-ghost use Rattle.crell_program.specs.Command.{begins_with_dash, check_in, command_of, defs_in, files_of, limit_of, most_bytes, shown_command, shown_file, shown_request};
+ghost use Rattle.crell_program.specs.Command.{begins_with_dash, check_in, command_of, files_of, listing_of, print_in, limit_of, most_bytes, shown_command, shown_file, shown_request};
 
 use ir_core::Limit;
 
@@ -74,11 +74,20 @@ impl FileNames<'_> {
     }
 }
 
+/// What a command lists of a module.
+#[derive(Drop, Clone, Copy)]
+pub enum Listing {
+    /// The registers that are defined on every path to each of its blocks.
+    Definitions,
+    /// The module as text.
+    ModuleItself,
+}
+
 /// A command, with the names of its files.
 #[derive(Drop)]
 pub enum Request<'a> {
     Check(FileNames<'a>),
-    Defs(&'a str),
+    Print(Listing, &'a str),
 }
 
 /// The command, if the words are a command's.
@@ -87,7 +96,7 @@ pub fn command_of(words: &[String]) -> Option<Request<'_>>
 {
     match check_in(words) {
         Some(request) => Some(request),
-        None => defs_in(words),
+        None => print_in(words),
     }
 }
 
@@ -113,18 +122,34 @@ fn check_in(words: &[String]) -> Option<Request<'_>>
     }))
 }
 
-/// `defs` and its file, if the words are that command's.
-fn defs_in(words: &[String]) -> Option<Request<'_>>
-    ensures { option_map shown_request result ≡ defs_in (map string_bytes words.now) }
+/// `defs` or `fmt` and its file, if the words are one of these commands'.
+fn print_in(words: &[String]) -> Option<Request<'_>>
+    ensures { option_map shown_request result ≡ print_in (map string_bytes words.now) }
 {
     let [_program, command, file] = words else {
         return None;
     };
     let file = file.as_str();
-    if command.as_str() != "defs" || begins_with_dash(file) {
+    if begins_with_dash(file) {
         return None;
     }
-    Some(Request::Defs(file))
+    match listing_of(command.as_str()) {
+        Some(listing) => Some(Request::Print(listing, file)),
+        None => None,
+    }
+}
+
+/// What the command of that word lists.
+fn listing_of(command: &str) -> Option<Listing>
+    ensures { result ≡ listing_of command.now }
+{
+    if command == "defs" {
+        Some(Listing::Definitions)
+    } else if command == "fmt" {
+        Some(Listing::ModuleItself)
+    } else {
+        None
+    }
 }
 
 fn begins_with_dash(word: &str) -> bool

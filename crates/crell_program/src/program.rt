@@ -6,13 +6,13 @@ ghost use Rattle.rule_base.specs.Book.{meanings_of};
 ghost use Rattle.rule_base.specs.Rows.{shipped_rules};
 ghost use Rattle.crell_io.specs.Shelf.{StaysWell};
 ghost use Rattle.crell_answers.specs.Answer.{usage};
-ghost use Rattle.crell_program.specs.Command.{Defs, command_of, files_of, shown_command, shown_names, shown_request};
-ghost use Rattle.crell_program.specs.Due.{checked, shelf_seen, DueOfFiles, DueOfCheck, DueOfDefs, DueOfTexts, IsListing};
+ghost use Rattle.crell_program.specs.Command.{Print, command_of, files_of, shown_command, shown_names, shown_request};
+ghost use Rattle.crell_program.specs.Due.{checked, shelf_seen, DueOfFiles, DueOfCheck, DueOfListing, DueOfTexts, IsListing, Lists};
 ghost use Rattle.crell_program.specs.Delivery.{sink_seen, IsDelivered};
 ghost use Rattle.crell_program.specs.Rows.{IsAnswered, KeepsRows};
 ghost use Rattle.crell_program.specs.Statuses.{AreRefined, IsRefinement, IsRefinementOfBytes, SpellsOne};
 
-use crate::command::{FileNames, Form, Request, Wanted, command_of};
+use crate::command::{FileNames, Form, Listing, Request, Wanted, command_of};
 use crate::delivery::deliver;
 use crate::fetch::{Stop, gather};
 use crell_answers::{Answer, module_fault, past_limit, printed, unfit, usage_text, verdict_answer};
@@ -23,6 +23,7 @@ use erhl_checker::{CheckEnd, check_module_under};
 use erhl_soundness::shapes_keep_phis_apart;
 use hint_format::{HintFault, read_hints};
 use ir_core::{Limit, Module};
+use ir_printer::print_module;
 use module_input::{first_faults_agree, read_input};
 use rule_base::{InferRule, LentBook, Pass, RuleBook, RuleSet, ShippedRules};
 use std::alloc::{AllocError, Global};
@@ -35,7 +36,7 @@ const USAGE: u8 = 2;
 pub const WANT_OF_MEMORY: u8 = 8;
 
 /// Runs the command that the words name, over this shelf and these sinks, and gives the status: `check SRC TGT HINTS`,
-/// or `defs FILE`. The first word is the program's name. The passes are those that later commands run; these call none.
+/// `defs FILE` or `fmt FILE`. The first word is the program's name. The passes are those that later commands run; these call none.
 pub fn crell<S: Shelf, O: Sink, E: Sink>(
     alloc: Global,
     words: &[String],
@@ -208,13 +209,14 @@ fn find_answer<R: RuleSet, S: Shelf>(
 {
     match request {
         Request::Check(files) => check_files(alloc, files, rules, shelf),
-        Request::Defs(file) => list_file(alloc, file, rules, shelf),
+        Request::Print(listing, file) => list_file(alloc, *listing, file, rules, shelf),
     }
 }
 
-/// The answer that is due to the file of `defs`. The rules don't matter.
+/// The answer that is due to the file of `defs` or `fmt`. The rules don't matter.
 fn list_file<R: RuleSet, S: Shelf>(
     alloc: Global,
+    listing: Listing,
     file: &str,
     _rules: &R,
     shelf: &mut S,
@@ -222,10 +224,10 @@ fn list_file<R: RuleSet, S: Shelf>(
     ensures due { IfOk result
         (λ answer. DueOfFiles
         (shelf_seen S.told S.faults S.taken shelf.old shelf.new)
-        (files_of (Defs file.now))
-        answer (DueOfTexts (R.rules _rules.now) (Defs file.now) answer)) }
+        (files_of (Print listing file.now))
+        answer (DueOfTexts (R.rules _rules.now) (Print listing file.now) answer)) }
     ensures refines { IfOk result
-        (λ answer. answer.status ≡ 0 → IsRefinement (S.told shelf.old) (Defs file.now)) }
+        (λ answer. answer.status ≡ 0 → IsRefinement (S.told shelf.old) (Print listing file.now)) }
     ensures told { S.told shelf.new ≡ S.told shelf.old }
     ensures well { StaysWell S.fails_nowhere S.faults shelf.old shelf.new }
     ensures faults { S.faults shelf.old ≤ S.faults shelf.new }
@@ -240,30 +242,40 @@ fn list_file<R: RuleSet, S: Shelf>(
             let [text] = texts.as_slice() else {
                 unreachable!()
             };
-            list_text(alloc, file, text.as_slice())
+            list_text(alloc, listing, file, text.as_slice())
         }
         Err(Stop::Due(answer)) => Ok(answer),
         Err(Stop::Memory) => Err(AllocError),
     }
 }
 
-/// The answer that is due to the text of `defs`.
-fn list_text(alloc: Global, file: &str, text: &[u8]) -> Result<Answer, AllocError>
-    ensures due { IfOk result (λ answer. DueOfDefs file.now answer text.now) }
+/// The answer that is due to the text of `defs` or `fmt`.
+fn list_text(alloc: Global, listing: Listing, file: &str, text: &[u8]) -> Result<Answer, AllocError>
+    ensures due { IfOk result (λ answer. DueOfListing listing file.now answer text.now) }
     ensures spelled { IfOk result (λ answer. answer.status ≡ 0 → SpellsOne text.now) }
 {
     match read_input(alloc, text) {
-        Ok(module) => listed(alloc, &module),
+        Ok(module) => listed(alloc, listing, &module),
         Err(fault) => module_fault(alloc, &fault, text, file),
     }
 }
 
-/// What is defined at the starts of a module's blocks, printed.
-fn listed(alloc: Global, module: &Module) -> Result<Answer, AllocError>
-    ensures { IfOk result (IsListing «module».now) }
+/// What is listed of a module, printed.
+fn listed(alloc: Global, listing: Listing, module: &Module) -> Result<Answer, AllocError>
+    ensures { IfOk result (IsListing listing «module».now) }
 {
-    let lines = definitions_text(alloc, module.functions.as_slice())?;
-    Ok(printed(alloc, lines))
+    let text = listing_text(alloc, listing, module)?;
+    Ok(printed(alloc, text))
+}
+
+/// What is defined at the starts of a module's blocks, or the module itself.
+fn listing_text(alloc: Global, listing: Listing, module: &Module) -> Result<Vec<u8>, AllocError>
+    ensures { IfOk result (λ text. Lists listing «module».now text.items) }
+{
+    match listing {
+        Listing::Definitions => definitions_text(alloc, module.functions.as_slice()),
+        Listing::ModuleItself => print_module(alloc, module),
+    }
 }
 
 /// The answer that is due to the three files.

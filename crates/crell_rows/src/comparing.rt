@@ -18,8 +18,8 @@ pub(crate) fn told_of_run(
 }
 
 fn push_texts(told: &mut String, stage: &Stage, wanted: &Wanted) -> Result<(), AllocError> {
-    push_text(told, "out", stage.out.bytes(), wanted.stdout.as_str())?;
-    push_text(told, "err", stage.err.bytes(), wanted.stderr.as_str())
+    push_text(told, "out", stage.out.bytes(), wanted.stdout.as_slice())?;
+    push_text(told, "err", stage.err.bytes(), wanted.stderr.as_slice())
 }
 
 fn push_counts(
@@ -35,8 +35,8 @@ fn push_counts(
     push_count(told, "bytes taken", taken, wanted.taken.unwrap_or(taken))
 }
 
-fn push_text(told: &mut String, what: &str, came: &[u8], wanted: &str) -> Result<(), AllocError> {
-    if came == wanted.as_bytes() {
+fn push_text(told: &mut String, what: &str, came: &[u8], wanted: &[u8]) -> Result<(), AllocError> {
+    if came == wanted {
         return Ok(());
     }
     push_difference(told, what, came, wanted)
@@ -46,11 +46,11 @@ fn push_difference(
     told: &mut String,
     what: &str,
     came: &[u8],
-    wanted: &str,
+    wanted: &[u8],
 ) -> Result<(), AllocError> {
-    match str::from_utf8(came) {
-        Ok(text) => write!(told, " {what} {text:?} and not {wanted:?}"),
-        Err(_) => write!(told, " {what} isn't UTF-8 and not {wanted:?}"),
+    match (str::from_utf8(came), str::from_utf8(wanted)) {
+        (Ok(text), Ok(wanted)) => write!(told, " {what} {text:?} and not {wanted:?}"),
+        _ => write!(told, " {what} isn't UTF-8, or isn't to be"),
     }
 }
 

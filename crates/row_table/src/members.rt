@@ -43,7 +43,7 @@ pub(crate) fn text_of<'a>(
 ) -> Result<&'a String, Fault> {
     match members.get(name) {
         Some(Value::String(text)) => Ok(text),
-        _ => Err(Fault::Unlike("a row has name, stdout and stderr, and they are texts")),
+        _ => Err(Fault::Unlike("a row has a name, which is a text")),
     }
 }
 

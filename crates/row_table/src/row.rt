@@ -7,7 +7,7 @@
 // | `files` | what the shelf holds under each name (`contents_of_files.rt`) |
 // | `failing_gets` | the calls of the shelf that fail, counted from 0 |
 // | `out`, `err` | how the sinks take bytes: `room` in all, at `most` a call, and the calls `failing`, counted from 0; without a plan all at once |
-// | `status`, `stdout`, `stderr` | what is expected |
+// | `status`, `stdout`, `stderr` | what is expected; the two texts are told as what a file holds is |
 // | `faults`, `taken` | how often the shelf failed, and how many bytes were taken from it, where the row speaks of them |
 //
 // `name`, `status`, `stdout` and `stderr` must be there. A member that isn't named here is an error.
@@ -59,7 +59,7 @@ pub(crate) fn row_of(alloc: Global, value: &Value) -> Result<Row, Fault> {
 }
 
 fn row_among(alloc: Global, members: &Map<String, Value>) -> Result<Row, Fault> {
-    let wanted = wanted_of(members)?;
+    let wanted = wanted_of(alloc, members)?;
     let out = plan_of(alloc, members, "out")?;
     let err = plan_of(alloc, members, "err")?;
     let given = given_of(alloc, members)?;
