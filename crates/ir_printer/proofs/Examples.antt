@@ -1,7 +1,22 @@
 -- The examples, computed.
-use Rattle.std.proofs.Common.{refl}
+use Rattle.std.proofs.Common.{◌≡◌, [], ◌∷◌, ◌++◌, List, ℕ, codes, refl, ap}
 use Rattle.std.specs.Fmt.{digits}
-use Rattle.ir_printer.specs.Examples.{ModulesArePrinted}
+use Rattle.ir_types.specs.declared.names.Name.{Name}
+use Rattle.ir_types.specs.declared.ty.Ty.{Ty, Ptr, Named}
+use Rattle.ir_types.proofs.Induction as fold
+use Rattle.expression_printer.specs.Printed.{printed_local, printed_parts, type_text}
+use Rattle.ir_printer.specs.Examples.{ModulesArePrinted, module_with, smallest_text, three_types, three_types_text}
+use Rattle.ir_printer.specs.Printed.{printed_module}
+
+at_ptr : (t : Ty) → printed_parts (Ptr t) ≡ printed_parts t ++ 42 ∷ []
+at_ptr = fold.at_ptr (List ℕ) type_text
+
+at_named : (name : Name) → printed_parts (Named name) ≡ printed_local name
+at_named = fold.at_named (List ℕ) type_text
+
+three_types_are_printed : printed_module (module_with three_types []) ≡ three_types_text
+unfolding digits
+three_types_are_printed = simp (at_ptr, at_named) refl
 
 pub modules_are_printed : ModulesArePrinted
 unfolding digits
@@ -12,4 +27,6 @@ modules_are_printed = record {
   numbered_blocks = refl;
   quoted_names = refl;
   functions = refl;
+  types = three_types_are_printed;
+  types_and_functions = simp (at_ptr, at_named) refl;
 }

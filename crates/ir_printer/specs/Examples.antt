@@ -1,10 +1,10 @@
 -- Examples of how modules are printed.
-use Rattle.std.specs.Prelude.{◌≡◌, ℕ, List, [], ◌∷◌, ◌++◌, codes}
+use Rattle.std.specs.Prelude.{◌≡◌, ℕ, List, [], ◌∷◌, ◌++◌, codes, None, Some}
 use Rattle.std.specs.List.{flat_map}
 use Rattle.ir_types.specs.declared.names.Name.{Name}
 use Rattle.ir_types.specs.declared.names.Name.TheVariants.{Text, Number}
-use Rattle.ir_types.specs.declared.ty.Ty.{Ty}
-use Rattle.ir_types.specs.declared.ty.Ty.TheVariants.{Int, Void}
+use Rattle.ir_types.specs.declared.named.NamedTy.{NamedTy}
+use Rattle.ir_types.specs.declared.ty.Ty.{Ty, Int, Ptr, Named, Void}
 use Rattle.ir_core.specs.declared.operands.Atom.{Atom}
 use Rattle.ir_core.specs.declared.operands.Atom.TheVariants.{Register}
 use Rattle.ir_core.specs.declared.operands.Operand.{Operand}
@@ -33,7 +33,10 @@ abbrev pub quote : List ℕ → List ℕ
 quote text = 34 ∷ (text ++ 34 ∷ [])
 
 abbrev pub module_of : List Function → Module
-module_of functions = record { functions = functions }
+module_of functions = record { types = []; functions = functions }
+
+abbrev pub module_with : List NamedTy → List Function → Module
+module_with types functions = record { types = types; functions = functions }
 
 abbrev pub named : List ℕ → Name
 named bytes = Text bytes
@@ -163,6 +166,20 @@ quoted_text = lines (
     ∷ codes "}" ∷ []
     )
 
+-- a struct that points to its like, an empty one, and an opaque type
+abbrev pub three_types : List NamedTy
+three_types =
+    record { name = named (codes "x"); fields = Some (Int 32 ∷ Ptr (Named (named (codes "x"))) ∷ []) }
+    ∷ record { name = Number 0; fields = Some [] }
+    ∷ record { name = named (codes "a b"); fields = None } ∷ []
+
+abbrev pub three_types_text : List ℕ
+three_types_text = lines (
+    codes "%x = type { i32, %x* }"
+    ∷ codes "%0 = type {}"
+    ∷ (37 ∷ quote (codes "a b") ++ codes " = type opaque") ∷ []
+    )
+
 pub record ModulesArePrinted : Type 0 where
   pub nothing : printed_module (module_of []) ≡ []
   pub one_block : printed_module (module_of (smallest ∷ [])) ≡ smallest_text
@@ -171,3 +188,6 @@ pub record ModulesArePrinted : Type 0 where
   pub quoted_names : printed_module (module_of (quoted ∷ [])) ≡ quoted_text
   -- a blank line stands between any two functions
   pub functions : printed_module (module_of (smallest ∷ loop ∷ quoted ∷ [])) ≡ smallest_text ++ 10 ∷ (loop_text ++ 10 ∷ quoted_text)
+  -- and one between types and functions
+  pub types : printed_module (module_with three_types []) ≡ three_types_text
+  pub types_and_functions : printed_module (module_with three_types (smallest ∷ [])) ≡ three_types_text ++ 10 ∷ smallest_text

@@ -1,10 +1,11 @@
--- How modules are printed (LangRef 3.7, Module Structure, Functions, phi and Terminator Instructions).
-use Rattle.std.specs.Prelude.{ℕ, List, [], ◌∷◌, ◌++◌, codes, map}
+-- How modules are printed (LangRef 3.7, Module Structure, Structure Types, Functions, phi and Terminator Instructions).
+use Rattle.std.specs.Prelude.{ℕ, List, [], ◌∷◌, ◌++◌, codes, map, Option, None, Some}
 use Rattle.std.specs.List.{flat_map}
 use Rattle.std.specs.Fmt.{decimal}
 use Rattle.ir_types.specs.declared.names.Name.{Name}
 use Rattle.ir_types.specs.declared.names.Name.TheVariants.{Text, Number}
 use Rattle.ir_types.specs.declared.names.Sigil.TheVariants.{Global}
+use Rattle.ir_types.specs.declared.named.NamedTy.{NamedTy}
 use Rattle.ir_types.specs.declared.ty.Ty.{Ty}
 use Rattle.ir_core.specs.declared.functions.Calm.{Calm}
 use Rattle.ir_core.specs.declared.functions.Instr.{Instr}
@@ -20,7 +21,7 @@ use Rattle.ir_core.specs.declared.functions.Block.{Block}
 use Rattle.ir_core.specs.declared.functions.Param.{Param}
 use Rattle.ir_core.specs.declared.functions.Function.{Function}
 use Rattle.ir_core.specs.declared.functions.Module.{Module}
-use Rattle.expression_printer.specs.Printed.{name_text, printed_name, printed_local, printed_type, number_text, listed, printed_value, printed_operand, printed_expr}
+use Rattle.expression_printer.specs.Printed.{name_text, printed_name, printed_local, printed_type, number_text, listed, struct_text, printed_value, printed_operand, printed_expr}
 
 -- ---- lines
 
@@ -137,5 +138,23 @@ abbrev pub functions_text : List Function → List ℕ
 functions_text [] = []
 functions_text (f ∷ fs) = function_text f ++ flat_map later_function fs
 
+-- ---- modules
+
+-- `{ i32, %x* }`, and `opaque`
+abbrev pub body_text : Option (List Ty) → List ℕ
+body_text None = codes "opaque"
+body_text (Some fields) = struct_text (map printed_type fields)
+
+-- `%x = type { i32, %x* }`
+abbrev pub named_type_text : NamedTy → List ℕ
+named_type_text t = printed_local t.name ++ (codes " = type " ++ (body_text t.fields ++ 10 ∷ []))
+
+-- a blank line, where there is something before it and something behind it
+abbrev pub blank_between : {A B : Type 0} → List A → List B → List ℕ
+blank_between [] further = []
+blank_between (a ∷ first) [] = []
+blank_between (a ∷ first) (b ∷ further) = 10 ∷ []
+
+-- the named types, and then the functions
 abbrev pub printed_module : Module → List ℕ
-printed_module m = functions_text m.functions
+printed_module m = flat_map named_type_text m.types ++ (blank_between m.types m.functions ++ functions_text m.functions)

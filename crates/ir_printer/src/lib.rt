@@ -8,6 +8,7 @@ mod blocks;
 mod laws;
 mod lines;
 mod modules;
+mod named_types;
 mod terms;
 
 pub use expression_printer::{print_expr, print_name, print_type};

@@ -1,20 +1,40 @@
 ghost use Rattle.std.specs.Prelude.{◌≡◌, ◌++◌, [], map, OnOk, IfOk};
 ghost use Rattle.std.specs.List.{flat_map};
 ghost use Rattle.expression_printer.specs.Printed.{listed};
-ghost use Rattle.ir_printer.specs.Printed.{param_name, param_text, head_text, function_text, later_function, functions_text, printed_module};
+ghost use Rattle.ir_printer.specs.Printed.{blank_between, param_name, param_text, head_text, function_text, later_function, functions_text, printed_module};
 
 use crate::blocks::push_blocks;
+use crate::named_types::push_types;
 use expression_printer::{push_name, push_type};
-use ir_core::{Function, Module, Name, Param, Sigil};
+use ir_core::{Function, Module, Name, NamedTy, Param, Sigil};
 use std::alloc::{AllocError, Global};
 
-/// The module as text: its functions in the order of the file, with a blank line between any two.
+/// The module as text: its named types and then its functions, each in the order of the file, with a blank line between both and between any
+/// two functions.
 pub fn print_module(alloc: Global, module: &Module) -> Result<Vec<u8>, AllocError>
     ensures { IfOk result (λ text. text.items ≡ printed_module «module».now) }
 {
     let mut text = Vec::new(alloc);
-    push_functions(&mut text, module.functions.as_slice())?;
+    let types = module.types.as_slice();
+    let functions = module.functions.as_slice();
+    push_types(&mut text, types)?;
+    push_blank_between(&mut text, types, functions)?;
+    push_functions(&mut text, functions)?;
     Ok(text)
+}
+
+fn push_blank_between(
+    text: &mut Vec<u8>,
+    types: &[NamedTy],
+    functions: &[Function],
+) -> Result<(), AllocError>
+    ensures { OnOk result (text.new.items ≡ text.old.items ++ blank_between types.now functions.now) }
+{
+    if types.is_empty() || functions.is_empty() {
+        return Ok(());
+    }
+    text.push(b'\n')?;
+    Ok(())
 }
 
 fn push_functions(text: &mut Vec<u8>, functions: &[Function]) -> Result<(), AllocError>
