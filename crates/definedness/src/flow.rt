@@ -8,10 +8,9 @@ ghost use Rattle.name_index.specs.Places.{ArePlaces};
 ghost use Rattle.definedness.specs.Flow.{closed_for, defines, places_by};
 ghost use Rattle.definedness.specs.Graph.{graph_in, labels_in};
 
-use flow_solver::Graph;
-use ir_core::{Block, Case, Instr, Name, Phi, Term, same_name};
+use flow_solver::{Graph, Successors};
+use ir_core::{Block, Case, Instr, Name, Phi, Switch, Term, same_name};
 use name_index::PlaceIndex;
-use smallvec::SmallVec;
 use std::alloc::{AllocError, Global};
 
 /// Where the names of blocks stand first among them.
@@ -31,12 +30,8 @@ pub(crate) fn labels_of<'a>(
 }
 
 /// Puts the place of a block behind the others.
-fn add_place(
-    labels: &PlaceIndex,
-    label: &Name,
-    places: &mut SmallVec<usize, 2>,
-) -> Result<(), AllocError>
-    ensures { OnOk result (places.new.items ≡ places.old.items ++ places_by labels.now (label.now ∷ [])) }
+fn add_place(labels: &PlaceIndex, label: &Name, places: &mut Successors) -> Result<(), AllocError>
+    ensures { OnOk result (places.new ≡ places.old ++ places_by labels.now (label.now ∷ [])) }
 {
     if let Some(place) = labels.position(label) {
         places.push(place)?;
@@ -44,13 +39,9 @@ fn add_place(
     Ok(())
 }
 
-fn add_cases(
-    labels: &PlaceIndex,
-    cases: &[Case],
-    places: &mut SmallVec<usize, 2>,
-) -> Result<(), AllocError>
+fn add_cases(labels: &PlaceIndex, cases: &[Case], places: &mut Successors) -> Result<(), AllocError>
     ensures { OnOk result
-        (places.new.items ≡ places.old.items ++ places_by labels.now (map (λ (c : Case). c.label) cases.now)) }
+        (places.new ≡ places.old ++ places_by labels.now (map (λ (c : Case). c.label) cases.now)) }
 {
     for case in cases {
         add_place(labels, &case.label, places)?;
@@ -77,27 +68,54 @@ fn successor_count(term: &Term) -> usize {
     }
 }
 
-/// The places of the blocks to which a terminator leads.
-fn places_of(
-    alloc: Global,
+fn add_two(
+    labels: &PlaceIndex,
+    one: &Name,
+    two: &Name,
+    places: &mut Successors,
+) -> Result<(), AllocError>
+    ensures { OnOk result (places.new ≡ places.old ++ places_by labels.now (one.now ∷ two.now ∷ [])) }
+{
+    add_place(labels, one, places)?;
+    add_place(labels, two, places)?;
+    Ok(())
+}
+
+fn add_switch(
+    labels: &PlaceIndex,
+    switch: &Switch,
+    places: &mut Successors,
+) -> Result<(), AllocError>
+    ensures { OnOk result
+        (places.new ≡ places.old ++ places_by labels.now (switch.now.default ∷ map (λ (c : Case). c.label) switch.now.cases)) }
+{
+    add_place(labels, &switch.default, places)?;
+    add_cases(labels, switch.cases.as_slice(), places)?;
+    Ok(())
+}
+
+/// Puts the places of the blocks to which a terminator leads behind the others.
+fn add_successors(
     labels: &PlaceIndex,
     term: &Term,
-) -> Result<SmallVec<usize, 2>, AllocError>
-    ensures { IfOk result (λ places. places.items ≡ places_by labels.now (successors_of term.now)) }
+    places: &mut Successors,
+) -> Result<(), AllocError>
+    ensures { OnOk result (places.new ≡ places.old ++ places_by labels.now (successors_of term.now)) }
 {
-    let mut places = SmallVec::with_capacity(alloc, successor_count(term))?;
     match term {
-        Term::Br(label) => add_place(labels, label, &mut places)?,
-        Term::CondBr(branch) => {
-            add_place(labels, &branch.on_true, &mut places)?;
-            add_place(labels, &branch.on_false, &mut places)?;
-        }
-        Term::Switch(switch) => {
-            add_place(labels, &switch.default, &mut places)?;
-            add_cases(labels, switch.cases.as_slice(), &mut places)?;
-        }
-        Term::Ret(_) | Term::RetVoid | Term::Unreachable => {}
+        Term::Br(label) => add_place(labels, label, places),
+        Term::CondBr(branch) => add_two(labels, &branch.on_true, &branch.on_false, places),
+        Term::Switch(switch) => add_switch(labels, switch, places),
+        Term::Ret(_) | Term::RetVoid | Term::Unreachable => Ok(()),
     }
+}
+
+/// The places of the blocks to which a terminator leads.
+fn places_of(alloc: Global, labels: &PlaceIndex, term: &Term) -> Result<Successors, AllocError>
+    ensures { IfOk result (λ places. places ≡ places_by labels.now (successors_of term.now)) }
+{
+    let mut places = Successors::with_room(alloc, successor_count(term))?;
+    add_successors(labels, term, &mut places)?;
     Ok(places)
 }
 

@@ -141,13 +141,12 @@ fn note_expr<'a>(
         ≡ map use_of uses.old.items ++ left_by known.now.params known.now.own block.now line (operands_in expr.now)) }
 {
     match expr {
-        Expr::Plain(operand) => note_atom(known, block, line, &operand.atom, uses)?,
-        Expr::Binary(binary) => note_two(known, block, line, &binary.left, &binary.right, uses)?,
-        Expr::Icmp(icmp) => note_two(known, block, line, &icmp.left, &icmp.right, uses)?,
-        Expr::Cast(cast) => note_atom(known, block, line, &cast.operand.atom, uses)?,
-        Expr::Select(select) => note_select(known, block, line, select.get(), uses)?,
+        Expr::Plain(operand) => note_atom(known, block, line, &operand.atom, uses),
+        Expr::Binary(binary) => note_two(known, block, line, &binary.left, &binary.right, uses),
+        Expr::Icmp(icmp) => note_two(known, block, line, &icmp.left, &icmp.right, uses),
+        Expr::Cast(cast) => note_atom(known, block, line, &cast.operand.atom, uses),
+        Expr::Select(select) => note_select(known, block, line, select.get(), uses),
     }
-    Ok(())
 }
 
 fn note_end<'a>(
@@ -161,12 +160,11 @@ fn note_end<'a>(
         ≡ map use_of uses.old.items ++ left_by known.now.params known.now.own block.now line (operands_at_end block.now.term)) }
 {
     match &block.term {
-        Term::Ret(operand) => note_atom(known, block, line, &operand.atom, uses)?,
-        Term::CondBr(branch) => note_atom(known, block, line, &branch.condition.atom, uses)?,
-        Term::Switch(switch) => note_atom(known, block, line, &switch.value.atom, uses)?,
-        Term::RetVoid | Term::Br(_) | Term::Unreachable => {}
+        Term::Ret(operand) => note_atom(known, block, line, &operand.atom, uses),
+        Term::CondBr(branch) => note_atom(known, block, line, &branch.condition.atom, uses),
+        Term::Switch(switch) => note_atom(known, block, line, &switch.value.atom, uses),
+        Term::RetVoid | Term::Br(_) | Term::Unreachable => Ok(()),
     }
-    Ok(())
 }
 
 /// Those of a block's lines and its terminator.

@@ -2,14 +2,14 @@ ghost use Rattle.std.specs.Prelude.{◌≡◌, ◌<◌, length, map};
 ghost use Rattle.flow_solver.specs.Rows.{rows_in};
 ghost use Rattle.flow_solver.specs.Ways.{LeadsWithin, led_to};
 
-use smallvec::SmallVec;
+use crate::successors::Successors;
 use std::marker::Model;
 
 /// Of each node those that it leads to: all in memory of their own, or up to two of them in place.
 #[derive(Drop)]
 enum Rows {
     Long(Vec<Vec<usize>>),
-    Short(Vec<SmallVec<usize, 2>>),
+    Short(Vec<Successors>),
 }
 
 /// Nodes, counted from 0, each with those that it leads to, in their order. Contracts see a graph as the list of these lists.
@@ -61,9 +61,9 @@ impl Graph {
     }
 
     /// The same of lists that are short as a rule.
-    pub fn of_short(successors: Vec<SmallVec<usize, 2>>) -> Graph
-        requires { LeadsWithin (map (λ nodes. nodes.items) successors.items) }
-        ensures { result ≡ map (λ nodes. nodes.items) successors.items }
+    pub fn of_short(successors: Vec<Successors>) -> Graph
+        requires { LeadsWithin successors.items }
+        ensures { result ≡ successors.items }
     {
         Graph {
             rows: Rows::Short(successors),

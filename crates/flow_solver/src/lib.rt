@@ -10,6 +10,7 @@ mod queue;
 mod reached;
 mod search;
 mod solver;
+mod successors;
 mod tree;
 mod walk;
 
@@ -19,3 +20,4 @@ pub use graph::Graph;
 pub use laws::{examples_of_ways, one_greatest_solution, reached_nodes_are_reached};
 pub use reached::{first_way, reachable};
 pub use solver::solve;
+pub use successors::Successors;

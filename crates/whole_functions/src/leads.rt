@@ -10,10 +10,9 @@ ghost use Rattle.whole_shapes.specs.Whole.{AreLabels, LeadsToLabels};
 ghost use Rattle.whole_functions.specs.Fine.{AreStartRows};
 
 use crate::places::block_of;
-use flow_solver::Graph;
+use flow_solver::{Graph, Successors};
 use ir_core::{Block, Case, Name, Switch, Term};
 use shape_tests::{Row, have_phis, put_at};
-use smallvec::SmallVec;
 use std::alloc::{AllocError, Global};
 use whole_shapes::Sight;
 
@@ -37,14 +36,14 @@ fn put_edge<'a>(
     from: &'a Name,
     label: &Name,
     rows: &mut Vec<Row<'a>>,
-    places: &mut SmallVec<usize, 2>,
+    places: &mut Successors,
 ) -> Result<bool, AllocError>
     requires { AreNew [] (labels_in blocks.now) }
     ensures known { IfOk result (λ known. known ≡ true → Contains (labels_in blocks.now) label.now) }
     ensures rows { IfOk result
         (λ known. known ≡ true → rows_of rows.new.items ≡ with_edge (labels_in blocks.now) from.now (rows_of rows.old.items) label.now) }
     ensures places { IfOk result
-        (λ known. known ≡ true → places.new.items ≡ places.old.items ++ places_in (labels_in blocks.now) (label.now ∷ [])) }
+        (λ known. known ≡ true → places.new ≡ places.old ++ places_in (labels_in blocks.now) (label.now ∷ [])) }
 {
     match block_of(blocks, sight, label) {
         None => Ok(false),
@@ -62,7 +61,7 @@ fn put_cases<'a>(
     from: &'a Name,
     cases: &[Case],
     rows: &mut Vec<Row<'a>>,
-    places: &mut SmallVec<usize, 2>,
+    places: &mut Successors,
 ) -> Result<bool, AllocError>
     requires { AreNew [] (labels_in blocks.now) }
     ensures known { IfOk result (λ known. known ≡ true → AreLabels blocks.now (map (λ (c : Case). c.label) cases.now)) }
@@ -71,7 +70,7 @@ fn put_cases<'a>(
         → rows_of rows.new.items ≡ with_edges (labels_in blocks.now) from.now (rows_of rows.old.items) (map (λ (c : Case). c.label) cases.now)) }
     ensures places { IfOk result
         (λ known. known ≡ true
-        → places.new.items ≡ places.old.items ++ places_in (labels_in blocks.now) (map (λ (c : Case). c.label) cases.now)) }
+        → places.new ≡ places.old ++ places_in (labels_in blocks.now) (map (λ (c : Case). c.label) cases.now)) }
 {
     for case in cases {
         if !put_edge(blocks, sight, from, &case.label, rows, places)? {
@@ -88,7 +87,7 @@ fn put_two<'a>(
     one: &Name,
     two: &Name,
     rows: &mut Vec<Row<'a>>,
-    places: &mut SmallVec<usize, 2>,
+    places: &mut Successors,
 ) -> Result<bool, AllocError>
     requires { AreNew [] (labels_in blocks.now) }
     ensures known { IfOk result (λ known. known ≡ true → AreLabels blocks.now (one.now ∷ two.now ∷ [])) }
@@ -96,7 +95,7 @@ fn put_two<'a>(
         (λ known. known ≡ true
         → rows_of rows.new.items ≡ with_edges (labels_in blocks.now) from.now (rows_of rows.old.items) (one.now ∷ two.now ∷ [])) }
     ensures places { IfOk result
-        (λ known. known ≡ true → places.new.items ≡ places.old.items ++ places_in (labels_in blocks.now) (one.now ∷ two.now ∷ [])) }
+        (λ known. known ≡ true → places.new ≡ places.old ++ places_in (labels_in blocks.now) (one.now ∷ two.now ∷ [])) }
 {
     if !put_edge(blocks, sight, from, one, rows, places)? {
         return Ok(false);
@@ -110,7 +109,7 @@ fn put_switch<'a>(
     from: &'a Name,
     switch: &Switch,
     rows: &mut Vec<Row<'a>>,
-    places: &mut SmallVec<usize, 2>,
+    places: &mut Successors,
 ) -> Result<bool, AllocError>
     requires { AreNew [] (labels_in blocks.now) }
     ensures known { IfOk result (λ known. known ≡ true → AreLabels blocks.now (successors_of (Term.Switch switch.now))) }
@@ -119,7 +118,7 @@ fn put_switch<'a>(
         → rows_of rows.new.items ≡ with_edges (labels_in blocks.now) from.now (rows_of rows.old.items) (successors_of (Term.Switch switch.now))) }
     ensures places { IfOk result
         (λ known. known ≡ true
-        → places.new.items ≡ places.old.items ++ places_in (labels_in blocks.now) (successors_of (Term.Switch switch.now))) }
+        → places.new ≡ places.old ++ places_in (labels_in blocks.now) (successors_of (Term.Switch switch.now))) }
 {
     if !put_edge(blocks, sight, from, &switch.default, rows, places)? {
         return Ok(false);
@@ -136,14 +135,14 @@ fn put_block<'a>(
     sight: &Sight,
     block: &'a Block,
     rows: &mut Vec<Row<'a>>,
-    places: &mut SmallVec<usize, 2>,
+    places: &mut Successors,
 ) -> Result<bool, AllocError>
     requires { AreNew [] (labels_in blocks.now) }
     ensures known { IfOk result (λ known. known ≡ true → LeadsToLabels blocks.now block.now) }
     ensures rows { IfOk result
         (λ known. known ≡ true → rows_of rows.new.items ≡ with_block (labels_in blocks.now) (rows_of rows.old.items) block.now) }
     ensures places { IfOk result
-        (λ known. known ≡ true → places.new.items ≡ places.old.items ++ places_in (labels_in blocks.now) (successors_of block.now.term)) }
+        (λ known. known ≡ true → places.new ≡ places.old ++ places_in (labels_in blocks.now) (successors_of block.now.term)) }
 {
     let from = &block.name;
     match &block.term {
@@ -181,15 +180,15 @@ fn places_of<'a>(
     sight: &Sight,
     block: &'a Block,
     rows: &mut Vec<Row<'a>>,
-) -> Result<Option<SmallVec<usize, 2>>, AllocError>
+) -> Result<Option<Successors>, AllocError>
     requires { AreNew [] (labels_in blocks.now) }
     ensures known { IfOk result (λ found. IfSome found (λ _. LeadsToLabels blocks.now block.now)) }
     ensures rows { IfOk result
         (λ found. IfSome found (λ _. rows_of rows.new.items ≡ with_block (labels_in blocks.now) (rows_of rows.old.items) block.now)) }
     ensures places { IfOk result
-        (λ found. IfSome found (λ places. places.items ≡ places_in (labels_in blocks.now) (successors_of block.now.term))) }
+        (λ found. IfSome found (λ places. places ≡ places_in (labels_in blocks.now) (successors_of block.now.term))) }
 {
-    let mut places = SmallVec::with_capacity(alloc, successor_count(&block.term))?;
+    let mut places = Successors::with_room(alloc, successor_count(&block.term))?;
     if put_block(blocks, sight, block, rows, &mut places)? {
         Ok(Some(places))
     } else {

@@ -5,5 +5,5 @@ use Rattle.definedness.proofs.flow.add_cases.Given as goal
 
 abbrev pub invariant-loop-case : goal.invariant-loop-case
 invariant-loop-case l =
-    l.places.items ++ places_by l.labels (map (λ (c : Case). c.label) (drop l.case-index l.cases))
-    ≡ l.initial.places.items ++ places_by l.labels (map (λ (c : Case). c.label) l.cases)
+    l.places ++ places_by l.labels (map (λ (c : Case). c.label) (drop l.case-index l.cases))
+    ≡ l.initial.places ++ places_by l.labels (map (λ (c : Case). c.label) l.cases)

@@ -1,4 +1,4 @@
-use Rattle.std.proofs.Common.{◌≡◌, ◌++◌, drop, map}
+use Rattle.std.proofs.Common.{◌≡◌, ◌++◌, drop}
 use Rattle.std.specs.List.{AllByRecursion}
 use Rattle.definedness.specs.Graph.{graph_in, labels_in}
 use Rattle.shape_tests.specs.Edges.{rows_of, with_blocks}
@@ -11,4 +11,4 @@ invariant-loop-block l =
     (AllByRecursion (LeadsToLabels l.blocks) (drop l.block-index l.blocks) → AllByRecursion (LeadsToLabels l.blocks) l.blocks)
     × (with_blocks (labels_in l.blocks) (rows_of l.rows.items) (drop l.block-index l.blocks)
     ≡ with_blocks (labels_in l.blocks) (rows_of l.initial.rows.items) l.blocks)
-    × (map (λ places. places.items) l.successors.items ++ graph_in (labels_in l.blocks) (drop l.block-index l.blocks) ≡ graph_in (labels_in l.blocks) l.blocks)
+    × (l.successors.items ++ graph_in (labels_in l.blocks) (drop l.block-index l.blocks) ≡ graph_in (labels_in l.blocks) l.blocks)

@@ -22,5 +22,5 @@ loop-case-preserved c =
       ap (λ (rows : List (List Name)). with_edges labels c.args.from.now rows (map (λ (d : Case). d.label) (drop (k + 1) cases))) (c.in_ok-put_edge.ensures.rows yes)
           ∙ ap (λ (cs : List Case). with_edges labels c.args.from.now (rows_of c.loop-case.rows.items) (map (λ (d : Case). d.label) cs)) (next cases k item within c.case-item.is)
           ∙ c.loop-case.invariant.1,
-      places_more labels cases k item c.loop-case.places.items _ within c.case-item.is (c.in_ok-put_edge.ensures.places yes) ∙ c.loop-case.invariant.2,
+      places_more labels cases k item c.loop-case.places _ within c.case-item.is (c.in_ok-put_edge.ensures.places yes) ∙ c.loop-case.invariant.2,
     )

@@ -11,5 +11,5 @@ invariant-loop-case l =
     (AreLabels l.blocks (map (λ (c : Case). c.label) (drop l.case-index l.cases)) → AreLabels l.blocks (map (λ (c : Case). c.label) l.cases))
     × (with_edges (labels_in l.blocks) l.from (rows_of l.rows.items) (map (λ (c : Case). c.label) (drop l.case-index l.cases))
     ≡ with_edges (labels_in l.blocks) l.from (rows_of l.initial.rows.items) (map (λ (c : Case). c.label) l.cases))
-    × (l.places.items ++ places_in (labels_in l.blocks) (map (λ (c : Case). c.label) (drop l.case-index l.cases))
-    ≡ l.initial.places.items ++ places_in (labels_in l.blocks) (map (λ (c : Case). c.label) l.cases))
+    × (l.places ++ places_in (labels_in l.blocks) (map (λ (c : Case). c.label) (drop l.case-index l.cases))
+    ≡ l.initial.places ++ places_in (labels_in l.blocks) (map (λ (c : Case). c.label) l.cases))

@@ -8,5 +8,5 @@ returns-in_ok-push-in-Some-clause-rows c known =
 
 pub returns-in_ok-push-in-Some-clause-places : goal.returns-in_ok-push-in-Some-clause-places
 returns-in_ok-push-in-Some-clause-places c known =
-    let pushed : c.push.new.self.items ≡ c.args.places.now.items ++ c.in-Some.place ∷ [] = search rules in
-    pushed ∙ ap (λ (ns : List ℕ). c.args.places.now.items ++ ns) (label_place c.args.blocks.now c.in-Some.place c.args.label.now c.in-Some.ensures c.requires)
+    let pushed : c.push.new.self ≡ c.args.places.now ++ c.in-Some.place ∷ [] = search rules in
+    pushed ∙ ap (λ (ns : List ℕ). c.args.places.now ++ ns) (label_place c.args.blocks.now c.in-Some.place c.args.label.now c.in-Some.ensures c.requires)

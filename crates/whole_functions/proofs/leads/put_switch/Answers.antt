@@ -9,6 +9,6 @@ returns-clause-places c known =
     let labels = labels_in c.args.blocks.now in
     let one : c.in_ok-put_edge.field-0 ≡ true = search rules in
     let all : c.in_ok-put_cases.field-0 ≡ true = search rules in
-    places_joined labels c.args.switch.now.default (map (λ (d : Case). d.label) c.args.switch.now.cases) c.args.places.now.items c.put_edge.new.places.items _
+    places_joined labels c.args.switch.now.default (map (λ (d : Case). d.label) c.args.switch.now.cases) c.args.places.now c.put_edge.new.places _
     (c.in_ok-put_edge.ensures.places one)
-    (c.in_ok-put_cases.ensures.places all ∙ ap (λ (cs : List Case). c.put_edge.new.places.items ++ places_in labels (map (λ (d : Case). d.label) cs)) c.as_slice.ensures)
+    (c.in_ok-put_cases.ensures.places all ∙ ap (λ (cs : List Case). c.put_edge.new.places ++ places_in labels (map (λ (d : Case). d.label) cs)) c.as_slice.ensures)
