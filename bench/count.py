@@ -5,7 +5,8 @@ usage: bench/count.py [--program PATH] [--only WORD] [--write FILE]
 
 A row of budgets.tsv has, between tabs: its name, an input, a command, a unit (byte or line), a budget (instructions a unit), the peak of
 memory in MB, whether the count has to grow linearly (yes or no), and which part counts: all of it, `judging` (what the calls take that ask
-whether the modules are well-formed) or `reading` (what getting them from their texts takes, but for that). Where a unit is neither byte nor line it is what N counts. A budget or
+whether the modules are well-formed), `reading` (what getting them from their texts takes, but for that) or `printing` (what the calls take
+that print a module). Where a unit is neither byte nor line it is what N counts. A budget or
 a peak that isn't set yet is inf. In a command {} stands for the input's file, HINTS for the hints that belong to it, NONE for hints that
 say nothing, STEP for one step before the first line, with which facts are kept along the block, BASE for a module of one line. An input is
 made by rule: chain:N is a function of N lines of i32, mixed:N one of all operators over integers of several widths, flow:N one of N blocks
@@ -173,6 +174,13 @@ def reading(path):
     return in_calls(path, lambda caller: caller == "crell_program", lambda callee: callee == "module_input") - judging(path)
 
 
+def printing(path):
+    return in_calls(path, lambda caller: caller == "crell_program", lambda callee: callee == "ir_printer")
+
+
+PARTS = {"judging": judging, "reading": reading, "printing": printing}
+
+
 class Bench:
     def __init__(self, program, folder):
         self.program = program
@@ -197,7 +205,7 @@ class Bench:
         run = subprocess.run(["valgrind", "--tool=callgrind", f"--callgrind-out-file={out}", *words],
                              stdout=subprocess.DEVNULL, stderr=subprocess.PIPE, text=True)
         total = int(re.search(r"Collected : (\d+)", run.stderr).group(1))
-        counted = total if part == "all" else {"judging": judging, "reading": reading}[part](out)
+        counted = total if part == "all" else PARTS[part](out)
         return counted, run.returncode, out
 
     def peak(self, words):
