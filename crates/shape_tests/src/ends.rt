@@ -103,14 +103,14 @@ fn switch_fits(alloc: Global, switch: &Switch) -> Result<bool, AllocError>
     if !are_typed(&switch.value.ty, switch.cases.as_slice()) {
         return Ok(false);
     }
-    Ok(are_apart(alloc, &switch.value.ty, switch.cases.as_slice())?)
+    are_apart(alloc, &switch.value.ty, switch.cases.as_slice())
 }
 
 pub fn cases_fit(alloc: Global, end: &Term) -> Result<bool, AllocError>
     ensures { IfOk result (λ fit. fit ≡ meaning.cases_fit end.now) }
 {
     match end {
-        Term::Switch(switch) => Ok(switch_fits(alloc, switch)?),
+        Term::Switch(switch) => switch_fits(alloc, switch),
         Term::Ret(_) | Term::RetVoid | Term::Br(_) | Term::CondBr(_) | Term::Unreachable => Ok(
             true,
         ),

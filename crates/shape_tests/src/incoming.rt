@@ -63,18 +63,17 @@ fn put_block<'a>(
     ensures { OnOk result (rows_of into.new.items ≡ with_block labels.now (rows_of into.old.items) block.now) }
 {
     match &block.term {
-        Term::Br(label) => put_edge(labels, &block.name, label, into)?,
+        Term::Br(label) => put_edge(labels, &block.name, label, into),
         Term::CondBr(branch) => {
             put_edge(labels, &block.name, &branch.on_true, into)?;
-            put_edge(labels, &block.name, &branch.on_false, into)?;
+            put_edge(labels, &block.name, &branch.on_false, into)
         }
         Term::Switch(switch) => {
             put_edge(labels, &block.name, &switch.default, into)?;
-            put_cases(labels, &block.name, switch.cases.as_slice(), into)?;
+            put_cases(labels, &block.name, switch.cases.as_slice(), into)
         }
-        Term::Ret(_) | Term::RetVoid | Term::Unreachable => {}
+        Term::Ret(_) | Term::RetVoid | Term::Unreachable => Ok(()),
     }
-    Ok(())
 }
 
 fn put_blocks<'a>(

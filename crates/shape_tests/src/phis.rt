@@ -60,7 +60,7 @@ fn many_fit(
     if !counts_agree(alloc, edges, counts, entries)? {
         return Ok(false);
     }
-    Ok(are_alike(alloc, entries)?)
+    are_alike(alloc, entries)
 }
 
 /// How many edges come from each block, where they are many.
@@ -68,7 +68,7 @@ pub fn counts_of<'a>(alloc: Global, edges: &[&'a Name]) -> Result<Counts<'a>, Al
     ensures { IfOk result (λ counts. 8 < length edges.now → count_in counts ≡ counts_of (named edges.now)) }
 {
     if edges.len() > FEW {
-        return Ok(count_edges(alloc, edges)?);
+        return count_edges(alloc, edges);
     }
     Ok(Counts::new(alloc))
 }
@@ -86,11 +86,11 @@ pub fn fits_edges(
         return Ok(false);
     }
     if edges.len() > FEW {
-        return Ok(many_fit(alloc, edges, counts, entries)?);
+        return many_fit(alloc, edges, counts, entries);
     }
     if entries.len() > FEW {
         let own = count_edges(alloc, edges)?;
-        return Ok(many_fit(alloc, edges, &own, entries)?);
+        return many_fit(alloc, edges, &own, entries);
     }
     Ok(few_fit(edges, entries))
 }

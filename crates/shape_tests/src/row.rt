@@ -69,7 +69,7 @@ fn third<'a>(alloc: Global, names: &[&'a Name], name: &'a Name) -> Result<Vec<&'
     requires { length names.now ≡ 2 }
     ensures { IfOk result (λ more. named more.items ≡ named names.now ++ name.now ∷ []) }
 {
-    Ok(three(alloc, names[0], names[1], name)?)
+    three(alloc, names[0], names[1], name)
 }
 
 fn grown<'a>(names: Vec<&'a Name>, name: &'a Name) -> Result<Vec<&'a Name>, AllocError>
