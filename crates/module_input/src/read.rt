@@ -74,6 +74,7 @@ fn are_seen(alloc: Global, functions: &[Function]) -> Result<bool, AllocError>
 }
 
 /// Whether a module that names no types is seen to be without fault and defined. No is no answer.
+#[tactic(auto, using(crate::proofs::Told::functions_decide))]
 fn is_seen(alloc: Global, module: &Module) -> Result<bool, AllocError>
     ensures faultless { IfOk result (λ seen. seen ≡ true → first_fault «module».now ≡ None) }
     ensures defined { IfOk result (λ seen. seen ≡ true → AllByRecursion IsFunctionDefined «module».now.functions) }
