@@ -1,0 +1,10 @@
+pub mod Lists
+pub mod Apart
+pub mod Renames
+pub mod Found
+pub mod Tries
+pub mod Counting
+pub mod Freshness
+pub mod Numberings
+pub mod Namings
+pub mod Hands

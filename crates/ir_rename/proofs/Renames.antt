@@ -1,0 +1,122 @@
+-- The names of a function under other names; a function under its own names is itself.
+use Rattle.std.proofs.Common.{◌≡◌, ◌∙◌, List, [], ◌∷◌, ◌++◌, map, refl, sym, ap}
+use Rattle.std.proofs.lemmas.List.{map-append}
+use Rattle.std.proofs.Math.Path.{fun_ext}
+use Rattle.std.specs.List.{flat_map}
+use Rattle.ir_core.specs.declared.expressions.Expr.{Expr}
+use Rattle.ir_core.specs.declared.functions.Block.{Block}
+use Rattle.ir_core.specs.declared.functions.Case.{Case}
+use Rattle.ir_core.specs.declared.functions.Entry.{Entry}
+use Rattle.ir_core.specs.declared.functions.Function.{Function}
+use Rattle.ir_core.specs.declared.functions.Instr.{Instr}
+use Rattle.ir_core.specs.declared.functions.Instr.TheVariants as instr
+use Rattle.ir_core.specs.declared.functions.Param.{Param}
+use Rattle.ir_core.specs.declared.functions.Phi.{Phi}
+use Rattle.ir_core.specs.declared.functions.Term.{Term}
+use Rattle.ir_core.specs.declared.functions.Term.TheVariants as term
+use Rattle.ir_core.specs.declared.operands.Atom.{Atom}
+use Rattle.ir_core.specs.declared.operands.Atom.TheVariants.{Constant, Register}
+use Rattle.ir_core.specs.declared.operands.Operand.{Operand}
+use Rattle.ir_types.specs.declared.names.Name.{Name}
+use Rattle.ir_core.specs.Expressions.{map_atom, map_expr, map_operand}
+use Rattle.ir_core.specs.Functions.{block_names, names_in, names_of, params_of, phi_registers, registers_of, set_by}
+use Rattle.ir_core.proofs.Mapped.{expressions_are_mapped}
+use Rattle.ir_rename.specs.Renamed.{rename_block, rename_case, rename_entry, rename_function, rename_line, rename_param, rename_phi, rename_term}
+
+-- ---- names
+
+param_names : (ρ : Name → Name) (ps : List Param) → names_in (map (λ (p : Param). (p.name, p.ty)) (map (rename_param ρ) ps)) ≡ map ρ (names_in (map (λ (p : Param). (p.name, p.ty)) ps))
+param_names ρ [] = refl
+param_names ρ (p ∷ ps) = ap (λ names. ρ p.name ∷ names) (param_names ρ ps)
+
+phi_names : (ρ : Name → Name) (ps : List Phi) → names_in (phi_registers (map (rename_phi ρ) ps)) ≡ map ρ (names_in (phi_registers ps))
+phi_names ρ [] = refl
+phi_names ρ (p ∷ ps) = ap (λ names. ρ p.name ∷ names) (phi_names ρ ps)
+
+line_names : (ρ : Name → Name) (ls : List Instr) → names_in (set_by (map (rename_line ρ) ls)) ≡ map ρ (names_in (set_by ls))
+line_names ρ [] = refl
+line_names ρ (instr.Calm c ∷ ls) = ap (λ names. ρ c.name ∷ names) (line_names ρ ls)
+
+set_names : (b : Block) → names_in (registers_of b) ≡ names_in (phi_registers b.phis) ++ names_in (set_by b.body)
+set_names b = map-append (λ register. register.0) (phi_registers b.phis) (set_by b.body)
+
+of_block : (ρ : Name → Name) (b : Block) → block_names (rename_block ρ b) ≡ map ρ (block_names b)
+of_block ρ b =
+    ap (λ names. ρ b.name ∷ names)
+    (set_names (rename_block ρ b)
+    ∙ ap (λ names. names ++ names_in (set_by (map (rename_line ρ) b.body))) (phi_names ρ b.phis)
+    ∙ ap (λ names. map ρ (names_in (phi_registers b.phis)) ++ names) (line_names ρ b.body)
+    ∙ sym (map-append ρ (names_in (phi_registers b.phis)) (names_in (set_by b.body)))
+    ∙ ap (map ρ) (sym (set_names b)))
+
+of_blocks : (ρ : Name → Name) (bs : List Block) → flat_map block_names (map (rename_block ρ) bs) ≡ map ρ (flat_map block_names bs)
+of_blocks ρ [] = refl
+of_blocks ρ (b ∷ bs) =
+    ap (λ names. names ++ flat_map block_names (map (rename_block ρ) bs)) (of_block ρ b)
+    ∙ ap (λ names. map ρ (block_names b) ++ names) (of_blocks ρ bs)
+    ∙ sym (map-append ρ (block_names b) (flat_map block_names bs))
+
+pub names_renamed : (ρ : Name → Name) (f : Function) → names_of (rename_function ρ f) ≡ map ρ (names_of f)
+names_renamed ρ f =
+    ap (λ names. names ++ flat_map block_names (map (rename_block ρ) f.blocks)) (param_names ρ f.params)
+    ∙ ap (λ names. map ρ (names_in (params_of f)) ++ names) (of_blocks ρ f.blocks)
+    ∙ sym (map-append ρ (names_in (params_of f)) (flat_map block_names f.blocks))
+
+-- ---- under its own names
+
+all_same : {A : Type 0} (f : A → A) → ((x : A) → f x ≡ x) → (xs : List A) → map f xs ≡ xs
+all_same f same [] = refl
+all_same f same (x ∷ xs) = ap (λ y. y ∷ map f xs) (same x) ∙ ap (λ ys. x ∷ ys) (all_same f same xs)
+
+own_expr : (e : Expr Name) → map_expr (λ r. r) e ≡ e
+own_expr = expressions_are_mapped.1
+
+own_atom : (a : Atom Name) → map_atom (λ r. r) a ≡ a
+own_atom (Constant c) = refl
+own_atom (Register r) = refl
+
+own_operand : (o : Operand Name) → map_operand (λ r. r) o ≡ o
+own_operand o = ap (λ (a : Atom Name). record { ty = o.ty; atom = a }) (own_atom o.atom)
+
+own_line : (l : Instr) → rename_line (λ n. n) l ≡ l
+own_line (instr.Calm c) = ap (λ (e : Expr Name). instr.Calm (record { name = c.name; right = e })) (own_expr c.right)
+
+own_entry : (e : Entry) → rename_entry (λ n. n) e ≡ e
+own_entry e = ap (λ (a : Atom Name). record { value = a; from = e.from }) (own_atom e.value)
+
+own_phi : (p : Phi) → rename_phi (λ n. n) p ≡ p
+own_phi p = ap (λ (es : List Entry). record { name = p.name; ty = p.ty; entries = es }) (all_same (rename_entry (λ n. n)) own_entry p.entries)
+
+own_case : (c : Case) → rename_case (λ n. n) c ≡ c
+own_case c = refl
+
+own_term : (t : Term) → rename_term (λ n. n) t ≡ t
+own_term (term.Ret operand) = ap term.Ret (own_operand operand)
+own_term term.RetVoid = refl
+own_term (term.Br label) = refl
+own_term (term.CondBr c) =
+    ap (λ (o : Operand Name). term.CondBr (record { condition = o; on_true = c.on_true; on_false = c.on_false })) (own_operand c.condition)
+own_term (term.Switch s) =
+    ap (λ (o : Operand Name). term.Switch (record { value = o; default = s.default; cases = map (rename_case (λ n. n)) s.cases })) (own_operand s.value)
+    ∙ ap (λ (cs : List Case). term.Switch (record { value = s.value; default = s.default; cases = cs })) (all_same (rename_case (λ n. n)) own_case s.cases)
+own_term term.Unreachable = refl
+
+own_block : (b : Block) → rename_block (λ n. n) b ≡ b
+own_block b =
+    ap (λ (ps : List Phi). record { name = b.name; phis = ps; body = map (rename_line (λ n. n)) b.body; term = rename_term (λ n. n) b.term }) (all_same (rename_phi (λ n. n)) own_phi b.phis)
+    ∙ ap (λ (ls : List Instr). record { name = b.name; phis = b.phis; body = ls; term = rename_term (λ n. n) b.term }) (all_same (rename_line (λ n. n)) own_line b.body)
+    ∙ ap (λ (t : Term). record { name = b.name; phis = b.phis; body = b.body; term = t }) (own_term b.term)
+
+own_param : (p : Param) → rename_param (λ n. n) p ≡ p
+own_param p = refl
+
+own : (f : Function) → rename_function (λ n. n) f ≡ f
+own f =
+    ap (λ (ps : List Param). record { name = f.name; result = f.result; params = ps; blocks = map (rename_block (λ n. n)) f.blocks }) (all_same (rename_param (λ n. n)) own_param f.params)
+    ∙ ap (λ (bs : List Block). record { name = f.name; result = f.result; params = f.params; blocks = bs }) (all_same (rename_block (λ n. n)) own_block f.blocks)
+
+pub stays : (ρ : Name → Name) → ((n : Name) → ρ n ≡ n) → (f : Function) → rename_function ρ f ≡ f
+stays ρ same f = ap (λ (σ : Name → Name). rename_function σ f) (fun_ext same) ∙ own f
+
+pub agree : (ρ σ : Name → Name) → ((n : Name) → ρ n ≡ σ n) → (f : Function) → rename_function ρ f ≡ rename_function σ f
+agree ρ σ same f = ap (λ (τ : Name → Name). rename_function τ f) (fun_ext same)
