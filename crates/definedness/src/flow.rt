@@ -77,8 +77,7 @@ fn add_two(
     ensures { OnOk result (places.new ≡ places.old ++ places_by labels.now (one.now ∷ two.now ∷ [])) }
 {
     add_place(labels, one, places)?;
-    add_place(labels, two, places)?;
-    Ok(())
+    add_place(labels, two, places)
 }
 
 fn add_switch(
@@ -90,8 +89,7 @@ fn add_switch(
         (places.new ≡ places.old ++ places_by labels.now (switch.now.default ∷ map (λ (c : Case). c.label) switch.now.cases)) }
 {
     add_place(labels, &switch.default, places)?;
-    add_cases(labels, switch.cases.as_slice(), places)?;
-    Ok(())
+    add_cases(labels, switch.cases.as_slice(), places)
 }
 
 /// Puts the places of the blocks to which a terminator leads behind the others.

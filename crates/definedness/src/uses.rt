@@ -83,8 +83,7 @@ fn note_atom<'a>(
     ensures { OnOk result
         (map use_of uses.new.items ≡ map use_of uses.old.items ++ left_in known.now.params known.now.own block.now line None atom.now) }
 {
-    note(known, block, line, None, atom, uses)?;
-    Ok(())
+    note(known, block, line, None, atom, uses)
 }
 
 fn note_two<'a>(
@@ -101,8 +100,7 @@ fn note_two<'a>(
         ++ (left_in known.now.params known.now.own block.now line None left.now ++ left_in known.now.params known.now.own block.now line None right.now)) }
 {
     note_atom(known, block, line, left, uses)?;
-    note_atom(known, block, line, right, uses)?;
-    Ok(())
+    note_atom(known, block, line, right, uses)
 }
 
 fn note_select<'a>(
@@ -125,8 +123,7 @@ fn note_select<'a>(
         &select.left.atom,
         &select.right.atom,
         uses,
-    )?;
-    Ok(())
+    )
 }
 
 fn note_expr<'a>(
@@ -141,12 +138,13 @@ fn note_expr<'a>(
         ≡ map use_of uses.old.items ++ left_by known.now.params known.now.own block.now line (operands_in expr.now)) }
 {
     match expr {
-        Expr::Plain(operand) => note_atom(known, block, line, &operand.atom, uses),
-        Expr::Binary(binary) => note_two(known, block, line, &binary.left, &binary.right, uses),
-        Expr::Icmp(icmp) => note_two(known, block, line, &icmp.left, &icmp.right, uses),
-        Expr::Cast(cast) => note_atom(known, block, line, &cast.operand.atom, uses),
-        Expr::Select(select) => note_select(known, block, line, select.get(), uses),
+        Expr::Plain(operand) => note_atom(known, block, line, &operand.atom, uses)?,
+        Expr::Binary(binary) => note_two(known, block, line, &binary.left, &binary.right, uses)?,
+        Expr::Icmp(icmp) => note_two(known, block, line, &icmp.left, &icmp.right, uses)?,
+        Expr::Cast(cast) => note_atom(known, block, line, &cast.operand.atom, uses)?,
+        Expr::Select(select) => note_select(known, block, line, select.get(), uses)?,
     }
+    Ok(())
 }
 
 fn note_end<'a>(
@@ -188,8 +186,7 @@ fn note_lines<'a>(
         // A block of so many lines stands in no memory.
         line = line.checked_add(1).ok_or(AllocError)?;
     }
-    note_end(known, block, line, uses)?;
-    Ok(())
+    note_end(known, block, line, uses)
 }
 
 /// Those of a phi's entries.
@@ -249,8 +246,7 @@ fn note_block<'a>(
     known.own = NameIndex::with_room(alloc, block.phis.len().saturating_add(block.body.len()))?;
     note_phis(known, block, uses)?;
     with_phis(alloc, block.phis.as_slice(), &mut known.own)?;
-    note_lines(alloc, known, block, uses)?;
-    Ok(())
+    note_lines(alloc, known, block, uses)
 }
 
 /// The uses in all blocks, in the order of the text.
