@@ -7,9 +7,7 @@ ghost use Rattle.ir_naming.specs.Walk.{HasRoom, with_thing, with_things};
 
 use crate::flow::{name_node, name_term};
 use contents::{Exact, Seq};
-use ir_core::{
-    BitType, Block, Calm, Function, Instr, Module, Name, NamedTypes, Param, Phi, Ty,
-};
+use ir_core::{BitType, Block, Calm, Function, Instr, Module, Name, NamedTypes, Param, Phi, Ty};
 use ir_grammar::{
     BlockText, BodyText, DefinitionText, LineText, ModuleText, ParamText, PhiText, Placed,
 };
