@@ -5,8 +5,8 @@ usage: bench/count.py [--program PATH] [--only WORD] [--write FILE]
 
 A row of budgets.tsv has, between tabs: its name, an input, a command, a unit (byte or line), a budget (instructions a unit), the peak of
 memory in MB, whether the count has to grow linearly (yes or no), and which part counts: all of it, `judging` (what the calls take that ask
-whether the modules are well-formed), `reading` (what getting them from their texts takes, but for that) or `printing` (what the calls take
-that print a module). Where a unit is neither byte nor line it is what N counts. A budget or
+whether the modules are well-formed), `reading` (what getting them from their texts takes, but for that) or `printing` (what putting a module
+into a text takes). Where a unit is neither byte nor line it is what N counts. A budget or
 a peak that isn't set yet is inf. In a command {} stands for the input's file, HINTS for the hints that belong to it, NONE for hints that
 say nothing, STEP for one step before the first line, with which facts are kept along the block, BASE for a module of one line. An input is
 made by rule: chain:N is a function of N lines of i32, mixed:N one of all operators over integers of several widths, flow:N one of N blocks
@@ -175,7 +175,7 @@ def reading(path):
 
 
 def printing(path):
-    return in_calls(path, lambda caller: caller == "crell_program", lambda callee: callee == "ir_printer")
+    return in_calls(path, lambda caller: caller == "crell_program", lambda callee: callee in {"ir_printer", "expression_printer"})
 
 
 PARTS = {"judging": judging, "reading": reading, "printing": printing}
