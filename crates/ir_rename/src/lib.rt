@@ -1,5 +1,5 @@
 //! Functions under other names (Language Reference 3.7, Identifiers): unnamed values are numbered in order of appearance, or get texts
-//! for names. What a function computes stays.
+//! for names. Each function is renamed so that different names stay different.
 #![tactic(auto)]
 
 mod laws;
