@@ -80,6 +80,7 @@ dividing f b y = defining f [] b (dividing_line y ∷ []) (Register y)
 -- define void @f() { b: ret void }
 abbrev pub returning_nothing : Name → Name → Module
 returning_nothing f b = record {
+  types = [];
   functions =
       record { name = f; result = Void; params = []; blocks = record { name = b; phis = []; body = []; term = RetVoid } ∷ [] } ∷ [];
 }
