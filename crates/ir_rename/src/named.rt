@@ -69,14 +69,19 @@ fn named(
     }
 }
 
-/// A text for each of the names.
-fn all_named(alloc: Global, names: &[&Name], places: &PlaceIndex) -> Result<Seq<Name>, AllocError>
-    requires { ArePlaces places.now (lent names.now) }
-    ensures { IfOk result (λ it. it ≡ map (meaning.named (lent names.now)) (lent names.now)) }
+/// A text for each of these names, which is none of those that are taken.
+fn all_named(
+    alloc: Global,
+    taken: &[&Name],
+    places: &PlaceIndex,
+    names: &[&Name],
+) -> Result<Seq<Name>, AllocError>
+    requires { ArePlaces places.now (lent taken.now) }
+    ensures { IfOk result (λ it. it ≡ map (meaning.named (lent taken.now)) (lent names.now)) }
 {
     let mut given = Vec::with_capacity(alloc, names.len())?;
     for name in names {
-        given.push(named(alloc, names, places, name)?)?;
+        given.push(named(alloc, taken, places, name)?)?;
     }
     Ok(Seq::from_vec(given))
 }
@@ -86,7 +91,7 @@ fn named_function(alloc: Global, function: &Function) -> Result<Function, AllocE
 {
     let names = names_of(alloc, function)?;
     let places = index_of(alloc, names.as_slice())?;
-    let given = all_named(alloc, names.as_slice(), &places)?;
+    let given = all_named(alloc, names.as_slice(), &places, names.as_slice())?;
     let renaming = Renaming { places, given };
     rename_function(alloc, &renaming, function)
 }

@@ -17,6 +17,11 @@ returns c =
     let r : Renaming = record { places = c.in_ok-places.places; given = c.in_ok-given.given } in
     let given = map (named (names_of f)) (names_of f) in
     let are = subst (ArePlaces r.places) (ap lent c.as_slice.ensures.value ∙ c.in_ok-names.ensures) c.in_ok-places.ensures in
-    let is = c.in_ok-given.ensures ∙ ap (λ names. map (named names) names) (ap lent c.as_slice-2.ensures.value ∙ c.in_ok-names.ensures) in
+    let taken = ap lent c.as_slice-2.ensures.value ∙ c.in_ok-names.ensures in
+    let names = ap lent c.as_slice-3.ensures.value ∙ c.in_ok-names.ensures in
+    let is =
+    c.in_ok-given.ensures
+    ∙ ap (λ ns. map (named ns) (lent c.as_slice-3.result.now)) taken
+    ∙ ap (λ ns. map (named (names_of f)) ns) names in
     subst (λ (g : Function). IfOk c.rename_function.result (λ it. it ≡ g))
     (agree (renamed r) (renaming (names_of f) given) (λ name. found r (names_of f) given are is name) f) c.rename_function.ensures
