@@ -1,5 +1,5 @@
 //! `crell check SRC TGT HINTS`: whether the target module refines the source module, by hints that say why; `crell defs FILE`: which
-//! registers are defined on every path to each block of a module; and `crell fmt FILE`: the module, printed.
+//! registers are defined on every path to each block of a module; and `crell fmt FILE [--names]`: the module, printed.
 #![tactic(auto)]
 
 ghost use Rattle.std.specs.Prelude.{◌≡◌, ◌⊎◌, None, IfOk, OnErr, map, string_bytes};

@@ -28,11 +28,12 @@ pub fn usage_text() -> &'static [u8]
 {
     b"usage: crell check SRC TGT HINTS\n       \
 crell defs FILE\n       \
-crell fmt FILE\n\
+crell fmt FILE [--names]\n\
 \n\
 check says whether the module in the file TGT refines the one in the file SRC, both textual LLVM IR, by\n\
 the hints in the JSON file HINTS. defs prints for each block of the module in FILE the registers that are\n\
-defined on every path to its start, or that no path leads there. fmt prints the module in FILE as text.\n\
+defined on every path to its start, or that no path leads there. fmt prints the module in FILE as text;\n\
+with --names the values and blocks that have numbers get names, as %v.5 for %5.\n\
 A file's name doesn't begin with `-`.\n\
 \n\
 Exit status:\n  \

@@ -7,7 +7,7 @@ use Rattle.ir_core.specs.Limits.{limit_number}
 use Rattle.crell_program.specs.declared.command.Form.{Form}
 use Rattle.crell_program.specs.declared.command.Form.TheVariants.{ModuleText, HintFile}
 use Rattle.crell_program.specs.declared.command.Listing.{Listing}
-use Rattle.crell_program.specs.declared.command.Listing.TheVariants.{Definitions, ModuleItself}
+use Rattle.crell_program.specs.declared.command.Listing.TheVariants.{Definitions, ModuleItself, NamedModule}
 use Rattle.crell_program.specs.declared.command.Wanted.{Wanted}
 use Rattle.crell_program.specs.declared.command.FileNames.{FileNames}
 use Rattle.crell_program.specs.declared.command.Request.{Request}
@@ -62,9 +62,19 @@ listing_of command = cond (bytes_eq command (codes "defs")) (Some Definitions) (
 abbrev pub print_of : List ℕ → List ℕ → Option Command
 print_of command file = cond (begins_with_dash file) None (option_map (λ listing. Print listing file) (listing_of command))
 
+-- `fmt` with `--names`, and the name of a file, which doesn't begin with `-`
+abbrev pub named_of : List ℕ → List ℕ → Option Command
+named_of command file = cond (bytes_eq command (codes "fmt") && not (begins_with_dash file)) (Some (Print NamedModule file)) None
+
+-- the option stands behind the file, or before it
+abbrev pub option_of : List ℕ → List ℕ → List ℕ → Option Command
+option_of command first second =
+    cond (bytes_eq second (codes "--names")) (named_of command first) (cond (bytes_eq first (codes "--names")) (named_of command second) None)
+
 -- The words are the program's name, and then these. All other words are no command.
 abbrev pub command_of : List (List ℕ) → Option Command
 command_of (program ∷ command ∷ file ∷ []) = print_of command file
+command_of (program ∷ command ∷ first ∷ second ∷ []) = option_of command first second
 command_of (program ∷ command ∷ source ∷ target ∷ hints ∷ []) = check_of command source target hints
 command_of words = None
 
@@ -82,7 +92,7 @@ abbrev pub shown_request : Request → Command
 shown_request (request.Check names) = shown_command names
 shown_request (request.Print listing file) = Print listing file.now
 
--- Words of private functions: the one command or the other, as the code tells them apart.
+-- Words of private functions: the commands, as the code tells them apart.
 abbrev pub check_in : List (List ℕ) → Option Command
 check_in (program ∷ command ∷ source ∷ target ∷ hints ∷ []) = check_of command source target hints
 check_in words = None
@@ -90,3 +100,7 @@ check_in words = None
 abbrev pub print_in : List (List ℕ) → Option Command
 print_in (program ∷ command ∷ file ∷ []) = print_of command file
 print_in words = None
+
+abbrev pub option_in : List (List ℕ) → Option Command
+option_in (program ∷ command ∷ first ∷ second ∷ []) = option_of command first second
+option_in words = None

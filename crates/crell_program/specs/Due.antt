@@ -18,13 +18,14 @@ use Rattle.crell_io.specs.Count.{HasRisen, HasRisenAbove}
 use Rattle.crell_io.specs.Shelf.{Told, IfTold}
 use Rattle.crell_io.specs.Shelf.Told.{NoSuch}
 use Rattle.crell_program.specs.declared.command.Listing.{Listing}
-use Rattle.crell_program.specs.declared.command.Listing.TheVariants.{Definitions, ModuleItself}
+use Rattle.crell_program.specs.declared.command.Listing.TheVariants.{Definitions, ModuleItself, NamedModule}
 use Rattle.crell_program.specs.Command.{File, limit_of, most_bytes, CheckFiles, Command, Check, Print, files_of}
 use Rattle.crell_answers.specs.declared.answer.Answer.{Answer}
 use Rattle.crell_answers.specs.Answer.{usage, module_fault, at_fault, printed, read_failed, past_limit, absent}
 use Rattle.crell_answers.specs.VerdictText.{verdict_answer}
 use Rattle.definition_text.specs.Lines.{AreLines}
 use Rattle.ir_printer.specs.Printed.{printed_module}
+use Rattle.ir_rename.specs.Named.{named_all}
 
 -- what came of asking for a file
 pub data Got : Type 0 where
@@ -105,10 +106,12 @@ DueOfCheck rules names answer source target hints =
     DueOfModule names.target target answer (λ t.
     DueOfHints names.hints hints answer (λ h. answer ≡ checked (module_answer rules s t h) names.source)))
 
--- The text is what is listed of the module: for each block of its functions what is defined at its start; or the module itself.
+-- The text is what is listed of the module: for each block of its functions what is defined at its start; or the module itself, or with
+-- texts for its numbers.
 abbrev pub Lists : Listing → Module → List ℕ → Type 0
 Lists Definitions m text = AreLines m.functions text
 Lists ModuleItself m text = text ≡ printed_module m
+Lists NamedModule m text = text ≡ printed_module (named_all m)
 
 -- what is listed of the module is printed
 abbrev pub IsListing : Listing → Module → Answer → Type 0

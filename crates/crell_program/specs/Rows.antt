@@ -38,7 +38,7 @@ NoFault run = (HasRisen run.shelf.faults run.shelf.faults_after → ⊥) × (Has
 pub record KeepsRows (run : Run) (status : ℕ) : Type 0 where
   -- Which answer is due, and that it is delivered; or memory was refused, and no sink was asked.
   pub answered : IsAnswered run status
-  -- `defs` has printed the lines of its file's module, `fmt` the module, and exactly that.
+  -- `defs` has printed the lines of its file's module, `fmt` the module, with names where it is asked for them, and exactly that.
   pub listed : status ≡ 0 → HasListing run.shelf.told run.command (λ text. GotAll run.out text)
   -- The checker refuses the pair.
   pub refused : status ≡ 1 → IsAnswer IsInvalid run.rules run.shelf.told run.command

@@ -197,7 +197,7 @@ IsListed (Check names) texts = ⊥
 IsListed (Print listing file) texts = AllZip (λ (file : File). IsFit file.form) (files_of (Print listing file)) texts
 
 -- Where the command is `defs` or `fmt`: the text of its file, if it is told, spells one module, which is well-formed; and what is listed of it,
--- the lines of its blocks with the registers that are defined at their starts, or the module itself, is such.
+-- the lines of its blocks with the registers that are defined at their starts, or the module, as it is or with names for its numbers, is such.
 abbrev pub HasListing : (List ℕ → Told) → Option Command → (List ℕ → Type 0) → Type 0
 HasListing told None P = Unit {0}
 HasListing told (Some (Check names)) P = Unit {0}

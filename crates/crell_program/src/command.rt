@@ -1,5 +1,5 @@
 ghost use Rattle.std.specs.Prelude.{◌≡◌, ◌<◌, ◌^◌, ◌-◌, map, string_bytes, option_map};
-ghost use Rattle.crell_program.specs.Command.{begins_with_dash, check_in, command_of, files_of, listing_of, print_in, limit_of, most_bytes, shown_command, shown_file, shown_request};
+ghost use Rattle.crell_program.specs.Command.{begins_with_dash, check_in, command_of, files_of, listing_of, named_of, option_in, option_of, print_in, limit_of, most_bytes, shown_command, shown_file, shown_request};
 
 use ir_core::Limit;
 
@@ -81,6 +81,8 @@ pub enum Listing {
     Definitions,
     /// The module as text.
     ModuleItself,
+    /// The module as text, with names for its numbers.
+    NamedModule,
 }
 
 /// A command, with the names of its files.
@@ -94,10 +96,13 @@ pub enum Request<'a> {
 pub fn command_of(words: &[String]) -> Option<Request<'_>>
     ensures { option_map shown_request result ≡ command_of (map string_bytes words.now) }
 {
-    match check_in(words) {
-        Some(request) => Some(request),
-        None => print_in(words),
+    if let Some(request) = check_in(words) {
+        return Some(request);
     }
+    if let Some(request) = print_in(words) {
+        return Some(request);
+    }
+    option_in(words)
 }
 
 /// `check` and its files, if the words are that command's.
@@ -137,6 +142,33 @@ fn print_in(words: &[String]) -> Option<Request<'_>>
         Some(listing) => Some(Request::Print(listing, file)),
         None => None,
     }
+}
+
+/// `fmt` with its option and its file, if the words are that command's.
+fn option_in(words: &[String]) -> Option<Request<'_>>
+    ensures { option_map shown_request result ≡ option_in (map string_bytes words.now) }
+{
+    let [_program, command, first, second] = words else {
+        return None;
+    };
+    let (command, first, second) = (command.as_str(), first.as_str(), second.as_str());
+    if second == "--names" {
+        named_of(command, first)
+    } else if first == "--names" {
+        named_of(command, second)
+    } else {
+        None
+    }
+}
+
+/// `fmt` with `--names`, if the command is `fmt`.
+fn named_of<'a>(command: &str, file: &'a str) -> Option<Request<'a>>
+    ensures { option_map shown_request result ≡ named_of command.now file.entry.now }
+{
+    if command != "fmt" || begins_with_dash(file) {
+        return None;
+    }
+    Some(Request::Print(Listing::NamedModule, file))
 }
 
 /// What the command of that word lists.

@@ -24,6 +24,7 @@ use erhl_soundness::shapes_keep_phis_apart;
 use hint_format::{HintFault, read_hints};
 use ir_core::{Limit, Module};
 use ir_printer::print_module;
+use ir_rename::name_all;
 use module_input::{first_faults_agree, read_input};
 use rule_base::{InferRule, LentBook, Pass, RuleBook, RuleSet, ShippedRules};
 use std::alloc::{AllocError, Global};
@@ -36,7 +37,7 @@ const USAGE: u8 = 2;
 pub const WANT_OF_MEMORY: u8 = 8;
 
 /// Runs the command that the words name, over this shelf and these sinks, and gives the status: `check SRC TGT HINTS`,
-/// `defs FILE` or `fmt FILE`. The first word is the program's name. The passes are those that later commands run; these call none.
+/// `defs FILE` or `fmt FILE [--names]`. The first word is the program's name. The passes are those that later commands run; these call none.
 pub fn crell<S: Shelf, O: Sink, E: Sink>(
     alloc: Global,
     words: &[String],
@@ -268,13 +269,17 @@ fn listed(alloc: Global, listing: Listing, module: &Module) -> Result<Answer, Al
     Ok(printed(alloc, text))
 }
 
-/// What is defined at the starts of a module's blocks, or the module itself.
+/// What is defined at the starts of a module's blocks; or the module itself, or with names for its numbers.
 fn listing_text(alloc: Global, listing: Listing, module: &Module) -> Result<Vec<u8>, AllocError>
     ensures { IfOk result (λ text. Lists listing «module».now text.items) }
 {
     match listing {
         Listing::Definitions => definitions_text(alloc, module.functions.as_slice()),
         Listing::ModuleItself => print_module(alloc, module),
+        Listing::NamedModule => {
+            let named = name_all(alloc, module)?;
+            print_module(alloc, &named)
+        }
     }
 }
 
