@@ -1,10 +1,9 @@
 -- Names of which no two are one.
-use Rattle.std.proofs.Common.{◌≡◌, ◌∙◌, ◌⊎◌, ⊎_elim, inl, inr, ℕ, zero, suc, ◌<◌, List, [], ◌∷◌, ◌++◌, length, get_or, map, refl, sym, ap, subst, arith, true, false, cond}
-use Rattle.std.proofs.lemmas.List.{append-nil}
+use Rattle.std.proofs.Common.{◌≡◌, ◌∙◌, ⊎_elim, ℕ, zero, suc, ◌<◌, List, [], ◌∷◌, ◌++◌, length, get_or, map, refl, sym, ap, subst, arith, true, false, cond}
 use Rattle.std.proofs.lemmas.List.Elements.{Contains-append_left, Contains-push, Contains-push_cases}
-use Rattle.std.specs.List.{AllByRecursion, Contains}
+use Rattle.std.specs.List.{Contains}
 use Rattle.ir_types.specs.declared.names.Name.{Name}
-use Rattle.ir_types.specs.NameLaws.{same_name_refl, same_name_true}
+use Rattle.ir_types.specs.NameLaws.{same_name_refl}
 use Rattle.ir_types.specs.Same.{same_name}
 use Rattle.ir_core.specs.Order.{AreNew}
 use Rattle.ir_rename.specs.Renamed.{IsInjectiveOn}

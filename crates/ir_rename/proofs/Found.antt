@@ -1,10 +1,8 @@
 -- Names that are found by an index are those that the renaming gives.
-use Rattle.std.proofs.Common.{◌≡◌, ◌∙◌, ⊎_elim, ℕ, zero, suc, ◌<◌, ◌≤◌, ◌+◌, Bool, true, false, cond, List, [], ◌∷◌, length, drop, get_or, Option, None, Some, refl, sym, ap, arith}
-use Rattle.std.proofs.lemmas.List.{get_or_past}
+use Rattle.std.proofs.Common.{◌≡◌, ◌∙◌, ℕ, zero, suc, ◌+◌, Bool, true, false, cond, List, [], ◌∷◌, drop, get_or, Some, refl, sym, ap, arith}
 use Rattle.std.specs.List.{position_from}
 use Rattle.ir_types.specs.declared.names.Name.{Name}
 use Rattle.ir_types.specs.Same.{same_name}
-use Rattle.name_index.specs.Among.{place_among}
 use Rattle.name_index.specs.Places.{ArePlaces}
 use Rattle.name_index.proofs.FirstPlaces.{behind_none}
 use Rattle.ir_rename.specs.declared.renaming.Renaming.{Renaming}

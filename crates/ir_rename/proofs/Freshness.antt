@@ -1,21 +1,20 @@
 -- Names with the fewest dots are fresh, and those of two numbers differ.
-use Rattle.std.proofs.Common.{◌≡◌, ◌∙◌, ◌⊎◌, ⊎_elim, inl, inr, ℕ, zero, suc, ◌<◌, ◌≤◌, ◌+◌, ◌%◌, ◌^◌, Bool, true, false, cond, List, [], ◌∷◌, ◌++◌, length, map, drop, replicate, refl, sym, ap, subst, append_assoc, length-append, arith}
+use Rattle.std.proofs.Common.{◌≡◌, ◌∙◌, ⊎_elim, ℕ, zero, suc, ◌<◌, ◌≤◌, ◌+◌, ◌%◌, ◌^◌, Bool, true, false, cond, List, [], ◌∷◌, ◌++◌, length, drop, replicate, refl, sym, ap, subst, append_assoc, length-append, arith}
 use Rattle.std.specs.Fmt.{decimal}
 use Rattle.std.proofs.lemmas.Fmt.{decimal_by_steps, decimal_injective}
-use Rattle.std.proofs.lemmas.Bool.{or_cases}
 use Rattle.std.proofs.lemmas.List.{append-nil}
 use Rattle.std.proofs.lemmas.Map.Made.{length-le_from_is_member}
 use Rattle.std.specs.List.{AllByRecursion, Contains, IsDistinct}
 use Rattle.std.specs.Set.{is_member}
 use Rattle.ir_types.specs.declared.names.Name.{Name}
-use Rattle.ir_types.specs.declared.names.Name.TheVariants.{Text, Number}
-use Rattle.ir_types.specs.NameLaws.{name_equivalence, same_name_true}
+use Rattle.ir_types.specs.declared.names.Name.TheVariants.{Text}
+use Rattle.ir_types.specs.NameLaws.{name_equivalence}
 use Rattle.ir_types.specs.Same.{same_name}
 use Rattle.name_index.specs.Among.{is_among}
 use Rattle.name_index.proofs.Among.{among_is, is_there, not_there}
-use Rattle.ir_rename.specs.Named.{IsFresh, dotted, free_in, fresh, text_of}
+use Rattle.ir_rename.specs.Named.{dotted, free_in, fresh, text_of}
 use Rattle.ir_rename.proofs.Counting.{bytes_in}
-use Rattle.ir_rename.proofs.Lists.{all_from, behind, cases, differ, here, none_in}
+use Rattle.ir_rename.proofs.Lists.{all_from, cases, differ, none_in}
 
 -- ---- one is free
 

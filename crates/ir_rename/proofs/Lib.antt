@@ -8,3 +8,6 @@ pub mod Freshness
 pub mod Numberings
 pub mod Namings
 pub mod Hands
+pub mod Shaped
+pub mod Shapes
+pub mod Defines

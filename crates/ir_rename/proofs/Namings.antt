@@ -1,17 +1,15 @@
 -- Naming renames functions, and gives each number a fresh text.
-use Rattle.std.proofs.Common.{◌≡◌, ◌∙◌, ⊎_elim, ℕ, ◌<◌, ◌^◌, List, [], ◌∷◌, ◌++◌, length, get_or, map, take, refl, sym, ap, subst, arith}
+use Rattle.std.proofs.Common.{◌≡◌, ◌∙◌, ⊎_elim, ℕ, ◌<◌, ◌^◌, List, [], length, get_or, map, take, refl, sym, ap, subst, arith}
 use Rattle.std.proofs.lemmas.List.{get_or-map, get_or_default}
 use Rattle.std.proofs.lemmas.List.Elements.{Contains-append_left}
 use Rattle.std.specs.List.{AllByRecursion, Contains}
 use Rattle.ir_core.specs.declared.functions.Function.{Function}
-use Rattle.ir_core.specs.declared.functions.Module.{Module}
 use Rattle.ir_types.specs.declared.names.Name.{Name}
 use Rattle.ir_types.specs.declared.names.Name.TheVariants.{Text, Number}
 use Rattle.ir_core.specs.Functions.{names_of}
-use Rattle.ir_core.specs.Order.{AreNew}
 use Rattle.ir_core.specs.Ranges.{IsNameInRange}
 use Rattle.ir_rename.specs.Laws.{GivesFreshAt, IsText, NamedAreTexts, NamingRenames, NumbersGetFreshNames}
-use Rattle.ir_rename.specs.Named.{IsFresh, dotted, fresh, named, named_function, text_of}
+use Rattle.ir_rename.specs.Named.{dotted, fresh, named, named_function, text_of}
 use Rattle.ir_rename.specs.Numbered.{renaming}
 use Rattle.ir_rename.specs.Renamed.{IsInjectiveOn, IsRenamed}
 use Rattle.ir_rename.proofs.Apart.{AreApart, apart_from_new, given_word, one_place}

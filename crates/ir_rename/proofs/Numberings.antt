@@ -1,10 +1,9 @@
 -- Numbering renames functions, and leaves them in order.
-use Rattle.std.proofs.Common.{◌≡◌, ◌∙◌, ℕ, ◌≤◌, ◌^◌, List, [], ◌∷◌, length, map, refl, sym, ap, subst, arith}
-use Rattle.std.specs.List.{AllByRecursion, Contains}
+use Rattle.std.proofs.Common.{◌≡◌, ◌∙◌, List, [], ◌∷◌, length, map, refl, sym, ap, subst, arith}
+use Rattle.std.specs.List.{AllByRecursion}
 use Rattle.ir_core.specs.declared.functions.Function.{Function}
-use Rattle.ir_core.specs.declared.functions.Module.{Module}
 use Rattle.ir_types.specs.declared.names.Name.{Name}
-use Rattle.ir_core.specs.Functions.{function_names, names_of}
+use Rattle.ir_core.specs.Functions.{names_of}
 use Rattle.ir_core.specs.Order.{AreCounted, AreInOrder, AreNew}
 use Rattle.ir_core.specs.Ranges.{IsNameInRange}
 use Rattle.ir_rename.specs.Laws.{NumberedIsInOrder, NumberingRenames, OrderStays}

@@ -25,29 +25,31 @@ use Rattle.ir_rename.specs.Renamed.{rename_block, rename_case, rename_entry, ren
 
 -- ---- names
 
-param_names : (ρ : Name → Name) (ps : List Param) → names_in (map (λ (p : Param). (p.name, p.ty)) (map (rename_param ρ) ps)) ≡ map ρ (names_in (map (λ (p : Param). (p.name, p.ty)) ps))
+pub param_names : (ρ : Name → Name) (ps : List Param) → names_in (map (λ (p : Param). (p.name, p.ty)) (map (rename_param ρ) ps)) ≡ map ρ (names_in (map (λ (p : Param). (p.name, p.ty)) ps))
 param_names ρ [] = refl
 param_names ρ (p ∷ ps) = ap (λ names. ρ p.name ∷ names) (param_names ρ ps)
 
-phi_names : (ρ : Name → Name) (ps : List Phi) → names_in (phi_registers (map (rename_phi ρ) ps)) ≡ map ρ (names_in (phi_registers ps))
+pub phi_names : (ρ : Name → Name) (ps : List Phi) → names_in (phi_registers (map (rename_phi ρ) ps)) ≡ map ρ (names_in (phi_registers ps))
 phi_names ρ [] = refl
 phi_names ρ (p ∷ ps) = ap (λ names. ρ p.name ∷ names) (phi_names ρ ps)
 
-line_names : (ρ : Name → Name) (ls : List Instr) → names_in (set_by (map (rename_line ρ) ls)) ≡ map ρ (names_in (set_by ls))
+pub line_names : (ρ : Name → Name) (ls : List Instr) → names_in (set_by (map (rename_line ρ) ls)) ≡ map ρ (names_in (set_by ls))
 line_names ρ [] = refl
 line_names ρ (instr.Calm c ∷ ls) = ap (λ names. ρ c.name ∷ names) (line_names ρ ls)
 
 set_names : (b : Block) → names_in (registers_of b) ≡ names_in (phi_registers b.phis) ++ names_in (set_by b.body)
 set_names b = map-append (λ register. register.0) (phi_registers b.phis) (set_by b.body)
 
-of_block : (ρ : Name → Name) (b : Block) → block_names (rename_block ρ b) ≡ map ρ (block_names b)
-of_block ρ b =
-    ap (λ names. ρ b.name ∷ names)
-    (set_names (rename_block ρ b)
+pub of_block_registers : (ρ : Name → Name) (b : Block) → names_in (registers_of (rename_block ρ b)) ≡ map ρ (names_in (registers_of b))
+of_block_registers ρ b =
+    set_names (rename_block ρ b)
     ∙ ap (λ names. names ++ names_in (set_by (map (rename_line ρ) b.body))) (phi_names ρ b.phis)
     ∙ ap (λ names. map ρ (names_in (phi_registers b.phis)) ++ names) (line_names ρ b.body)
     ∙ sym (map-append ρ (names_in (phi_registers b.phis)) (names_in (set_by b.body)))
-    ∙ ap (map ρ) (sym (set_names b)))
+    ∙ ap (map ρ) (sym (set_names b))
+
+of_block : (ρ : Name → Name) (b : Block) → block_names (rename_block ρ b) ≡ map ρ (block_names b)
+of_block ρ b = ap (λ names. ρ b.name ∷ names) (of_block_registers ρ b)
 
 of_blocks : (ρ : Name → Name) (bs : List Block) → flat_map block_names (map (rename_block ρ) bs) ≡ map ρ (flat_map block_names bs)
 of_blocks ρ [] = refl

@@ -8,7 +8,8 @@ use Rattle.ir_types.specs.declared.names.Name.TheVariants.{Text, Number}
 use Rattle.ir_core.specs.Functions.{function_names, names_of}
 use Rattle.ir_core.specs.Order.{AreInOrder, AreNew, IsInOrder}
 use Rattle.ir_core.specs.Ranges.{IsNameInRange}
-use Rattle.ir_rename.specs.Renamed.{AreRenamed}
+use Rattle.ir_core.specs.WellFormed.{HasFunctionShape, IsFunctionDefined}
+use Rattle.ir_rename.specs.Renamed.{AreRenamed, IsRenamed}
 use Rattle.ir_rename.specs.Numbered.{numbered_in_order}
 use Rattle.ir_rename.specs.Named.{IsFresh, named_all, named_function, text_of}
 
@@ -56,3 +57,12 @@ GivesFreshAt f k n =
 abbrev pub NumbersGetFreshNames : Type 0
 NumbersGetFreshNames = (f : Function) → AllByRecursion IsNameInRange (names_of f) → AreNew [] (names_of f)
     → (k n : ℕ) → k < length (names_of f) → slice_index_or (names_of f) k (Number n) ≡ Number n → GivesFreshAt f k n
+
+-- ---- under whatever other names
+
+abbrev pub RenamedHaveShape : Type 0
+RenamedHaveShape = (ρ : Name → Name) (f g : Function) → IsRenamed ρ f g → HasFunctionShape f → HasFunctionShape g
+
+abbrev pub RenamedAreDefined : Type 0
+RenamedAreDefined =
+    (ρ : Name → Name) (f g : Function) → IsRenamed ρ f g → HasFunctionShape f → IsFunctionDefined f → IsFunctionDefined g

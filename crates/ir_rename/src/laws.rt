@@ -1,5 +1,5 @@
 ghost use Rattle.ir_rename.specs.Examples.{NamesOfExamples, NumbersOfExamples};
-ghost use Rattle.ir_rename.specs.Laws.{NamedAreTexts, NamingRenames, NumberedIsInOrder, NumberingRenames, NumbersGetFreshNames, OrderStays};
+ghost use Rattle.ir_rename.specs.Laws.{NamedAreTexts, NamingRenames, NumberedIsInOrder, NumberingRenames, NumbersGetFreshNames, OrderStays, RenamedAreDefined, RenamedHaveShape};
 
 /// Empty on purpose: its contract is the law.
 ///
@@ -19,6 +19,14 @@ pub fn named_functions_are_renamed()
     ensures renamed { NamingRenames }
     ensures texts { NamedAreTexts }
     ensures fresh { NumbersGetFreshNames }
+{}
+
+/// Empty on purpose: its contract is the law.
+///
+/// Under whatever other names, a function that has shape goes on to have it, and what it uses goes on to be defined.
+pub fn renamed_functions_keep_their_shape()
+    ensures shape { RenamedHaveShape }
+    ensures defined { RenamedAreDefined }
 {}
 
 /// Empty on purpose: its contract is the law.
