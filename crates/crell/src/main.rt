@@ -3,7 +3,7 @@
 #![tactic(auto)]
 
 ghost use Rattle.std.specs.Prelude.{◌≡◌, ◌⊎◌, None, IfOk, OnErr, map, string_bytes};
-ghost use Rattle.crell_program.specs.Command.{command_of};
+ghost use Rattle.command_line.specs.Words.{command_of};
 ghost use Rattle.crell_program.specs.Statuses.{IsStatus};
 
 use crell_io::{HostShelf, HostSink};
@@ -20,10 +20,10 @@ fn main(rt: HostRuntime) -> ExitCode {
 /// Runs the command that these words name, and gives its status. Memory may have been refused to the words.
 fn start(rt: &HostRuntime, words: Result<Vec<String>, AllocError>) -> u8
     ensures unread { OnErr words (result ≡ 8) }
-    // The words are no command's exactly under 2, or 7 where the usage couldn't be written.
+    // The words are no command's under 2, and only there or under 7, where that couldn't be written, or 8.
     ensures usage { IfOk words (λ words. result ≡ 2 → command_of (map string_bytes words.items) ≡ None) }
     ensures no_command { IfOk words
-        (λ words. command_of (map string_bytes words.items) ≡ None → (result ≡ 2) ⊎ (result ≡ 7)) }
+        (λ words. command_of (map string_bytes words.items) ≡ None → (result ≡ 2) ⊎ (result ≡ 7) ⊎ (result ≡ 8)) }
     ensures statuses { IsStatus result }
 {
     match words {
@@ -35,7 +35,7 @@ fn start(rt: &HostRuntime, words: Result<Vec<String>, AllocError>) -> u8
 /// Runs the command over the files and the outputs of the system.
 fn run(rt: &HostRuntime, words: &[String]) -> u8
     ensures usage { result ≡ 2 → command_of (map string_bytes words.now) ≡ None }
-    ensures no_command { command_of (map string_bytes words.now) ≡ None → (result ≡ 2) ⊎ (result ≡ 7) }
+    ensures no_command { command_of (map string_bytes words.now) ≡ None → (result ≡ 2) ⊎ (result ≡ 7) ⊎ (result ≡ 8) }
     ensures statuses { IsStatus result }
 {
     crell_with_shipped_rules(

@@ -27,36 +27,9 @@ line text = text ++ 10 ∷ []
 abbrev pub fault_of : ℕ → List ℕ → List ℕ → Answer
 fault_of status file what = record { status = status; out = []; err = line (file ++ what) }
 
--- what other words than a command's get
-unfoldable pub usage_text : List ℕ
-usage_text =
-    line (codes "usage: crell check SRC TGT HINTS")
-    ++ line (codes "       crell defs FILE")
-    ++ line (codes "       crell fmt FILE [--names]")
-    ++ line (codes "")
-    ++ line (codes "check says whether the module in the file TGT refines the one in the file SRC, both textual LLVM IR, by")
-    ++ line (codes "the hints in the JSON file HINTS. defs prints for each block of the module in FILE the registers that are")
-    ++ line (codes "defined on every path to its start, or that no path leads there. fmt prints the module in FILE as text;")
-    ++ line (codes "with --names the values and blocks that have numbers get names, as %v.5 for %5.")
-    ++ line (codes "A file's name doesn't begin with `-`.")
-    ++ line (codes "")
-    ++ line (codes "Exit status:")
-    ++ line (codes "  0   valid, or printed whole")
-    ++ line (codes "  1   refused: the place and the reason are printed")
-    ++ line (codes "  2   the words are no command's")
-    ++ line (codes "  3   a text spells no module: the place and what is wrong there are printed")
-    ++ line (codes "  4   a module isn't well-formed: the place and what is wrong there are printed")
-    ++ line (codes "  5   the hints aren't of their form: the place is printed")
-    ++ line (codes "  6   a file can't be opened or read")
-    ++ line (codes "  7   standard output or standard error can't be written to")
-    ++ line (codes "  8   memory was refused")
-    ++ line (codes "  9   a limit is passed: 16 MiB a module, 64 MiB the hints, 16 MiB a name or an expression in them,")
-    ++ line (codes "      1048576 lines a function, 65536 facts at a place")
-    ++ line (codes "  10  there is no such file")
-
--- the words are no command's
-abbrev pub usage : Answer
-usage = record { status = 2; out = []; err = usage_text }
+-- the words are no command's, which the text says
+abbrev pub usage : List ℕ → Answer
+usage text = record { status = 2; out = []; err = text }
 
 -- a text that is printed whole
 abbrev pub printed : List ℕ → Answer

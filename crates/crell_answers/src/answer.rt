@@ -22,35 +22,6 @@ impl Drop for Answer {
     }
 }
 
-/// The text that other words than a command's get.
-pub fn usage_text() -> &'static [u8]
-    ensures { result.now ≡ answer.usage_text }
-{
-    b"usage: crell check SRC TGT HINTS\n       \
-crell defs FILE\n       \
-crell fmt FILE [--names]\n\
-\n\
-check says whether the module in the file TGT refines the one in the file SRC, both textual LLVM IR, by\n\
-the hints in the JSON file HINTS. defs prints for each block of the module in FILE the registers that are\n\
-defined on every path to its start, or that no path leads there. fmt prints the module in FILE as text;\n\
-with --names the values and blocks that have numbers get names, as %v.5 for %5.\n\
-A file's name doesn't begin with `-`.\n\
-\n\
-Exit status:\n  \
-0   valid, or printed whole\n  \
-1   refused: the place and the reason are printed\n  \
-2   the words are no command's\n  \
-3   a text spells no module: the place and what is wrong there are printed\n  \
-4   a module isn't well-formed: the place and what is wrong there are printed\n  \
-5   the hints aren't of their form: the place is printed\n  \
-6   a file can't be opened or read\n  \
-7   standard output or standard error can't be written to\n  \
-8   memory was refused\n  \
-9   a limit is passed: 16 MiB a module, 64 MiB the hints, 16 MiB a name or an expression in them,\n      \
-1048576 lines a function, 65536 facts at a place\n  \
-10  there is no such file\n"
-}
-
 /// A text, printed whole.
 pub fn printed(alloc: Global, text: Vec<u8>) -> Answer
     ensures { result ≡ answer.printed text.items }

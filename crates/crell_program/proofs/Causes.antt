@@ -17,11 +17,11 @@ use Rattle.crell_io.specs.Count.{HasRisen}
 use Rattle.crell_io.specs.Shelf.{IfTold}
 use Rattle.crell_io.specs.Sink.{appended}
 use Rattle.crell_answers.specs.declared.answer.Answer.{Answer}
-use Rattle.crell_answers.specs.Answer.{usage, usage_text, module_fault, text_fault, at_fault, printed, read_failed, past_limit, absent}
-use Rattle.crell_program.specs.declared.command.Listing.{Listing}
+use Rattle.crell_answers.specs.Answer.{usage, module_fault, text_fault, at_fault, printed, read_failed, past_limit, absent}
+use Rattle.command_line.specs.declared.request.Listing.{Listing}
 use Rattle.crell_program.specs.declared.command.Form.TheVariants.{ModuleText, HintFile}
-use Rattle.crell_program.specs.Command.{File, limit_of, CheckFiles, Command, Check, Print, files_of}
-use Rattle.crell_answers.specs.VerdictText.{verdict_answer}
+use Rattle.command_line.specs.Words.{CheckFiles, Command, Check, Print}
+use Rattle.crell_program.specs.Command.{File, limit_of, files_of}
 use Rattle.crell_program.specs.Due.{ShelfSeen, Held, Missing, Long, Broken, MayCome, DueOfFile, DueOfFiles, DueOfCheck, DueOfListing, DueOfTexts, IsAtFault, IsReadOnlyAs, SpellsOnly, checked}
 use Rattle.crell_program.specs.Delivery.{SinkSeen, GotAll, GotPart, GotNothing, IsDelivered}
 use Rattle.crell_program.specs.Rows.{Run, IsAnswered, WritingFailed}
@@ -32,7 +32,7 @@ use Rattle.crell_program.proofs.Bytes.{if_told, TellsAll, if_all_told, none_abse
 abbrev pub Says : Run → ℕ → Type 0
 Says run zero = HasListing run.shelf.told run.command (λ text. GotAll run.out text)
 Says run (suc zero) = IsAnswer IsInvalid run.rules run.shelf.told run.command
-Says run (suc (suc zero)) = (run.command ≡ None) × GotNothing run.out × GotAll run.err usage_text
+Says run (suc (suc zero)) = (run.command ≡ None) × GotNothing run.out × ((text : List ℕ) × GotAll run.err text)
 Says run (suc (suc (suc zero))) = SomeFileIsUnfit 3 run.shelf.told run.command × GotNothing run.out
 Says run (suc (suc (suc (suc zero)))) = SomeFileIsUnfit 4 run.shelf.told run.command × GotNothing run.out
 Says run (suc (suc (suc (suc (suc zero))))) = HintsAreAtFault IsPlace run.shelf.told run.command × GotNothing run.out
@@ -230,24 +230,23 @@ module _ (rules : Rules) (shelf : ShelfSeen) (out err : SinkSeen) (command : Com
       let P : ℕ → Type 0 = λ n. Says (command_run rules shelf out err command) n in
       subst P (sym e) (inr part.0)
 
--- other words than a command's get the usage
-said_of_others : (rules : Rules) (shelf : ShelfSeen) (out err : SinkSeen) (status : ℕ)
-    → IsDelivered usage out err status → Says (other_run rules shelf out err) status
-said_of_others rules shelf out err status (inl (e, to_out, to_err)) =
-    let P : ℕ → Type 0 = λ n. Says (other_run rules shelf out err) n in subst P (sym e) (refl, nothing_of out to_out, to_err)
-said_of_others rules shelf out err status (inr (inl (e, part, nothing))) = absurd (part_of_nothing out part)
-said_of_others rules shelf out err status (inr (inr (e, all, part))) =
+-- other words than a command's get a text that says so
+said_of_others : (rules : Rules) (shelf : ShelfSeen) (out err : SinkSeen) (text : List ℕ) (status : ℕ)
+    → IsDelivered (usage text) out err status → Says (other_run rules shelf out err) status
+said_of_others rules shelf out err text status (inl (e, to_out, to_err)) =
+    let P : ℕ → Type 0 = λ n. Says (other_run rules shelf out err) n in subst P (sym e) (refl, nothing_of out to_out, (text, to_err))
+said_of_others rules shelf out err text status (inr (inl (e, part, nothing))) = absurd (part_of_nothing out part)
+said_of_others rules shelf out err text status (inr (inr (e, all, part))) =
     let P : ℕ → Type 0 = λ n. Says (other_run rules shelf out err) n in subst P (sym e) (inr part.0)
 
 said_by : (rules : Rules) (shelf : ShelfSeen) (out err : SinkSeen) (command : Option Command) (status : ℕ)
     → IsAnswered (record { rules = rules; command = command; shelf = shelf; out = out; err = err }) status
     → Says (record { rules = rules; command = command; shelf = shelf; out = out; err = err }) status
 said_by rules shelf out err None status (inl (answer, due, delivered)) =
-    let P : Answer → Type 0 = λ a. IsDelivered a out err status in said_of_others rules shelf out err status (subst P due delivered)
+    let P : Answer → Type 0 = λ a. IsDelivered a out err status in said_of_others rules shelf out err due.0 status (subst P due.1 delivered)
 said_by rules shelf out err (Some command) status (inl (answer, due, delivered)) = said_of_command rules shelf out err command answer status due delivered
-said_by rules shelf out err None status (inr (some, e, to_out, to_err)) = absurd (some refl)
-said_by rules shelf out err (Some command) status (inr (some, e, to_out, to_err)) =
-    let P : ℕ → Type 0 = λ n. Says (command_run rules shelf out err command) n in subst P (sym e) to_out.0
+said_by rules shelf out err command status (inr (e, to_out, to_err)) =
+    let P : ℕ → Type 0 = λ n. Says (record { rules = rules; command = command; shelf = shelf; out = out; err = err }) n in subst P (sym e) to_out.0
 
 pub said : (run : Run) (status : ℕ) → IsAnswered run status → Says run status
 said run status answered = said_by run.rules run.shelf run.out run.err run.command status answered
@@ -285,17 +284,17 @@ is_status run (suc (suc (suc (suc (suc (suc (suc (suc (suc zero))))))))) s = ref
 is_status run (suc (suc (suc (suc (suc (suc (suc (suc (suc (suc zero)))))))))) s = refl
 is_status run (suc (suc (suc (suc (suc (suc (suc (suc (suc (suc (suc n))))))))))) s = absurd s
 
--- where the words are no command's, two statuses are left
+-- where the words are no command's, three statuses are left
 other_status_by : (rules : Rules) (shelf : ShelfSeen) (out err : SinkSeen) (command : Option Command) (status : ℕ)
     → IsAnswered (record { rules = rules; command = command; shelf = shelf; out = out; err = err }) status
-    → command ≡ None → (status ≡ 2) ⊎ ((status ≡ 7) × HasRisen err.faults err.faults_after)
+    → command ≡ None → (status ≡ 2) ⊎ (status ≡ 8) ⊎ ((status ≡ 7) × HasRisen err.faults err.faults_after)
 other_status_by rules shelf out err (Some command) status answered e = absurd (some_isnt_none command e)
-other_status_by rules shelf out err None status (inl (answer, due, inl (e, to_out, to_err))) none = inl (e ∙ ap (λ (a : Answer). a.status) due)
+other_status_by rules shelf out err None status (inl (answer, due, inl (e, to_out, to_err))) none = inl (e ∙ ap (λ (a : Answer). a.status) due.1)
 other_status_by rules shelf out err None status (inl (answer, due, inr (inl (e, part, nothing)))) none =
-    let P : Answer → Type 0 = λ a. GotPart out a.out in absurd (part_of_nothing out (subst P due part))
-other_status_by rules shelf out err None status (inl (answer, due, inr (inr (e, all, part)))) none = inr (e, part.0)
-other_status_by rules shelf out err None status (inr (some, e, to_out, to_err)) none = absurd (some refl)
+    let P : Answer → Type 0 = λ a. GotPart out a.out in absurd (part_of_nothing out (subst P due.1 part))
+other_status_by rules shelf out err None status (inl (answer, due, inr (inr (e, all, part)))) none = inr (inr (e, part.0))
+other_status_by rules shelf out err None status (inr (e, to_out, to_err)) none = inr (inl e)
 
 pub other_status : (run : Run) (status : ℕ) → IsAnswered run status
-    → run.command ≡ None → (status ≡ 2) ⊎ ((status ≡ 7) × HasRisen run.err.faults run.err.faults_after)
+    → run.command ≡ None → (status ≡ 2) ⊎ (status ≡ 8) ⊎ ((status ≡ 7) × HasRisen run.err.faults run.err.faults_after)
 other_status run status answered = other_status_by run.rules run.shelf run.out run.err run.command status answered

@@ -18,11 +18,12 @@ use Rattle.crell_io.specs.Count.{HasRisen}
 use Rattle.crell_io.specs.Shelf.{Told, IfTold}
 use Rattle.crell_io.specs.Shelf.Told.{NoSuch, Bytes}
 use Rattle.crell_answers.specs.declared.answer.Answer.{Answer}
-use Rattle.crell_program.specs.declared.command.Listing.{Listing}
+use Rattle.command_line.specs.declared.request.Listing.{Listing}
 use Rattle.crell_program.specs.declared.command.Form.TheVariants.{ModuleText, HintFile}
 use Rattle.crell_answers.specs.Answer.{module_fault, at_fault}
-use Rattle.crell_program.specs.Command.{File, most_bytes, CheckFiles, Command, Check, Print, files_of}
-use Rattle.crell_answers.specs.VerdictText.{verdict_status, verdict_answer}
+use Rattle.command_line.specs.Words.{CheckFiles, Command, Check, Print}
+use Rattle.crell_program.specs.Command.{File, most_bytes, files_of}
+use Rattle.crell_answers.specs.VerdictText.{verdict_status}
 use Rattle.crell_program.specs.Due.{ShelfSeen, Held, Missing, Long, Broken, DueOfFile, DueOfFiles, DueOfCheck, DueOfListing, DueOfTexts, IsAtFault, checked}
 use Rattle.crell_program.specs.Delivery.{SinkSeen, IsDelivered}
 use Rattle.crell_program.specs.Rows.{Run, IsAnswered, NoFault}
@@ -109,7 +110,7 @@ all_well rules shelf out err None P known status leads answered has fine = absur
 all_well rules shelf out err (Some command) P known status leads (inl (answer, due, delivered)) has fine =
     let well = due_well shelf (files_of command) (P command) answer (DueOfTexts rules command answer) fine.0 has due in
     inl (delivered_well answer out err status (fine.1, fine.2) delivered ∙ leads command answer well.0 well.3 well.1 well.2)
-all_well rules shelf out err (Some command) P known status leads (inr (some, e, nothing, silent)) has fine = inr e
+all_well rules shelf out err (Some command) P known status leads (inr (e, nothing, silent)) has fine = inr e
 
 status_of_valid : (said : Option ModuleVerdict) (file : List ℕ) → said ≡ Some modules.Valid → (checked said file).status ≡ 0
 status_of_valid said file e = ap (λ (x : Option ModuleVerdict). (checked x file).status) e
@@ -305,7 +306,7 @@ first_decides rules shelf out err None P known status decides answered has fine 
 first_decides rules shelf out err (Some command) P known status decides (inl (answer, due, delivered)) has fine =
     inl (delivered_well answer out err status (fine.1, fine.2) delivered ∙ unheld shelf P answer known fine.0
     (λ file next. decides answer file next fine.0) (files_of command) (DueOfTexts rules command answer) has due)
-first_decides rules shelf out err (Some command) P known status decides (inr (some, e, nothing, silent)) has fine = inr e
+first_decides rules shelf out err (Some command) P known status decides (inr (e, nothing, silent)) has fine = inr e
 
 pub missing : (run : Run) (status : ℕ) → IsAnswered run status → FirstUnheld IsAbsent run.shelf.told run.command → NoFault run → (status ≡ 10) ⊎ (status ≡ 8)
 missing run status = first_decides run.rules run.shelf run.out run.err run.command IsAbsent 10 status (absent_decides run.shelf)

@@ -1,12 +1,11 @@
 -- The status of an answer to a module's fault.
-use Rattle.std.proofs.Common.{◌≡◌, ◌≢◌, ◌∙◌, ◌≤◌, ℕ, List, length, refl, sym, ap, arith}
+use Rattle.std.proofs.Common.{◌≡◌, ◌∙◌, ◌≤◌, ℕ, List, length, refl, sym, ap, arith}
 use Rattle.ir_core.specs.Limits.{text_limit}
 use Rattle.ir_spelling.specs.declared.fault.TextFault.{TextFault}
 use Rattle.ir_spelling.specs.declared.fault.TextFault.TheVariants as text
 use Rattle.module_input.specs.declared.fault.ModuleFault.{ModuleFault}
 use Rattle.module_input.specs.declared.fault.ModuleFault.TheVariants as faults
 use Rattle.module_input.specs.Laws.{FaultKind, PastLimit, Misspelled, IllFormed, Silent, fault_kind, text_kind, FaultsAreOfOneKind}
-use Rattle.crell_answers.specs.declared.answer.Answer.{Answer}
 use Rattle.crell_answers.specs.Answer.{text_fault, module_fault}
 use Rattle.crell_program.specs.Due.{IsAtFault}
 use Rattle.crell_program.specs.Statuses.{module_status, text_status}

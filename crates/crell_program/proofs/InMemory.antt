@@ -8,7 +8,8 @@ use Rattle.crell_io.specs.Shelf.{StaysWell}
 use Rattle.crell_io.specs.MemShelf.{ShelfState, held}
 use Rattle.crell_io.specs.MemSink.{SinkState, sure_room}
 use Rattle.crell_answers.specs.declared.answer.Answer.{Answer}
-use Rattle.crell_program.specs.Command.{Command, files_of}
+use Rattle.command_line.specs.Words.{Command}
+use Rattle.crell_program.specs.Command.{files_of}
 use Rattle.crell_answers.specs.VerdictText.{verdict_status, verdict_answer}
 use Rattle.crell_program.specs.Due.{ShelfSeen, shelf_seen, IsDue, DueOfTexts, checked}
 use Rattle.crell_program.specs.Delivery.{SinkSeen, sink_seen, IsDelivered}
@@ -38,7 +39,7 @@ module _ (rules : Rules) (shelf : ShelfSeen) (out err : SinkSeen) (a : out.fault
   spared command status (inl (answer, due, delivered)) fits =
       let f = fits answer due in
       let s = sinks_fine answer out err status a b f.0 f.1 delivered in (fine, s.0, s.1)
-  spared command status (inr (some, e, nothing, silent)) fits = (fine, not_risen _ _ nothing.1 a, not_risen _ _ silent.1 b)
+  spared command status (inr (e, nothing, silent)) fits = (fine, not_risen _ _ nothing.1 a, not_risen _ _ silent.1 b)
 
   -- an answer that is due to texts with such a verdict
   due_as : FaultsExcludeModules → (P : Option ModuleVerdict → Type 0) (Q : Answer → Type 0) → ((said : Option ModuleVerdict) (file : List ℕ) → P said → Q (checked said file))

@@ -19,8 +19,9 @@ use Rattle.erhl_assert.specs.declared.verdict.ModuleVerdict.{ModuleVerdict}
 use Rattle.erhl_assert.specs.declared.verdict.ModuleVerdict.TheVariants as modules
 use Rattle.crell_io.specs.Shelf.{Told, IfTold}
 use Rattle.crell_answers.specs.declared.answer.Answer.{Answer}
-use Rattle.crell_program.specs.declared.command.Listing.{Listing}
-use Rattle.crell_program.specs.Command.{File, CheckFiles, Command, Check, Print, files_of}
+use Rattle.command_line.specs.declared.request.Listing.{Listing}
+use Rattle.command_line.specs.Words.{CheckFiles, Command, Check, Print}
+use Rattle.crell_program.specs.Command.{File, files_of}
 use Rattle.crell_program.specs.Fetching.{AreHeld}
 use Rattle.crell_answers.specs.VerdictText.{verdict_status, verdict_answer}
 use Rattle.crell_program.specs.Due.{ShelfSeen, Held, Missing, Long, Broken, DueOfFile, DueOfFiles, DueOfCheck, DueOfListing, DueOfTexts, IsListing, IsReadOnlyAs, SpellsOnly, checked}
@@ -217,11 +218,11 @@ delivered_as answer out_text err_text out err status e f d =
     let Q : List ℕ → Type 0 = λ t. IsDelivered (record { status = answer.status; out = out_text; err = t }) out err status in
     subst P e (subst Q f d)
 
-pub answered_with_usage : (rules : Rules) (shelf : ShelfSeen) (out err : SinkSeen) (command : Option Command) (status : ℕ) → None ≡ command
-    → IsDelivered usage out err status → IsAnswered (record { rules = rules; command = command; shelf = shelf; out = out; err = err }) status
-answered_with_usage rules shelf out err command status e d =
+pub answered_with_usage : (rules : Rules) (shelf : ShelfSeen) (out err : SinkSeen) (command : Option Command) (text : List ℕ) (status : ℕ) → None ≡ command
+    → IsDelivered (usage text) out err status → IsAnswered (record { rules = rules; command = command; shelf = shelf; out = out; err = err }) status
+answered_with_usage rules shelf out err command text status e d =
     let P : Option Command → Type 0 = λ c. IsAnswered (record { rules = rules; command = c; shelf = shelf; out = out; err = err }) status in
-    subst P e (inl (usage, refl, d))
+    subst P e (inl (usage text, (text, refl), d))
 
 pub answered_for : (rules : Rules) (shelf : ShelfSeen) (out err : SinkSeen) (which : Command) (command : Option Command) (status : ℕ) → Some which ≡ command
     → IsAnswered (record { rules = rules; command = Some which; shelf = shelf; out = out; err = err }) status
@@ -236,11 +237,11 @@ refinement_for told which command status e refined z =
     let P : Option Command → Type 0 = λ c. IsRefinementOfBytes told c in subst P e (refined z)
 
 -- the usage isn't of status 0
-pub usage_isnt_zero : (out err : SinkSeen) (status : ℕ) → IsDelivered usage out err status → status ≡ 0 → ⊥
-usage_isnt_zero out err status delivered z =
-    let e : usage.status ≡ 0 = zero_of usage out err status delivered z in absurd (omega arith)
+pub usage_isnt_zero : (out err : SinkSeen) (text : List ℕ) (status : ℕ) → IsDelivered (usage text) out err status → status ≡ 0 → ⊥
+usage_isnt_zero out err text status delivered z =
+    let e : (usage text).status ≡ 0 = zero_of (usage text) out err status delivered z in absurd (omega arith)
 
--- memory was refused to a command, and no sink was asked
-pub unanswered : (rules : Rules) (shelf : ShelfSeen) (out err : SinkSeen) (which : Command) → Untouched out → Untouched err
-    → IsAnswered (record { rules = rules; command = Some which; shelf = shelf; out = out; err = err }) 8
-unanswered rules shelf out err which a b = let some : Some which ≢ None = λ e. cc in inr (some, refl, a, b)
+-- memory was refused, and no sink was asked
+pub unanswered : (rules : Rules) (shelf : ShelfSeen) (out err : SinkSeen) (command : Option Command) → Untouched out → Untouched err
+    → IsAnswered (record { rules = rules; command = command; shelf = shelf; out = out; err = err }) 8
+unanswered rules shelf out err command a b = inr (refl, a, b)

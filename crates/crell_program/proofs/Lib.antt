@@ -7,4 +7,3 @@ pub mod InMemory
 pub mod Inner
 pub mod Rows
 pub mod Writing
-pub mod Commands

@@ -17,9 +17,10 @@ use Rattle.erhl_assert.specs.declared.verdict.ModuleVerdict.{ModuleVerdict}
 use Rattle.crell_io.specs.Count.{HasRisen, HasRisenAbove}
 use Rattle.crell_io.specs.Shelf.{Told, IfTold}
 use Rattle.crell_io.specs.Shelf.Told.{NoSuch}
-use Rattle.crell_program.specs.declared.command.Listing.{Listing}
-use Rattle.crell_program.specs.declared.command.Listing.TheVariants.{Definitions, ModuleItself, NamedModule}
-use Rattle.crell_program.specs.Command.{File, limit_of, most_bytes, CheckFiles, Command, Check, Print, files_of}
+use Rattle.command_line.specs.declared.request.Listing.{Listing}
+use Rattle.command_line.specs.declared.request.Listing.TheVariants.{Definitions, ModuleItself, NamedModule}
+use Rattle.command_line.specs.Words.{CheckFiles, Command, Check, Print}
+use Rattle.crell_program.specs.Command.{File, limit_of, most_bytes, files_of}
 use Rattle.crell_answers.specs.declared.answer.Answer.{Answer}
 use Rattle.crell_answers.specs.Answer.{usage, module_fault, at_fault, printed, read_failed, past_limit, absent}
 use Rattle.crell_answers.specs.VerdictText.{verdict_answer}
@@ -132,7 +133,7 @@ DueOfTexts rules (Print listing file) answer (text ∷ []) = DueOfListing listin
 DueOfTexts rules (Print listing file) answer [] = ⊥
 DueOfTexts rules (Print listing file) answer (text ∷ other ∷ more) = ⊥
 
--- the answer that is due to these words
+-- The answer that is due to these words; to those that are no command's, any text that says so.
 abbrev pub IsDue : Rules → ShelfSeen → Option Command → Answer → Type 0
-IsDue rules shelf None answer = answer ≡ usage
+IsDue rules shelf None answer = (text : List ℕ) × (answer ≡ usage text)
 IsDue rules shelf (Some command) answer = DueOfFiles shelf (files_of command) answer (DueOfTexts rules command answer)

@@ -5,7 +5,7 @@ use Rattle.erhl_assert.specs.Steps.{Rules}
 use Rattle.crell_io.specs.MemShelf.{ShelfState, held}
 use Rattle.crell_io.specs.MemSink.{SinkState, sure_room}
 use Rattle.crell_answers.specs.declared.answer.Answer.{Answer}
-use Rattle.crell_program.specs.Command.{Command}
+use Rattle.command_line.specs.Words.{Command}
 use Rattle.crell_program.specs.Due.{shelf_seen, IsDue}
 use Rattle.crell_program.specs.Delivery.{sink_seen}
 use Rattle.crell_program.specs.Rows.{Run, KeepsRows, NoFault}

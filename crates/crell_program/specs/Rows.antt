@@ -1,12 +1,12 @@
 -- A run of the program, and the rows of its table of statuses.
-use Rattle.std.specs.Prelude.{◌≡◌, ◌≢◌, ◌⊎◌, ℕ, Option, None, Some}
+use Rattle.std.specs.Prelude.{◌≡◌, ◌≢◌, ◌⊎◌, ℕ, List, Option, None, Some}
 use Rattle.erhl_assert.specs.declared.verdict.ModuleVerdict.TheVariants as modules
 use Rattle.erhl_assert.specs.Steps.{Rules}
 use Rattle.crell_io.specs.Count.{HasRisen}
 use Rattle.json_forms.specs.declared.failure.Fault.{Fault}
 use Rattle.crell_answers.specs.declared.answer.Answer.{Answer}
-use Rattle.crell_answers.specs.Answer.{usage_text}
-use Rattle.crell_program.specs.Command.{Command, files_of}
+use Rattle.command_line.specs.Words.{Command}
+use Rattle.crell_program.specs.Command.{files_of}
 use Rattle.crell_program.specs.Due.{ShelfSeen, IsDue}
 use Rattle.crell_program.specs.Delivery.{SinkSeen, IsDelivered, GotAll, GotNothing, Untouched}
 use Rattle.crell_program.specs.Statuses.{IsAnswer, IsInvalid, HasNoVerdict, SomeFileIsUnfit, IsPlace, IsPassedLimit, HintsAreAtFault, HintsHaveFault, fault_status, SomeFileIsLonger, SomeFileIsMissing, HoldsAll, FirstIsUnfit, IsListed, HasListing, HasVerdict, FirstUnheld, IsAbsent, IsOverlong, IsStatus}
@@ -19,12 +19,11 @@ pub record Run : Type 0 where
   pub out : SinkSeen
   pub err : SinkSeen
 
--- The status is that of the answer that is due, delivered; or the words are a command's, memory was refused to it, which is
--- status 8, and no sink was asked.
+-- The status is that of the answer that is due, delivered; or memory was refused, which is status 8, and no sink was asked.
 abbrev pub IsAnswered : Run → ℕ → Type 0
 IsAnswered run status =
     ((answer : Answer) × IsDue run.rules run.shelf run.command answer × IsDelivered answer run.out run.err status)
-    ⊎ ((run.command ≢ None) × (status ≡ 8) × Untouched run.out × Untouched run.err)
+    ⊎ ((status ≡ 8) × Untouched run.out × Untouched run.err)
 
 -- a sink failed
 abbrev pub WritingFailed : Run → Type 0
@@ -42,10 +41,10 @@ pub record KeepsRows (run : Run) (status : ℕ) : Type 0 where
   pub listed : status ≡ 0 → HasListing run.shelf.told run.command (λ text. GotAll run.out text)
   -- The checker refuses the pair.
   pub refused : status ≡ 1 → IsAnswer IsInvalid run.rules run.shelf.told run.command
-  -- The words are no command's; then nothing is written to out, and the usage to err.
+  -- The words are no command's; then nothing is written to out, and to err a text that says so, whole. Memory may be refused to such words too.
   pub usage : status ≡ 2 → run.command ≡ None
-  pub usage_shown : status ≡ 2 → GotNothing run.out × GotAll run.err usage_text
-  pub no_command : run.command ≡ None → (status ≡ 2) ⊎ ((status ≡ 7) × HasRisen run.err.faults run.err.faults_after)
+  pub usage_shown : status ≡ 2 → GotNothing run.out × ((text : List ℕ) × GotAll run.err text)
+  pub no_command : run.command ≡ None → (status ≡ 2) ⊎ (status ≡ 8) ⊎ ((status ≡ 7) × HasRisen run.err.faults run.err.faults_after)
   -- A text spells no module, within the limits; a module isn't well-formed; hints aren't of their form; reading failed; writing
   -- failed; a file, the lines of a function, a text of the hints, or the facts that are known, pass a limit; a file is absent.
   pub unfit : status ≡ 3 → SomeFileIsUnfit 3 run.shelf.told run.command

@@ -24,7 +24,8 @@ use Rattle.crell_io.specs.Shelf.{Told, IfTold, IsBytesAnd}
 use Rattle.crell_io.specs.Shelf.Told.{NoSuch}
 use Rattle.crell_program.specs.declared.command.Form.{Form}
 use Rattle.crell_program.specs.declared.command.Form.TheVariants.{ModuleText, HintFile}
-use Rattle.crell_program.specs.Command.{File, most_bytes, Command, Check, Print, files_of}
+use Rattle.command_line.specs.Words.{Command, Check, Print}
+use Rattle.crell_program.specs.Command.{File, most_bytes, files_of}
 use Rattle.crell_program.specs.Due.{ShelfSeen, Missing, Long, MayCome, IsAtFault, SpellsOnly, Lists}
 
 -- the text spells a module, and no other

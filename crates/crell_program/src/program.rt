@@ -6,16 +6,18 @@ ghost use Rattle.rule_base.specs.Book.{meanings_of};
 ghost use Rattle.rule_base.specs.Rows.{shipped_rules};
 ghost use Rattle.crell_io.specs.Shelf.{StaysWell};
 ghost use Rattle.crell_answers.specs.Answer.{usage};
-ghost use Rattle.crell_program.specs.Command.{Print, command_of, files_of, shown_command, shown_names, shown_request};
+ghost use Rattle.command_line.specs.Words.{Print, command_of, shown_names, shown_request};
+ghost use Rattle.crell_program.specs.Command.{files_of, shown_command};
 ghost use Rattle.crell_program.specs.Due.{checked, shelf_seen, DueOfFiles, DueOfCheck, DueOfListing, DueOfTexts, IsListing, Lists};
 ghost use Rattle.crell_program.specs.Delivery.{sink_seen, IsDelivered};
 ghost use Rattle.crell_program.specs.Rows.{IsAnswered, KeepsRows};
 ghost use Rattle.crell_program.specs.Statuses.{AreRefined, IsRefinement, IsRefinementOfBytes, SpellsOne};
 
-use crate::command::{FileNames, Form, Listing, Request, Wanted, command_of};
+use crate::command::{Form, Wanted, files_of_check};
 use crate::delivery::deliver;
 use crate::fetch::{Stop, gather};
-use crell_answers::{Answer, module_fault, past_limit, printed, unfit, usage_text, verdict_answer};
+use command_line::{FileNames, Listing, Request, WordsEnd, read_words};
+use crell_answers::{Answer, module_fault, past_limit, printed, unfit, verdict_answer};
 use crell_io::{Shelf, Sink};
 use definition_text::definitions_text;
 use erhl_assert::{Hints, ModuleVerdict};
@@ -138,21 +140,22 @@ pub(crate) fn run<R: RuleSet, S: Shelf, O: Sink, E: Sink>(
         × (O.faults out.old ≤ O.faults out.new) × (E.faults err.old ≤ E.faults err.new) }
     ensures unasked { command_of (map string_bytes words.now) ≡ None → shelf.new ≡ shelf.old }
 {
-    match command_of(words) {
-        None => tell_usage(out, err),
-        Some(request) => serve(alloc, &request, rules, shelf, out, err),
+    match read_words(alloc, words) {
+        Ok(request) => serve(alloc, &request, rules, shelf, out, err),
+        Err(WordsEnd::Refused(text)) => tell_usage(&text, out, err),
+        Err(WordsEnd::Memory) => WANT_OF_MEMORY,
     }
 }
 
-/// Writes the usage to err.
-fn tell_usage<O: Sink, E: Sink>(out: &mut O, err: &mut E) -> u8
-    ensures delivered { IsDelivered usage
+/// Writes what is wrong with the words, or how the program is used, to err.
+fn tell_usage<O: Sink, E: Sink>(text: &str, out: &mut O, err: &mut E) -> u8
+    ensures delivered { IsDelivered (usage text.now)
         (sink_seen O.written O.room_left O.faults out.old out.new)
         (sink_seen E.written E.room_left E.faults err.old err.new) result }
     ensures out_faults { O.faults out.old ≤ O.faults out.new }
     ensures err_faults { E.faults err.old ≤ E.faults err.new }
 {
-    deliver(USAGE, b"", usage_text(), out, err)
+    deliver(USAGE, b"", text.as_bytes(), out, err)
 }
 
 /// Finds the answer that is due to a command's files, and delivers it.
@@ -302,7 +305,7 @@ fn check_files<R: RuleSet, S: Shelf>(
     ensures faults { S.faults shelf.old ≤ S.faults shelf.new }
     ensures taken { S.taken shelf.old ≤ S.taken shelf.new }
 {
-    match gather(alloc, shelf, &files.wanted()) {
+    match gather(alloc, shelf, &files_of_check(files)) {
         Ok(texts) => {
             let [source, target, hints] = texts.as_slice() else {
                 unreachable!()

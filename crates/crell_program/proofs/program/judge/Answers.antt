@@ -1,4 +1,3 @@
-use Rattle.std.proofs.Common.{refl}
 use Rattle.crell_program.proofs.Inner.{judged_refined, limit_is_checked, limit_isnt_zero, verdict_is_checked}
 use Rattle.crell_program.proofs.program.judge.Goals as goal
 

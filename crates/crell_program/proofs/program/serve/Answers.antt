@@ -1,5 +1,5 @@
-use Rattle.std.proofs.Common.{inl, refl}
-use Rattle.crell_program.specs.Command.{shown_request}
+use Rattle.std.proofs.Common.{Some, inl, refl}
+use Rattle.command_line.specs.Words.{shown_request}
 use Rattle.crell_program.specs.Delivery.{sink_seen}
 use Rattle.crell_program.specs.Due.{shelf_seen}
 use Rattle.crell_program.proofs.Inner.{delivered_as, unanswered, zero_of}
@@ -25,4 +25,4 @@ returns-in-Err-clause-answered g c =
     let shelf = shelf_seen g.S.Shelf.told g.S.Shelf.faults g.S.Shelf.taken c.args.shelf.now c.find_answer.new.shelf in
     let out = sink_seen g.O.Sink.written g.O.Sink.room_left g.O.Sink.faults c.args.out.now c.args.out.now in
     let err = sink_seen g.E.Sink.written g.E.Sink.room_left g.E.Sink.faults c.args.err.now c.args.err.now in
-    unanswered _ shelf out err (shown_request c.args.request.now) (refl, refl) (refl, refl)
+    unanswered _ shelf out err (Some (shown_request c.args.request.now)) (refl, refl) (refl, refl)
