@@ -1,18 +1,18 @@
 ghost use Rattle.std.specs.Prelude.{◌≡◌, IfOk};
 ghost use Rattle.contents.specs.Text.{bytes_held};
 
-use crate::Exact;
 use crate::in_place::InPlace;
+use crate::{Exact, Seq};
 use std::alloc::{AllocError, Global};
 use std::hash::{Hash, Hasher};
 use std::marker::Model;
-use std::rc::RcSlice;
+use std::rc::Rc;
 
-/// How a text stands: at most 22 bytes in place, more of them shared by their owners.
+/// How a text stands: at most 14 bytes in place, more of them shared by their owners.
 #[derive(Drop)]
 enum Held {
     Short(InPlace),
-    Long(RcSlice<u8>),
+    Long(Rc<Seq<u8>>),
 }
 
 /// A byte string that contracts see as the list of its bytes. A copy takes no memory and no walk.
@@ -44,8 +44,16 @@ fn copy_of(held: &Held) -> Result<Held, AllocError>
     }
 }
 
+/// Shared by its owners.
+fn shared(alloc: Global, bytes: &[u8]) -> Result<Held, AllocError>
+    ensures { IfOk result (λ held. bytes_held held ≡ bytes.now) }
+{
+    let bytes = Seq::from_vec(bytes.to_vec(alloc)?);
+    Ok(Held::Long(Rc::new(alloc, bytes)?))
+}
+
 impl Text {
-    /// Takes memory for more than 22 bytes alone.
+    /// Takes memory for more than 14 bytes alone.
     pub fn from_slice(alloc: Global, bytes: &[u8]) -> Result<Text, AllocError>
         ensures { IfOk result (λ text. text ≡ bytes.now) }
     {
@@ -54,7 +62,7 @@ impl Text {
                 held: Held::Short(short),
             }),
             None => Ok(Text {
-                held: Held::Long(RcSlice::from_slice(alloc, bytes)?),
+                held: shared(alloc, bytes)?,
             }),
         }
     }
@@ -64,7 +72,7 @@ impl Text {
     {
         match &self.held {
             Held::Short(bytes) => bytes.as_slice(),
-            Held::Long(bytes) => bytes.as_slice(),
+            Held::Long(bytes) => Rc::as_ref(bytes).as_slice(),
         }
     }
 }

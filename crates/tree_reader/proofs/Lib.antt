@@ -2,4 +2,3 @@ pub mod Counting
 pub mod Single
 pub mod Whole
 mod Wide
-pub mod Letters

@@ -1,5 +1,5 @@
 //! What words are, as `ir_grammar/specs/Words.antt` has it.
-ghost use Rattle.std.specs.Prelude.{◌≡◌, [], ◌∷◌, get_or};
+ghost use Rattle.std.specs.Prelude.{◌≡◌, [], ◌∷◌};
 ghost use Rattle.ir_core.specs.declared.operands.Pred.TheVariants as pred;
 ghost use Rattle.ir_core.specs.Words as text;
 ghost use Rattle.ir_grammar.specs.declared.words.KeyWord.TheVariants as key;
@@ -11,28 +11,8 @@ use crate::widths::width_of;
 use ir_core::{BinOp, CastOp, Pred, cast_word, op_word, pred_word};
 use ir_grammar::{ExactOp, FlagWord, KeyWord, Language, OverflowOp, PlainOp, Word};
 
-/// The first letter of a word, and 0 of one without letters.
-fn initial(word: &[u8]) -> u8
-    ensures { result ≡ get_or word.now 0 0 }
-{
-    match word.first() {
-        Some(letter) => *letter,
-        None => 0,
-    }
-}
-
 /// Whether the word is `true` or `false`, if it is one of them.
-#[tactic(auto, using(crate::proofs::Letters::unbegun))]
 fn truth_of(word: &[u8]) -> Option<bool>
-    ensures { result ≡ said.truth_of word.now }
-{
-    match initial(word) {
-        b't' | b'f' => truth_among(word),
-        _ => None,
-    }
-}
-
-fn truth_among(word: &[u8]) -> Option<bool>
     ensures { result ≡ said.truth_of word.now }
 {
     if word == b"true".as_slice() {
@@ -45,17 +25,7 @@ fn truth_among(word: &[u8]) -> Option<bool>
 }
 
 /// The operator with `nuw` and `nsw` that the word is, if it is one.
-#[tactic(auto, using(crate::proofs::Letters::unbegun))]
 fn overflow_of(word: &[u8]) -> Option<OverflowOp>
-    ensures { result ≡ said.overflow_of word.now }
-{
-    match initial(word) {
-        b'a' | b's' | b'm' => overflow_among(word),
-        _ => None,
-    }
-}
-
-fn overflow_among(word: &[u8]) -> Option<OverflowOp>
     ensures { result ≡ said.overflow_of word.now }
 {
     if word == op_word(BinOp::Add) {
@@ -72,17 +42,7 @@ fn overflow_among(word: &[u8]) -> Option<OverflowOp>
 }
 
 /// The operator with `exact` that the word is, if it is one.
-#[tactic(auto, using(crate::proofs::Letters::unbegun))]
 fn exact_of(word: &[u8]) -> Option<ExactOp>
-    ensures { result ≡ said.exact_of word.now }
-{
-    match initial(word) {
-        b'u' | b's' | b'l' | b'a' => exact_among(word),
-        _ => None,
-    }
-}
-
-fn exact_among(word: &[u8]) -> Option<ExactOp>
     ensures { result ≡ said.exact_of word.now }
 {
     if word == op_word(BinOp::UDiv) {
@@ -99,17 +59,7 @@ fn exact_among(word: &[u8]) -> Option<ExactOp>
 }
 
 /// The operator without flags that the word is, if it is one.
-#[tactic(auto, using(crate::proofs::Letters::unbegun))]
 fn plain_of(word: &[u8]) -> Option<PlainOp>
-    ensures { result ≡ said.plain_of word.now }
-{
-    match initial(word) {
-        b'u' | b's' | b'a' | b'o' | b'x' => plain_among(word),
-        _ => None,
-    }
-}
-
-fn plain_among(word: &[u8]) -> Option<PlainOp>
     ensures { result ≡ said.plain_of word.now }
 {
     if word == op_word(BinOp::URem) {
@@ -128,17 +78,7 @@ fn plain_among(word: &[u8]) -> Option<PlainOp>
 }
 
 /// The conversion that the word is, if it is one.
-#[tactic(auto, using(crate::proofs::Letters::unbegun))]
 fn cast_of(word: &[u8]) -> Option<CastOp>
-    ensures { result ≡ said.cast_of word.now }
-{
-    match initial(word) {
-        b'z' | b's' | b't' | b'b' => cast_among(word),
-        _ => None,
-    }
-}
-
-fn cast_among(word: &[u8]) -> Option<CastOp>
     ensures { result ≡ said.cast_of word.now }
 {
     if word == cast_word(CastOp::ZExt) {
@@ -189,17 +129,7 @@ fn order_pred_of(word: &[u8]) -> Option<Pred>
 }
 
 /// The predicate that the word is, if it is one.
-#[tactic(auto, using(crate::proofs::Letters::unbegun))]
 fn pred_of(word: &[u8]) -> Option<Pred>
-    ensures { result ≡ said.pred_of word.now }
-{
-    match initial(word) {
-        b'e' | b'n' | b'u' | b's' => pred_among(word),
-        _ => None,
-    }
-}
-
-fn pred_among(word: &[u8]) -> Option<Pred>
     ensures { result ≡ said.pred_of word.now }
 {
     if word == pred_word(Pred::Eq) {
@@ -212,17 +142,7 @@ fn pred_among(word: &[u8]) -> Option<Pred>
 }
 
 /// The flag that the word is, if it is one.
-#[tactic(auto, using(crate::proofs::Letters::unbegun))]
 fn flag_of(word: &[u8]) -> Option<FlagWord>
-    ensures { result ≡ said.flag_of word.now }
-{
-    match initial(word) {
-        b'n' => flag_among(word),
-        _ => None,
-    }
-}
-
-fn flag_among(word: &[u8]) -> Option<FlagWord>
     ensures { result ≡ said.flag_of word.now }
 {
     if word == b"nuw".as_slice() {

@@ -1,5 +1,0 @@
-use Rattle.std.proofs.Common.{rules}
-use Rattle.contents.proofs.text.Text.from_slice.Goals as goal
-
-pub returns-in_ok-from_slice-in-None : goal.returns-in_ok-from_slice-in-None
-returns-in_ok-from_slice-in-None c = search rules
