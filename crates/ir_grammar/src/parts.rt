@@ -40,7 +40,7 @@ pub enum Atom {
 #[derive(Drop)]
 pub enum List {
     Params(Stack<ParamText>),
-    Blocks(Stack<BlockText>),
+    Blocks(Stack<Boxed<BlockText>>),
     Lines(Stack<LineText>),
     Entries(Stack<EntryText>),
     Cases(Stack<CaseText>),

@@ -216,12 +216,12 @@ pub struct DefinitionText {
     pub result: Option<Placed<u32>>,
     pub name: Placed<Name>,
     pub params: Stack<ParamText>,
-    pub entry: BlockText,
-    pub others: Stack<BlockText>,
+    pub entry: Boxed<BlockText>,
+    pub others: Stack<Boxed<BlockText>>,
 }
 
 /// The definitions of a module as they are written, in their order.
 #[derive(Drop)]
 pub struct ModuleText {
-    pub definitions: Stack<DefinitionText>,
+    pub definitions: Stack<Boxed<DefinitionText>>,
 }

@@ -2,6 +2,7 @@
 ghost use Rattle.std.specs.Prelude.{◌≡◌};
 
 use crate::forms::{Form, list_of};
+use contents::Boxed;
 use ir_grammar::{BlockText, CaseText, EntryText, FlagWord, LineText, List, ParamText, Part};
 use typed_grammars::Stack;
 
@@ -30,11 +31,11 @@ pub struct BlocksPart;
 impl Form for BlocksPart {
     ghost use Rattle.ir_grammar.specs.Parts.{a_blocks};
 
-    type Value = Stack<BlockText>;
+    type Value = Stack<Boxed<BlockText>>;
 
     ghost held_by = { a_blocks };
 
-    fn of(part: Part) -> Option<Stack<BlockText>> {
+    fn of(part: Part) -> Option<Stack<Boxed<BlockText>>> {
         match list_of(part)? {
             List::Blocks(x) => Some(x),
             other => {

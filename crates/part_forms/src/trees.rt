@@ -34,13 +34,13 @@ pub struct DefinitionPart;
 impl Form for DefinitionPart {
     ghost use Rattle.ir_grammar.specs.Parts.{a_definition};
 
-    type Value = DefinitionText;
+    type Value = Boxed<DefinitionText>;
 
     ghost held_by = { a_definition };
 
-    fn of(part: Part) -> Option<DefinitionText> {
+    fn of(part: Part) -> Option<Boxed<DefinitionText>> {
         match tree_of(part)? {
-            Tree::Definition(x) => Some(x.into_inner()),
+            Tree::Definition(x) => Some(x),
             other => {
                 drop(other);
                 None
@@ -74,13 +74,13 @@ pub struct BlockPart;
 impl Form for BlockPart {
     ghost use Rattle.ir_grammar.specs.Parts.{a_block};
 
-    type Value = BlockText;
+    type Value = Boxed<BlockText>;
 
     ghost held_by = { a_block };
 
-    fn of(part: Part) -> Option<BlockText> {
+    fn of(part: Part) -> Option<Boxed<BlockText>> {
         match tree_of(part)? {
-            Tree::Block(x) => Some(x.into_inner()),
+            Tree::Block(x) => Some(x),
             other => {
                 drop(other);
                 None

@@ -1,4 +1,4 @@
-ghost use Rattle.std.specs.Prelude.{◌≡◌, [], ◌∷◌, length, MatchOption, OnOk, OnErr};
+ghost use Rattle.std.specs.Prelude.{◌≡◌, ◌+◌, ◌≤◌, [], ◌∷◌, length, vec_len, vec_capacity, MatchOption, OnOk, OnErr};
 
 use std::alloc::{AllocError, Global};
 use std::marker::Model;
@@ -60,6 +60,19 @@ impl<T> Stack<T> {
     }
 }
 
+/// Room for one item more. A first item gets room for itself alone, as many stacks of a text hold no other.
+#[inline(never)]
+fn grow<T: Drop>(items: &mut Vec<T>) -> Result<(), AllocError>
+    ensures items { items.new.items ≡ items.old.items }
+    ensures room { OnOk result (vec_len items.new + 1 ≤ vec_capacity items.new) }
+{
+    if items.capacity() == 0 {
+        items.reserve_exact(1)
+    } else {
+        items.reserve(1)
+    }
+}
+
 impl<T: Drop> Stack<T> {
     #[inline(always)]
     pub fn push(&mut self, item: T) -> Result<(), AllocError>
@@ -67,7 +80,7 @@ impl<T: Drop> Stack<T> {
         ensures err { OnErr result (self.new ≡ self.old) }
     {
         if self.items.len() == self.items.capacity() {
-            self.items.reserve(1)?;
+            grow(&mut self.items)?;
         }
         self.items.push_reserved(item);
         Ok(())
