@@ -20,7 +20,6 @@ use ir_grammar::{Language, ModuleText};
 use ir_lexer::Token;
 use ir_spelling::TextFault;
 use module_naming::name_module;
-use name_claims::first_fault;
 use spelling_laws::texts_spell_one;
 use std::alloc::Global;
 use tree_reader::{kinds_of, line_past_limit, read_definitions_of};
@@ -59,8 +58,8 @@ fn name_tree(alloc: Global, tree: ModuleText) -> Result<Module, TextFault>
     ensures faultless { IfOk result (λ m. IsFaultless tree) }
     ensures fault { IfErr result (λ fault. IsTreeNameFault module_form tree fault) }
 {
-    let (module, items) = name_module(alloc, tree)?;
-    match first_fault(alloc, items.as_slice())? {
+    let (module, fault) = name_module(alloc, tree)?;
+    match fault {
         None => Ok(module),
         Some(fault) => Err(of_names(fault)),
     }

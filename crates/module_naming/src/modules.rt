@@ -1,4 +1,6 @@
-ghost use Rattle.std.specs.Prelude.{◌≡◌, ◌-◌, ◌++◌, [], ◌∷◌, map, IfOk, OnOk};
+ghost use Rattle.std.specs.Prelude.{◌≡◌, ◌-◌, ◌++◌, [], ◌∷◌, map, IfOk, IfNone, IfSome, OnOk, None};
+ghost use Rattle.name_claims.specs.Faults.{HasFault, IsFirst};
+ghost use Rattle.name_claims.specs.Indexes.{first_in, first_of};
 ghost use Rattle.std.specs.List.{flat_map};
 ghost use Rattle.ir_naming.specs.Naming.{name_due, label_name, label_thing, param_thing, phi_thing, line_thing, function_thing, block_things, blocks_in, things_of, due_from, phi_claims, line_claims, block_claims, item_of, claims_of};
 ghost use Rattle.ir_naming.specs.Modules.{params_from, phi_named, phis_from, lines_from, block_from, blocks_from, result_of, function_of, module_of};
@@ -6,7 +8,7 @@ ghost use Rattle.ir_naming.specs.Values.{expression_of, type_at};
 ghost use Rattle.ir_naming.specs.Walk.{HasRoom, with_thing, with_things};
 
 use crate::flow::{name_node, name_term};
-use contents::{Exact, Seq};
+use contents::{Boxed, Exact, Seq};
 use ir_core::{BitType, Block, Calm, Function, Instr, Module, Name, NamedTypes, Param, Phi, Ty};
 use ir_grammar::{
     BlockText, BodyText, DefinitionText, LineText, ModuleText, ParamText, PhiText, Placed,
@@ -14,7 +16,7 @@ use ir_grammar::{
 use ir_naming::{
     Tally, claim_operation, define, define_function, expression_of, name_of, new_tally, with_room,
 };
-use name_claims::{Claim, Item, Meaning};
+use name_claims::{Claim, Fault, Meaning, first_fault_is_found_from_left, first_with};
 use std::alloc::{AllocError, Global};
 use typed_grammars::Stack;
 
@@ -239,7 +241,7 @@ fn name_block(
 fn name_blocks(
     alloc: Global,
     function: &Placed<Name>,
-    blocks: &mut Stack<BlockText>,
+    blocks: &mut Stack<Boxed<BlockText>>,
     tally: &mut Tally,
     claims: &mut Seq<Claim>,
     made: &mut Seq<Block>,
@@ -251,7 +253,7 @@ fn name_blocks(
 {
     while let Some(block) = blocks.pop() {
         blocks.shrink();
-        made.push(name_block(alloc, function, block, tally, claims)?)?;
+        made.push(name_block(alloc, function, block.into_inner(), tally, claims)?)?;
     }
     Ok(())
 }
@@ -260,8 +262,8 @@ fn name_blocks(
 fn name_all_blocks(
     alloc: Global,
     function: &Placed<Name>,
-    entry: BlockText,
-    others: Stack<BlockText>,
+    entry: Boxed<BlockText>,
+    others: Stack<Boxed<BlockText>>,
     tally: &mut Tally,
     claims: &mut Seq<Claim>,
 ) -> Result<Seq<Block>, AllocError>
@@ -272,30 +274,9 @@ fn name_all_blocks(
 {
     let mut others = others;
     let mut made = with_room(alloc, others.len().saturating_add(1))?;
-    made.push(name_block(alloc, function, entry, tally, claims)?)?;
+    made.push(name_block(alloc, function, entry.into_inner(), tally, claims)?)?;
     name_blocks(alloc, function, &mut others, tally, claims, &mut made)?;
     Ok(made)
-}
-
-fn joined(first: Seq<Claim>, second: Seq<Claim>) -> Result<Seq<Claim>, AllocError>
-    ensures { IfOk result (λ claims. claims ≡ first ++ second) }
-{
-    let mut claims = first.into_vec();
-    let mut more = second.into_vec();
-    claims.append(&mut more)?;
-    Ok(Seq::from_vec(claims))
-}
-
-/// What a function defines, and what is claimed of its names and then of its values.
-fn item_from(tally: Tally, values: Seq<Claim>) -> Result<Item, AllocError>
-    ensures { IfOk result (λ item. item ≡ record { definitions = tally.definitions; claims = tally.claims ++ values }) }
-{
-    let (definitions, claims) = tally.into_parts();
-    let claims = joined(claims, values)?;
-    Ok(Item {
-        definitions,
-        claims,
-    })
 }
 
 /// The type of the result.
@@ -313,8 +294,8 @@ fn name_parts(
     alloc: Global,
     function: &Placed<Name>,
     params: Stack<ParamText>,
-    entry: BlockText,
-    others: Stack<BlockText>,
+    entry: Boxed<BlockText>,
+    others: Stack<Boxed<BlockText>>,
     tally: &mut Tally,
     claims: &mut Seq<Claim>,
 ) -> Result<(Seq<Param>, Seq<Block>), AllocError>
@@ -361,97 +342,131 @@ fn function_in(
 
 /// How many lines the function has at least: those of its first block, and a terminator of each of the others.
 fn least_lines(definition: &DefinitionText) -> usize {
-    let body = &definition.entry.body;
+    let body = &definition.entry.get().body;
     let lines = body.phis.len().saturating_add(body.lines.len());
     lines
         .saturating_add(definition.others.len())
         .saturating_add(1)
 }
 
-/// The function, and what it defines and claims. There is room for a claim of each name and for two values a line, as far as it is
-/// known how many lines there are.
-fn name_function(alloc: Global, definition: DefinitionText) -> Result<(Function, Item), AllocError>
+/// The first of this fault and those of what is defined and claimed, of names and then of values.
+fn judged(
+    alloc: Global,
+    tally: &Tally,
+    values: &Seq<Claim>,
+    best: Option<Fault>,
+) -> Result<Option<Fault>, AllocError>
+    ensures { IfOk result (λ found. found ≡ first_in tally.now.definitions best (tally.now.claims ++ values.now)) }
+{
+    first_with(
+        alloc,
+        &tally.definitions,
+        tally.claims.as_slice(),
+        values.as_slice(),
+        best,
+    )
+}
+
+/// The function, and the first of this fault and those of what the function claims. There is room for a claim of each name and for two
+/// values a line, as far as it is known how many lines there are.
+fn name_function(
+    alloc: Global,
+    definition: DefinitionText,
+    best: Option<Fault>,
+) -> Result<(Function, Option<Fault>), AllocError>
     ensures function { IfOk result (λ made. made.0 ≡ function_of definition) }
-    ensures item { IfOk result (λ made. made.1 ≡ item_of definition) }
+    ensures fault { IfOk result (λ made. made.1 ≡ first_of best (item_of definition ∷ [])) }
 {
     let lines = least_lines(&definition);
     let names = definition.params.len().saturating_add(lines);
-    let values = lines.saturating_mul(2);
-    let mut tally = new_tally(alloc, names, names.saturating_add(values))?;
-    let mut claims = with_room(alloc, values)?;
+    let mut tally = new_tally(alloc, names, names)?;
+    let mut claims = with_room(alloc, lines.saturating_mul(2))?;
     let function = function_in(alloc, definition, &mut tally, &mut claims)?;
-    let item = item_from(tally, claims)?;
-    Ok((function, item))
+    let found = judged(alloc, &tally, &claims, best)?;
+    Ok((function, found))
 }
 
-/// Puts the function, whose name is defined, behind those that are made, and its item behind theirs.
+/// Puts the function, whose name is defined, behind those that are made, and judges what it claims.
 fn name_next(
     alloc: Global,
     definition: DefinitionText,
     names: &mut Tally,
-    items: &mut Vec<Item>,
+    best: &mut Option<Fault>,
     made: &mut Seq<Function>,
 ) -> Result<(), AllocError>
     requires { HasRoom names.old }
     ensures function { OnOk result (made.new ≡ made.old ++ function_of definition ∷ []) }
     ensures defined { OnOk result (names.new ≡ with_thing (function_thing definition) names.old) }
-    ensures item { OnOk result (items.new.items ≡ items.old.items ++ item_of definition ∷ []) }
+    ensures fault { OnOk result (best.new ≡ first_of best.old (item_of definition ∷ [])) }
 {
     define_function(alloc, names, &definition.name)?;
-    let (function, item) = name_function(alloc, definition)?;
-    made.push(function)?;
-    items.push(item)?;
-    Ok(())
+    let (function, found) = name_function(alloc, definition, *best)?;
+    *best = found;
+    made.push(function)
 }
 
-/// Puts the functions, whose definitions are taken, behind those that are made, and what each of them claims.
+/// Puts the functions, whose definitions are taken, behind those that are made, and judges what each of them claims.
 fn name_functions(
     alloc: Global,
-    definitions: &mut Stack<DefinitionText>,
+    definitions: &mut Stack<Boxed<DefinitionText>>,
     names: &mut Tally,
-    items: &mut Vec<Item>,
+    best: &mut Option<Fault>,
     made: &mut Seq<Function>,
 ) -> Result<(), AllocError>
     requires { HasRoom names.old }
     ensures functions { OnOk result (made.new ≡ made.old ++ map function_of definitions.old) }
     ensures defined { OnOk result (names.new ≡ with_things (map function_thing definitions.old) names.old) }
-    ensures items { OnOk result (items.new.items ≡ items.old.items ++ map item_of definitions.old) }
+    ensures fault { OnOk result (best.new ≡ first_of best.old (map item_of definitions.old)) }
 {
     while let Some(definition) = definitions.pop() {
         definitions.shrink();
-        name_next(alloc, definition, names, items, made)?;
+        name_next(alloc, definition.into_inner(), names, best, made)?;
     }
     Ok(())
 }
 
-/// The module that is built of the text, and what the text claims of its names: of those of each function, and then of those of the
-/// functions.
-///
-/// # Errors
-///
-/// Where memory runs out.
-pub fn name_module(alloc: Global, text: ModuleText) -> Result<(Module, Vec<Item>), AllocError>
-    ensures module { IfOk result (λ named. named.0 ≡ module_of text) }
-    ensures claims { IfOk result (λ named. named.1.items ≡ claims_of text) }
+/// The functions, and the first fault of what the text claims, which is judged function by function.
+fn name_all(
+    alloc: Global,
+    text: ModuleText,
+) -> Result<(Seq<Function>, Option<Fault>), AllocError>
+    ensures functions { IfOk result (λ named. named.0 ≡ map function_of text.definitions) }
+    ensures fault { IfOk result (λ named. named.1 ≡ first_of None (claims_of text)) }
 {
     let ModuleText { definitions } = text;
     let mut definitions = definitions;
     let count = definitions.len();
     let mut names = new_tally(alloc, count, count)?;
-    let mut items = Vec::with_capacity(alloc, count.saturating_add(1))?;
     let mut functions = with_room(alloc, count)?;
+    let mut best = None;
     name_functions(
         alloc,
         &mut definitions,
         &mut names,
-        &mut items,
+        &mut best,
         &mut functions,
     )?;
-    let (definitions, claims) = names.into_parts();
-    items.push(Item {
-        definitions,
-        claims,
-    })?;
+    let none = Seq::new(alloc);
+    let found = judged(alloc, &names, &none, best)?;
+    Ok((functions, found))
+}
+
+/// The module that is built of the text, and the first fault of what the text claims of its names: of those of each function, and of
+/// those of the functions.
+///
+/// # Errors
+///
+/// Where memory runs out.
+pub fn name_module(
+    alloc: Global,
+    text: ModuleText,
+) -> Result<(Module, Option<Fault>), AllocError>
+    ensures module { IfOk result (λ named. named.0 ≡ module_of text) }
+    ensures none { IfOk result (λ named. IfNone named.1 ((f : Fault) → HasFault (claims_of text) f → ⊥)) }
+    ensures first { IfOk result (λ named. IfSome named.1 (λ f. IsFirst (claims_of text) f)) }
+{
+    first_fault_is_found_from_left();
+    let (functions, found) = name_all(alloc, text)?;
     let types = NamedTypes::none(alloc);
-    Ok((Module { types, functions }, items))
+    Ok((Module { types, functions }, found))
 }

@@ -1,13 +1,14 @@
 -- What is found from the left is a fault, and none is before it.
-use Rattle.std.proofs.Common.{◌≡◌, ℕ, suc, zero, ◌<◌, Bool, true, false, List, [], ◌∷◌, length, get_or, Option, Some, None, refl, ap, sym, ◌∙◌, subst, arith}
+use Rattle.std.proofs.Common.{◌≡◌, ℕ, suc, zero, ◌<◌, Bool, true, false, List, [], ◌∷◌, ◌++◌, length, get_or, Option, Some, None, refl, ap, sym, ◌∙◌, subst, arith}
 use Rattle.std.proofs.Math.Logic.{◌⊎◌, inl, inr, ⊎_elim}
 use Rattle.std.specs.List.{Contains}
 use Rattle.std.specs.Prelude.{IfNone, IfSome, unwrap_or, if◌then◌else◌, nat_lt, ◌==◌, ◌&&◌, ◌||◌, ◌≤◌}
 use Rattle.name_claims.specs.declared.claims.Claim.{Claim}
+use Rattle.name_claims.specs.declared.claims.Definition.{Definition}
 use Rattle.name_claims.specs.declared.claims.Fault.{Fault}
 use Rattle.name_claims.specs.declared.claims.Item.{Item}
 use Rattle.name_claims.specs.declared.claims.Reason.{Reason}
-use Rattle.name_claims.specs.Faults.{before, fault_at, ClaimHasFault, HasFault, IsFirst, rank, SomeHas}
+use Rattle.name_claims.specs.Faults.{before, fault_at, says_wrong, ClaimHasFault, HasFault, IsFirst, rank, SomeHas}
 use Rattle.name_claims.specs.Indexes.{fault_of, first_in, first_of, from_left, sooner}
 
 -- the order, on numbers
@@ -91,6 +92,18 @@ module _ {T : Type 0} (has : T → Fault → Type 0) (step : Option Fault → T 
       alike (λ f. (P f ⊎ has x f) ⊎ SomeHas has xs f) (λ f. P f ⊎ SomeHas has (x ∷ xs) f) (from_left step (step best x) xs)
       (in_front P x xs) (apart P x xs) (goes (λ f. P f ⊎ has x f) (step best x) (keeps P best x l) xs)
 
+-- in two parts
+pub left_in_parts : {T : Type 0} (step : Option Fault → T → Option Fault) (best : Option Fault) (xs ys : List T)
+    → from_left step best (xs ++ ys) ≡ from_left step (from_left step best xs) ys
+left_in_parts step best [] ys = refl
+left_in_parts step best (x ∷ xs) ys = left_in_parts step (step best x) xs ys
+
+pub found_in_parts : (ds : List Definition) (best : Option Fault) (xs ys : List Claim) → first_in ds best (xs ++ ys) ≡ first_in ds (first_in ds best xs) ys
+found_in_parts ds = left_in_parts (λ best claim. sooner best (fault_of claim (says_wrong ds claim.says)))
+
+pub items_in_parts : (best : Option Fault) (xs ys : List Item) → first_of best (xs ++ ys) ≡ first_of (first_of best xs) ys
+items_in_parts = left_in_parts (λ best (item : Item). first_in item.definitions best item.claims)
+
 -- a claim's fault is the one at its place
 fault_same : (f g : Fault) → f.start ≡ g.start → f.end ≡ g.end → f.reason ≡ g.reason → f ≡ g
 fault_same f g start end reason =
@@ -116,12 +129,12 @@ claim_least item claim =
 all : (items : List Item) → Least (HasFault items) (first_of None items)
 all items =
     alike (λ f. ⊥ ⊎ HasFault items f) (HasFault items) (first_of None items) (λ f. ⊎_elim (λ no. absurd no) (λ some. some)) (λ f some. inr some)
-    (goes (λ item. SomeHas (ClaimHasFault item) item.claims) (λ best item. first_in item best item.claims)
+    (goes (λ item. SomeHas (ClaimHasFault item) item.claims) (λ best item. first_in item.definitions best item.claims)
     (λ P best item l. goes (ClaimHasFault item) (λ best claim. sooner best (fault_of claim (fault_at item claim)))
     (λ P best claim l. both P (ClaimHasFault item claim) best (fault_of claim (fault_at item claim)) l (claim_least item claim)) P best l item.claims)
     (λ f. ⊥) None (λ f no. no) items)
 
-none_of : (items : List Item) → first_of None items ≡ None → (f : Fault) → HasFault items f → ⊥
+pub none_of : (items : List Item) → first_of None items ≡ None → (f : Fault) → HasFault items f → ⊥
 none_of items e = subst (Least (HasFault items)) e (all items)
 
 pub first_is : (items : List Item) (f : Fault) → first_of None items ≡ Some f → IsFirst items f

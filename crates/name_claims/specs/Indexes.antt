@@ -9,7 +9,7 @@ use Rattle.name_claims.specs.declared.claims.Fault.{Fault}
 use Rattle.name_claims.specs.declared.claims.Item.{Item}
 use Rattle.name_claims.specs.declared.claims.Reason.{Reason}
 use Rattle.name_claims.specs.declared.index.Index.{Index}
-use Rattle.name_claims.specs.Faults.{before, fault_at}
+use Rattle.name_claims.specs.Faults.{before, says_wrong}
 
 -- ---- the index
 
@@ -56,8 +56,8 @@ abbrev pub from_left : {T : Type 0} → (Option Fault → T → Option Fault) �
 from_left step best [] = best
 from_left step best (x ∷ xs) = from_left step (step best x) xs
 
-abbrev pub first_in : Item → Option Fault → List Claim → Option Fault
-first_in item = from_left (λ best claim. sooner best (fault_of claim (fault_at item claim)))
+abbrev pub first_in : List Definition → Option Fault → List Claim → Option Fault
+first_in ds = from_left (λ best claim. sooner best (fault_of claim (says_wrong ds claim.says)))
 
 abbrev pub first_of : Option Fault → List Item → Option Fault
-first_of = from_left (λ best item. first_in item best item.claims)
+first_of = from_left (λ best item. first_in item.definitions best item.claims)

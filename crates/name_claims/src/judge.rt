@@ -1,4 +1,4 @@
-ghost use Rattle.std.specs.Prelude.{◌≡◌, IfOk, IfNone, IfSome, None, slice_get, take};
+ghost use Rattle.std.specs.Prelude.{◌≡◌, ◌++◌, IfOk, IfNone, IfSome, None, slice_get, take};
 ghost use Rattle.std.specs.Option.{option_copied};
 ghost use Rattle.name_claims.specs.declared.claims.Fault.{Fault};
 ghost use Rattle.name_claims.specs.Faults.{find, twice, counted, repeats, typed, suits, register, leads, label, says_wrong, fault_at, rank, before, HasFault, IsFirst};
@@ -177,17 +177,42 @@ fn sooner(first: Option<Fault>, second: Option<Fault>) -> Option<Fault>
     }
 }
 
-/// The first of this fault and the item's.
-fn first_in(item: &Item, places: &Places, best: Option<Fault>) -> Option<Fault>
-    requires { Tells places.now item.now.definitions }
-    ensures { result ≡ first_in item.now best item.now.claims }
+/// The first of this fault and those of the claims.
+fn first_among(
+    definitions: &Seq<Definition>,
+    places: &Places,
+    claims: &[Claim],
+    best: Option<Fault>,
+) -> Option<Fault>
+    requires { Tells places.now definitions.now }
+    ensures { result ≡ first_in definitions.now best claims.now }
 {
     let mut best = best;
-    for claim in item.claims.as_slice() {
-        let reason = says_wrong(&item.definitions, places, &claim.says);
+    for claim in claims {
+        let reason = says_wrong(definitions, places, &claim.says);
         best = sooner(best, fault_of(claim, reason));
     }
     best
+}
+
+/// The first of this fault and those of an item, whose claims stand in two parts.
+///
+/// # Errors
+///
+/// Where memory runs out.
+#[tactic(auto, using(crate::proofs::First::found_in_parts))]
+pub fn first_with(
+    alloc: Global,
+    definitions: &Seq<Definition>,
+    claims: &[Claim],
+    more: &[Claim],
+    best: Option<Fault>,
+) -> Result<Option<Fault>, AllocError>
+    ensures { IfOk result (λ found. found ≡ first_in definitions.now best (claims.now ++ more.now)) }
+{
+    let places = places_of(alloc, definitions.as_slice())?;
+    let best = first_among(definitions, &places, claims, best);
+    Ok(first_among(definitions, &places, more, best))
 }
 
 fn first_from_left(alloc: Global, items: &[Item]) -> Result<Option<Fault>, AllocError>
@@ -196,7 +221,7 @@ fn first_from_left(alloc: Global, items: &[Item]) -> Result<Option<Fault>, Alloc
     let mut best = None;
     for item in items {
         let places = places_of(alloc, item.definitions.as_slice())?;
-        best = first_in(item, &places, best);
+        best = first_among(&item.definitions, &places, item.claims.as_slice(), best);
     }
     Ok(best)
 }

@@ -1,5 +1,5 @@
 -- Words of private functions: functions that are seen to have shape at one look-up of each name.
-use Rattle.std.specs.Prelude.{◌≡◌, false, List, [], map}
+use Rattle.std.specs.Prelude.{◌≡◌, ℕ, false, List, [], map, Option, None, Some, slice_get}
 use Rattle.std.specs.List.{AllByRecursion, Contains}
 use Rattle.ir_core.specs.declared.functions.Block.{Block}
 use Rattle.ir_core.specs.declared.functions.Function.{Function}
@@ -14,8 +14,14 @@ use Rattle.ir_types.specs.declared.ty.Ty.{Ty}
 use Rattle.ir_core.specs.Expressions.{operands_in, type_of}
 use Rattle.ir_core.specs.Functions.{operands_at_end, operands_of_phi, successors_of, typed_of}
 use Rattle.ir_core.specs.WellFormed.{BranchesOn, FitsEdges, HasCases, HasType, IsFirstClass, IsOperator, Returns}
+use Rattle.whole_shapes.specs.declared.sight.Home.{Home}
 use Rattle.shape_tests.specs.Edges.{edges_among, row_at}
 use Rattle.shape_tests.specs.Kinds.{leads_to}
+
+-- where the name of this place among all stands, if it has one
+abbrev pub home_at : Option ℕ → List Home → Option Home
+home_at None homes = None
+home_at (Some place) homes = slice_get homes place
 
 abbrev pub param_registers : List Param → List (Name × Ty)
 param_registers = map (λ (p : Param). (p.name, p.ty))

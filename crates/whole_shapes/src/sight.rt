@@ -8,7 +8,7 @@ ghost use Rattle.ir_core.specs.Functions.{block_names, names_in, names_of, phi_r
 ghost use Rattle.name_index.specs.Among.{is_among, place_among};
 ghost use Rattle.shape_tests.specs.Kinds.{are_new, with_name, with_names};
 ghost use Rattle.shape_tests.specs.Typed.{param_names};
-ghost use Rattle.whole_shapes.specs.Whole.{param_registers};
+ghost use Rattle.whole_shapes.specs.Whole.{home_at, param_registers};
 
 use ir_core::{
     BitType, Block, Calm, Expr, Function, Instr, Name, Param, Phi, Ty, same_name, same_ty,
@@ -176,7 +176,9 @@ fn place_of(sight: &Sight, name: &Name) -> Option<usize>
 }
 
 /// Where a name may stand. That it stands there is to be looked up.
-pub fn home_of(sight: &Sight, name: &Name) -> Option<Home> {
+pub fn home_of(sight: &Sight, name: &Name) -> Option<Home>
+    ensures { result ≡ home_at (place_among name.now sight.now.names) sight.now.homes.items }
+{
     match place_of(sight, name) {
         Some(place) => sight.homes.get(place).copied(),
         None => None,
