@@ -33,20 +33,6 @@ impl Drop for Tally {
     }
 }
 
-impl Tally {
-    /// What is defined, and what is claimed.
-    pub fn into_parts(self) -> (Seq<Definition>, Seq<Claim>)
-        ensures { result ≡ (self.definitions, self.claims) }
-    {
-        let Tally {
-            definitions,
-            claims,
-            next: _,
-        } = self;
-        (definitions, claims)
-    }
-}
-
 /// Nothing is defined, and there is room for so many definitions and claims.
 pub fn new_tally(alloc: Global, definitions: usize, claims: usize) -> Result<Tally, AllocError>
     ensures { IfOk result (λ tally. tally ≡ record { definitions = []; claims = []; next = 0 }) }
