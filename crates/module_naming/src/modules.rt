@@ -237,6 +237,23 @@ fn name_block(
     })
 }
 
+/// The same of a block in its box.
+fn name_boxed(
+    alloc: Global,
+    function: &Placed<Name>,
+    block: Boxed<BlockText>,
+    tally: &mut Tally,
+    claims: &mut Seq<Claim>,
+) -> Result<Block, AllocError>
+    requires { HasRoom tally.old }
+    ensures block { IfOk result (λ made. made ≡ block_from function.now tally.old.next block) }
+    ensures defined { OnOk result (tally.new ≡ with_things (block_things function.now block) tally.old) }
+    ensures claims { OnOk result (claims.new ≡ claims.old ++ block_claims block) }
+    ensures room { OnOk result (HasRoom tally.new) }
+{
+    name_block(alloc, function, block.into_inner(), tally, claims)
+}
+
 /// Puts the blocks, which are taken, behind those that are made, and what their values and labels claim.
 fn name_blocks(
     alloc: Global,
@@ -253,7 +270,7 @@ fn name_blocks(
 {
     while let Some(block) = blocks.pop() {
         blocks.shrink();
-        made.push(name_block(alloc, function, block.into_inner(), tally, claims)?)?;
+        made.push(name_boxed(alloc, function, block, tally, claims)?)?;
     }
     Ok(())
 }
@@ -274,7 +291,7 @@ fn name_all_blocks(
 {
     let mut others = others;
     let mut made = with_room(alloc, others.len().saturating_add(1))?;
-    made.push(name_block(alloc, function, entry.into_inner(), tally, claims)?)?;
+    made.push(name_boxed(alloc, function, entry, tally, claims)?)?;
     name_blocks(alloc, function, &mut others, tally, claims, &mut made)?;
     Ok(made)
 }
@@ -389,7 +406,7 @@ fn name_function(
 /// Puts the function, whose name is defined, behind those that are made, and judges what it claims.
 fn name_next(
     alloc: Global,
-    definition: DefinitionText,
+    definition: Boxed<DefinitionText>,
     names: &mut Tally,
     best: &mut Option<Fault>,
     made: &mut Seq<Function>,
@@ -399,6 +416,7 @@ fn name_next(
     ensures defined { OnOk result (names.new ≡ with_thing (function_thing definition) names.old) }
     ensures fault { OnOk result (best.new ≡ first_of best.old (item_of definition ∷ [])) }
 {
+    let definition = definition.into_inner();
     define_function(alloc, names, &definition.name)?;
     let (function, found) = name_function(alloc, definition, *best)?;
     *best = found;
@@ -420,16 +438,13 @@ fn name_functions(
 {
     while let Some(definition) = definitions.pop() {
         definitions.shrink();
-        name_next(alloc, definition.into_inner(), names, best, made)?;
+        name_next(alloc, definition, names, best, made)?;
     }
     Ok(())
 }
 
 /// The functions, and the first fault of what the text claims, which is judged function by function.
-fn name_all(
-    alloc: Global,
-    text: ModuleText,
-) -> Result<(Seq<Function>, Option<Fault>), AllocError>
+fn name_all(alloc: Global, text: ModuleText) -> Result<(Seq<Function>, Option<Fault>), AllocError>
     ensures functions { IfOk result (λ named. named.0 ≡ map function_of text.definitions) }
     ensures fault { IfOk result (λ named. named.1 ≡ first_of None (claims_of text)) }
 {
@@ -457,10 +472,7 @@ fn name_all(
 /// # Errors
 ///
 /// Where memory runs out.
-pub fn name_module(
-    alloc: Global,
-    text: ModuleText,
-) -> Result<(Module, Option<Fault>), AllocError>
+pub fn name_module(alloc: Global, text: ModuleText) -> Result<(Module, Option<Fault>), AllocError>
     ensures module { IfOk result (λ named. named.0 ≡ module_of text) }
     ensures none { IfOk result (λ named. IfNone named.1 ((f : Fault) → HasFault (claims_of text) f → ⊥)) }
     ensures first { IfOk result (λ named. IfSome named.1 (λ f. IsFirst (claims_of text) f)) }

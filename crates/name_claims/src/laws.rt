@@ -4,7 +4,6 @@ ghost use Rattle.name_claims.specs.Laws.{NothingFoundIsNoFault, WhatIsFoundIsFir
 ///
 /// The first fault is found from the left, one item after the other: what is found is the first fault, where nothing is found there is
 /// none, and items may be taken in parts.
-#[tactic(auto, using(crate::proofs::First::none_of, crate::proofs::First::first_is, crate::proofs::First::items_in_parts))]
 pub fn first_fault_is_found_from_left()
     ensures none { NothingFoundIsNoFault }
     ensures first { WhatIsFoundIsFirst }

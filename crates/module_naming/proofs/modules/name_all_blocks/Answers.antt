@@ -9,4 +9,4 @@ pub returns-clause-defined : goal.returns-clause-defined
 returns-clause-defined c =
     let first = block_things c.args.function.now c.args.entry in
     let more = flat_map (block_things c.args.function.now) c.args.others in
-    c.in_ok-name_blocks.ensures.defined ∙ ap (with_things more) c.in_ok-name_block.ensures.defined ∙ things_both first more c.args.tally.now
+    c.in_ok-name_blocks.ensures.defined ∙ ap (with_things more) c.in_ok-name_boxed.ensures.defined ∙ things_both first more c.args.tally.now

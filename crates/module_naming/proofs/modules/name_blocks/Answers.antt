@@ -15,23 +15,23 @@ loop-block-preserved c =
     let t = c.loop-block.tally in
     let rest : List BlockText = c.shrink.new.self in
     let split : b ∷ rest ≡ c.loop-block.blocks = ap (λ bs. b ∷ bs) c.shrink.ensures ∙ sym c.in-Some.ensures in
-    let next : c.name_block.new.tally.next ≡ due_from t.next (block_things f b) = ap (λ (u : Tally). u.next) c.in_ok-name_block.ensures.defined in
+    let next : c.name_boxed.new.tally.next ≡ due_from t.next (block_things f b) = ap (λ (u : Tally). u.next) c.in_ok-name_boxed.ensures.defined in
     record {
-      room = c.in_ok-name_block.ensures.room;
+      room = c.in_ok-name_boxed.ensures.room;
       made =
           ap (λ n. c.push.new.self ++ blocks_from f n rest) next
           ∙ ap (λ bs. bs ++ blocks_from f (due_from t.next (block_things f b)) rest) c.in_ok-push.ensures.ok
-          ∙ append_assoc c.loop-block.made (c.in_ok-name_block.field-0 ∷ []) (blocks_from f (due_from t.next (block_things f b)) rest)
-          ∙ ap (λ m. c.loop-block.made ++ (m ∷ blocks_from f (due_from t.next (block_things f b)) rest)) c.in_ok-name_block.ensures.block
+          ∙ append_assoc c.loop-block.made (c.in_ok-name_boxed.field-0 ∷ []) (blocks_from f (due_from t.next (block_things f b)) rest)
+          ∙ ap (λ m. c.loop-block.made ++ (m ∷ blocks_from f (due_from t.next (block_things f b)) rest)) c.in_ok-name_boxed.ensures.block
           ∙ ap (λ bs. c.loop-block.made ++ blocks_from f t.next bs) split
           ∙ c.loop-block.invariant.made;
       defined =
-          ap (with_things (flat_map (block_things f) rest)) c.in_ok-name_block.ensures.defined
+          ap (with_things (flat_map (block_things f) rest)) c.in_ok-name_boxed.ensures.defined
           ∙ things_both (block_things f b) (flat_map (block_things f) rest) t
           ∙ ap (λ bs. with_things (flat_map (block_things f) bs) t) split
           ∙ c.loop-block.invariant.defined;
       claimed =
-          ap (λ cs. cs ++ flat_map block_claims rest) c.in_ok-name_block.ensures.claims
+          ap (λ cs. cs ++ flat_map block_claims rest) c.in_ok-name_boxed.ensures.claims
           ∙ append_assoc c.loop-block.claims (block_claims b) (flat_map block_claims rest)
           ∙ ap (λ bs. c.loop-block.claims ++ flat_map block_claims bs) split
           ∙ c.loop-block.invariant.claimed;
