@@ -1,16 +1,3 @@
-pub mod Decimals
-pub mod TokenWords
-pub mod Lexed
-pub mod Names
-pub mod OperatorTexts
-pub mod Places
 pub mod PrintedExpressions
 pub mod PrintedFacts
 pub mod PrintedNames
-pub mod Quoted
-pub mod ReadTexts
-pub mod Runs
-pub mod Stands
-pub mod Types
-pub mod Values
-pub mod WordSymbols

@@ -11,13 +11,13 @@ use Rattle.ir_types.specs.declared.names.Name.{Name}
 use Rattle.ir_types.specs.declared.names.Sigil.{Sigil}
 use Rattle.ir_core.specs.declared.operands.Operand.{Operand}
 use Rattle.ir_types.specs.declared.ty.Ty.{Ty}
-use Rattle.ir_types.specs.declared.ty.Ty.TheVariants as ty
 use Rattle.ir_core.specs.Expressions.{Expr0, operands_in, type_of}
 use Rattle.ir_core.specs.Limits.{text_limit}
 use Rattle.ir_core.specs.Ranges.{AreFlagsInRange, IsNameInRange}
-use Rattle.ir_core.specs.Types.{constant_fits, is_width}
+use Rattle.ir_core.specs.Types.{constant_fits}
 use Rattle.ir_spelling.specs.Spells.{SpellsExpression, SpellsName}
 use Rattle.expression_printer.specs.Printed.{printed_name, printed_register, printed_expr}
+use Rattle.printer_laws.specs.Writable.{IsWritableType}
 use Rattle.erhl_assert.specs.declared.facts.Fact.{Fact}
 use Rattle.erhl_assert.specs.declared.facts.Fact.TheVariants.{LessDef}
 use Rattle.erhl_assert.specs.Edges.{is_old}
@@ -50,11 +50,6 @@ IsWritableRegister (Ghost name) = IsNameInRange name
 abbrev pub IsWritableAtom : Ty → Atom Reg → Type 0
 IsWritableAtom t (Constant c) = constant_fits t c ≡ true
 IsWritableAtom t (Register r) = IsWritableRegister r
-
--- an integer type of 1 to 64 bits
-abbrev pub IsWritableType : Ty → Type 0
-IsWritableType (ty.Int width) = is_width width ≡ true
-IsWritableType t = ⊥
 
 abbrev pub IsWritableOperand : Operand Reg → Type 0
 IsWritableOperand o = IsWritableType o.ty × IsWritableAtom o.ty o.atom

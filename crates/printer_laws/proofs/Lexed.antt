@@ -15,8 +15,8 @@ use Rattle.ir_lexer.specs.Pieces.{piece}
 use Rattle.ir_lexer.specs.Pieces.Piece.{Gap, Token}
 use Rattle.ir_lexer.proofs.Cuts.{front}
 use Rattle.expression_printer.specs.Printed.{sigil_byte}
-use Rattle.hint_laws.proofs.TokenWords.{kinds_cut}
-use Rattle.hint_laws.proofs.TokenWords as kinds_word
+use Rattle.printer_laws.proofs.TokenWords.{kinds_cut}
+use Rattle.printer_laws.proofs.TokenWords as kinds_word
 
 -- the text is at its end, or its first byte fails the test
 abbrev pub stops : (ℕ → Bool) → List ℕ → Bool
@@ -57,20 +57,15 @@ begun text rest k kinds is some lexes = record {
       ∙ one_more k kinds place (place + length text) (cut 0 (place + length text) rest) (lexes.at (place + length text));
 }
 
--- a space in front
-pub spaced : (rest : List ℕ) (kinds : List TokenKind) → Lexes rest kinds → Lexes (32 ∷ rest) kinds
-unfolding piece
-spaced rest kinds lexes = record {
+-- a gap, whatever stands behind it
+pub passed : (text rest : List ℕ) (kinds : List TokenKind) → piece (text ++ rest) ≡ Gap (length text) → 0 < length text → Lexes rest kinds → Lexes (text ++ rest) kinds
+passed text rest kinds is some lexes = record {
   at = λ place.
-      ap kinds_cut (front place (length (32 ∷ rest)) (32 ∷ rest) (Gap 1) refl (omega arith, omega arith))
-      ∙ ap (λ more. kinds_cut (cut 0 (place + 1) more)) (drop-append_seam (32 ∷ []) rest)
-      ∙ lexes.at (place + 1);
+      let long : length text ≤ length (text ++ rest) = omega (arith, length-append text rest) in
+      ap kinds_cut (front place (length (text ++ rest)) (text ++ rest) (Gap (length text)) (sym is) (omega arith, long))
+      ∙ ap (λ more. kinds_cut (cut 0 (place + length text) more)) (drop-append_seam text rest)
+      ∙ lexes.at (place + length text);
 }
-
--- a comma in front
-pub comma : (rest : List ℕ) (kinds : List TokenKind) → Lexes rest kinds → Lexes (44 ∷ rest) (kinds_word.comma ∷ kinds)
-unfolding piece
-comma rest kinds lexes = begun (44 ∷ []) rest kinds_word.comma kinds refl (omega arith) lexes
 
 -- a name behind its sigil
 named : (sigil : Sigil) (name : Name) (text rest : List ℕ) → name_at (text ++ rest) ≡ Found name (length text) → piece (sigil_byte sigil ∷ (text ++ rest)) ≡ Token (kinds_word.name sigil name) (length (sigil_byte sigil ∷ text))

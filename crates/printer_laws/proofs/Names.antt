@@ -15,9 +15,9 @@ use Rattle.ir_lexer.specs.Runs.{run_at, digits_at, quoted_at, is_no_quote}
 use Rattle.ir_lexer.specs.Strings.{unescaped}
 use Rattle.expression_printer.specs.Printed.{escaped, quoted, name_text}
 use Rattle.ir_core.specs.Ranges.{IsNameInRange}
-use Rattle.hint_laws.proofs.Decimals.{IsDecimal, decimal_means}
-use Rattle.hint_laws.proofs.Lexed.{stops, taken}
-use Rattle.hint_laws.proofs.Quoted.{means_the_bytes, has_no_quote, is_not_empty}
+use Rattle.printer_laws.proofs.Decimals.{IsDecimal, decimal_means}
+use Rattle.printer_laws.proofs.Lexed.{stops, taken}
+use Rattle.printer_laws.proofs.Quoted.{means_the_bytes, has_no_quote, is_not_empty}
 
 no_digit : (b : ℕ) → not (is_name_byte b) ≡ true → not (is_ascii_digit b) ≡ true
 no_digit b other = grind (arith, nat_tests)
@@ -53,7 +53,7 @@ plain (b ∷ bs) rest is stop =
     ∙ ap (λ run. Found (Text run) (length run)) (taken is_name_byte (b ∷ bs) rest parts.1 stop)
 
 -- what stands before the first quote
-before_quote : (raw rest : List ℕ) → list_all is_no_quote raw ≡ true → quoted_at (raw ++ 34 ∷ rest) ≡ Some raw
+pub before_quote : (raw rest : List ℕ) → list_all is_no_quote raw ≡ true → quoted_at (raw ++ 34 ∷ rest) ≡ Some raw
 unfolding quoted_at
 before_quote raw rest none =
     let front : take_while is_no_quote (raw ++ 34 ∷ rest) ≡ raw = taken is_no_quote raw (34 ∷ rest) none refl in

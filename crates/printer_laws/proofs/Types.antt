@@ -9,17 +9,18 @@ use Rattle.ir_types.specs.declared.ty.Ty.TheVariants.{Int}
 use Rattle.ir_core.specs.Types.{is_width}
 use Rattle.ir_lexer.specs.declared.token.TokenKind.{TokenKind}
 use Rattle.ir_lexer.specs.Pieces.{plain}
-use Rattle.ir_grammar.specs.declared.words.Language.TheVariants.{Logic}
+use Rattle.ir_grammar.specs.declared.words.Language.{Language}
 use Rattle.ir_grammar.specs.declared.words.Word.TheVariants as word
 use Rattle.ir_grammar.specs.Symbols.{Width, symbol_at, word_symbol}
-use Rattle.ir_grammar.specs.Words.{are_width, width_of, word_of, word_said}
+use Rattle.ir_grammar.specs.Words.{are_width, width_of, word_said}
 use Rattle.expression_printer.specs.Printed.{printed_type}
-use Rattle.hint_laws.specs.Laws.{IsWritableType}
-use Rattle.hint_laws.proofs.Decimals.{decimal_means}
-use Rattle.hint_laws.proofs.ReadTexts.{IsWord, Reads}
-use Rattle.hint_laws.proofs.ReadTexts as reads
-use Rattle.hint_laws.proofs.Runs.{digits_in_name}
-use Rattle.hint_laws.proofs.TokenWords as kinds
+use Rattle.printer_laws.specs.Writable.{IsWritableType}
+use Rattle.printer_laws.proofs.Decimals.{decimal_means}
+use Rattle.printer_laws.proofs.ReadTexts.{IsWord, Reads, Stops}
+use Rattle.printer_laws.proofs.ReadTexts as reads
+use Rattle.printer_laws.proofs.Runs.{digits_in_name}
+use Rattle.printer_laws.proofs.TokenWords as kinds
+use Rattle.printer_laws.proofs.WordSymbols.{width_said}
 
 -- the width of an integer type
 abbrev pub width : Ty → ℕ
@@ -49,7 +50,7 @@ letter_first : (ds : List ℕ) → list_all is_ascii_digit ds ≡ true → IsWor
 unfolding plain
 letter_first ds all = record { all = and_from _ _ refl (digits_in_name ds all); is = refl }
 
-pub type_reads : (t : Ty) → IsWritableType t → Reads (printed_type t) (type_token t ∷ [])
+pub type_reads : (t : Ty) → IsWritableType t → Reads Stops (printed_type t) (type_token t ∷ [])
 type_reads (Int w) writable =
     let small : w < 2 ^ 64 = omega (arith, at_most_64 w writable) in
     reads.word (105 ∷ decimal w) (letter_first (decimal w) (decimal_means w small).all)
@@ -73,10 +74,8 @@ width_word w is =
     cond-true (are_width (decimal w)) _ _ (width_written w is) ∙ ap Some (decimal_means w small).value in
     rw found refl
 
-width_said : (w : ℕ) → is_width w ≡ true → word_of Logic (105 ∷ decimal w) ≡ word.Width w
-width_said = width_word
-
-pub type_symbol : (t : Ty) → IsWritableType t → (start end : ℕ)
-    → symbol_at Logic (type_token t) start end ≡ Width (record { what = width t; start = start; end = end })
-type_symbol (Int w) writable start end = ap (λ said. word_symbol said start end) (width_said w writable)
-type_symbol t none start end = absurd none
+pub type_symbol : (language : Language) (t : Ty) → IsWritableType t → (start end : ℕ)
+    → symbol_at language (type_token t) start end ≡ Width (record { what = width t; start = start; end = end })
+type_symbol language (Int w) writable start end =
+    ap (λ said. word_symbol said start end) (width_said language (decimal w) w (width_word w writable))
+type_symbol language t none start end = absurd none

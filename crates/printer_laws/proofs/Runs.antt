@@ -15,8 +15,8 @@ use Rattle.ir_lexer.specs.Numbers.{value_of, if_below}
 use Rattle.ir_lexer.specs.Pieces.{number, piece, plain, run}
 use Rattle.ir_lexer.specs.Pieces.Piece.{Token}
 use Rattle.ir_lexer.specs.Runs.{run_at}
-use Rattle.hint_laws.proofs.Decimals.{IsDecimal}
-use Rattle.hint_laws.proofs.Lexed.{Lexes, begun, stops, taken}
+use Rattle.printer_laws.proofs.Decimals.{IsDecimal}
+use Rattle.printer_laws.proofs.Lexed.{Lexes, begun, stops, taken}
 
 -- what ends no word and no number
 abbrev pub goes_on : ℕ → Bool
@@ -38,9 +38,10 @@ begins_other b = is_blank b || b == 59 || b == 37 || b == 64 || b == 35 || b == 
 begins_run : (b : ℕ) → is_name_byte b ≡ true → begins_other b ≡ false
 begins_run b is = grind (arith, nat_tests)
 
-run_piece : (b : ℕ) (bs rest : List ℕ) → list_all is_name_byte (b ∷ bs) ≡ true → stops goes_on rest ≡ true → piece ((b ∷ bs) ++ rest) ≡ plain (b ∷ bs)
+-- a run, and what stands behind it
+pub run_front : (b : ℕ) (bs rest : List ℕ) → list_all is_name_byte (b ∷ bs) ≡ true → stops is_name_byte rest ≡ true → piece ((b ∷ bs) ++ rest) ≡ run (b ∷ bs) rest
 unfolding piece run_at
-run_piece b bs rest all stop =
+run_front b bs rest all stop =
     let first = (and_parts (is_name_byte b) (list_all is_name_byte bs) all).0 in
     let to_quote = or_parts _ (b == 34) (begins_run b first) in
     let to_bang = or_parts _ (b == 33) to_quote.0 in
@@ -56,9 +57,11 @@ run_piece b bs rest all stop =
     ∙ cond-false (b == 33) _ _ to_bang.1
     ∙ cond-false (b == 34) _ _ to_quote.1
     ∙ cond-true (is_name_byte b) _ _ first
-    ∙ ap (λ bytes. run bytes (drop (length bytes) (b ∷ (bs ++ rest)))) (taken is_name_byte (b ∷ bs) rest all (run_stops rest stop))
+    ∙ ap (λ bytes. run bytes (drop (length bytes) (b ∷ (bs ++ rest)))) (taken is_name_byte (b ∷ bs) rest all stop)
     ∙ ap (λ after. run (b ∷ bs) after) (drop-append_seam (b ∷ bs) rest)
-    ∙ cond-false _ _ _ (no_colon rest stop)
+
+run_piece : (b : ℕ) (bs rest : List ℕ) → list_all is_name_byte (b ∷ bs) ≡ true → stops goes_on rest ≡ true → piece ((b ∷ bs) ++ rest) ≡ plain (b ∷ bs)
+run_piece b bs rest all stop = run_front b bs rest all (run_stops rest stop) ∙ cond-false _ _ _ (no_colon rest stop)
 
 pub one_run : (b : ℕ) (bs rest : List ℕ) (k : TokenKind) (kinds : List TokenKind) → list_all is_name_byte (b ∷ bs) ≡ true → plain (b ∷ bs) ≡ Token k (length (b ∷ bs)) → stops goes_on rest ≡ true → Lexes rest kinds → Lexes ((b ∷ bs) ++ rest) (k ∷ kinds)
 one_run b bs rest k kinds all is stop lexes = begun (b ∷ bs) rest k kinds (run_piece b bs rest all stop ∙ is) (omega arith) lexes

@@ -1,0 +1,83 @@
+-- Modules of shape have the form that a text has; in order and in range they can be written as text.
+use Rattle.std.proofs.Common.{◌≡◌, ℕ, ◌<◌, List, [], ◌∷◌, ◌++◌, map, length, refl, ap, sym, ◌∙◌, subst, arith}
+use Rattle.std.specs.List.{AllByRecursion, Contains, filter, flat_map}
+use Rattle.std.proofs.lemmas.List.Sorted.{Contains-permutation, IsPermutation-sym}
+use Rattle.ir_core.specs.declared.expressions.Expr.{Expr}
+use Rattle.ir_core.specs.declared.expressions.Expr.TheVariants as expr
+use Rattle.ir_core.specs.declared.functions.Block.{Block}
+use Rattle.ir_core.specs.declared.functions.Entry.{Entry}
+use Rattle.ir_core.specs.declared.functions.Function.{Function}
+use Rattle.ir_core.specs.declared.functions.Instr.{Instr}
+use Rattle.ir_core.specs.declared.functions.Instr.TheVariants as instr
+use Rattle.ir_core.specs.declared.functions.Module.{Module}
+use Rattle.ir_core.specs.declared.functions.Phi.{Phi}
+use Rattle.ir_core.specs.Functions.{edges_into, names_of, successors_of}
+use Rattle.ir_core.specs.Order.{AreInOrder, IsInOrder}
+use Rattle.ir_core.specs.Ranges.{IsFunctionInRange, IsInRange}
+use Rattle.ir_core.specs.WellFormed.{FitsEdges, HasBlockShape, HasFunctionShape, HasShape, IsOperator, SetsByOperator}
+use Rattle.ir_types.specs.declared.names.Name.{Name}
+use Rattle.ir_types.specs.Same.{same_name}
+use Rattle.ir_naming.specs.Spells.{labels_of}
+use Rattle.ir_naming_laws.proofs.Lists.{all_append, all_from, all_mapped, all_over, all_to}
+use Rattle.printer_laws.proofs.Fit.{FitsFunction, FitsModule, HasBlockForm, HasForm, HasPhiForm, IsNoOperand, SetsByOperation}
+use Rattle.printer_laws.proofs.Formed.{fits_function}
+
+all_alike : {A B : Type 0} (P : B → Type 0) (x : B) → P x → (ys : List A) → AllByRecursion P (map (λ (y : A). x) ys)
+all_alike P x is [] = tt
+all_alike P x is (y ∷ ys) = (is, all_alike P x is ys)
+
+-- a block's name is one of the labels
+own_labels : (f : Function) → AllByRecursion (λ (b : Block). Contains (labels_of f) b.name) f.blocks
+own_labels f =
+    all_mapped (Contains (labels_of f)) (λ (b : Block). b.name) f.blocks (all_from (Contains (labels_of f)) (labels_of f) (λ name there. there))
+
+-- edges lead from blocks of the function
+edges_from : (labels : List Name) (name : Name) (bs : List Block) → AllByRecursion (λ (b : Block). Contains labels b.name) bs
+    → AllByRecursion (Contains labels) (flat_map (λ (b : Block). map (λ (s : Name). b.name) (filter (same_name name) (successors_of b.term))) bs)
+edges_from labels name [] own = tt
+edges_from labels name (b ∷ bs) own =
+    all_append (Contains labels) (map (λ (s : Name). b.name) (filter (same_name name) (successors_of b.term)))
+    (flat_map (λ (b : Block). map (λ (s : Name). b.name) (filter (same_name name) (successors_of b.term))) bs)
+    (all_alike (Contains labels) b.name own.0 (filter (same_name name) (successors_of b.term))) (edges_from labels name bs own.1)
+
+froms_known : (f : Function) (b : Block) (p : Phi) → FitsEdges f b p → AllByRecursion (λ (e : Entry). Contains (labels_of f) e.from) p.entries
+froms_known f b p fits =
+    let froms = map (λ (e : Entry). e.from) p.entries in
+    let known = edges_from (labels_of f) b.name f.blocks (own_labels f) in
+    all_mapped (Contains (labels_of f)) (λ (e : Entry). e.from) p.entries
+    (all_from (Contains (labels_of f)) froms
+    (λ name there. all_to (Contains (labels_of f)) (edges_into f b.name) known name (Contains-permutation froms (edges_into f b.name) name (IsPermutation-sym (edges_into f b.name) froms fits.edges) there)))
+
+no_operand : (e : Expr Name) → IsOperator e → IsNoOperand e
+no_operand (expr.Plain o) none = absurd none
+no_operand (expr.Binary b) is = tt
+no_operand (expr.Icmp c) is = tt
+no_operand (expr.Cast c) is = tt
+no_operand (expr.Select s) is = tt
+
+by_operation : (l : Instr) → SetsByOperator l → SetsByOperation l
+by_operation (instr.Calm c) is = no_operand c.right is
+
+block_form : (f : Function) (b : Block) → HasBlockShape f b → HasBlockForm (labels_of f) b
+block_form f b shape = record {
+  phis = all_over (FitsEdges f b) (HasPhiForm (labels_of f)) b.phis (λ p fits. (fits.some, froms_known f b p fits)) shape.phis;
+  operations = all_over SetsByOperator SetsByOperation b.body by_operation shape.operators;
+  successors = shape.labels;
+}
+
+form : (f : Function) → HasFunctionShape f → HasForm f
+form f shape = record {
+  some = subst (λ (bs : List Block). 0 < length bs) (sym shape.blocks) (omega arith);
+  registers = shape.registers;
+  operands = shape.operands;
+  blocks = all_over (HasBlockShape f) (HasBlockForm (labels_of f)) f.blocks (block_form f) shape.each;
+}
+
+pub fits_module : (m : Module) → m.types ≡ [] → IsInOrder m → HasShape m → IsInRange m → FitsModule m
+fits_module m none order shape range = record {
+  types = none;
+  functions = all_from FitsFunction m.functions
+      (λ f there. fits_function f (all_to (λ (f : Function). AreInOrder (names_of f)) m.functions order.functions f there) (form f (all_to HasFunctionShape m.functions shape.functions f there))
+      (all_to IsFunctionInRange m.functions range.functions f there));
+  order = order.names;
+}
