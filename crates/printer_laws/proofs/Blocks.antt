@@ -1,35 +1,31 @@
 -- Blocks, each behind its label, or behind a comment where it has no name.
-use Rattle.std.proofs.Common.{◌≡◌, ℕ, ◌<◌, List, [], ◌∷◌, ◌++◌, length, append_assoc, Option, Some, None, refl, ap, sym, ◌∙◌, arith}
+use Rattle.std.proofs.Common.{◌≡◌, ℕ, ◌<◌, List, [], ◌∷◌, ◌++◌, length, append_assoc, Option, Some, None, refl, ap, sym, arith}
 use Rattle.std.specs.Prelude.{codes}
 use Rattle.std.specs.Fmt.{decimal}
 use Rattle.std.specs.List.{AllByRecursion, AllZip, flat_map}
 use Rattle.ir_core.specs.declared.functions.Block.{Block}
-use Rattle.ir_core.specs.declared.functions.Instr.{Instr}
-use Rattle.ir_core.specs.declared.functions.Phi.{Phi}
 use Rattle.ir_core.specs.Ranges.{IsNameInRange}
 use Rattle.ir_types.specs.declared.names.Name.{Name}
 use Rattle.ir_types.specs.declared.names.Name.TheVariants.{Number, Text}
 use Rattle.ir_types.specs.declared.ty.Ty.{Ty}
 use Rattle.ir_lexer.specs.declared.token.TokenKind.TheVariants as kind
 use Rattle.ir_grammar.specs.declared.trees.BlockText.{BlockText}
-use Rattle.ir_grammar.specs.declared.trees.BodyText.{BodyText}
 use Rattle.ir_grammar.specs.declared.trees.LineText.{LineText}
 use Rattle.ir_grammar.specs.declared.trees.PhiText.{PhiText}
 use Rattle.ir_grammar.specs.declared.trees.Placed.{Placed}
 use Rattle.ir_grammar.specs.declared.trees.TermText.{TermText}
 use Rattle.ir_grammar.specs.declared.words.Language.TheVariants.{Ir}
 use Rattle.ir_grammar.specs.Symbols.{Symbol}
-use Rattle.ir_grammar.specs.Symbols as symbols
 use Rattle.ir_grammar.specs.Written as write
 use Rattle.ir_naming.specs.Spells.{IsLine, IsNamed, IsPhi, IsTerm, NamesBlock}
 use Rattle.expression_printer.specs.Printed.{name_text}
-use Rattle.ir_printer.specs.Printed.{blocks_text, first_block, first_label, indented, instr_text, label_line, later_block, later_label, lines_text, phi_text, term_text}
+use Rattle.ir_printer.specs.Printed.{blocks_text, first_label, indented, instr_text, label_line, later_block, later_label, lines_text, phi_text}
 use Rattle.printer_laws.proofs.Fit.{FitsBlock, FitsLine, FitsPhi}
 use Rattle.printer_laws.proofs.Labels.{EndsLine, comment_reads, label_reads}
 use Rattle.printer_laws.proofs.Lines.{line, on_line, phi}
 use Rattle.printer_laws.proofs.Marks.{line_end}
 use Rattle.printer_laws.proofs.Prints.{IsFixed, Prints, before, behind, both, each, empty, fixed, gap_behind, of_text, one_token, read_as}
-use Rattle.printer_laws.proofs.ReadTexts.{Any, Stops}
+use Rattle.printer_laws.proofs.ReadTexts.{Any}
 use Rattle.printer_laws.proofs.Terms.{terminator}
 
 -- ---- labels

@@ -1,8 +1,6 @@
 -- Functions in order, of the form that a text has, and in range can be written as text.
-use Rattle.std.proofs.Common.{◌≡◌, ℕ, ◌<◌, Bool, true, false, true≢false, List, [], ◌∷◌, ◌++◌, map, length, refl, ap, sym, ◌∙◌, subst, arith}
-use Rattle.std.specs.List.{AllByRecursion, Contains, filter, flat_map}
-use Rattle.ir_core.specs.declared.expressions.Expr.{Expr}
-use Rattle.ir_core.specs.declared.expressions.Expr.TheVariants as expr
+use Rattle.std.proofs.Common.{◌≡◌, ◌<◌, true, true≢false, List, [], ◌∷◌, ◌++◌, map, length, sym}
+use Rattle.std.specs.List.{AllByRecursion, Contains, flat_map}
 use Rattle.ir_core.specs.declared.functions.Block.{Block}
 use Rattle.ir_core.specs.declared.functions.Case.{Case}
 use Rattle.ir_core.specs.declared.functions.Entry.{Entry}
@@ -18,9 +16,9 @@ use Rattle.ir_core.specs.declared.operands.Atom.TheVariants.{Constant, Register}
 use Rattle.ir_core.specs.declared.operands.Const.{Const}
 use Rattle.ir_core.specs.declared.operands.Operand.{Operand}
 use Rattle.ir_core.specs.Expressions.{type_of}
-use Rattle.ir_core.specs.Functions.{block_names, cases_of, edges_into, names_in, names_of, operands_at_end, operands_in_block, operands_of, operands_of_phi, params_of, phi_registers, registers_of, set_by, successors_of, typed_of}
-use Rattle.ir_core.specs.Order.{AreInOrder, IsInOrder}
-use Rattle.ir_core.specs.Ranges.{IsAtomInRange, IsCaseInRange, IsFunctionInRange, IsInRange, IsLineInRange, IsNameInRange, IsOperandInRange, IsTypeInRange}
+use Rattle.ir_core.specs.Functions.{block_names, cases_of, names_in, names_of, operands_at_end, operands_in_block, operands_of, operands_of_phi, params_of, phi_registers, registers_of, set_by, successors_of, typed_of}
+use Rattle.ir_core.specs.Order.{AreInOrder}
+use Rattle.ir_core.specs.Ranges.{IsAtomInRange, IsCaseInRange, IsFunctionInRange, IsLineInRange, IsNameInRange, IsOperandInRange, IsTypeInRange}
 use Rattle.ir_core.specs.Types.{constant_fits}
 use Rattle.ir_core.specs.WellFormed.{HasType, IsFirstClass}
 use Rattle.ir_types.specs.declared.names.Name.{Name}
@@ -29,7 +27,7 @@ use Rattle.ir_types.specs.declared.ty.Ty.TheVariants.{Int}
 use Rattle.ir_naming.specs.Spells.{labels_of}
 use Rattle.ir_naming_laws.proofs.Lists.{all_both, all_from, all_left, all_lists, all_mapped, all_over, all_right, all_to, all_append}
 use Rattle.printer_laws.specs.Writable.{IsWritableType}
-use Rattle.printer_laws.proofs.Fit.{FitsAtom, FitsBlock, FitsCase, FitsEntry, FitsFunction, FitsLabel, FitsLine, FitsModule, FitsOperand, FitsParam, FitsPhi, FitsTerm, HasBlockForm, HasForm, HasPhiForm, SetsByOperation}
+use Rattle.printer_laws.proofs.Fit.{FitsAtom, FitsBlock, FitsCase, FitsEntry, FitsFunction, FitsLabel, FitsLine, FitsOperand, FitsPhi, FitsTerm, HasBlockForm, HasForm, HasPhiForm, SetsByOperation}
 
 -- ---- types
 

@@ -1,6 +1,5 @@
 -- Functions and modules.
 use Rattle.std.proofs.Common.{◌≡◌, ℕ, List, [], ◌∷◌, ◌++◌, map, append_assoc, Option, Some, None, refl, ap, sym, ◌∙◌, subst}
-use Rattle.std.specs.Prelude.{codes}
 use Rattle.std.specs.List.{AllByRecursion, AllZip, flat_map}
 use Rattle.ir_core.specs.declared.functions.Function.{Function}
 use Rattle.ir_core.specs.declared.functions.Module.{Module}
@@ -21,11 +20,11 @@ use Rattle.ir_grammar.specs.declared.words.Language.TheVariants.{Ir}
 use Rattle.ir_grammar.specs.Symbols.{Global, Symbol}
 use Rattle.ir_grammar.specs.Symbols as symbols
 use Rattle.ir_grammar.specs.Written as write
-use Rattle.ir_naming.specs.Spells.{IsNamed, IsParam, IsResult, NamesBlock, NamesFunction, NamesModule, labels_of}
+use Rattle.ir_naming.specs.Spells.{IsNamed, IsParam, IsResult, NamesFunction, NamesModule, labels_of}
 use Rattle.ir_naming_laws.proofs.Named.{module_right}
 use Rattle.ir_spelling.specs.Spells.{Spells}
 use Rattle.expression_printer.specs.Printed.{listed, printed_type}
-use Rattle.ir_printer.specs.Printed.{blank_between, function_text, functions_text, head_text, later_function, param_name, param_text, printed_module}
+use Rattle.ir_printer.specs.Printed.{function_text, functions_text, head_text, later_function, param_name, param_text, printed_module}
 use Rattle.printer_laws.proofs.Blocks.{blocks, blocks_written}
 use Rattle.printer_laws.proofs.Fit.{FitsFunction, FitsModule, FitsParam}
 use Rattle.printer_laws.proofs.Marks.{close_brace, close_paren, global, key_alone, line_end, local, open_brace, open_paren, some, space}

@@ -1,8 +1,7 @@
 -- The lines of a block: what sets a register, phis among them.
-use Rattle.std.proofs.Common.{◌≡◌, ℕ, ◌<◌, List, [], ◌∷◌, ◌++◌, map, length, Some, refl, ap, sym, ◌∙◌, subst, arith}
+use Rattle.std.proofs.Common.{◌≡◌, ℕ, ◌<◌, List, [], ◌∷◌, ◌++◌, map, length, Some, refl, subst, arith}
 use Rattle.std.specs.Prelude.{codes}
 use Rattle.std.specs.List.{AllByRecursion, AllZip, Contains, flat_map}
-use Rattle.ir_core.specs.declared.functions.Calm.{Calm}
 use Rattle.ir_core.specs.declared.functions.Entry.{Entry}
 use Rattle.ir_core.specs.declared.functions.Instr.{Instr}
 use Rattle.ir_core.specs.declared.functions.Instr.TheVariants as instr
@@ -18,7 +17,6 @@ use Rattle.ir_types.specs.declared.ty.Ty.TheVariants.{Int}
 use Rattle.ir_grammar.specs.declared.trees.EntryText.{EntryText}
 use Rattle.ir_grammar.specs.declared.trees.LineText.{LineText}
 use Rattle.ir_grammar.specs.declared.trees.OperandText.{OperandText}
-use Rattle.ir_grammar.specs.declared.trees.OperationText.{OperationText}
 use Rattle.ir_grammar.specs.declared.trees.PhiText.{PhiText}
 use Rattle.ir_grammar.specs.declared.trees.Placed.{Placed}
 use Rattle.ir_grammar.specs.declared.trees.ValueText.{ValueText}
@@ -30,7 +28,8 @@ use Rattle.ir_grammar.specs.Symbols as symbols
 use Rattle.ir_grammar.specs.Written as write
 use Rattle.ir_naming.specs.Spells.{IsEntry, IsLabel, IsLine, IsPhi, IsValue, MeansOne}
 use Rattle.ir_naming.specs.Values.{IsOperand}
-use Rattle.expression_printer.specs.Printed.{listed, printed_expr, printed_local, printed_operand, printed_type, printed_value}
+use Rattle.ir_naming_laws.proofs.Lists.{all_over}
+use Rattle.expression_printer.specs.Printed.{listed, printed_local, printed_operand}
 use Rattle.ir_printer.specs.Printed.{entry_text, indented, instr_text, phi_text, set_text}
 use Rattle.printer_laws.specs.Writable.{IsWritableType}
 use Rattle.printer_laws.proofs.Fit.{FitsAtom, FitsEntry, FitsLabel, FitsLine, FitsOperand, FitsPhi}
@@ -42,7 +41,6 @@ use Rattle.printer_laws.proofs.Prints.{IsFixed, Prints, before, behind, both, ga
 use Rattle.printer_laws.proofs.ReadTexts.{Any, Stops}
 use Rattle.printer_laws.proofs.Types.{type_is, width}
 use Rattle.printer_laws.proofs.Values.{PrintsAtom, constant}
-use Rattle.ir_naming_laws.proofs.Lists.{all_over}
 
 -- ---- pieces of a line
 

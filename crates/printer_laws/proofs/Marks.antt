@@ -1,10 +1,9 @@
 -- Words, marks and gaps, each the same symbols wherever it stands; names and types.
-use Rattle.std.proofs.Common.{◌≡◌, ℕ, List, [], ◌∷◌, ◌++◌, length, refl, ap, sym, ◌∙◌, arith}
+use Rattle.std.proofs.Common.{◌≡◌, ℕ, List, [], ◌∷◌, ◌++◌, refl, ap, arith}
 use Rattle.std.specs.Prelude.{codes}
 use Rattle.std.specs.List.{AllByRecursion, AllZip, flat_map}
 use Rattle.std.specs.Prelude.{map}
 use Rattle.ir_types.specs.declared.names.Name.{Name}
-use Rattle.ir_types.specs.declared.names.Sigil.{Sigil}
 use Rattle.ir_types.specs.declared.names.Sigil.TheVariants as sigil
 use Rattle.ir_types.specs.declared.ty.Ty.{Ty}
 use Rattle.ir_core.specs.Ranges.{IsNameInRange}
@@ -17,7 +16,6 @@ use Rattle.ir_grammar.specs.declared.words.Language.{Language}
 use Rattle.ir_grammar.specs.Symbols.{Symbol, Global, Local, Width, key_number, symbol_at, word_symbol}
 use Rattle.ir_grammar.specs.Symbols as symbols
 use Rattle.ir_grammar.specs.Words.{key_text}
-use Rattle.ir_grammar.specs.Written as write
 use Rattle.expression_printer.specs.Printed.{listed, printed_local, printed_name, printed_type, spaced}
 use Rattle.printer_laws.specs.Writable.{IsWritableType}
 use Rattle.printer_laws.proofs.OperatorTexts.{at_any}

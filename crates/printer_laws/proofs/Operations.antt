@@ -1,6 +1,5 @@
 -- Printed operands and operations, over whatever registers there are, are texts that name them.
-use Rattle.std.proofs.Common.{◌≡◌, ℕ, List, [], ◌∷◌, ◌++◌, Option, true, append_assoc, refl, ap, sym, ◌∙◌, subst}
-use Rattle.std.specs.Prelude.{codes}
+use Rattle.std.proofs.Common.{◌≡◌, ℕ, List, [], ◌∷◌, ◌++◌, true, append_assoc, refl, ap, ◌∙◌, subst}
 use Rattle.std.specs.List.{AllByRecursion}
 use Rattle.ir_core.specs.declared.expressions.Binary.{Binary}
 use Rattle.ir_core.specs.declared.expressions.Cast.{Cast}
@@ -8,7 +7,6 @@ use Rattle.ir_core.specs.declared.expressions.Expr.{Expr}
 use Rattle.ir_core.specs.declared.expressions.Expr.TheVariants as expr
 use Rattle.ir_core.specs.declared.expressions.Icmp.{Icmp}
 use Rattle.ir_core.specs.declared.expressions.Select.{Select}
-use Rattle.ir_types.specs.declared.names.Name.{Name}
 use Rattle.ir_types.specs.declared.ty.Ty.{Ty}
 use Rattle.ir_types.specs.declared.ty.Ty.TheVariants.{Int}
 use Rattle.ir_core.specs.declared.operands.Atom.{Atom}
@@ -31,12 +29,12 @@ use Rattle.ir_grammar.specs.Symbols.{Symbol}
 use Rattle.ir_grammar.specs.Symbols as symbols
 use Rattle.ir_grammar.specs.Written as write
 use Rattle.ir_naming.specs.Values.{IsOperand, IsOperation, flags_of, type_at}
-use Rattle.expression_printer.specs.Printed.{printed_atom, printed_expr, printed_flags, printed_op, printed_operand, printed_operands, printed_type}
+use Rattle.expression_printer.specs.Printed.{printed_expr, printed_flags, printed_op, printed_operand, printed_operands}
 use Rattle.printer_laws.specs.Writable.{IsWritableType}
 use Rattle.printer_laws.proofs.Fit.{IsNoOperand}
 use Rattle.printer_laws.proofs.Marks.{comma, key, space, type, word_and_space}
-use Rattle.printer_laws.proofs.OperatorTexts.{IsOperator, at_any, is_operator}
-use Rattle.printer_laws.proofs.Prints.{Prints, before, behind, both, of_text, read_as}
+use Rattle.printer_laws.proofs.OperatorTexts.{at_any, is_operator}
+use Rattle.printer_laws.proofs.Prints.{Prints, before, both, of_text, read_as}
 use Rattle.printer_laws.proofs.Places.{symbols_are}
 use Rattle.printer_laws.proofs.ReadTexts.{Any, Stops}
 use Rattle.printer_laws.proofs.ReadTexts as reads

@@ -1,7 +1,6 @@
 -- Terminators.
-use Rattle.std.proofs.Common.{◌≡◌, ℕ, List, [], ◌∷◌, ◌++◌, Some, None, refl, ap, sym, ◌∙◌, subst}
+use Rattle.std.proofs.Common.{◌≡◌, ℕ, List, [], ◌∷◌, Some, None, refl, subst}
 use Rattle.std.specs.Prelude.{codes}
-use Rattle.std.specs.List.{AllZip, flat_map}
 use Rattle.ir_core.specs.declared.functions.Case.{Case}
 use Rattle.ir_core.specs.declared.functions.CondBr.{CondBr}
 use Rattle.ir_core.specs.declared.functions.Switch.{Switch}
@@ -12,7 +11,6 @@ use Rattle.ir_types.specs.declared.ty.Ty.{Ty}
 use Rattle.ir_grammar.specs.declared.trees.BranchText.TheVariants as branch
 use Rattle.ir_grammar.specs.declared.trees.CaseText.{CaseText}
 use Rattle.ir_grammar.specs.declared.trees.ConditionText.{ConditionText}
-use Rattle.ir_grammar.specs.declared.trees.OperandText.{OperandText}
 use Rattle.ir_grammar.specs.declared.trees.Placed.{Placed}
 use Rattle.ir_grammar.specs.declared.trees.SwitchText.{SwitchText}
 use Rattle.ir_grammar.specs.declared.trees.TermText.{TermText}
@@ -32,7 +30,6 @@ use Rattle.printer_laws.proofs.Marks as marks
 use Rattle.printer_laws.proofs.Operations.{typed}
 use Rattle.printer_laws.proofs.Prints.{IsFixed, Prints, before, behind, both, each, gap_behind, read_as, wherever}
 use Rattle.printer_laws.proofs.ReadTexts.{Any, Stops}
-use Rattle.printer_laws.proofs.Types.{width}
 use Rattle.printer_laws.proofs.Values.{number}
 
 spaces : IsFixed Ir Any (codes "  ") []

@@ -1,5 +1,5 @@
 -- A printed constant is one token, which is a number of the type or `undef`.
-use Rattle.std.proofs.Common.{◌≡◌, ℕ, ◌-◌, ◌%◌, ◌^◌, ◌<◌, ◌≤◌, Bool, true, false, List, [], ◌∷◌, ◌++◌, Option, Some, arith, refl, ap, sym, ◌∙◌, subst}
+use Rattle.std.proofs.Common.{◌≡◌, ℕ, ◌-◌, ◌%◌, ◌^◌, ◌<◌, ◌≤◌, Bool, true, false, List, [], ◌∷◌, Option, Some, arith, refl, ap, sym, ◌∙◌, subst}
 use Rattle.std.specs.Prelude.{◌==◌, nat_le, nat_lt, if◌then◌else◌}
 use Rattle.std.specs.Fmt.{decimal}
 use Rattle.std.proofs.Math.Nat.{mod-eq_of_lt}
@@ -8,7 +8,7 @@ use Rattle.std.proofs.lemmas.Bool.{and_parts, cond_both, cond-true, eqb-true, le
 use Rattle.std.proofs.lemmas.Bool.Decides.{nat_tests}
 use Rattle.ir_types.specs.declared.names.Name.{Name}
 use Rattle.ir_core.specs.declared.operands.Atom.{Atom}
-use Rattle.ir_core.specs.declared.operands.Atom.TheVariants.{Constant, Register}
+use Rattle.ir_core.specs.declared.operands.Atom.TheVariants.{Constant}
 use Rattle.ir_core.specs.declared.operands.Const.{Const}
 use Rattle.ir_core.specs.declared.operands.Const.TheVariants as const
 use Rattle.ir_types.specs.declared.ty.Ty.{Ty}
@@ -24,11 +24,10 @@ use Rattle.ir_grammar.specs.declared.trees.ValueText.{ValueText}
 use Rattle.ir_grammar.specs.declared.trees.ValueText.TheVariants as text
 use Rattle.ir_grammar.specs.declared.words.KeyWord.TheVariants as key
 use Rattle.ir_grammar.specs.declared.words.Language.{Language}
-use Rattle.ir_grammar.specs.Symbols.{Symbol, word_symbol}
 use Rattle.ir_grammar.specs.Words.{truth_text}
 use Rattle.ir_grammar.specs.Written as write
 use Rattle.ir_naming.specs.Values.{IsAtom, IsNumber, Names, int_of, kept, truth}
-use Rattle.expression_printer.specs.Printed.{is_negative, number_text, printed_atom, printed_constant, signed_text}
+use Rattle.expression_printer.specs.Printed.{is_negative, number_text, printed_atom, signed_text}
 use Rattle.expression_printer.proofs.Powers.{power_is_two_halves}
 use Rattle.printer_laws.specs.Writable.{IsWritableType}
 use Rattle.printer_laws.proofs.Decimals.{decimal_means}
