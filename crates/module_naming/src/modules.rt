@@ -16,7 +16,7 @@ use ir_grammar::{
 use ir_naming::{
     Tally, claim_operation, define, define_function, expression_of, name_of, new_tally, with_room,
 };
-use name_claims::{Claim, Fault, Meaning, first_fault_is_found_from_left, first_with};
+use name_claims::{Claim, Fault, Meaning, first_with};
 use std::alloc::{AllocError, Global};
 use typed_grammars::Stack;
 
@@ -477,7 +477,6 @@ pub fn name_module(alloc: Global, text: ModuleText) -> Result<(Module, Option<Fa
     ensures none { IfOk result (λ named. IfNone named.1 ((f : Fault) → HasFault (claims_of text) f → ⊥)) }
     ensures first { IfOk result (λ named. IfSome named.1 (λ f. IsFirst (claims_of text) f)) }
 {
-    first_fault_is_found_from_left();
     let (functions, found) = name_all(alloc, text)?;
     let types = NamedTypes::none(alloc);
     Ok((Module { types, functions }, found))

@@ -134,7 +134,7 @@ all items =
     (λ P best claim l. both P (ClaimHasFault item claim) best (fault_of claim (fault_at item claim)) l (claim_least item claim)) P best l item.claims)
     (λ f. ⊥) None (λ f no. no) items)
 
-pub none_of : (items : List Item) → first_of None items ≡ None → (f : Fault) → HasFault items f → ⊥
+none_of : (items : List Item) → first_of None items ≡ None → (f : Fault) → HasFault items f → ⊥
 none_of items e = subst (Least (HasFault items)) e (all items)
 
 pub first_is : (items : List Item) (f : Fault) → first_of None items ≡ Some f → IsFirst items f

@@ -1,5 +1,5 @@
 -- Texts with two faults, and which one is the first.
-use Rattle.std.specs.Prelude.{◌≡◌, ℕ, List, [], ◌∷◌, ◌++◌, codes, Option, Some, None}
+use Rattle.std.specs.Prelude.{ℕ, [], ◌∷◌, codes}
 use Rattle.ir_types.specs.declared.names.Name.{Name}
 use Rattle.ir_types.specs.declared.names.Name.TheVariants.{Text, Number}
 use Rattle.ir_types.specs.declared.ty.Ty.TheVariants.{Int}
@@ -12,8 +12,7 @@ use Rattle.name_claims.specs.declared.claims.Reason.{Reason}
 use Rattle.name_claims.specs.declared.claims.Reason.TheVariants.{Twice, WrongNumber, Unknown, WrongType}
 use Rattle.name_claims.specs.declared.claims.Says.{Says}
 use Rattle.name_claims.specs.declared.claims.Says.TheVariants.{New, Counted, Register, Label}
-use Rattle.name_claims.specs.Faults.{HasFault, IsFirst}
-use Rattle.name_claims.specs.Indexes.{first_of}
+use Rattle.name_claims.specs.Faults.{IsFirst}
 
 abbrev register : Name → Definition
 register name = record { name = name; meaning = meaning.Register (Int 32) }
@@ -91,14 +90,3 @@ label_of_no_block = record { definitions = block a ∷ []; claims = claim 19 20 
 
 abbrev pub LabelsNameBlocks : Type 0
 LabelsNameBlocks = IsFirst (label_of_no_block ∷ []) (fault 31 33 Unknown)
-
--- ---- from the left
-
-abbrev pub NothingFoundIsNoFault : Type 0
-NothingFoundIsNoFault = (items : List Item) → first_of None items ≡ None → (f : Fault) → HasFault items f → ⊥
-
-abbrev pub WhatIsFoundIsFirst : Type 0
-WhatIsFoundIsFirst = (items : List Item) (f : Fault) → first_of None items ≡ Some f → IsFirst items f
-
-abbrev pub ItemsAreTakenInParts : Type 0
-ItemsAreTakenInParts = (best : Option Fault) (xs ys : List Item) → first_of best (xs ++ ys) ≡ first_of (first_of best xs) ys

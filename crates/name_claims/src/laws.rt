@@ -1,14 +1,4 @@
-ghost use Rattle.name_claims.specs.Laws.{NothingFoundIsNoFault, WhatIsFoundIsFirst, ItemsAreTakenInParts, TwiceComesBeforeWrongNumber, PlacesComeBeforeRanks, LabelsAreOfNoType, LabelsNameBlocks, RegistersAreNoLabels};
-
-/// Empty on purpose: its contract is the law.
-///
-/// The first fault is found from the left, one item after the other: what is found is the first fault, where nothing is found there is
-/// none, and items may be taken in parts.
-pub fn first_fault_is_found_from_left()
-    ensures none { NothingFoundIsNoFault }
-    ensures first { WhatIsFoundIsFirst }
-    ensures parts { ItemsAreTakenInParts }
-{}
+ghost use Rattle.name_claims.specs.Laws.{TwiceComesBeforeWrongNumber, PlacesComeBeforeRanks, LabelsAreOfNoType, LabelsNameBlocks, RegistersAreNoLabels};
 
 /// Empty on purpose: its contract is the law.
 ///

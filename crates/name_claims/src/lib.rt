@@ -13,4 +13,4 @@ mod places;
 
 pub use claims::{Claim, Count, Definition, Fault, Item, Meaning, Reason, Says, Use};
 pub use judge::{first_fault, first_with};
-pub use laws::{examples_of_faults, first_fault_is_found_from_left};
+pub use laws::examples_of_faults;
