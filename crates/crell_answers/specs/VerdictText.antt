@@ -11,7 +11,7 @@ use Rattle.erhl_assert.specs.declared.verdict.Reason.TheVariants.{AlignmentDiffe
 use Rattle.erhl_assert.specs.declared.verdict.Spot.{Spot}
 use Rattle.erhl_assert.specs.declared.verdict.Spot.TheVariants.{Start, Line, Edge}
 use Rattle.erhl_assert.specs.declared.verdict.Difference.{Difference}
-use Rattle.erhl_assert.specs.declared.verdict.Difference.TheVariants.{Functions}
+use Rattle.erhl_assert.specs.declared.verdict.Difference.TheVariants.{Types, Functions}
 use Rattle.erhl_assert.specs.declared.verdict.ModuleVerdict.{ModuleVerdict}
 use Rattle.erhl_assert.specs.declared.verdict.ModuleVerdict.TheVariants as modules
 use Rattle.crell_answers.specs.declared.answer.Answer.{Answer}
@@ -38,6 +38,7 @@ reason_text (MissingFact f) = codes "missing fact " ++ printed_fact f
 reason_text (DiffLeft register) = codes "diff left " ++ printed_register register
 
 abbrev pub difference_text : Difference → List ℕ
+difference_text Types = codes "types"
 difference_text Functions = codes "functions"
 
 -- `SPOT: REASON`

@@ -62,6 +62,7 @@ fn push_difference(text: &mut Vec<u8>, what: Difference) -> Result<(), AllocErro
     ensures { OnOk result (text.new.items ≡ text.old.items ++ spec.difference_text what) }
 {
     match what {
+        Difference::Types => text.extend_from_slice(b"types"),
         Difference::Functions => text.extend_from_slice(b"functions"),
     }
 }

@@ -3,7 +3,9 @@ use Rattle.std.specs.Prelude.{◌≡◌, ℕ, ◌+◌, Bool, true, false, ◌&&�
 use Rattle.std.specs.Option.{option_map}
 use Rattle.std.specs.Ordering.{is_lt, nat_cmp}
 use Rattle.std.specs.Cmp.Lexicographic.{slice_cmp}
+use Rattle.ir_types.specs.declared.named.NamedTy.{NamedTy}
 use Rattle.ir_types.specs.declared.names.Name.{Name}
+use Rattle.ir_types.specs.declared.ty.Ty.{Ty}
 use Rattle.ir_core.specs.declared.operands.Operand.{Operand}
 use Rattle.ir_core.specs.declared.expressions.Reg.{Reg}
 use Rattle.ir_core.specs.declared.functions.Case.{Case}
@@ -218,10 +220,30 @@ AreAccepted rules scope (f ∷ fs) (g ∷ gs) =
 AreAccepted rules scope (f ∷ fs) [] = ⊥
 AreAccepted rules scope [] (g ∷ gs) = ⊥
 
--- THE answer on two modules: their functions have equal names, return and parameter types; then each pair in its order, of which the
--- first decides that isn't valid, or on which too many facts are known.
-abbrev pub module_answer : Rules → Module → Module → Hints → Option ModuleVerdict
-module_answer rules source target hints =
+-- The modules are accepted: they name the same types, and each pair of their functions is accepted.
+pub record AreModulesAccepted (hints : Hints) (rules : Rules) (source target : Module) : Type 0 where
+  pub types : source.types ≡ target.types
+  pub functions : AreAcceptedUnder hints rules (scope_of source) (definitions_of source) (definitions_of target)
+
+-- name and fields are equal, in their order; an opaque type has none
+abbrev pub same_fields : Option (List Ty) → Option (List Ty) → Bool
+same_fields None None = true
+same_fields None (Some ts) = false
+same_fields (Some ss) None = false
+same_fields (Some ss) (Some ts) = same_list same_ty ss ts
+
+abbrev pub same_named_type : NamedTy → NamedTy → Bool
+same_named_type s t = same_name s.name t.name && same_fields s.fields t.fields
+
+-- the answer on the functions of two modules: they have equal names, return and parameter types; then each pair in its order, of which the
+-- first decides that isn't valid, or on which too many facts are known
+abbrev pub definitions_answer : Rules → Module → Module → Hints → Option ModuleVerdict
+definitions_answer rules source target hints =
     cond (same_list same_signature (definitions_of source) (definitions_of target))
     (functions_answer rules (scope_of source) hints (definitions_of source) (definitions_of target))
     (Some (modules.Differs difference.Functions))
+
+-- THE answer on two modules: their named types are equal, in their order; then what is answered on their functions.
+abbrev pub module_answer : Rules → Module → Module → Hints → Option ModuleVerdict
+module_answer rules source target hints =
+    cond (same_list same_named_type source.types target.types) (definitions_answer rules source target hints) (Some (modules.Differs difference.Types))

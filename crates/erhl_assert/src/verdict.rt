@@ -74,6 +74,7 @@ pub enum Verdict {
 /// In which list two modules differ.
 #[derive(Drop, Clone, Copy)]
 pub enum Difference {
+    Types,
     Functions,
 }
 

@@ -1,16 +1,19 @@
 -- Two modules differ exactly where their signatures do, and are valid exactly where each pair is accepted.
-use Rattle.std.proofs.Common.{◌≡◌, ◌∙◌, ◌&&◌, Bool, true, false, cond, List, [], ◌∷◌, map, Option, None, Some, refl, sym, ap}
+use Rattle.std.proofs.Common.{◌≡◌, ◌∙◌, ◌&&◌, Bool, true, false, cond, List, [], ◌∷◌, map, Option, None, Some, refl, sym, subst, ap}
 use Rattle.std.proofs.lemmas.Bool.{false≢true}
 use Rattle.std.specs.List.{AllByRecursion}
 use Rattle.std.specs.Prelude.{◌↔◌, Result, Ok, Err, IfOk}
 use Rattle.ir_machine.specs.Refinement.{Refines}
+use Rattle.ir_types.specs.declared.named.NamedTy.{NamedTy}
 use Rattle.ir_types.specs.declared.names.Name.{Name}
+use Rattle.ir_types.specs.declared.ty.Ty.{Ty}
 use Rattle.ir_core.specs.declared.functions.Function.{Function}
 use Rattle.ir_core.specs.declared.functions.Param.{Param}
 use Rattle.ir_core.specs.declared.functions.Module.{Module}
-use Rattle.ir_types.specs.Same.{same_list, same_ty}
+use Rattle.ir_types.specs.Same.{same_list, same_name, same_ty}
+use Rattle.ir_types.proofs.SameLaws.{same_ty_true, same_ty_refl}
 use Rattle.ir_core.specs.Modules.{Scope, scope_of, definitions_of}
-use Rattle.ir_types.specs.NameLaws.{left_true, right_true, all_true}
+use Rattle.ir_types.specs.NameLaws.{left_true, right_true, all_true, same_list_true, same_list_refl, same_name_true, same_name_refl}
 use Rattle.erhl_assert.specs.declared.hints.Hints.{Hints}
 use Rattle.erhl_assert.specs.declared.verdict.Verdict.{Verdict}
 use Rattle.erhl_assert.specs.declared.verdict.Verdict.TheVariants as verdict
@@ -19,7 +22,7 @@ use Rattle.erhl_assert.specs.declared.verdict.Difference.TheVariants as differen
 use Rattle.erhl_assert.specs.declared.verdict.ModuleVerdict.{ModuleVerdict}
 use Rattle.erhl_assert.specs.declared.verdict.ModuleVerdict.TheVariants as modules
 use Rattle.erhl_assert.specs.Steps.{Rules, beside, AreSound}
-use Rattle.erhl_assert.specs.Acceptance.{function_judged, function_answer, hint_for, of_function, functions_answer, module_answer, same_signature, AreAcceptedUnder, AreAccepted}
+use Rattle.erhl_assert.specs.Acceptance.{function_judged, function_answer, hint_for, of_function, functions_answer, definitions_answer, module_answer, same_fields, same_named_type, same_signature, AreAcceptedUnder, AreAccepted, AreModulesAccepted}
 use Rattle.erhl_soundness.specs.Laws.{ArePhisApart, AcceptedModulesRefine}
 use Rattle.checked_pair.specs.declared.ends.CheckEnd.{CheckEnd}
 use Rattle.checked_pair.specs.Progress.{Answers}
@@ -94,8 +97,35 @@ accepted_under_some rules scope hints [] (g ∷ gs) h = absurd h
 accepted_under_some rules scope hints (f ∷ fs) [] h = absurd h
 accepted_under_some rules scope hints (f ∷ fs) (g ∷ gs) h = (h.0, (hint_for hints f.name, h.1), accepted_under_some rules scope hints fs gs h.2)
 
--- of an answer that is the one on the two modules
-module _ (rules : Rules) (source target : Module) (hints : Hints) (v : ModuleVerdict) (is : module_answer rules source target hints ≡ Some v) where
+-- ---- named types
+
+fields_true : (ss ts : Option (List Ty)) → same_fields ss ts ≡ true → ss ≡ ts
+fields_true None None e = refl
+fields_true None (Some ts) e = absurd (false≢true e)
+fields_true (Some ss) None e = absurd (false≢true e)
+fields_true (Some ss) (Some ts) e = ap (λ fs. Some fs) (same_list_true same_ty same_ty_true ss ts e)
+
+fields_refl : (ts : Option (List Ty)) → same_fields ts ts ≡ true
+fields_refl None = refl
+fields_refl (Some ts) = same_list_refl same_ty same_ty_refl ts
+
+named_true : (s t : NamedTy) → same_named_type s t ≡ true → s ≡ t
+named_true s t e =
+    let name = same_name_true s.name t.name (left_true (same_name s.name t.name) (same_fields s.fields t.fields) e) in
+    let fields = fields_true s.fields t.fields (right_true (same_name s.name t.name) (same_fields s.fields t.fields) e) in
+    ap (λ (x : Name). record { name = x; fields = s.fields }) name ∙ ap (λ (fs : Option (List Ty)). record { name = t.name; fields = fs }) fields
+
+named_refl : (t : NamedTy) → same_named_type t t ≡ true
+named_refl t = all_true (same_name_refl t.name) (fields_refl t.fields)
+
+types_true : (ss ts : List NamedTy) → same_list same_named_type ss ts ≡ true → ss ≡ ts
+types_true = same_list_true same_named_type named_true
+
+types_are : (ss ts : List NamedTy) → ss ≡ ts → same_list same_named_type ss ts ≡ true
+types_are ss ts e = subst (λ us. same_list same_named_type ss us ≡ true) e (same_list_refl same_named_type named_refl ss)
+
+-- of an answer that is the one on the functions of two modules
+module _ (rules : Rules) (source target : Module) (hints : Hints) (v : ModuleVerdict) (is : definitions_answer rules source target hints ≡ Some v) where
   abbrev test : Bool
   test = same_list same_signature (definitions_of source) (definitions_of target)
 
@@ -105,7 +135,7 @@ module _ (rules : Rules) (source target : Module) (hints : Hints) (v : ModuleVer
   by_test : (b : Bool) → test ≡ b → cond b others (Some (modules.Differs difference.Functions)) ≡ Some v
   by_test b e = sym (ap (λ b. cond b others (Some (modules.Differs difference.Functions))) e) ∙ is
 
-  pub accepted_where : v ≡ modules.Valid ↔ AreAcceptedUnder hints rules (scope_of source) (definitions_of source) (definitions_of target)
+  accepted_where : v ≡ modules.Valid ↔ AreAcceptedUnder hints rules (scope_of source) (definitions_of source) (definitions_of target)
   accepted_where = (
     λ valid. (elim test as (λ b. test ≡ b → AreAcceptedUnder hints rules (scope_of source) (definitions_of source) (definitions_of target)) [
       | true ↦ λ same. valid_are_accepted rules (scope_of source) hints (definitions_of source) (definitions_of target) same (by_test true same ∙ ap (λ v. Some v) valid)
@@ -116,7 +146,7 @@ module _ (rules : Rules) (source target : Module) (hints : Hints) (v : ModuleVer
         (by_test true (accepted_are_same rules (scope_of source) hints (definitions_of source) (definitions_of target) accepted)),
   )
 
-  pub differs_where : v ≡ modules.Differs difference.Functions ↔ same_list same_signature (definitions_of source) (definitions_of target) ≡ false
+  differs_where : v ≡ modules.Differs difference.Functions ↔ same_list same_signature (definitions_of source) (definitions_of target) ≡ false
   differs_where = (
     λ differs. (elim test as (λ b. test ≡ b → b ≡ false) [
       | true ↦ λ same.
@@ -127,21 +157,82 @@ module _ (rules : Rules) (source target : Module) (hints : Hints) (v : ModuleVer
     λ other. let e = by_test false other in cc,
   )
 
+  never_by_types : v ≡ modules.Differs difference.Types → ⊥
+  never_by_types differs = (elim test as (λ b. test ≡ b → ⊥) [
+    | true ↦ λ same.
+        functions_never_differ rules (scope_of source) hints (definitions_of source) (definitions_of target) difference.Types same
+        (by_test true same ∙ ap (λ v. Some v) differs)
+    | false ↦ λ other. let e = by_test false other ∙ ap (λ v. Some v) differs in cc
+  ]) refl
+
+-- of an answer that is the one on the two modules
+module _ (rules : Rules) (source target : Module) (hints : Hints) (v : ModuleVerdict) (is : module_answer rules source target hints ≡ Some v) where
+  abbrev one : Bool
+  one = same_list same_named_type source.types target.types
+
+  by_types : (b : Bool) → one ≡ b → cond b (definitions_answer rules source target hints) (Some (modules.Differs difference.Types)) ≡ Some v
+  by_types b e = sym (ap (λ b. cond b (definitions_answer rules source target hints) (Some (modules.Differs difference.Types))) e) ∙ is
+
+  same_where : source.types ≡ target.types → definitions_answer rules source target hints ≡ Some v
+  same_where e = by_types true (types_are source.types target.types e)
+
+  other_where : one ≡ false → source.types ≡ target.types → ⊥
+  other_where other e = false≢true (sym other ∙ types_are source.types target.types e)
+
+  -- each answer but that of the types comes of the functions, and where the types are equal
+  by_functions : (v ≡ modules.Differs difference.Types → ⊥) → source.types ≡ target.types
+  by_functions not_types = (elim one as (λ b. one ≡ b → source.types ≡ target.types) [
+    | true ↦ λ same. types_true source.types target.types same
+    | false ↦ λ other. absurd (not_types (let e = by_types false other in cc))
+  ]) refl
+
+  pub modules_accepted : v ≡ modules.Valid ↔ AreModulesAccepted hints rules source target
+  modules_accepted = (
+    λ valid.
+        let types = by_functions (λ e. let both = sym e ∙ valid in cc) in
+        record { types = types; functions = (accepted_where rules source target hints v (same_where types)).0 valid },
+    λ accepted. (accepted_where rules source target hints v (same_where accepted.types)).1 accepted.functions,
+  )
+
+  pub types_differ : v ≡ modules.Differs difference.Types ↔ (source.types ≡ target.types → ⊥)
+  types_differ = (
+    λ differs types. never_by_types rules source target hints v (same_where types) differs,
+    λ other. (elim one as (λ b. one ≡ b → v ≡ modules.Differs difference.Types) [
+      | true ↦ λ same. absurd (other (types_true source.types target.types same))
+      | false ↦ λ not. let e = by_types false not in cc
+    ]) refl,
+  )
+
+  pub functions_differ : v ≡ modules.Differs difference.Functions
+      ↔ (source.types ≡ target.types) × (same_list same_signature (definitions_of source) (definitions_of target) ≡ false)
+  functions_differ = (
+    λ differs.
+        let types = by_functions (λ e. let both = sym e ∙ differs in cc) in
+        (types, (differs_where rules source target hints v (same_where types)).0 differs),
+    λ other. (differs_where rules source target hints v (same_where other.0)).1 other.1,
+  )
+
 -- and of how a check of two modules ends
 module _ (rules : Rules) (source target : Module) (hints : Hints) where
   pub accepted_ended : (ended : Result ModuleVerdict CheckEnd) → Answers ended (module_answer rules source target hints)
-      → IfOk ended (λ v. v ≡ modules.Valid ↔ AreAcceptedUnder hints rules (scope_of source) (definitions_of source) (definitions_of target))
-  accepted_ended (Ok v) is = accepted_where rules source target hints v is
+      → IfOk ended (λ v. v ≡ modules.Valid ↔ AreModulesAccepted hints rules source target)
+  accepted_ended (Ok v) is = modules_accepted rules source target hints v is
   accepted_ended (Err fault) is = tt
 
+  pub types_ended : (ended : Result ModuleVerdict CheckEnd) → Answers ended (module_answer rules source target hints)
+      → IfOk ended (λ v. v ≡ modules.Differs difference.Types ↔ (source.types ≡ target.types → ⊥))
+  types_ended (Ok v) is = types_differ rules source target hints v is
+  types_ended (Err fault) is = tt
+
   pub differs_ended : (ended : Result ModuleVerdict CheckEnd) → Answers ended (module_answer rules source target hints)
-      → IfOk ended (λ v. v ≡ modules.Differs difference.Functions ↔ same_list same_signature (definitions_of source) (definitions_of target) ≡ false)
-  differs_ended (Ok v) is = differs_where rules source target hints v is
+      → IfOk ended (λ v. v ≡ modules.Differs difference.Functions
+      ↔ (source.types ≡ target.types) × (same_list same_signature (definitions_of source) (definitions_of target) ≡ false))
+  differs_ended (Ok v) is = functions_differ rules source target hints v is
   differs_ended (Err fault) is = tt
 
   pub refines_ended : AreSound rules → AcceptedModulesRefine → (ended : Result ModuleVerdict CheckEnd) → Answers ended (module_answer rules source target hints)
       → IfOk ended (λ v. AllByRecursion ArePhisApart (definitions_of source) → AllByRecursion ArePhisApart (definitions_of target) → v ≡ modules.Valid → Refines source target)
   refines_ended sound refine (Ok v) is = λ apart others_apart valid.
       refine rules source target sound apart others_apart
-      (accepted_under_some rules (scope_of source) hints (definitions_of source) (definitions_of target) ((accepted_where rules source target hints v is).0 valid))
+      (accepted_under_some rules (scope_of source) hints (definitions_of source) (definitions_of target) ((modules_accepted rules source target hints v is).0 valid).functions)
   refines_ended sound refine (Err fault) is = tt

@@ -25,7 +25,7 @@ use Rattle.definedness.specs.Graph.{flow_of}
 use Rattle.erhl_assert.specs.Alignment.{AlignedBlock, Aligned, alignment}
 use Rattle.erhl_assert.specs.Course.{Good, judged_answer}
 use Rattle.erhl_assert.specs.Steps.{Rules, Beside, beside}
-use Rattle.erhl_assert.specs.Acceptance.{first_missing_of, entry_fault, hint_of_block, block_judged, blocks_judged, reached_judged, aligned_judged, function_answer, same_signature, functions_answer, module_answer}
+use Rattle.erhl_assert.specs.Acceptance.{first_missing_of, entry_fault, hint_of_block, block_judged, blocks_judged, reached_judged, aligned_judged, function_answer, same_signature, functions_answer, definitions_answer}
 use Rattle.erhl_assert.proofs.Judging.{answer_then, answer_also, test_passes, test_refuses}
 use Rattle.ir_machine.proofs.Standing.{drop_at}
 use Rattle.line_align.specs.declared.alignment.AlignedBlock.{AlignedBlock as LentBlock}
@@ -113,7 +113,7 @@ module _ (rules : Rules) (scope : Scope) (f g : Function) (hint : Hint) (hints :
 
 -- two modules whose functions have one signature each
 pub module_under : (rules : Rules) (source target : Module) (hints : Hints) (found : List FunctionHint) (fs gs : List Function) → found ≡ hints.functions → fs ≡ definitions_of source → gs ≡ definitions_of target
-    → same_list same_signature fs gs ≡ true → functions_answer rules (scope_of source) (record { functions = found }) fs gs ≡ module_answer rules source target hints
+    → same_list same_signature fs gs ≡ true → functions_answer rules (scope_of source) (record { functions = found }) fs gs ≡ definitions_answer rules source target hints
 module_under rules source target hints found fs gs all ours theirs same =
     ap (λ xs. functions_answer rules (scope_of source) (record { functions = xs }) fs gs) all
     ∙ ap (λ xs. functions_answer rules (scope_of source) hints xs gs) ours

@@ -1,5 +1,5 @@
 //! The verdict on two modules.
-ghost use Rattle.std.specs.Prelude.{◌≡◌, ◌↔◌, false, map, IfOk, IfErr, None, Some};
+ghost use Rattle.std.specs.Prelude.{◌≡◌, ◌↔◌, ⊥, false, map, IfOk, IfErr, None, Some};
 ghost use Rattle.std.specs.List.{AllByRecursion};
 ghost use Rattle.ir_core.specs.declared.limits.Limit.{Limit};
 ghost use Rattle.ir_core.specs.declared.limits.Limit.TheVariants.{Facts};
@@ -20,7 +20,7 @@ use erhl_assert::{Difference, FunctionHint, Hint, Hints, ModuleVerdict, Verdict}
 use erhl_sides::Sides;
 use erhl_soundness::accepted_modules_refine;
 use fact_sets::IndexedSet;
-use ir_core::{Function, Module, Param, same_name, same_ty};
+use ir_core::{Function, Module, NamedTy, Param, Shared, Ty, same_name, same_ty};
 use line_align::{ByName, Likeness, all_alike};
 use rule_base::{InferRule, LentBook, RuleBook, RuleSet};
 use std::alloc::Global;
@@ -44,6 +44,44 @@ fn same_param_types(source: &[Param], target: &[Param]) -> bool
     ensures { result ≡ same.same_list same.same_ty (map (λ p. p.ty) source.now) (map (λ p. p.ty) target.now) }
 {
     all_alike(&OneType, source, target)
+}
+
+/// One type itself.
+struct Itself;
+
+impl Likeness<Ty> for Itself {
+    ghost use Rattle.ir_types.specs.Same.{same_ty};
+
+    ghost like = { λ _ s t. same_ty s t };
+
+    fn are_alike(&self, s: &Ty, t: &Ty) -> bool {
+        same_ty(s, t)
+    }
+}
+
+fn same_fields(source: &Option<Shared<Seq<Ty>>>, target: &Option<Shared<Seq<Ty>>>) -> bool
+    ensures { result ≡ acceptance.same_fields source.now target.now }
+{
+    match (source, target) {
+        (Some(source), Some(target)) => {
+            all_alike(&Itself, source.get().as_slice(), target.get().as_slice())
+        }
+        (None, None) => true,
+        _ => false,
+    }
+}
+
+/// One named type: name and fields are equal.
+struct OneName;
+
+impl Likeness<NamedTy> for OneName {
+    ghost use Rattle.erhl_assert.specs.Acceptance.{same_named_type};
+
+    ghost like = { λ _ s t. same_named_type s t };
+
+    fn are_alike(&self, source: &NamedTy, target: &NamedTy) -> bool {
+        same_name(&source.name, &target.name) && same_fields(&source.fields, &target.fields)
+    }
 }
 
 /// One signature: name, return type and parameter types are equal.
@@ -132,7 +170,7 @@ fn functions_answer<B: RuleSet>(
     }
 }
 
-fn module_answer<B: RuleSet>(
+fn definitions_answer<B: RuleSet>(
     alloc: Global,
     book: &B,
     hints: &Hints,
@@ -140,7 +178,7 @@ fn module_answer<B: RuleSet>(
     target: &Module,
 ) -> Result<ModuleVerdict, CheckEnd>
     ensures { Answers result
-        (acceptance.module_answer
+        (acceptance.definitions_answer
         (B.rules book.now)
         source.now target.now hints.now) }
 {
@@ -155,9 +193,25 @@ fn module_answer<B: RuleSet>(
     }
 }
 
-/// Checks one module against another, by a book of rules: `Valid` exactly where each pair of functions has one signature and is
-/// accepted under its hint, `Differs` exactly where their functions' names, return types or parameter types differ, else the
-/// first function that isn't valid, with its place and reason. Whatever rules the book holds, a target that is `Valid` refines
+fn module_answer<B: RuleSet>(
+    alloc: Global,
+    book: &B,
+    hints: &Hints,
+    source: &Module,
+    target: &Module,
+) -> Result<ModuleVerdict, CheckEnd>
+    ensures { Answers result (acceptance.module_answer (B.rules book.now) source.now target.now hints.now) }
+{
+    if all_alike(&OneName, source.types.as_slice(), target.types.as_slice()) {
+        definitions_answer(alloc, book, hints, source, target)
+    } else {
+        Ok(ModuleVerdict::Differs(Difference::Types))
+    }
+}
+
+/// Checks one module against another, by a book of rules: `Valid` exactly where they name the same types, and each pair of functions has
+/// one signature and is accepted under its hint, `Differs` exactly where their named types differ, or else their functions' names, return
+/// types or parameter types, else the first function that isn't valid, with its place and reason. Whatever rules the book holds, a target that is `Valid` refines
 /// its source, where no two phis of a block set one register.
 pub fn check_module(
     alloc: Global,
@@ -186,16 +240,17 @@ pub fn check_module(
         ≡ None)) }
     ensures accepted { IfOk result
         (λ v. v ≡ ModuleVerdict.Valid
-        ↔ acceptance.AreAcceptedUnder hints.now
+        ↔ acceptance.AreModulesAccepted hints.now
         (meanings_of
         (λ b. (⟦<dyn InferRule as InferRule>⟧ b.vtable).called b.value)
         (λ b. (⟦<dyn InferRule as InferRule>⟧ b.vtable).takes b.value)
         book.now.rules.items)
-        (scope_of source.now)
-        (definitions_of source.now) (definitions_of target.now)) }
+        source.now target.now) }
+    ensures types { IfOk result (λ v. v ≡ ModuleVerdict.Differs Difference.Types ↔ (source.now.types ≡ target.now.types → ⊥)) }
     ensures differs { IfOk result
         (λ v. v ≡ ModuleVerdict.Differs Difference.Functions
-        ↔ same.same_list acceptance.same_signature (definitions_of source.now) (definitions_of target.now) ≡ false) }
+        ↔ (source.now.types ≡ target.now.types)
+        × (same.same_list acceptance.same_signature (definitions_of source.now) (definitions_of target.now) ≡ false)) }
     // Where no two phis of a block set one register.
     ensures refines { IfOk result
         (λ v. AllByRecursion ArePhisApart (definitions_of source.now) → AllByRecursion ArePhisApart (definitions_of target.now)
@@ -222,12 +277,12 @@ pub fn check_module_under<B: RuleSet>(
         (λ fault. (l : Limit) → fault ≡ CheckEnd.Limit l
         → (l ≡ Facts) × (acceptance.module_answer (B.rules rules.now) source.now target.now hints.now ≡ None)) }
     ensures accepted { IfOk result
-        (λ v. v ≡ ModuleVerdict.Valid
-        ↔ acceptance.AreAcceptedUnder hints.now (B.rules rules.now) (scope_of source.now)
-        (definitions_of source.now) (definitions_of target.now)) }
+        (λ v. v ≡ ModuleVerdict.Valid ↔ acceptance.AreModulesAccepted hints.now (B.rules rules.now) source.now target.now) }
+    ensures types { IfOk result (λ v. v ≡ ModuleVerdict.Differs Difference.Types ↔ (source.now.types ≡ target.now.types → ⊥)) }
     ensures differs { IfOk result
         (λ v. v ≡ ModuleVerdict.Differs Difference.Functions
-        ↔ same.same_list acceptance.same_signature (definitions_of source.now) (definitions_of target.now) ≡ false) }
+        ↔ (source.now.types ≡ target.now.types)
+        × (same.same_list acceptance.same_signature (definitions_of source.now) (definitions_of target.now) ≡ false)) }
     // Where no two phis of a block set one register.
     ensures refines { IfOk result
         (λ v. AllByRecursion ArePhisApart (definitions_of source.now) → AllByRecursion ArePhisApart (definitions_of target.now)

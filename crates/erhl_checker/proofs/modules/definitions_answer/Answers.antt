@@ -1,7 +1,7 @@
 use Rattle.std.proofs.Common.{rules}
 use Rattle.checked_pair.proofs.Progressing.{answers_so}
 use Rattle.erhl_checker.proofs.Reaching.{module_under}
-use Rattle.erhl_checker.proofs.modules.module_answer.Goals as goal
+use Rattle.erhl_checker.proofs.modules.definitions_answer.Goals as goal
 
 pub returns-in_ok-nothing : goal.returns-in_ok-nothing
 returns-in_ok-nothing g c =
