@@ -1,0 +1,5 @@
+pub mod Ranges
+pub mod Names
+pub mod Kept
+pub mod Given
+pub mod Again

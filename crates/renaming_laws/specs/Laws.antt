@@ -1,0 +1,50 @@
+-- What is named or numbered can be printed and run.
+use Rattle.std.specs.Prelude.{◌≡◌, ℕ, List, []}
+use Rattle.std.specs.List.{AllByRecursion}
+use Rattle.ir_core.specs.declared.functions.Module.{Module}
+use Rattle.ir_core.specs.Functions.{function_names, names_of}
+use Rattle.ir_core.specs.Order.{AreInOrder, IsInOrder}
+use Rattle.ir_core.specs.Ranges.{AreBytes, IsInRange}
+use Rattle.ir_core.specs.WellFormed.{HasFunctionShape, HasShape, IsDefined, IsWellFormed}
+use Rattle.ir_rename.specs.Laws.{HasNamesApart, HasNamesInRange, IsText}
+use Rattle.ir_rename.specs.Named.{named_all}
+use Rattle.ir_rename.specs.Numbered.{numbered_in_order}
+
+-- ---- where names become this
+
+module _ (given : Module → Module) where
+  abbrev pub KeepsNamesInRange : Type 0
+  KeepsNamesInRange = (m : Module) → HasNamesInRange m → HasNamesInRange (given m)
+
+  abbrev pub KeepsRange : Type 0
+  KeepsRange = (m : Module) → IsInRange m → IsInRange (given m)
+
+  -- the names of functions, which stay, are in order
+  abbrev pub GivesOrder : Type 0
+  GivesOrder = (m : Module) → HasNamesInRange m → HasNamesApart m → AreInOrder (function_names m) → IsInOrder (given m)
+
+  abbrev pub KeepsShape : Type 0
+  KeepsShape = (m : Module) → HasNamesInRange m → HasShape m → HasShape (given m)
+
+  -- where its functions have shape
+  abbrev pub KeepsDefined : Type 0
+  KeepsDefined = (m : Module) → HasNamesInRange m → AllByRecursion HasFunctionShape m.functions → IsDefined m → IsDefined (given m)
+
+  abbrev pub KeepsWellFormed : Type 0
+  KeepsWellFormed = (m : Module) → IsWellFormed m → IsWellFormed (given m)
+
+-- ---- again
+
+-- where each name is a text already, none becomes another
+abbrev pub TextsStay : Type 0
+TextsStay = (m : Module) → AllByRecursion (λ f. AllByRecursion IsText (names_of f)) m.functions → named_all m ≡ m
+
+abbrev pub NamingAgainChangesNothing : Type 0
+NamingAgainChangesNothing = (m : Module) → named_all (named_all m) ≡ named_all m
+
+abbrev pub NumberingAgainChangesNothing : Type 0
+NumberingAgainChangesNothing = (m : Module) → HasNamesApart m → numbered_in_order (numbered_in_order m) ≡ numbered_in_order m
+
+-- what is named has nothing to number
+abbrev pub NamedHaveNoNumbers : Type 0
+NamedHaveNoNumbers = (m : Module) → numbered_in_order (named_all m) ≡ named_all m
