@@ -1,5 +1,5 @@
 //! The verdict on two modules.
-ghost use Rattle.std.specs.Prelude.{◌≡◌, ◌↔◌, ⊥, false, map, IfOk, IfErr, None, Some};
+ghost use Rattle.std.specs.Prelude.{◌≡◌, ◌↔◌, false, map, IfOk, IfErr, None, Some};
 ghost use Rattle.std.specs.List.{AllByRecursion};
 ghost use Rattle.ir_core.specs.declared.limits.Limit.{Limit};
 ghost use Rattle.ir_core.specs.declared.limits.Limit.TheVariants.{Facts};
