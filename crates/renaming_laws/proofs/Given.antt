@@ -14,8 +14,9 @@ use Rattle.ir_rename.specs.Named.{named_all, named_function}
 use Rattle.ir_rename.specs.Numbered.{numbered_function, numbered_in_order}
 use Rattle.ir_rename.specs.Renamed.{AreRenamed}
 use Rattle.ir_rename.proofs.Shaped.{all_under}
+use Rattle.printer_laws.specs.Laws.{PrintedModulesAreRead, PrintedModulesCanBeRun}
 use Rattle.renaming_laws.specs.Kept.{DefinednessStays, FunctionNamesStay, NamesStayApart, ShapeStays, WellFormednessStays}
-use Rattle.renaming_laws.specs.Laws.{GivesOrder, KeepsDefined, KeepsNamesInRange, KeepsRange, KeepsShape, KeepsWellFormed}
+use Rattle.renaming_laws.specs.Laws.{CanBeRead, CanBeRun, GivesOrder, KeepsDefined, KeepsNamesInRange, KeepsRange, KeepsShape, KeepsWellFormed, SpelledCanBeRun}
 use Rattle.renaming_laws.proofs.Names.{by_count, by_text, named_in_range, numbered_in_range}
 use Rattle.renaming_laws.proofs.Ranges.{in_range}
 
@@ -94,3 +95,17 @@ pub keeps_well_formed : (given : Module → Module) → Renames given → KeepsN
 keeps_well_formed given renames names stays m well =
     let range = names_in m well.range in
     stays m (given m) (renames m range (apart_in m well.shape.functions)) well (names m range)
+
+-- ---- texts
+
+pub can_be_read : (given : Module → Module) → ((m : Module) → (given m).types ≡ m.types) → GivesOrder given → KeepsShape given → KeepsRange given → PrintedModulesAreRead → CanBeRead given
+can_be_read given types orders shapes ranges read m none order shape range =
+    let names = names_in m range in
+    read (given m) (types m ∙ none) (orders m names (apart_in m shape.functions) order) (shapes m names shape) (ranges m range)
+
+pub can_be_run : (given : Module → Module) → ((m : Module) → (given m).types ≡ m.types) → GivesOrder given → KeepsWellFormed given → PrintedModulesCanBeRun → CanBeRun given
+can_be_run given types orders keeps run m none order well =
+    run (given m) (types m ∙ none) (orders m (names_in m well.range) (apart_in m well.shape.functions) order) (keeps m well)
+
+pub spelled_can_be_run : (given : Module → Module) → CanBeRun given → SpelledCanBeRun given
+spelled_can_be_run given run bytes m (spells, well) = run m spells.names.types spells.names.order well

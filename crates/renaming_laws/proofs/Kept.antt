@@ -2,15 +2,14 @@
 use Rattle.std.proofs.Common.{◌≡◌, ◌∙◌, List, [], ◌∷◌, map, refl, sym, ap, subst}
 use Rattle.std.specs.List.{AllByRecursion, AllZip}
 use Rattle.ir_core.specs.declared.functions.Function.{Function}
-use Rattle.ir_core.specs.declared.functions.Module.{Module}
 use Rattle.ir_types.specs.declared.named.NamedTy.{NamedTy}
 use Rattle.ir_types.specs.declared.names.Name.{Name}
-use Rattle.ir_core.specs.Functions.{function_names, names_of}
+use Rattle.ir_core.specs.Functions.{names_of}
 use Rattle.ir_core.specs.Order.{AreNew}
-use Rattle.ir_core.specs.Ranges.{IsFunctionInRange, IsInRange, IsNamedTypeInRange, IsNameInRange}
-use Rattle.ir_core.specs.WellFormed.{HasFunctionShape, HasShape, IsDefined, IsFunctionDefined, IsWellFormed, NamesTypes}
-use Rattle.ir_rename.specs.Laws.{HasNamesApart, HasNamesInRange, RenamedAreDefined, RenamedHaveShape}
-use Rattle.ir_rename.specs.Renamed.{AreRenamed, IsRenamed}
+use Rattle.ir_core.specs.Ranges.{IsFunctionInRange, IsNamedTypeInRange, IsNameInRange}
+use Rattle.ir_core.specs.WellFormed.{HasFunctionShape, IsFunctionDefined, NamesTypes}
+use Rattle.ir_rename.specs.Laws.{RenamedAreDefined, RenamedHaveShape}
+use Rattle.ir_rename.specs.Renamed.{IsRenamed}
 use Rattle.ir_rename.proofs.Apart.{apart_from_new, are_new}
 use Rattle.ir_rename.proofs.Renames.{names_renamed}
 use Rattle.ir_rename.proofs.Shaped.{apart_mapped}

@@ -2,4 +2,5 @@ pub mod Ranges
 pub mod Names
 pub mod Kept
 pub mod Given
+pub mod Fits
 pub mod Again

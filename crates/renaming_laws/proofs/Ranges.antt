@@ -17,7 +17,7 @@ use Rattle.ir_core.specs.declared.operands.Operand.{Operand}
 use Rattle.ir_types.specs.declared.names.Name.{Name}
 use Rattle.ir_types.specs.declared.ty.Ty.{Ty}
 use Rattle.ir_core.specs.Expressions.{map_expr, map_operand}
-use Rattle.ir_core.specs.Functions.{cases_of, line_count, names_of, operands_in_block, typed_of}
+use Rattle.ir_core.specs.Functions.{cases_of, names_of, operands_in_block, typed_of}
 use Rattle.ir_core.specs.Limits.{line_limit}
 use Rattle.ir_core.specs.Ranges.{AreFlagsInRange, IsCaseInRange, IsFunctionInRange, IsLineInRange, IsNameInRange, IsOperandInRange, IsTypeInRange}
 use Rattle.ir_rename.specs.Renamed.{rename_block, rename_case, rename_function, rename_line, rename_phi, rename_term}

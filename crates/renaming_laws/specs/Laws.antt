@@ -6,9 +6,11 @@ use Rattle.ir_core.specs.Functions.{function_names, names_of}
 use Rattle.ir_core.specs.Order.{AreInOrder, IsInOrder}
 use Rattle.ir_core.specs.Ranges.{AreBytes, IsInRange}
 use Rattle.ir_core.specs.WellFormed.{HasFunctionShape, HasShape, IsDefined, IsWellFormed}
+use Rattle.ir_printer.specs.Printed.{printed_module}
 use Rattle.ir_rename.specs.Laws.{HasNamesApart, HasNamesInRange, IsText}
 use Rattle.ir_rename.specs.Named.{named_all}
 use Rattle.ir_rename.specs.Numbered.{numbered_in_order}
+use Rattle.ir_spelling.specs.Spells.{Spells, SpellsWellFormed}
 
 -- ---- where names become this
 
@@ -32,6 +34,24 @@ module _ (given : Module → Module) where
 
   abbrev pub KeepsWellFormed : Type 0
   KeepsWellFormed = (m : Module) → IsWellFormed m → IsWellFormed (given m)
+
+  -- A module without named types becomes one that is printed as its own text, and can be run, where the names of its functions are in order.
+  abbrev pub CanBeRun : Type 0
+  CanBeRun =
+      (m : Module) → m.types ≡ [] → AreInOrder (function_names m) → IsWellFormed m → SpellsWellFormed (printed_module (given m)) (given m)
+
+  -- where it has shape and is in range, it is read as that module at least
+  abbrev pub CanBeRead : Type 0
+  CanBeRead =
+      (m : Module) → m.types ≡ [] → AreInOrder (function_names m) → HasShape m → IsInRange m → Spells (printed_module (given m)) (given m)
+
+  -- what a text spells, and can be run, becomes such a module
+  abbrev pub SpelledCanBeRun : Type 0
+  SpelledCanBeRun = (bytes : List ℕ) (m : Module) → SpellsWellFormed bytes m → SpellsWellFormed (printed_module (given m)) (given m)
+
+  -- what a text spells, whether or not it can be run, becomes a module that is printed as its own text
+  abbrev pub SpelledCanBeRead : Type 0
+  SpelledCanBeRead = (bytes : List ℕ) (m : Module) → AreBytes bytes → Spells bytes m → Spells (printed_module (given m)) (given m)
 
 -- ---- again
 

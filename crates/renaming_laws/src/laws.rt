@@ -1,11 +1,13 @@
 ghost use Rattle.ir_rename.specs.Named.{named_all};
 ghost use Rattle.ir_rename.specs.Numbered.{numbered_in_order};
 ghost use Rattle.renaming_laws.specs.Kept.{DefinednessStays, FunctionNamesStay, NamesStayApart, RangeStays, ShapeStays, WellFormednessStays};
-ghost use Rattle.renaming_laws.specs.Laws.{GivesOrder, KeepsDefined, KeepsNamesInRange, KeepsRange, KeepsShape, KeepsWellFormed, NamedHaveNoNumbers, NamingAgainChangesNothing, NumberingAgainChangesNothing, TextsStay};
+ghost use Rattle.renaming_laws.specs.Laws.{CanBeRead, CanBeRun, GivesOrder, KeepsDefined, KeepsNamesInRange, KeepsRange, KeepsShape, KeepsWellFormed, NamedHaveNoNumbers, NamingAgainChangesNothing, NumberingAgainChangesNothing, SpelledCanBeRead, SpelledCanBeRun, TextsStay};
 
 use ir_rename::{
     named_functions_are_renamed, numbered_functions_are_renamed, renamed_functions_keep_their_shape,
 };
+use printer_laws::{printed_modules_are_read, spelled_modules_are_printed};
+use spelling_laws::spelled_modules_fit;
 
 /// The body calls a law alone, since the clauses are laws.
 ///
@@ -50,6 +52,44 @@ pub fn numbered_modules_stay_well_formed()
 {
     numbered_functions_are_renamed();
     renamed_modules_stay_well_formed();
+}
+
+/// The body calls laws alone, since the clauses are laws.
+///
+/// What a text spells, and can be run, is named and printed as a text that spells what was named, and that can be run. So is whatever
+/// well-formed module without named types, where the names of its functions are in order.
+pub fn named_modules_can_be_run()
+    ensures read { CanBeRead named_all }
+    ensures run { CanBeRun named_all }
+    ensures spelled { SpelledCanBeRun named_all }
+{
+    named_modules_stay_well_formed();
+    printed_modules_are_read();
+}
+
+/// The body calls laws alone, since the clauses are laws.
+///
+/// The same of what is numbered and printed.
+pub fn numbered_modules_can_be_run()
+    ensures read { CanBeRead numbered_in_order }
+    ensures run { CanBeRun numbered_in_order }
+    ensures spelled { SpelledCanBeRun numbered_in_order }
+{
+    numbered_modules_stay_well_formed();
+    printed_modules_are_read();
+}
+
+/// The body calls laws alone, since the clauses are laws.
+///
+/// Whatever a text spells is named, or numbered, and printed as a text that spells what was named, or numbered.
+pub fn spelled_modules_are_renamed()
+    ensures named { SpelledCanBeRead named_all }
+    ensures numbered { SpelledCanBeRead numbered_in_order }
+{
+    named_modules_stay_well_formed();
+    numbered_functions_are_renamed();
+    spelled_modules_fit();
+    spelled_modules_are_printed();
 }
 
 /// The body calls a law alone, since the clauses are laws.
