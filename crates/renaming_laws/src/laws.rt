@@ -41,7 +41,8 @@ pub fn named_modules_stay_well_formed()
 
 /// The body calls laws alone, since the clauses are laws.
 ///
-/// The same of a module that is numbered. Its numbers are in range however many they are, since its names were and differ.
+/// The same of a module that is numbered. No premise bounds how many names it has: names in range that differ have at most 2 to the 32
+/// numbers among them.
 pub fn numbered_modules_stay_well_formed()
     ensures names { KeepsNamesInRange numbered_in_order }
     ensures range { KeepsRange numbered_in_order }
