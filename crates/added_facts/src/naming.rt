@@ -1,17 +1,21 @@
 //! Expressions and facts, as the logic names their registers.
-ghost use Rattle.std.specs.Prelude.{◌≡◌, IfOk};
+ghost use Rattle.std.specs.Prelude.{◌≡◌, map, IfOk};
+ghost use Rattle.std.specs.List.{list_any};
+ghost use Rattle.ir_core.specs.declared.operands.Operand.{Operand};
+ghost use Rattle.ir_core.specs.declared.expressions.Reg.{Reg};
 ghost use Rattle.ir_core.specs.declared.expressions.Reg.TheVariants.{Now, Old};
 ghost use Rattle.ir_core.specs.Same.{same_reg};
-ghost use Rattle.ir_core.specs.Expressions.{map_atom, map_operand, map_binary, map_icmp, map_cast, map_select, map_expr, atom_has};
+ghost use Rattle.ir_core.specs.Expressions.{map_atom, map_operand, map_binary, map_icmp, map_cast, map_select, map_element, map_load, map_expr, atom_has};
 ghost use Rattle.erhl_assert.specs.declared.facts.Fact.TheVariants.{LessDef};
 ghost use Rattle.erhl_assert.specs.Facts.{expr_names};
 ghost use Rattle.erhl_assert.specs.Postcondition.{left_side};
 ghost use Rattle.erhl_assert.specs.Edges.{old_of, as_old};
 
-use contents::{Boxed, Exact};
+use contents::{Boxed, Exact, Seq};
 use erhl_assert::Fact;
 use ir_core::{
-    Atom, Binary, BitType, Calm, Cast, Expr, Expr0, Icmp, Name, Operand, Reg, Select, same_name,
+    Atom, Binary, BitType, Calm, Cast, Element, Expr, Expr0, Icmp, Load, Name, Operand, Reg,
+    Select, same_name,
 };
 use std::alloc::{AllocError, Global};
 
@@ -109,6 +113,41 @@ fn named_select<R: Named>(alloc: Global, select: &Select<R>) -> Result<Select<Re
     })
 }
 
+fn named_operands<R: Named>(
+    alloc: Global,
+    operands: &[Operand<R>],
+) -> Result<Seq<Operand<Reg>>, AllocError>
+    ensures { IfOk result (λ named. named ≡ map (map_operand R.named) operands.now) }
+{
+    let mut named = Seq::new(alloc);
+    for operand in operands {
+        named.push(named_operand(alloc, operand)?)?;
+    }
+    Ok(named)
+}
+
+fn named_element<R: Named>(alloc: Global, element: &Element<R>) -> Result<Element<Reg>, AllocError>
+    ensures { IfOk result (λ named. named ≡ map_element R.named element.now) }
+{
+    Ok(Element {
+        inbounds: element.inbounds,
+        of: element.of.copy(alloc)?,
+        base: named_operand(alloc, &element.base)?,
+        indices: named_operands(alloc, element.indices.as_slice())?,
+        to: element.to.copy(alloc)?,
+    })
+}
+
+fn named_load<R: Named>(alloc: Global, load: &Load<R>) -> Result<Load<Reg>, AllocError>
+    ensures { IfOk result (λ named. named ≡ map_load R.named load.now) }
+{
+    Ok(Load {
+        of: load.of.copy(alloc)?,
+        pointer: named_operand(alloc, &load.pointer)?,
+        align: load.align,
+    })
+}
+
 fn named_expr<R: Named>(alloc: Global, expr: &Expr<R>) -> Result<Expr0, AllocError>
     ensures { IfOk result (λ named. named ≡ map_expr R.named expr.now) }
 {
@@ -121,6 +160,11 @@ fn named_expr<R: Named>(alloc: Global, expr: &Expr<R>) -> Result<Expr0, AllocErr
             alloc,
             named_select(alloc, select.get())?,
         )?)),
+        Expr::Element(element) => Ok(Expr::Element(Boxed::new(
+            alloc,
+            named_element(alloc, element.get())?,
+        )?)),
+        Expr::Load(load) => Ok(Expr::Load(named_load(alloc, load)?)),
     }
 }
 
@@ -184,6 +228,17 @@ fn is_named(name: &Name, atom: &Atom<Name>) -> bool
     }
 }
 
+fn are_named(name: &Name, operands: &[Operand<Name>]) -> bool
+    ensures { result ≡ list_any (λ (o : Operand Reg). atom_has (same_reg (Now name.now)) o.atom) (map (map_operand Now) operands.now) }
+{
+    for operand in operands {
+        if is_named(name, &operand.atom) {
+            return true;
+        }
+    }
+    false
+}
+
 /// Whether the register stands in the expression.
 pub fn names(name: &Name, expr: &Expr<Name>) -> bool
     ensures { result ≡ expr_names (Now name.now) (map_expr Now expr.now) }
@@ -199,5 +254,10 @@ pub fn names(name: &Name, expr: &Expr<Name>) -> bool
                 || is_named(name, &select.left.atom)
                 || is_named(name, &select.right.atom)
         }
+        Expr::Element(element) => {
+            let element = element.get();
+            is_named(name, &element.base.atom) || are_named(name, element.indices.as_slice())
+        }
+        Expr::Load(load) => is_named(name, &load.pointer.atom),
     }
 }

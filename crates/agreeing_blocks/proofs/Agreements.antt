@@ -244,8 +244,7 @@ line_steps : (x y : Option Instr) (known : Assertion) (n : ℕ) → known.diff �
     → GoesOn (record { source = x; target = y }) known n
 line_steps (Some (line.Calm s)) (Some (line.Calm t)) known n same agree before few =
     (line_goes_on s t known n same agree before few, none_differ known same s t agree, line_adds s t known n same agree before few)
-line_steps (Some (line.Calm s)) None known n same agree before few = absurd (false≢true agree)
-line_steps None y known n same agree before few = absurd (false≢true agree)
+line_steps x y known n same agree before few = absurd (false≢true agree)
 
 -- ---- terminators
 

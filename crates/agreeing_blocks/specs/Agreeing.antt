@@ -17,8 +17,7 @@ use Rattle.erhl_assert.specs.Acceptance.{term_fault}
 
 abbrev pub instrs_agree : Option Instr → Option Instr → Bool
 instrs_agree (Some (line.Calm s)) (Some (line.Calm t)) = lines_agree no_facts s t
-instrs_agree (Some s) None = false
-instrs_agree None o = false
+instrs_agree source target = false
 
 -- an aligned line of both sides that agree
 abbrev pub line_agrees : Line → Bool

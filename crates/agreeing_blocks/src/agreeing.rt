@@ -25,12 +25,9 @@ fn instrs_agree(nothing: &Sides<IndexedSet>, source: Option<&Instr>, target: Opt
     requires { nothing.now ≡ no_facts }
     ensures { result ≡ instrs_agree (option_copied source.entry) (option_copied target.entry) }
 {
-    match source {
-        Some(Instr::Calm(s)) => match target {
-            Some(Instr::Calm(t)) => lines_agree(nothing, s, t),
-            None => false,
-        },
-        None => false,
+    match (source, target) {
+        (Some(Instr::Calm(s)), Some(Instr::Calm(t))) => lines_agree(nothing, s, t),
+        _ => false,
     }
 }
 

@@ -69,6 +69,7 @@ pub fn can_trap<R>(expr: &Expr<R>) -> bool
 {
     match expr {
         Expr::Binary(binary) => division_can_trap(binary),
+        Expr::Load(_) => true,
         _ => false,
     }
 }
@@ -85,6 +86,7 @@ fn alone_fault(right: &Expr<Name>) -> Option<Reason>
                 None
             }
         }
+        Expr::Load(_) => Some(Reason::TargetMayTrap),
         _ => None,
     }
 }
@@ -170,11 +172,13 @@ pub fn line_fault<S: FactSet>(
     ensures { IfOk result
         (λ reason. reason ≡ line_fault_of known.now (option_copied source.entry) (option_copied target.entry)) }
 {
-    match target {
-        Some(Instr::Calm(t)) => match source {
-            Some(Instr::Calm(s)) => right_fault(alloc, known, &s.right, &t.right),
-            None => Ok(alone_fault(&t.right)),
-        },
-        None => Ok(None),
+    match (source, target) {
+        (None, None) => Ok(None),
+        (Some(Instr::Calm(_)), None) => Ok(None),
+        (None, Some(Instr::Calm(t))) => Ok(alone_fault(&t.right)),
+        (Some(Instr::Calm(s)), Some(Instr::Calm(t))) => {
+            right_fault(alloc, known, &s.right, &t.right)
+        }
+        _ => Ok(Some(Reason::KindsDiffer)),
     }
 }

@@ -32,10 +32,11 @@ impl<'a> Model for IndexedPhi<'a> {
     ghost use Rattle.block_phis.specs.Phis.{AreItsEntries};
     ghost use Rattle.std.specs.Coded.{codes};
     ghost use Rattle.ir_types.specs.contracts.ty.Ty as ty;
+    ghost use Rattle.ir_core.specs.contracts.operands.Const as constant;
 
     ghost Value = { Phi };
 
-    ghost coded = { Prim.hlevel (codes, ty.the_row.coded) };
+    ghost coded = { Prim.hlevel (codes, ty.the_row.coded, constant.the_row.coded) };
 
     ghost view = { λ it. it.phi.now };
 
@@ -121,10 +122,11 @@ impl<'a> Model for Phis<'a> {
     ghost use Rattle.block_phis.specs.Phis.{AreTheirNames};
     ghost use Rattle.std.specs.Coded.{codes};
     ghost use Rattle.ir_types.specs.contracts.ty.Ty as ty;
+    ghost use Rattle.ir_core.specs.contracts.operands.Const as constant;
 
     ghost Value = { List Phi };
 
-    ghost coded = { Prim.hlevel (codes, ty.the_row.coded) };
+    ghost coded = { Prim.hlevel (codes, ty.the_row.coded, constant.the_row.coded) };
 
     ghost view = { λ it. it.phis.items };
 

@@ -2,6 +2,7 @@
 ghost use Rattle.std.specs.Prelude.{◌≡◌};
 ghost use Rattle.std.specs.Coded.{codes};
 ghost use Rattle.ir_types.specs.contracts.ty.Ty as ty;
+ghost use Rattle.ir_core.specs.contracts.operands.Const as constant;
 ghost use Rattle.erhl_assert.specs.Alignment.{no_facts};
 ghost use Rattle.checked_pair.specs.Empty.{IsEmpty};
 
@@ -18,7 +19,7 @@ use std::alloc::{AllocError, Global};
 pub(crate) struct Empty {
     pub(crate) hint: HintBlock,
     pub(crate) nothing: Sides<IndexedSet>,
-    ghost empty: { IsEmpty hint } by { Prim.hlevel (codes, ty.the_row.coded) },
+    ghost empty: { IsEmpty hint } by { Prim.hlevel (codes, ty.the_row.coded, constant.the_row.coded) },
     ghost none: { nothing ≡ no_facts },
 }
 

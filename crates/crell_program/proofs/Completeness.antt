@@ -1,6 +1,6 @@
 -- Where all is well the status is the verdict's.
 use Rattle.std.proofs.Common.{◌≡◌, ◌≢◌, ◌⊎◌, ◌≤◌, ◌<◌, ℕ, List, [], ◌∷◌, length, Option, None, Some, Ok, Err, refl, sym, ◌∙◌, ap, subst, inl, inr, arith}
-use Rattle.ir_core.specs.declared.functions.Module.{Module}
+use Rattle.ir_core.specs.declared.modules.Module.{Module}
 use Rattle.ir_core.specs.Limits.{text_limit}
 use Rattle.ir_spelling.specs.Spells.{SpellsWellFormed}
 use Rattle.module_input.specs.declared.fault.ModuleFault.{ModuleFault}

@@ -1,6 +1,6 @@
 -- What the inner calls owe, from what those that they make ensure.
 use Rattle.std.proofs.Common.{◌≡◌, ◌≢◌, ◌≤◌, ◌<◌, ℕ, List, [], ◌∷◌, length, get_or, IfOk, Result, Ok, Err, Option, None, Some, refl, sym, ◌∙◌, ap, subst, inl, inr, arith}
-use Rattle.ir_core.specs.declared.functions.Module.{Module}
+use Rattle.ir_core.specs.declared.modules.Module.{Module}
 use Rattle.ir_core.specs.declared.limits.Limit.{Limit}
 use Rattle.ir_core.specs.declared.limits.Limit.TheVariants as limit
 use Rattle.module_input.specs.declared.fault.ModuleFault.{ModuleFault}

@@ -1,7 +1,7 @@
 -- Which answer is due: the words, then the files in their order, then their forms in their order, then the work. The first
 -- cause decides.
 use Rattle.std.specs.Prelude.{◌≡◌, ◌≢◌, ◌⊎◌, ◌≤◌, ◌<◌, ℕ, List, [], ◌∷◌, length, Option, None, Some, Ok, Err}
-use Rattle.ir_core.specs.declared.functions.Module.{Module}
+use Rattle.ir_core.specs.declared.modules.Module.{Module}
 use Rattle.ir_core.specs.declared.limits.Limit.TheVariants as limit
 use Rattle.ir_spelling.specs.Spells.{Spells, SpellsWellFormed}
 use Rattle.module_input.specs.declared.fault.ModuleFault.{ModuleFault}

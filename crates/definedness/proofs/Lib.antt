@@ -1,3 +1,4 @@
+pub mod Setting
 pub mod Names
 pub mod Graphs
 pub mod Ways

@@ -144,12 +144,23 @@ fn phis_define(phis: &[Phi], name: &Name) -> bool
     false
 }
 
+/// Whether the line sets the register.
+#[tactic(auto, using(crate::proofs::Setting::sets_one, crate::proofs::Setting::sets_none))]
+pub(crate) fn sets(line: &Instr, name: &Name) -> bool
+    ensures { result ≡ is_among name.now (names_in (set_by (line.now ∷ []))) }
+{
+    match line.name() {
+        Some(own) => same_name(name, own),
+        None => false,
+    }
+}
+
+#[tactic(auto, using(crate::proofs::Setting::among_more))]
 fn lines_define(lines: &[Instr], name: &Name) -> bool
     ensures { result ≡ is_among name.now (names_in (set_by lines.now)) }
 {
     for line in lines {
-        let Instr::Calm(calm) = line;
-        if same_name(name, &calm.name) {
+        if sets(line, name) {
             return true;
         }
     }

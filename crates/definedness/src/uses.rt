@@ -2,12 +2,15 @@
 ghost use Rattle.std.specs.Prelude.{◌≡◌, ◌++◌, [], ◌∷◌, ℕ, length, map, Some, None, IfOk, OnOk};
 ghost use Rattle.std.specs.List.{flat_map};
 ghost use Rattle.std.specs.Option.{option_copied};
+ghost use Rattle.ir_core.specs.declared.functions.Argument.{Argument};
 ghost use Rattle.ir_core.specs.declared.functions.Param.{Param};
 ghost use Rattle.ir_core.specs.Expressions.{operands_in};
-ghost use Rattle.ir_core.specs.Functions.{names_in, operands_at_end, phi_registers};
+ghost use Rattle.ir_core.specs.Functions.{names_in, operands_at_end, operands_of, phi_registers, set_by};
 ghost use Rattle.definedness.specs.Along.{is_known, left_along, left_by, left_by_entries, left_by_phis, left_in, left_in_block, use_of, with_name, with_names};
 
-use ir_core::{Atom, Block, Entry, Expr, Instr, Name, Param, Phi, Select, Term};
+use ir_core::{
+    Argument, Atom, Block, Element, Entry, Expr, Instr, Name, Operand, Param, Phi, Select, Term,
+};
 use name_index::NameIndex;
 use std::alloc::{AllocError, Global};
 
@@ -126,6 +129,54 @@ fn note_select<'a>(
     )
 }
 
+fn note_operands<'a>(
+    known: &Known,
+    block: &'a Block,
+    line: usize,
+    operands: &'a [Operand<Name>],
+    uses: &mut Vec<Crossing<'a>>,
+) -> Result<(), AllocError>
+    ensures { OnOk result
+        (map use_of uses.new.items ≡ map use_of uses.old.items ++ left_by known.now.params known.now.own block.now line operands.now) }
+{
+    for operand in operands {
+        note_atom(known, block, line, &operand.atom, uses)?;
+    }
+    Ok(())
+}
+
+fn note_arguments<'a>(
+    known: &Known,
+    block: &'a Block,
+    line: usize,
+    arguments: &'a [Argument],
+    uses: &mut Vec<Crossing<'a>>,
+) -> Result<(), AllocError>
+    ensures { OnOk result
+        (map use_of uses.new.items
+        ≡ map use_of uses.old.items ++ left_by known.now.params known.now.own block.now line (map (λ (a : Argument). a.operand) arguments.now)) }
+{
+    for argument in arguments {
+        note_atom(known, block, line, &argument.operand.atom, uses)?;
+    }
+    Ok(())
+}
+
+fn note_element<'a>(
+    known: &Known,
+    block: &'a Block,
+    line: usize,
+    element: &'a Element<Name>,
+    uses: &mut Vec<Crossing<'a>>,
+) -> Result<(), AllocError>
+    ensures { OnOk result
+        (map use_of uses.new.items
+        ≡ map use_of uses.old.items ++ left_by known.now.params known.now.own block.now line (element.now.base ∷ element.now.indices)) }
+{
+    note_atom(known, block, line, &element.base.atom, uses)?;
+    note_operands(known, block, line, element.indices.as_slice(), uses)
+}
+
 fn note_expr<'a>(
     known: &Known,
     block: &'a Block,
@@ -143,8 +194,51 @@ fn note_expr<'a>(
         Expr::Icmp(icmp) => note_two(known, block, line, &icmp.left, &icmp.right, uses)?,
         Expr::Cast(cast) => note_atom(known, block, line, &cast.operand.atom, uses)?,
         Expr::Select(select) => note_select(known, block, line, select.get(), uses)?,
+        Expr::Element(element) => note_element(known, block, line, element.get(), uses)?,
+        Expr::Load(load) => note_atom(known, block, line, &load.pointer.atom, uses)?,
     }
     Ok(())
+}
+
+/// Those of a line.
+fn note_line<'a>(
+    known: &Known,
+    block: &'a Block,
+    line: usize,
+    instr: &'a Instr,
+    uses: &mut Vec<Crossing<'a>>,
+) -> Result<(), AllocError>
+    ensures { OnOk result
+        (map use_of uses.new.items
+        ≡ map use_of uses.old.items ++ left_by known.now.params known.now.own block.now line (operands_of instr.now)) }
+{
+    match instr {
+        Instr::Calm(calm) => note_expr(known, block, line, &calm.right, uses)?,
+        Instr::Alloca(_) => {}
+        Instr::Store(store) => note_two(
+            known,
+            block,
+            line,
+            &store.value.atom,
+            &store.pointer.atom,
+            uses,
+        )?,
+        Instr::Call(call) => {
+            note_arguments(known, block, line, call.get().arguments.as_slice(), uses)?
+        }
+    }
+    Ok(())
+}
+
+/// Adds the name of the register that a line sets, if it sets one.
+#[tactic(auto, using(ir_core::proofs::Lines::names_one, ir_core::proofs::Lines::names_none))]
+fn add_line(alloc: Global, names: &mut NameIndex, line: &Instr) -> Result<(), AllocError>
+    ensures { OnOk result (names.new ≡ with_names names.old (names_in (set_by (line.now ∷ [])))) }
+{
+    match line.name() {
+        Some(name) => add(alloc, names, name),
+        None => Ok(()),
+    }
 }
 
 fn note_end<'a>(
@@ -180,9 +274,8 @@ fn note_lines<'a>(
 {
     let mut line = block.phis.len();
     for instr in block.body.as_slice() {
-        let Instr::Calm(calm) = instr;
-        note_expr(known, block, line, &calm.right, uses)?;
-        add(alloc, &mut known.own, &calm.name)?;
+        note_line(known, block, line, instr, uses)?;
+        add_line(alloc, &mut known.own, instr)?;
         // A block of so many lines stands in no memory.
         line = line.checked_add(1).ok_or(AllocError)?;
     }

@@ -1,5 +1,5 @@
 //! The names of a function's registers, blocks and labels, lent.
-ghost use Rattle.std.specs.Prelude.{◌≡◌, ◌++◌, map, IfOk, OnOk};
+ghost use Rattle.std.specs.Prelude.{◌≡◌, ◌++◌, [], ◌∷◌, map, IfOk, OnOk};
 ghost use Rattle.ir_core.specs.declared.functions.Case.{Case};
 ghost use Rattle.ir_core.specs.declared.functions.Param.{Param};
 ghost use Rattle.ir_core.specs.Functions.{names_in, params_of, phi_registers, registers_of, set_by, successors_of};
@@ -29,12 +29,22 @@ fn add_phis<'a>(phis: &'a [Phi], names: &mut Vec<&'a Name>) -> Result<(), AllocE
     Ok(())
 }
 
+#[tactic(auto, using(ir_core::proofs::Lines::names_one, ir_core::proofs::Lines::names_none))]
+fn add_line<'a>(line: &'a Instr, names: &mut Vec<&'a Name>) -> Result<(), AllocError>
+    ensures { OnOk result (named names.new.items ≡ named names.old.items ++ names_in (set_by (line.now ∷ []))) }
+{
+    if let Some(name) = line.name() {
+        names.push(name)?;
+    }
+    Ok(())
+}
+
+#[tactic(auto, using(ir_core::proofs::Lines::names_more))]
 fn add_lines<'a>(lines: &'a [Instr], names: &mut Vec<&'a Name>) -> Result<(), AllocError>
     ensures { OnOk result (named names.new.items ≡ named names.old.items ++ names_in (set_by lines.now)) }
 {
     for line in lines {
-        let Instr::Calm(calm) = line;
-        names.push(&calm.name)?;
+        add_line(line, names)?;
     }
     Ok(())
 }

@@ -1,12 +1,14 @@
 -- What is added to the facts that stay has the sizes of what is added while all are there, and comes to the same behind the phis.
 use Rattle.std.proofs.Common.{◌≡◌, ◌∙◌, ℕ, ◌+◌, Bool, true, false, ◌||◌, cond, not, filter, List, [], ◌∷◌, ◌++◌, map, length, None, Some, refl, sym, ap, ap₂, arith, length-append}
+use Rattle.std.specs.List.{list_any}
 use Rattle.ir_core.specs.declared.functions.Phi.{Phi}
 use Rattle.ir_core.specs.declared.operands.Atom.{Atom}
 use Rattle.ir_core.specs.declared.operands.Atom.TheVariants as atom
+use Rattle.ir_core.specs.declared.operands.Operand.{Operand}
 use Rattle.ir_core.specs.declared.expressions.Reg.{Reg}
 use Rattle.ir_core.specs.declared.expressions.Reg.TheVariants.{Now, Old, Ghost}
-use Rattle.ir_core.specs.declared.expressions.Expr.TheVariants.{Plain, Binary, Icmp, Cast, Select}
-use Rattle.ir_core.specs.Expressions.{Expr0, map_atom, map_expr, atom_has, expr_has}
+use Rattle.ir_core.specs.declared.expressions.Expr.TheVariants.{Plain, Binary, Icmp, Cast, Select, Element, Load}
+use Rattle.ir_core.specs.Expressions.{Expr0, map_atom, map_expr, map_operand, atom_has, expr_has}
 use Rattle.erhl_assert.specs.declared.facts.Fact.{Fact}
 use Rattle.erhl_assert.specs.declared.facts.Fact.TheVariants.{LessDef}
 use Rattle.erhl_assert.specs.declared.facts.Assertion.{Assertion}
@@ -38,6 +40,12 @@ module _ (ps : List Phi) where
   two_apart : (a b : Atom Reg) → (atom_has (is_of_phi ps) (map_atom old_of a) || atom_has (is_of_phi ps) (map_atom old_of b)) ≡ false
   two_apart a b = both_false (atom_has (is_of_phi ps) (map_atom old_of a)) (atom_has (is_of_phi ps) (map_atom old_of b)) (atom_apart a) (atom_apart b)
 
+  operands_apart : (os : List (Operand Reg)) → list_any (λ (o : Operand Reg). atom_has (is_of_phi ps) o.atom) (map (map_operand old_of) os) ≡ false
+  operands_apart [] = refl
+  operands_apart (o ∷ os) =
+      both_false (atom_has (is_of_phi ps) (map_atom old_of o.atom)) (list_any (λ (q : Operand Reg). atom_has (is_of_phi ps) q.atom) (map (map_operand old_of) os))
+      (atom_apart o.atom) (operands_apart os)
+
   expr_apart : (e : Expr0) → expr_has (is_of_phi ps) (map_expr old_of e) ≡ false
   expr_apart (Plain o) = atom_apart o.atom
   expr_apart (Binary b) = two_apart b.left b.right
@@ -46,6 +54,10 @@ module _ (ps : List Phi) where
   expr_apart (Select s) =
       both_false (atom_has (is_of_phi ps) (map_atom old_of s.condition.atom) || atom_has (is_of_phi ps) (map_atom old_of s.left.atom)) (atom_has (is_of_phi ps) (map_atom old_of s.right.atom))
       (two_apart s.condition.atom s.left.atom) (atom_apart s.right.atom)
+  expr_apart (Element e) =
+      both_false (atom_has (is_of_phi ps) (map_atom old_of e.base.atom)) (list_any (λ (o : Operand Reg). atom_has (is_of_phi ps) o.atom) (map (map_operand old_of) e.indices))
+      (atom_apart e.base.atom) (operands_apart e.indices)
+  expr_apart (Load l) = atom_apart l.pointer.atom
 
   copy_apart : (f : Fact) → fact_has (is_of_phi ps) (as_old f) ≡ false
   copy_apart (LessDef a b) = both_false (expr_has (is_of_phi ps) (map_expr old_of a)) (expr_has (is_of_phi ps) (map_expr old_of b)) (expr_apart a) (expr_apart b)

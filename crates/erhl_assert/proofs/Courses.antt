@@ -178,6 +178,8 @@ side_ends : (side : Side) (o : Option Instr) (known : Assertion) → (over_side 
 side_ends Src None known = refl
 side_ends Tgt None known = refl
 side_ends side (Some (line.Calm l)) known = calm_ends side l known
+side_ends Src (Some i) known = refl
+side_ends Tgt (Some i) known = refl
 
 pub then_ends : {A B : Type 0} (c : Course A) (a : A) (next : A → Course B) → c.ends ≡ Gives a → (and_then c next).ends ≡ (next a).ends
 then_ends c a next h = ap (λ e. (after_ends c.sizes e next).ends) h

@@ -12,7 +12,7 @@ use Rattle.ir_core.specs.declared.functions.Case.{Case}
 use Rattle.ir_core.specs.declared.functions.Term.{Term}
 use Rattle.ir_core.specs.declared.functions.Term.TheVariants.{Ret, RetVoid, Br, CondBr, Switch, Unreachable}
 use Rattle.ir_core.specs.declared.functions.Function.{Function}
-use Rattle.ir_core.specs.declared.functions.Module.{Module}
+use Rattle.ir_core.specs.declared.modules.Module.{Module}
 use Rattle.ir_types.specs.Same.{same_list, same_name, same_ty}
 use Rattle.ir_core.specs.Functions.{successors_of}
 use Rattle.ir_core.specs.Modules.{Scope, scope_of, definitions_of}

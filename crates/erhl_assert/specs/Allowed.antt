@@ -1,6 +1,6 @@
 -- When an aligned line is allowed, and the reason where it isn't: a target may have undefined behaviour at a line only where the source
 -- has (Crellvm's postcondition).
-use Rattle.std.specs.Prelude.{◌-◌, ◌^◌, Bool, false, not, ◌&&◌, cond, nat_eq, List, [], ◌∷◌, Option, None, Some}
+use Rattle.std.specs.Prelude.{◌-◌, ◌^◌, Bool, true, false, not, ◌&&◌, cond, nat_eq, List, [], ◌∷◌, Option, None, Some}
 use Rattle.ir_types.specs.declared.names.Name.{Name}
 use Rattle.ir_types.specs.declared.ty.Ty.{Ty}
 use Rattle.ir_types.specs.declared.ty.Ty.TheVariants as ty
@@ -12,7 +12,7 @@ use Rattle.ir_core.specs.declared.operands.Operand.{Operand}
 use Rattle.ir_core.specs.declared.functions.Instr.{Instr}
 use Rattle.ir_core.specs.declared.functions.Instr.TheVariants as line
 use Rattle.ir_core.specs.declared.expressions.Expr.{Expr}
-use Rattle.ir_core.specs.declared.expressions.Expr.TheVariants.{Plain, Binary, Icmp, Cast, Select}
+use Rattle.ir_core.specs.declared.expressions.Expr.TheVariants.{Plain, Binary, Icmp, Cast, Select, Element, Load}
 use Rattle.ir_core.specs.Expressions.{operands_in}
 use Rattle.ir_types.specs.Same.{same_ty}
 use Rattle.ir_core.specs.Same.{same_op, same_cast, same_pred}
@@ -20,7 +20,7 @@ use Rattle.ir_core.specs.Types.{fits}
 use Rattle.ir_values.specs.Results.{is_division, is_signed_division}
 use Rattle.erhl_assert.specs.declared.facts.Assertion.{Assertion}
 use Rattle.erhl_assert.specs.declared.verdict.Reason.{Reason}
-use Rattle.erhl_assert.specs.declared.verdict.Reason.TheVariants.{Unmatched, TargetMayTrap}
+use Rattle.erhl_assert.specs.declared.verdict.Reason.TheVariants.{KindsDiffer, Unmatched, TargetMayTrap}
 use Rattle.erhl_assert.specs.Matched.{matched}
 use Rattle.erhl_assert.specs.Alignment.{Line}
 
@@ -29,11 +29,10 @@ use Rattle.erhl_assert.specs.Alignment.{Line}
 abbrev pub divides_all : {R : Type 0} → BinOp → Ty → Atom R → Bool
 divides_all op (ty.Int width) (atom.Constant (constant.Number n)) =
     fits n width && not (nat_eq n 0) && not (is_signed_division op && nat_eq n (2 ^ width - 1))
-divides_all op t (atom.Constant (constant.Number n)) = false
-divides_all op t (atom.Constant constant.Undef) = false
+divides_all op t (atom.Constant c) = false
 divides_all op t (atom.Register r) = false
 
--- Of calm lines a division or remainder alone can trap: `udiv i32 %x, %y` and `srem i32 %x, -1` can, `udiv i32 %x, 2` and
+-- Of calm lines a division or remainder can trap, and a load: `udiv i32 %x, %y` and `srem i32 %x, -1` can, `udiv i32 %x, 2` and
 -- `shl i32 %x, %y` can't.
 abbrev pub can_trap : {R : Type 0} → Expr R → Bool
 can_trap (Plain o) = false
@@ -41,9 +40,11 @@ can_trap (Binary b) = is_division b.op && not (divides_all b.op b.ty b.right)
 can_trap (Icmp c) = false
 can_trap (Cast c) = false
 can_trap (Select s) = false
+can_trap (Element e) = false
+can_trap (Load l) = true
 
 -- One operator, with its predicate or conversion, and the same stated types: `add nuw i8 %x, 1` and `add i8 %y, %z` are so,
--- `icmp eq i8 %x, 1` and `icmp ne i8 %x, 1` aren't. Flags play no part.
+-- `icmp eq i8 %x, 1` and `icmp ne i8 %x, 1` aren't. Flags play no part. No text writes an element or a load yet, and none is so beside another.
 abbrev pub same_operator : {R S : Type 0} → Expr R → Expr S → Bool
 same_operator (Plain a) (Plain b) = same_ty a.ty b.ty
 same_operator (Binary s) (Binary t) = same_op s.op t.op && same_ty s.ty t.ty
@@ -66,11 +67,14 @@ abbrev pub right_fault : Assertion → Expr Name → Expr Name → Option Reason
 right_fault known s t =
     cond (can_trap t) (cond (same_operator s t) (first_unmatched known (operands_in s) (operands_in t)) (Some TargetMayTrap)) None
 
--- Why an aligned line isn't allowed. A line of the source alone is; one of the target alone is where it can't trap.
+-- Why an aligned line isn't allowed. A line of the source alone is; one of the target alone is where it can't trap. No text writes an
+-- alloca, a store or a call yet, and none is allowed.
 abbrev pub line_fault_of : Assertion → Option Instr → Option Instr → Option Reason
-line_fault_of known source None = None
+line_fault_of known None None = None
+line_fault_of known (Some (line.Calm s)) None = None
 line_fault_of known None (Some (line.Calm t)) = cond (can_trap t.right) (Some TargetMayTrap) None
 line_fault_of known (Some (line.Calm s)) (Some (line.Calm t)) = right_fault known s.right t.right
+line_fault_of known source target = Some KindsDiffer
 
 abbrev pub line_fault : Assertion → Line → Option Reason
 line_fault known l = line_fault_of known l.source l.target

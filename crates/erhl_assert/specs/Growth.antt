@@ -60,6 +60,7 @@ over_calm side l known =
 abbrev pub over_side : Side → Option Instr → Assertion → Course Assertion
 over_side side None known = gives known
 over_side side (Some (line.Calm l)) known = over_calm side l known
+over_side side (Some i) known = gives known
 
 -- Over an aligned line that is allowed: first the source's facts, then the target's, and at last the registers that may differ. So the
 -- source's are added while those of the target that go are still there. What it gives is `after_line`.

@@ -35,9 +35,11 @@ facts_after_line l fs =
     let kept = without_naming (Now l.name) fs in
     cond (expr_names (Now l.name) (right_side l)) kept (with_facts (both_ways (left_side l) (right_side l)) kept)
 
+-- a line that is never allowed changes nothing
 abbrev pub facts_after : Option Instr → List Fact → List Fact
 facts_after None fs = fs
 facts_after (Some (line.Calm l)) fs = facts_after_line l fs
+facts_after (Some i) fs = fs
 
 -- The target's flags are among the source's: beside `add nuw nsw` the target may have `add nuw`, and not the other way round. Right sides
 -- without flags agree so.
@@ -66,7 +68,7 @@ diff_after known (Some (line.Calm s)) (Some (line.Calm t)) =
     cond (lines_agree known s t) (without_reg (Now s.name) known.diff) (with_reg (Now t.name) (with_reg (Now s.name) known.diff))
 diff_after known (Some (line.Calm s)) None = with_reg (Now s.name) known.diff
 diff_after known None (Some (line.Calm t)) = with_reg (Now t.name) known.diff
-diff_after known None None = known.diff
+diff_after known source target = known.diff
 
 -- After an aligned line that is allowed this is known.
 abbrev pub after_line : Assertion → Line → Assertion

@@ -1,13 +1,16 @@
 //! Sets of facts, each a list without repeats, and what takes facts out of them.
 ghost use Rattle.std.specs.Prelude.{◌≡◌, [], length, slice_get, OnOk};
+ghost use Rattle.std.specs.List.{list_any};
 ghost use Rattle.std.specs.Option.{option_copied};
+ghost use Rattle.ir_core.specs.declared.expressions.Reg.{Reg};
+ghost use Rattle.ir_core.specs.declared.operands.Operand.{Operand};
 ghost use Rattle.ir_core.specs.Same.{same_reg};
 ghost use Rattle.ir_core.specs.Expressions.{atom_has};
 ghost use Rattle.erhl_assert.specs.Named.{name_of};
 ghost use Rattle.erhl_assert.specs.Facts.{has_fact, with_fact, expr_names, fact_names, killed};
 
 use crate::Fact;
-use ir_core::{Atom, Expr, Expr0, Name, Reg, same_reg};
+use ir_core::{Atom, Expr, Expr0, Name, Operand, Reg, same_reg};
 use std::alloc::{AllocError, Global};
 
 /// What takes facts out of a set.
@@ -63,6 +66,14 @@ fn atom_names(register: &Reg, atom: &Atom<Reg>) -> bool
     }
 }
 
+fn operands_name(register: &Reg, operands: &[Operand<Reg>]) -> bool
+    ensures { result ≡ list_any (λ (o : Operand Reg). atom_has (same_reg register.now) o.atom) operands.now }
+{
+    operands
+        .iter()
+        .any(|operand| atom_names(register, &operand.atom))
+}
+
 /// Whether the expression names the register.
 pub fn expr_names(register: &Reg, expr: &Expr0) -> bool
     ensures { result ≡ expr_names register.now expr.now }
@@ -80,6 +91,12 @@ pub fn expr_names(register: &Reg, expr: &Expr0) -> bool
                 || atom_names(register, &select.left.atom)
                 || atom_names(register, &select.right.atom)
         }
+        Expr::Element(element) => {
+            let element = element.get();
+            atom_names(register, &element.base.atom)
+                || operands_name(register, element.indices.as_slice())
+        }
+        Expr::Load(load) => atom_names(register, &load.pointer.atom),
     }
 }
 

@@ -12,7 +12,7 @@ fn feed_atom<H: Hasher>(atom: &Atom<Reg>, state: &mut H)
 {
     match atom {
         Atom::Constant(Const::Number(number)) => number.get().hash(state),
-        Atom::Constant(Const::Undef) => {}
+        Atom::Constant(_) => {}
         Atom::Register(register) => bare_name(register).hash(state),
     }
 }
@@ -37,6 +37,8 @@ fn feed_expr<H: Hasher>(expr: &Expr0, state: &mut H)
             feed_atom(&select.left.atom, state);
             feed_atom(&select.right.atom, state);
         }
+        Expr::Element(element) => feed_atom(&element.get().base.atom, state),
+        Expr::Load(load) => feed_atom(&load.pointer.atom, state),
     }
 }
 

@@ -37,11 +37,12 @@ impl Model for HeldBlock {
     ghost use Rattle.std.specs.Coded.{codes};
     ghost use Rattle.erhl_assert.specs.declared.hints.HintBlock.{HintBlock};
     ghost use Rattle.erhl_assert.specs.Held.{hint_held};
+    ghost use Rattle.ir_core.specs.contracts.operands.Const as constant;
     ghost use Rattle.ir_types.specs.contracts.ty.Ty as ty;
 
     ghost Value = { HintBlock };
 
-    ghost coded = { Prim.hlevel (codes, ty.the_row.coded) };
+    ghost coded = { Prim.hlevel (codes, ty.the_row.coded, constant.the_row.coded) };
 
     ghost view = { λ it. hint_held it.held };
 }

@@ -32,9 +32,10 @@ impl<'b> Likeness<Instr> for Agreeing<'b> {
     ghost like = { λ _ x y. instrs_agree (Some x) (Some y) };
 
     fn are_alike(&self, x: &Instr, y: &Instr) -> bool {
-        let Instr::Calm(s) = x;
-        let Instr::Calm(t) = y;
-        lines_agree(self.nothing, s, t)
+        match (x, y) {
+            (Instr::Calm(s), Instr::Calm(t)) => lines_agree(self.nothing, s, t),
+            _ => false,
+        }
     }
 }
 

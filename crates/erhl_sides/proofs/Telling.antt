@@ -1,6 +1,9 @@
 -- The first register that may differ, and a register that is new.
 use Rattle.std.proofs.Common.{◌≡◌, ◌∙◌, true, false, cond, ℕ, ◌+◌, ◌-◌, ◌<◌, suc, List, [], ◌∷◌, length, drop, drop-cons, get_or, Option, None, Some, refl, sym, ap, ap₂, arith}
+use Rattle.std.specs.List.{cons_option, filter_map}
+use Rattle.std.specs.Prelude.{find}
 use Rattle.ir_core.specs.declared.operands.Atom.{Atom}
+use Rattle.ir_core.specs.declared.operands.Operand.{Operand}
 use Rattle.ir_core.specs.declared.operands.Atom.TheVariants as atom
 use Rattle.ir_core.specs.declared.expressions.Reg.{Reg}
 use Rattle.erhl_assert.specs.declared.facts.Assertion.{Assertion}
@@ -9,9 +12,9 @@ use Rattle.erhl_assert.specs.declared.fact_set.Kill.TheVariants.{Naming}
 use Rattle.erhl_assert.specs.Facts.{killed, on_side}
 use Rattle.erhl_assert.specs.Sides.{has_reg}
 use Rattle.erhl_assert.specs.Postcondition.{without_reg}
-use Rattle.erhl_assert.specs.Steps.{as_new}
+use Rattle.erhl_assert.specs.Steps.{as_new, register_in}
 use Rattle.erhl_assert.specs.Acceptance.{first_of_two, first_printed, left_over}
-use Rattle.erhl_sides.specs.Differing.{differing_among, is_left_over, first_with}
+use Rattle.erhl_sides.specs.Differing.{differing_among, differing_operands, is_left_over, first_with}
 
 pub constant_doesnt_differ : (diff : List Reg) (a : Atom Reg) → (c : _) → a ≡ atom.Constant c → differing_among diff (a ∷ []) ≡ None
 constant_doesnt_differ diff a c e = ap (λ (b : Atom Reg). differing_among diff (b ∷ [])) e
@@ -37,6 +40,31 @@ first_doesnt diff (atom.Register s) atoms h =
       | true ↦ λ e. absurd (cc)
       | false ↦ λ e. refl
     ]) h
+
+first_is : (diff : List Reg) (a : Atom Reg) (rs : List Reg) (r : Reg) → differing_among diff (a ∷ []) ≡ Some r → find (λ s. has_reg s diff) (cons_option (register_in a) rs) ≡ Some r
+first_is diff (atom.Constant c) rs r h = absurd (cc)
+first_is diff (atom.Register s) rs r h =
+    (elim (has_reg s diff) as (λ b. cond b (Some s) None ≡ Some r → cond b (Some s) (find (λ t. has_reg t diff) rs) ≡ Some r) [
+      | true ↦ λ e. e
+      | false ↦ λ e. absurd (cc)
+    ]) h
+
+first_is_not : (diff : List Reg) (a : Atom Reg) (rs : List Reg) → differing_among diff (a ∷ []) ≡ None
+    → find (λ s. has_reg s diff) (cons_option (register_in a) rs) ≡ find (λ s. has_reg s diff) rs
+first_is_not diff (atom.Constant c) rs h = refl
+first_is_not diff (atom.Register s) rs h =
+    (elim (has_reg s diff) as (λ b. cond b (Some s) None ≡ None → cond b (Some s) (find (λ t. has_reg t diff) rs) ≡ find (λ t. has_reg t diff) rs) [
+      | true ↦ λ e. absurd (cc)
+      | false ↦ λ e. refl
+    ]) h
+
+pub operand_differs : (diff : List Reg) (o : Operand Reg) (os : List (Operand Reg)) (r : Reg) → differing_among diff (o.atom ∷ []) ≡ Some r
+    → differing_operands diff (o ∷ os) ≡ Some r
+operand_differs diff o os r h = first_is diff o.atom (filter_map (λ (p : Operand Reg). register_in p.atom) os) r h
+
+pub operand_doesnt : (diff : List Reg) (o : Operand Reg) (os : List (Operand Reg)) → differing_among diff (o.atom ∷ []) ≡ None
+    → differing_operands diff (o ∷ os) ≡ differing_operands diff os
+operand_doesnt diff o os h = first_is_not diff o.atom (filter_map (λ (p : Operand Reg). register_in p.atom) os) h
 
 pub is_new : (r : Reg) (known : Assertion)
     → as_new r known ≡ record (on_side Tgt (killed (Naming r)) (on_side Src (killed (Naming r)) known)) { diff = without_reg r known.diff }

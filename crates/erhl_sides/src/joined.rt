@@ -30,11 +30,12 @@ impl<S: FactSet> Model for Joined<S> {
     ghost use Rattle.std.specs.Prelude.{◌≡◌, true};
     ghost use Rattle.erhl_sides.specs.Joining.{AreTold, AreNearIf};
     ghost use Rattle.std.specs.Coded.{codes};
+    ghost use Rattle.ir_core.specs.contracts.operands.Const as constant;
     ghost use Rattle.ir_types.specs.contracts.ty.Ty as ty;
 
     ghost Value = { List Fact };
 
-    ghost coded = { Prim.hlevel (codes, ty.the_row.coded) };
+    ghost coded = { Prim.hlevel (codes, ty.the_row.coded, constant.the_row.coded) };
 
     ghost view = { λ it. S.contents it.facts };
 

@@ -1,11 +1,14 @@
 //! Facts that name registers of some sort.
 ghost use Rattle.std.specs.Prelude.{◌≡◌};
+ghost use Rattle.std.specs.List.{list_any};
+ghost use Rattle.ir_core.specs.declared.expressions.Reg.{Reg};
+ghost use Rattle.ir_core.specs.declared.operands.Operand.{Operand};
 ghost use Rattle.ir_core.specs.Expressions.{atom_has, expr_has};
 ghost use Rattle.erhl_assert.specs.Facts.{fact_has};
 ghost use Rattle.erhl_assert.specs.Edges.{is_old};
 
 use erhl_assert::Fact;
-use ir_core::{Atom, Expr, Expr0, Reg};
+use ir_core::{Atom, Expr, Expr0, Operand, Reg};
 
 /// A sort of registers.
 pub trait Sort {
@@ -42,6 +45,12 @@ fn atom_has<T: Sort>(sort: &T, atom: &Atom<Reg>) -> bool
     }
 }
 
+fn operands_have<T: Sort>(sort: &T, operands: &[Operand<Reg>]) -> bool
+    ensures { result ≡ list_any (λ (o : Operand Reg). atom_has (T.is_of sort.now) o.atom) operands.now }
+{
+    operands.iter().any(|operand| atom_has(sort, &operand.atom))
+}
+
 fn expr_has<T: Sort>(sort: &T, expr: &Expr0) -> bool
     ensures { result ≡ expr_has (T.is_of sort.now) expr.now }
 {
@@ -56,6 +65,11 @@ fn expr_has<T: Sort>(sort: &T, expr: &Expr0) -> bool
                 || atom_has(sort, &select.left.atom)
                 || atom_has(sort, &select.right.atom)
         }
+        Expr::Element(element) => {
+            let element = element.get();
+            atom_has(sort, &element.base.atom) || operands_have(sort, element.indices.as_slice())
+        }
+        Expr::Load(load) => atom_has(sort, &load.pointer.atom),
     }
 }
 

@@ -11,7 +11,7 @@ ghost use Rattle.erhl_assert.specs.Edges.{is_old};
 ghost use Rattle.erhl_assert.specs.Steps.{first_missing, registers_in, as_new};
 ghost use Rattle.erhl_assert.specs.Acceptance.{first_printed, left_over};
 ghost use Rattle.erhl_sides.specs.Beside.{adds_beside};
-ghost use Rattle.erhl_sides.specs.Differing.{differing_among};
+ghost use Rattle.erhl_sides.specs.Differing.{differing_among, differing_operands};
 ghost use Rattle.erhl_sides.specs.Looking.{looked_at};
 
 use crate::joined::Joined;
@@ -20,7 +20,7 @@ use crate::naming::names_old;
 use contents::{Exact, Seq};
 use erhl_assert::{Assertion, Fact, FactSet, Kill, Side};
 use fact_sets::{IndexedSet, RegisterSet};
-use ir_core::{Atom, Expr, Expr0, Limit, Reg};
+use ir_core::{Atom, Element, Expr, Expr0, Limit, Operand, Reg};
 use std::alloc::{AllocError, Global};
 use std::marker::Model;
 
@@ -35,11 +35,12 @@ pub struct Sides<S: FactSet> {
 impl<S: FactSet> Model for Sides<S> {
     ghost use Rattle.erhl_assert.specs.declared.facts.Assertion.{Assertion};
     ghost use Rattle.std.specs.Coded.{codes};
+    ghost use Rattle.ir_core.specs.contracts.operands.Const as constant;
     ghost use Rattle.ir_types.specs.contracts.ty.Ty as ty;
 
     ghost Value = { Assertion };
 
-    ghost coded = { Prim.hlevel (codes, ty.the_row.coded) };
+    ghost coded = { Prim.hlevel (codes, ty.the_row.coded, constant.the_row.coded) };
 
     ghost view = { λ it. record { src = it.src; tgt = it.tgt; diff = it.diff } };
 }
@@ -297,6 +298,29 @@ impl<S: FactSet> Sides<S> {
         }
     }
 
+    /// The first register of the operands that may differ.
+    #[tactic(auto, using(crate::proofs::Telling::operand_differs, crate::proofs::Telling::operand_doesnt))]
+    fn differing_in_operands<'a>(&self, operands: &'a [Operand<Reg>]) -> Option<&'a Reg>
+        ensures { option_copied result ≡ differing_operands self.now.diff operands.now }
+    {
+        for operand in operands {
+            if let Some(register) = self.differing_in(&operand.atom) {
+                return Some(register);
+            }
+        }
+        None
+    }
+
+    #[tactic(auto, using(crate::proofs::Telling::operand_differs, crate::proofs::Telling::operand_doesnt))]
+    fn differing_in_element<'a>(&self, element: &'a Element<Reg>) -> Option<&'a Reg>
+        ensures { option_copied result ≡ differing_operands self.now.diff (element.now.base ∷ element.now.indices) }
+    {
+        match self.differing_in(&element.base.atom) {
+            Some(register) => Some(register),
+            None => self.differing_in_operands(element.indices.as_slice()),
+        }
+    }
+
     /// The first register of the expression that may differ.
     pub fn first_differing<'a>(&self, expr: &'a Expr0) -> Option<&'a Reg>
         ensures { option_copied result ≡ find (λ r. has_reg r self.now.diff) (registers_in expr.now) }
@@ -314,6 +338,8 @@ impl<S: FactSet> Sides<S> {
                     &select.right.atom,
                 )
             }
+            Expr::Element(element) => self.differing_in_element(element.get()),
+            Expr::Load(load) => self.differing_in(&load.pointer.atom),
         }
     }
 

@@ -1,7 +1,7 @@
 -- Where registers read related values, expressions have related outcomes. And which registers an expression has.
-use Rattle.std.proofs.Common.{◌≡◌, ◌||◌, Bool, true, false, cond, List, [], Option, None, Some, refl}
+use Rattle.std.proofs.Common.{◌≡◌, ◌||◌, Bool, true, false, cond, List, [], ◌∷◌, Option, None, Some, refl}
 use Rattle.std.specs.Prelude.{find}
-use Rattle.std.specs.List.{cons_option}
+use Rattle.std.specs.List.{cons_option, filter_map, list_any}
 use Rattle.std.proofs.lemmas.Bool.{or_parts, or_from}
 use Rattle.ir_core.specs.declared.values.Value.{Value}
 use Rattle.ir_core.specs.declared.values.Kind.{Kind}
@@ -9,7 +9,8 @@ use Rattle.ir_core.specs.declared.operands.Atom.{Atom}
 use Rattle.ir_core.specs.declared.operands.Atom.TheVariants.{Constant, Register}
 use Rattle.ir_core.specs.declared.expressions.Reg.{Reg}
 use Rattle.ir_core.specs.declared.expressions.Expr.{Expr}
-use Rattle.ir_core.specs.declared.expressions.Expr.TheVariants.{Plain, Binary, Icmp, Cast, Select}
+use Rattle.ir_core.specs.declared.operands.Operand.{Operand}
+use Rattle.ir_core.specs.declared.expressions.Expr.TheVariants.{Plain, Binary, Icmp, Cast, Select, Element, Load}
 use Rattle.ir_core.specs.Types.{kind_of}
 use Rattle.ir_core.specs.Expressions.{Expr0, atom_has, expr_has}
 use Rattle.ir_values.specs.Operations.{IsOutcomeLessDefined}
@@ -50,6 +51,8 @@ module _ {R : Type 0} (source target : Kind → R → Value) (test : R → Bool)
       (atom_value source i s.condition.atom) (atom_value source j s.left.atom) (atom_value source k s.right.atom)
       (atom_value target i s.condition.atom) (atom_value target j s.left.atom) (atom_value target k s.right.atom)
       (atom_alike i s.condition.atom first.0) (atom_alike j s.left.atom first.1) (atom_alike k s.right.atom parts.1)
+  outcome_alike (Element e) h = tt
+  outcome_alike (Load l) h = tt
 
 -- where no register is found that passes a test, the expression has none
 module _ (p : Reg → Bool) where
@@ -68,6 +71,13 @@ module _ (p : Reg → Bool) where
       let second = atom_then b more first.1 in
       (or_from (atom_has p a) (atom_has p b) first.0 second.0, second.1)
 
+  operands_then : (os : List (Operand Reg)) → find p (filter_map (λ (o : Operand Reg). register_in o.atom) os) ≡ None
+      → list_any (λ (o : Operand Reg). atom_has p o.atom) os ≡ false
+  operands_then [] h = refl
+  operands_then (o ∷ os) h =
+      let first = atom_then o.atom (filter_map (λ (q : Operand Reg). register_in q.atom) os) h in
+      or_from (atom_has p o.atom) (list_any (λ (q : Operand Reg). atom_has p q.atom) os) first.0 (operands_then os first.1)
+
   pub none_found : (e : Expr0) → find p (registers_in e) ≡ None → expr_has p e ≡ false
   none_found (Plain o) h = (atom_then o.atom [] h).0
   none_found (Binary b) h = (two_atoms b.left b.right [] h).0
@@ -76,3 +86,7 @@ module _ (p : Reg → Bool) where
   none_found (Select s) h =
       let first = two_atoms s.condition.atom s.left.atom (cons_option (register_in s.right.atom) []) h in
       or_from (atom_has p s.condition.atom || atom_has p s.left.atom) (atom_has p s.right.atom) first.0 (atom_then s.right.atom [] first.1).0
+  none_found (Element e) h =
+      let first = atom_then e.base.atom (filter_map (λ (q : Operand Reg). register_in q.atom) e.indices) h in
+      or_from (atom_has p e.base.atom) (list_any (λ (q : Operand Reg). atom_has p q.atom) e.indices) first.0 (operands_then e.indices first.1)
+  none_found (Load l) h = (atom_then l.pointer.atom [] h).0

@@ -101,6 +101,7 @@ module _ (n : ℕ) where
   side_bounded : (side : Side) (o : Option Instr) (known : Assertion) → size known ≤ n → IsBounded (over_side side o known)
   side_bounded side None known h = λ all. h
   side_bounded side (Some (line.Calm l)) known h = calm_bounded side l known h
+  side_bounded side (Some i) known h = λ all. h
 
   allowed_bounded : (l : Line) (known : Assertion) → size known ≤ n → IsBounded (over_allowed l known)
   allowed_bounded l known h =

@@ -1,7 +1,7 @@
 -- A register that is set holds a kind at which its function defines it.
 use Rattle.std.proofs.Common.{◌≡◌, Bool, true, false, ◌&&◌, not, cond, List, [], ◌∷◌, ◌++◌, map, Option, None, Some, refl, sym, ap, ◌∙◌, subst, ⊎_elim}
 use Rattle.std.specs.Option.{option_eq}
-use Rattle.std.specs.List.{AllByRecursion, list_any, flat_map}
+use Rattle.std.specs.List.{AllByRecursion, cons_option, list_any, flat_map}
 use Rattle.std.proofs.lemmas.Bool.{cond_both, or_parts, or_cases, false≢true, or_left, or_right}
 use Rattle.ir_types.specs.declared.names.Name.{Name}
 use Rattle.ir_types.specs.declared.ty.Ty.{Ty}
@@ -15,7 +15,7 @@ use Rattle.ir_core.specs.declared.functions.Param.{Param}
 use Rattle.ir_core.specs.declared.functions.Block.{Block}
 use Rattle.ir_core.specs.declared.functions.Function.{Function}
 use Rattle.ir_core.specs.Expressions.{Expr0, type_of}
-use Rattle.ir_core.specs.Functions.{set_by, phi_registers, registers_of, params_of, typed_of}
+use Rattle.ir_core.specs.Functions.{set_by, phi_registers, register_of, registers_of, params_of, typed_of}
 use Rattle.ir_types.specs.Same.{same_name}
 use Rattle.ir_core.specs.Types.{kind_of}
 use Rattle.ir_types.specs.NameLaws.{left_true, right_true, same_name_true, same_name_refl}
@@ -121,6 +121,7 @@ all_unmapped P f (x ∷ xs) h = (h.0, all_unmapped P f xs h.1)
 
 abbrev pub IsLineDefined : Function → Instr → Type 0
 IsLineDefined f (line.Calm l) = IsDefined f l.name (kind_of (type_of l.right))
+IsLineDefined f i = Unit {0}
 
 abbrev pub AreLinesDefined : Function → List Instr → Type 0
 AreLinesDefined f ls = AllByRecursion (IsLineDefined f) ls
@@ -138,9 +139,14 @@ module _ (f : Function) where
   abbrev P : Definition → Type 0
   P = IsOne (typed_of f)
 
+  behind : (o : Option Definition) (rs : List Definition) → AllByRecursion P (cons_option o rs) → AllByRecursion P rs
+  behind None rs h = h
+  behind (Some r) rs h = h.1
+
   lines_in : (ls : List Instr) → AllByRecursion P (set_by ls) → AreLinesDefined f ls
   lines_in [] h = tt
   lines_in (line.Calm l ∷ ls) h = (h.0, lines_in ls h.1)
+  lines_in (i ∷ ls) h = (tt, lines_in ls (behind (register_of i) (set_by ls) h))
 
   in_blocks : (bs : List Block) → AllByRecursion P (flat_map registers_of bs) → AllByRecursion (IsBlockDefined f) bs
   in_blocks [] h = tt

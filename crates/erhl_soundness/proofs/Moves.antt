@@ -6,7 +6,7 @@ use Rattle.ir_core.specs.declared.functions.Instr.{Instr}
 use Rattle.ir_core.specs.declared.functions.Instr.TheVariants as line
 use Rattle.ir_core.specs.declared.functions.Function.{Function}
 use Rattle.ir_core.specs.declared.functions.Block.{Block}
-use Rattle.ir_core.specs.declared.functions.Module.{Module}
+use Rattle.ir_core.specs.declared.modules.Module.{Module}
 use Rattle.ir_core.specs.Expressions.{type_of}
 use Rattle.ir_core.specs.Types.{kind_of}
 use Rattle.ir_values.specs.declared.operations.Outcome.{Outcome}
@@ -55,6 +55,7 @@ calm_in_kind l registers (Gives v) is h =
 after_in_kind : (i : Option Instr) (registers : Registers) → AreInKind registers → EntersInKind (registers_after i registers)
 after_in_kind None registers h = h
 after_in_kind (Some (line.Calm l)) registers h = calm_in_kind l registers (outcome (read registers) l.right) refl h
+after_in_kind (Some i) registers h = tt
 
 calm_defined : (f : Function) (l : Calm) (registers : Registers) (o : Outcome) → IsLineDefined f (line.Calm l) → AreDefined f registers
     → EntersDefined f (set_by (kind_of (type_of l.right)) l.name o registers)
@@ -64,6 +65,7 @@ calm_defined f l registers (Gives v) defined h = set_defined f registers l.name 
 after_defined : (f : Function) (i : Option Instr) (registers : Registers) → IsDefinedAt f i → AreDefined f registers → EntersDefined f (registers_after i registers)
 after_defined f None registers defined h = h
 after_defined f (Some (line.Calm l)) registers defined h = calm_defined f l registers (outcome (read registers) l.right) defined h
+after_defined f (Some i) registers defined h = tt
 
 -- The source has undefined behaviour; or neither side has, and the two stand with their new registers.
 abbrev pub StandAfter : Beside → Assertion → Files → Files → Option Registers → Option Registers → Type 0

@@ -9,7 +9,7 @@ use Rattle.ir_core.specs.declared.operands.Atom.{Atom}
 use Rattle.ir_core.specs.declared.operands.Atom.TheVariants.{Constant, Register}
 use Rattle.ir_core.specs.declared.operands.CastOp.{CastOp}
 use Rattle.ir_core.specs.declared.expressions.Expr.{Expr}
-use Rattle.ir_core.specs.declared.expressions.Expr.TheVariants.{Plain, Binary, Icmp, Cast, Select}
+use Rattle.ir_core.specs.declared.expressions.Expr.TheVariants.{Plain, Binary, Icmp, Cast, Select, Element, Load}
 use Rattle.ir_core.specs.declared.operands.Operand.{Operand}
 use Rattle.ir_types.specs.declared.ty.Ty.TheVariants.{Int}
 use Rattle.ir_types.specs.Same.{same_ty}
@@ -50,6 +50,8 @@ module _ {R : Type 0} (before after : Kind → R → Value) (test : R → Bool) 
       let first = or_parts (atom_has test s.condition.atom) (atom_has test s.left.atom) parts.0 in
       selected (selects s.condition.ty s.left.ty s.right.ty) (atom_same (kind_of s.condition.ty) s.condition.atom first.0)
       (atom_same (kind_of s.left.ty) s.left.atom first.1) (atom_same (kind_of s.right.ty) s.right.atom parts.1)
+  outcome_same (Element e) h = refl
+  outcome_same (Load l) h = refl
 
 -- under other names an expression has the outcome that it has where its registers read so
 module _ {R S : Type 0} (name : R → S) (reading : Kind → S → Value) where
@@ -71,6 +73,8 @@ module _ {R S : Type 0} (name : R → S) (reading : Kind → S → Value) where
   outcome_mapped (Select s) =
       selected (selects s.condition.ty s.left.ty s.right.ty) (atom_mapped (kind_of s.condition.ty) s.condition.atom)
       (atom_mapped (kind_of s.left.ty) s.left.atom) (atom_mapped (kind_of s.right.ty) s.right.atom)
+  outcome_mapped (Element e) = refl
+  outcome_mapped (Load l) = refl
 
 -- and the same type
 pub type_mapped : {R S : Type 0} (name : R → S) (e : Expr R) → type_of (map_expr name e) ≡ type_of e
@@ -79,6 +83,8 @@ type_mapped name (Binary b) = refl
 type_mapped name (Icmp c) = refl
 type_mapped name (Cast c) = refl
 type_mapped name (Select s) = refl
+type_mapped name (Element e) = refl
+type_mapped name (Load l) = refl
 
 -- at a type without values an outcome is poison
 cast_to_none : (op : CastOp) (j : Option Kind) (typed : Bool) (a : Value) → cond typed (cast_at op j None a) (Gives Poison) ≡ Gives Poison
@@ -113,3 +119,5 @@ module _ {R : Type 0} (reading : Kind → R → Value) where
       let one : s.left.ty ≡ s.right.ty =
       same_ty_true s.left.ty s.right.ty (right_true (same_ty s.condition.ty (Int 1)) (same_ty s.left.ty s.right.ty) e) in
       (poison_of_none s.left h, poison_of_none s.right (ap kind_of (sym one) ∙ h)))
+  poison_without_kind (Element e) h = refl
+  poison_without_kind (Load l) h = refl

@@ -256,6 +256,8 @@ module _ (known : Assertion) (source target : SideState) (holds : AssertionHolds
   allowed_traps s (expr.Icmp t) fault traps = absurd (no_trap (read target.now) (expr.Icmp t) refl traps)
   allowed_traps s (expr.Cast t) fault traps = absurd (no_trap (read target.now) (expr.Cast t) refl traps)
   allowed_traps s (expr.Select t) fault traps = absurd (no_trap (read target.now) (expr.Select t) refl traps)
+  allowed_traps s (expr.Element t) fault traps = absurd (no_trap (read target.now) (expr.Element t) refl traps)
+  allowed_traps s (expr.Load t) fault traps = absurd (cc)
 
 -- two lines that gave values
 module _ (known : Assertion) (source target : SideState) (holds : AssertionHolds known source target) (s t : Calm) (v w : Value)
@@ -290,6 +292,7 @@ set_by k x Trap registers = None
 abbrev pub registers_after : Option Instr → Registers → Option Registers
 registers_after None registers = Some registers
 registers_after (Some (line.Calm l)) registers = set_by (kind_of (type_of l.right)) l.name (outcome (read registers) l.right) registers
+registers_after (Some i) registers = None
 
 outcome_leads : (k : Option Kind) (x : Name) (o : Outcome) (registers : Registers) (frame : Frame) (rest : List Pending) (world : World)
     → set_to k x o (record frame { registers = registers }) rest world ≡ goes_on (set_by k x o registers) frame rest world
@@ -300,6 +303,7 @@ pub leads_so : (i : Option Instr) (registers : Registers) → LineLeads i regist
 leads_so None registers = refl
 leads_so (Some (line.Calm l)) registers =
     λ frame rest world. outcome_leads (kind_of (type_of l.right)) l.name (outcome (read registers) l.right) registers frame rest world
+leads_so (Some i) registers = λ frame rest world. refl
 
 -- after an aligned line what its postcondition says holds
 module _ (known : Assertion) (source target : SideState) (holds : AssertionHolds known source target) where
@@ -341,6 +345,7 @@ module _ (known : Assertion) (source target : SideState) (holds : AssertionHolds
       target_keeps t (outcome (read target.now) t.right) refl (no_target_fault (can_trap t.right) TargetMayTrap allowed)
   keeps_so (Some (line.Calm s)) (Some (line.Calm t)) allowed =
       both_keep s t (outcome (read source.now) s.right) (outcome (read target.now) t.right) refl refl allowed
+  keeps_so i j allowed = absurd (cc)
 
 -- the laws of lines and of matched operands
 pub line_keeps : ALineKeepsWhatHolds

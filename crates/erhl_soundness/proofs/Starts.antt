@@ -2,7 +2,7 @@
 use Rattle.std.proofs.Common.{◌≡◌, inl, true, false, ◌&&◌, ℕ, suc, List, [], ◌∷◌, ◌++◌, map, length, nat_eq, cond, Bool, Option, None, Some, refl, sym, ap, ◌∙◌, subst, subst₂, arith, ⊎_elim}
 use Rattle.std.specs.List.{AllByRecursion, zip}
 use Rattle.std.specs.Option.{option_map}
-use Rattle.std.proofs.lemmas.Bool.{cond-true, cond-false, cond_both, cases_Bool}
+use Rattle.std.proofs.lemmas.Bool.{cond-true, cond-false, cond_both, cases_Bool, false≢true}
 use Rattle.ir_types.specs.declared.names.Name.{Name}
 use Rattle.ir_types.specs.declared.ty.Ty.{Ty}
 use Rattle.ir_core.specs.declared.functions.Instr.{Instr}
@@ -12,7 +12,7 @@ use Rattle.ir_core.specs.declared.functions.Function.{Function}
 use Rattle.ir_core.specs.Functions.{successors_of}
 use Rattle.ir_types.specs.Same.{same_list, same_name, same_ty}
 use Rattle.ir_core.specs.Types.{kind_of}
-use Rattle.ir_types.specs.NameLaws.{left_true, right_true, same_list_true, same_nat_true, same_name_true}
+use Rattle.ir_types.specs.NameLaws.{left_true, right_true, same_nat_true, same_name_true}
 use Rattle.ir_types.proofs.SameLaws.{same_ty_true}
 use Rattle.ir_values.proofs.OperationLaws.{less_defined_refl}
 use Rattle.ir_machine.specs.declared.items.Input.{Input}
@@ -132,16 +132,22 @@ blocks_back hint (f ∷ fs) (g ∷ gs) bs long h =
 
 -- ---- equal headers take the same input to the same registers
 
-same_param_true : (p q : Param) → same_param p q ≡ true → p ≡ q
-same_param_true p q h =
-    let name = same_name_true p.name q.name (left_true (same_name p.name q.name) (same_ty p.ty q.ty) h) in
-    let type = same_ty_true p.ty q.ty (right_true (same_name p.name q.name) (same_ty p.ty q.ty) h) in
+entered_same : (ps qs : List Param) (args : List Shown) (registers : Registers) → same_list same_param ps qs ≡ true → entered ps args registers ≡ entered qs args registers
+entered_same [] [] args registers h = refl
+entered_same [] (q ∷ qs) args registers h = absurd (false≢true h)
+entered_same (p ∷ ps) [] args registers h = absurd (false≢true h)
+entered_same (p ∷ ps) (q ∷ qs) [] registers h = refl
+entered_same (p ∷ ps) (q ∷ qs) (a ∷ args) registers h =
+    let one = left_true (same_param p q) (same_list same_param ps qs) h in
+    let name = same_name_true p.name q.name (left_true (same_name p.name q.name) (same_ty p.ty q.ty) one) in
+    let type = same_ty_true p.ty q.ty (right_true (same_name p.name q.name) (same_ty p.ty q.ty) one) in
     let parts : ((p.name, p.ty) ≡ (q.name, q.ty)) = cc in
-    ap (λ (x : Name × Ty). record { name = x.0; ty = x.1 }) parts
+    ap (λ (x : Name × Ty). cond (fits_kind (kind_of x.1) a) (entered ps args (set registers x.0 (kind_of x.1) (shown_value a))) None) parts
+    ∙ ap (λ o. cond (fits_kind (kind_of q.ty) a) o None)
+    (entered_same ps qs args (set registers q.name (kind_of q.ty) (shown_value a)) (right_true (same_param p q) (same_list same_param ps qs) h))
 
-params_equal : (f g : Function) → same_header f g ≡ true → f.params ≡ g.params
-params_equal f g h =
-    same_list_true same_param same_param_true f.params g.params (right_true (same_ty f.result g.result) (same_list same_param f.params g.params) h)
+entered_alike : (f g : Function) (args : List Shown) (registers : Registers) → same_header f g ≡ true → entered f.params args registers ≡ entered g.params args registers
+entered_alike f g args registers h = entered_same f.params g.params args registers (right_true (same_ty f.result g.result) (same_list same_param f.params g.params) h)
 
 abbrev EntersDefined : Function → Option Registers → Type 0
 EntersDefined f None = Unit {0}
@@ -319,7 +325,7 @@ module _ (w : Beside) where
       let parts = parts_of w accepted in
       let pair = pair_is_fine parts source_apart target_apart in
       let entering = entered w.source.params input.args no_registers in
-      subst (λ ps. AreStarts (at_entry w.source w.source.blocks entering) (at_entry w.target w.target.blocks (entered ps input.args no_registers))) (params_equal w.source w.target parts.header)
+      subst (λ enters. AreStarts (at_entry w.source w.source.blocks entering) (at_entry w.target w.target.blocks enters)) (entered_alike w.source w.target input.args no_registers parts.header)
       (subst₂ (λ fs gs. AreStarts (at_entry w.source fs entering) (at_entry w.target gs entering)) (sym parts.back.source) (sym parts.back.target)
       (entries_start (marks_of parts.blocks) pair parts.blocks pair.fine (entry_claims_nothing w parts.blocks parts.good) entering
       (entered_in_kind w.source.params input.args no_registers no_registers_in_kind)

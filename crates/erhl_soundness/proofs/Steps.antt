@@ -14,7 +14,7 @@ use Rattle.ir_core.specs.declared.values.Kind.TheVariants as kind
 use Rattle.ir_core.specs.declared.expressions.Reg.{Reg}
 use Rattle.ir_core.specs.declared.expressions.Reg.TheVariants.{Now, Old, Ghost}
 use Rattle.ir_core.specs.declared.expressions.Expr.{Expr}
-use Rattle.ir_core.specs.declared.expressions.Expr.TheVariants.{Plain, Binary, Icmp, Cast, Select}
+use Rattle.ir_core.specs.declared.expressions.Expr.TheVariants.{Plain, Binary, Icmp, Cast, Select, Element, Load}
 use Rattle.ir_core.specs.Expressions.{Expr0, type_of, expr_has}
 use Rattle.ir_core.specs.Functions.{typed_of}
 use Rattle.ir_core.specs.Modules.{Scope}
@@ -111,6 +111,8 @@ expr_has_kind (Cast c) h =
     type_has_kind c.to (right_true (has_values c.operand.ty) (has_values c.to)
     (left_true (has_values c.operand.ty && has_values c.to) (converts c.op c.operand.ty c.to) h))
 expr_has_kind (Select s) h = type_has_kind s.left.ty (left_true (has_values s.left.ty) (selects s.condition.ty s.left.ty s.right.ty) h)
+expr_has_kind (Element e) h = absurd (cc)
+expr_has_kind (Load l) h = absurd (cc)
 
 outcome_trans : (o p q : Outcome) → IsOutcomeLessDefined o p → IsOutcomeLessDefined p q → IsOutcomeLessDefined o q
 outcome_trans Trap p q h i = tt

@@ -16,7 +16,7 @@ use Rattle.ir_core.specs.declared.operands.CastOp.{CastOp}
 use Rattle.ir_core.specs.declared.operands.Pred.{Pred}
 use Rattle.ir_core.specs.declared.operands.Flags.{Flags}
 use Rattle.ir_core.specs.declared.expressions.Expr.{Expr}
-use Rattle.ir_core.specs.declared.expressions.Expr.TheVariants.{Plain, Binary, Icmp, Cast, Select}
+use Rattle.ir_core.specs.declared.expressions.Expr.TheVariants.{Plain, Binary, Icmp, Cast, Select, Element, Load}
 use Rattle.ir_values.specs.Selections.{select_outcome}
 use Rattle.ir_core.specs.Types.{converts, fits, is_width, kind_of}
 use Rattle.ir_types.specs.NameLaws.{left_true, right_true}
@@ -98,10 +98,9 @@ module _ {R : Type 0} (reading : Kind → R → Value) where
   divisor_no_trap : (op : BinOp) (flags : Flags) (t : Ty) (a : Value) (b : Atom R) → divides_all op t b ≡ true
       → binary_at op flags (kind_of t) a (atom_value reading (kind_of t) b) ≡ Trap → ⊥
   divisor_no_trap op flags (ty.Int width) a (atom.Constant (constant.Number n)) h e = number_no_trap op flags width n (is_width width) a h e
-  divisor_no_trap op flags (ty.Int width) a (atom.Constant constant.Undef) h e = cc
+  divisor_no_trap op flags (ty.Int width) a (atom.Constant c) h e = cc
   divisor_no_trap op flags (ty.Int width) a (atom.Register r) h e = cc
-  divisor_no_trap op flags t a (atom.Constant (constant.Number n)) h e = cc
-  divisor_no_trap op flags t a (atom.Constant constant.Undef) h e = cc
+  divisor_no_trap op flags t a (atom.Constant c) h e = cc
   divisor_no_trap op flags t a (atom.Register r) h e = cc
 
   other_no_trap : (op : BinOp) (flags : Flags) (k : Option Kind) (a b : Value) → is_division op ≡ false → binary_at op flags k a b ≡ Trap → ⊥
@@ -128,3 +127,5 @@ module _ {R : Type 0} (reading : Kind → R → Value) where
       let a = operand_value reading s.left in
       let b = operand_value reading s.right in
       if_typed (selects s.condition.ty s.left.ty s.right.ty) (select_outcome c a b) (select_no_trap c a b) e
+  no_trap (Element x) h e = cc
+  no_trap (Load l) h e = cc

@@ -14,7 +14,7 @@ use Rattle.ir_core.specs.declared.functions.Instr.{Instr}
 use Rattle.ir_core.specs.declared.functions.Instr.TheVariants as line
 use Rattle.ir_core.specs.declared.functions.Term.TheVariants.{Ret}
 use Rattle.ir_core.specs.declared.functions.Function.{Function}
-use Rattle.ir_core.specs.Modules.{no_scope}
+use Rattle.ir_core.specs.Modules.{no_scope, plain_function, plain_param}
 use Rattle.erhl_assert.specs.declared.facts.Side.{Side}
 use Rattle.erhl_assert.specs.declared.facts.Fact.{Fact}
 use Rattle.erhl_assert.specs.declared.facts.Fact.TheVariants.{LessDef}
@@ -75,12 +75,9 @@ of_both i j = record { source = Some i; target = Some j }
 
 -- define i32 @0(i32 %0) { 1: LINES  ret i32 %RESULT }
 abbrev pub defining : List Instr → ℕ → Function
-defining lines result = record {
-  name = Number 0;
-  result = Int 32;
-  params = record { name = Number 0; ty = Int 32 } ∷ [];
-  blocks = record { name = Number 1; phis = []; body = lines; term = Ret (record { ty = Int 32; atom = Register (Number result) }) } ∷ [];
-}
+defining lines result =
+    plain_function (Int 32) (Number 0) (plain_param (Int 32) (Number 0) ∷ [])
+    (record { name = Number 1; phis = []; body = lines; term = Ret (record { ty = Int 32; atom = Register (Number result) }) } ∷ [])
 
 -- two functions under a hint, beside one rule, whose name is of no letters, and which takes whatever it is given
 abbrev pub taking_all : Function → Function → Hint → Beside

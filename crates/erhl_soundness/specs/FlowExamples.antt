@@ -23,9 +23,9 @@ use Rattle.ir_core.specs.declared.functions.Term.{Term}
 use Rattle.ir_core.specs.declared.functions.Term.TheVariants.{Ret, Br, CondBr}
 use Rattle.ir_core.specs.declared.functions.Block.{Block}
 use Rattle.ir_core.specs.declared.functions.Function.{Function}
-use Rattle.ir_core.specs.declared.functions.Module.{Module}
+use Rattle.ir_core.specs.declared.modules.Module.{Module}
 use Rattle.ir_core.specs.Expressions.{Expr0}
-use Rattle.ir_core.specs.Modules.{no_scope}
+use Rattle.ir_core.specs.Modules.{no_scope, plain_function, plain_module, plain_param}
 use Rattle.ir_machine.specs.Registers.{no_registers, set}
 use Rattle.erhl_assert.specs.declared.facts.Fact.TheVariants.{LessDef}
 use Rattle.erhl_assert.specs.declared.facts.Assertion.{Assertion}
@@ -72,12 +72,7 @@ returning a = Ret (of_i32 a)
 
 -- define i32 @0(i32 %1, i1 %2) { blocks }
 abbrev pub function : List Block → Function
-function blocks = record {
-  name = Number 0;
-  result = i32;
-  params = record { name = Number 1; ty = i32 } ∷ record { name = Number 2; ty = Int 1 } ∷ [];
-  blocks = blocks;
-}
+function blocks = plain_function i32 (Number 0) (plain_param i32 (Number 1) ∷ plain_param (Int 1) (Number 2) ∷ []) blocks
 
 -- i32 r, in the logic
 abbrev pub at_i32 : Reg → Expr0
@@ -205,15 +200,10 @@ twice = phi 3 ((number 1, 10) ∷ []) ∷ phi 3 ((number 2, 10) ∷ []) ∷ []
 
 -- define i32 @0() { 10: br label %12  12: %3 = phi i32 [ 1, %10 ]  %3 = phi i32 [ 2, %10 ]  ret i32 a }
 abbrev pub doubled : Atom Name → Function
-doubled a = record {
-  name = Number 0;
-  result = i32;
-  params = [];
-  blocks = block 10 [] [] (Br (Number 12)) ∷ block 12 twice [] (returning a) ∷ [];
-}
+doubled a = plain_function i32 (Number 0) [] (block 10 [] [] (Br (Number 12)) ∷ block 12 twice [] (returning a) ∷ [])
 
 abbrev pub module_of : Function → Module
-module_of f = record { types = []; functions = f ∷ [] }
+module_of f = plain_module [] (f ∷ [])
 
 -- it claims that %3 is 1
 abbrev pub claiming_one : Hint

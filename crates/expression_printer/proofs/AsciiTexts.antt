@@ -1,5 +1,5 @@
 -- Each printed text is of ASCII bytes alone.
-use Rattle.std.proofs.Common.{◌≡◌, ℕ, zero, suc, ◌-◌, ◌/◌, ◌%◌, ◌^◌, ◌<◌, ◌&&◌, Bool, true, false, true≢false, not, cond, List, [], ◌∷◌, ◌++◌, codes, map, arith, refl, sym, subst, lit<}
+use Rattle.std.proofs.Common.{◌≡◌, ℕ, zero, suc, ◌-◌, ◌/◌, ◌%◌, ◌^◌, ◌<◌, ◌&&◌, Bool, true, false, true≢false, not, cond, List, [], ◌∷◌, ◌++◌, Option, None, Some, codes, map, arith, refl, sym, ap, subst, lit<}
 use Rattle.std.specs.Prelude.{◌==◌, nat_le, nat_lt}
 use Rattle.std.proofs.lemmas.Bool.Decides.{nat_tests}
 use Rattle.std.proofs.lemmas.Str.{IsAscii-append}
@@ -9,10 +9,12 @@ use Rattle.std.specs.List.{AllByRecursion, list_all, flat_map}
 use Rattle.std.specs.Fmt.{digits_onto, digits, decimal, digit_glyph}
 use Rattle.ir_types.specs.declared.names.Name.{Name}
 use Rattle.ir_types.specs.declared.names.Name.TheVariants.{Text, Number}
+use Rattle.ir_types.specs.declared.names.Sigil.TheVariants.{Global}
 use Rattle.ir_types.specs.declared.ty.Ty.{Ty, Int}
 use Rattle.ir_types.proofs.Induction as fold
 use Rattle.ir_core.specs.declared.operands.Const.{Const}
-use Rattle.ir_core.specs.declared.operands.Const.TheVariants as const
+use Rattle.ir_core.proofs.Constants as constant
+use Rattle.ir_core.proofs.Constants.{EachOf}
 use Rattle.ir_core.specs.declared.operands.Atom.{Atom}
 use Rattle.ir_core.specs.declared.operands.Atom.TheVariants.{Constant, Register}
 use Rattle.ir_core.specs.declared.operands.Operand.{Operand}
@@ -28,8 +30,9 @@ use Rattle.ir_core.specs.declared.expressions.Reg.TheVariants.{Now, Old, Ghost}
 use Rattle.ir_core.specs.declared.expressions.Expr.{Expr}
 use Rattle.ir_core.specs.declared.expressions.Expr.TheVariants as expr
 use Rattle.ir_core.specs.Names.{is_name_byte, is_plain}
-use Rattle.ir_core.specs.Words.{void_word, false_word, true_word, undef_word, op_word, nuw_word, nsw_word, exact_word, icmp_word, pred_word, cast_word, select_word}
-use Rattle.expression_printer.specs.Printed.{hexadecimal_digit, escaped, quoted, name_text, printed_local, printed_type, printed_parts, listed, struct_text, type_text, is_negative, signed_text, number_text, printed_constant, printed_register, printed_atom, printed_operand, spaced, printed_op, printed_flag, printed_flags, printed_operands, printed_expr}
+use Rattle.ir_core.specs.Words.{void_word, false_word, true_word, undef_word, null_word, op_word, nuw_word, nsw_word, exact_word, icmp_word, pred_word, cast_word, select_word, getelementptr_word, inbounds_word, load_word, align_word}
+use Rattle.expression_printer.specs.Printed.{hexadecimal_digit, escaped, quoted, name_text, printed_name, printed_local, printed_type, printed_parts, listed, struct_text, type_text, is_negative, signed_text, number_text, element_head, typed_text, further_text, constant_text, constant_parts, printed_constant, printed_register, printed_atom, printed_operand, spaced, printed_op, printed_flag, printed_flags, printed_operands, further_operands, printed_align, printed_expr}
+use Rattle.expression_printer.proofs.ConstantTexts.{constants_by_parts}
 use Rattle.expression_printer.proofs.TypeTexts.{types_by_parts}
 
 record Ascii (bs : List ℕ) : Type 0 where
@@ -147,9 +150,70 @@ of_number : (ty : Ty) (n : ℕ) → Ascii (number_text ty n)
 of_number (Int width) n = of_choice (width == 1) _ _ (λ _. of_choice (n == 0) _ _ (λ _. of_false) of_true) (of_signed width n)
 of_number t n = of_decimal n
 
+of_spaced : (word : List ℕ) → list_all (λ b. nat_lt b 128) word ≡ true → Ascii (spaced word)
+of_spaced word small = append word (32 ∷ []) (of_small word small) (of_small (32 ∷ []) refl)
+
+of_flag : (set : Bool) (word : List ℕ) → Ascii (spaced word) → Ascii (printed_flag set word)
+of_flag set word h = of_choice set (spaced word) [] (λ _. h) empty
+
+of_global : (name : Name) → Ascii (printed_name Global name)
+of_global name = begun 64 (name_text name) (lit< tt) (of_name_text name)
+
+of_comma : Ascii (codes ", ")
+of_comma = of_small (codes ", ") refl
+
+of_to : Ascii (codes " to ")
+of_to = of_small (codes " to ") refl
+
+-- the text of a constant at each type
+abbrev OfConstant : Const → Type 0
+OfConstant c = (t : Ty) → Ascii (constant_parts c t)
+
+-- what a constant is of the texts of those in it
+of_level : (c : Const) (text : Ty → List ℕ) → constant_parts c ≡ text → ((t : Ty) → Ascii (text t)) → OfConstant c
+of_level c text e ascii t = subst Ascii (sym (ap (λ (f : Ty → List ℕ). f t) e)) (ascii t)
+
+of_typed : (c : Ty × Const) → OfConstant c.1 → Ascii (typed_text (c.0, constant_parts c.1))
+of_typed c ascii = append (printed_type c.0) (32 ∷ constant_parts c.1 c.0) (of_type c.0) (begun 32 _ (lit< tt) (ascii c.0))
+
+all_typed : (cs : List (Ty × Const)) → EachOf OfConstant cs → Ascii (flat_map typed_text (map (λ c. (c.0, constant_parts c.1)) cs))
+all_typed [] all = empty
+all_typed (c ∷ cs) all = append (typed_text (c.0, constant_parts c.1)) _ (of_typed c all.0) (all_typed cs all.1)
+
+all_further : (cs : List (Ty × Const)) → EachOf OfConstant cs → Ascii (flat_map further_text (map (λ c. (c.0, constant_parts c.1)) cs))
+all_further [] all = empty
+all_further (c ∷ cs) all = append (further_text (c.0, constant_parts c.1)) _ (append (codes ", ") _ of_comma (of_typed c all.0)) (all_further cs all.1)
+
+of_head : (inbounds : Bool) (of : Ty) → Ascii (element_head inbounds of)
+of_head inbounds of =
+    append (spaced getelementptr_word ++ printed_flag inbounds inbounds_word) (40 ∷ printed_type of)
+    (append (spaced getelementptr_word) (printed_flag inbounds inbounds_word) (of_spaced getelementptr_word refl) (of_flag inbounds inbounds_word (of_spaced inbounds_word refl)))
+    (begun 40 (printed_type of) (lit< tt) (of_type of))
+
+of_element : (inbounds : Bool) (of : Ty) (cs : List (Ty × Const)) → EachOf OfConstant cs
+    → Ascii (element_head inbounds of ++ flat_map further_text (map (λ c. (c.0, constant_parts c.1)) cs) ++ 41 ∷ [])
+of_element inbounds of cs all =
+    append _ (41 ∷ []) (append (element_head inbounds of) _ (of_head inbounds of) (all_further cs all)) (begun 41 [] (lit< tt) empty)
+
+of_bitcast : (to : Ty) (cs : List (Ty × Const)) → EachOf OfConstant cs
+    → Ascii (codes "bitcast (" ++ flat_map typed_text (map (λ c. (c.0, constant_parts c.1)) cs) ++ codes " to " ++ printed_type to ++ 41 ∷ [])
+of_bitcast to cs all =
+    append _ (41 ∷ [])
+    (append _ (printed_type to)
+    (append _ (codes " to ") (append (codes "bitcast (") _ (of_small (codes "bitcast (") refl) (all_typed cs all)) of_to)
+    (of_type to)) (begun 41 [] (lit< tt) empty)
+
+of_constant_parts : (c : Const) → OfConstant c
+of_constant_parts = constant.by_parts OfConstant
+    (λ n. of_level _ _ (constant.at_number (Ty → List ℕ) constant_text n) (λ t. of_number t n))
+    (of_level _ _ (constant.at_undef (Ty → List ℕ) constant_text) (λ t. of_small undef_word refl))
+    (of_level _ _ (constant.at_null (Ty → List ℕ) constant_text) (λ t. of_small null_word refl))
+    (λ x. of_level _ _ (constant.at_global (Ty → List ℕ) constant_text x) (λ t. of_global x))
+    (λ inbounds of cs all. of_level _ _ (constant.at_element (Ty → List ℕ) constant_text inbounds of cs) (λ t. of_element inbounds of cs all))
+    (λ to cs all. of_level _ _ (constant.at_cast (Ty → List ℕ) constant_text to cs) (λ t. of_bitcast to cs all))
+
 of_constant : (ty : Ty) (c : Const) → Ascii (printed_constant ty c)
-of_constant ty (const.Number n) = of_number ty n
-of_constant ty const.Undef = of_small (undef_word) refl
+of_constant ty c = subst Ascii (sym (constants_by_parts ty c)) (of_constant_parts c ty)
 
 of_old : Ascii (codes "old ")
 of_old = of_small (codes "old ") refl
@@ -161,9 +225,6 @@ of_register : (r : Reg) → Ascii (printed_register r)
 of_register (Now name) = of_local name
 of_register (Old name) = append (codes "old ") (printed_local name) of_old (of_local name)
 of_register (Ghost name) = append (codes "ghost ") (printed_local name) of_ghost (of_local name)
-
-of_spaced : (word : List ℕ) → list_all (λ b. nat_lt b 128) word ≡ true → Ascii (spaced word)
-of_spaced word small = append word (32 ∷ []) (of_small word small) (of_small (32 ∷ []) refl)
 
 of_op : (op : BinOp) → Ascii (printed_op op)
 of_op op = of_spaced (op_word op) (small op)
@@ -216,19 +277,10 @@ of_nsw = of_spaced nsw_word refl
 of_exact : Ascii (spaced exact_word)
 of_exact = of_spaced exact_word refl
 
-of_flag : (set : Bool) (word : List ℕ) → Ascii (spaced word) → Ascii (printed_flag set word)
-of_flag set word h = of_choice set (spaced word) [] (λ _. h) empty
-
 of_flags : (flags : Flags) → Ascii (printed_flags flags)
 of_flags flags =
     append (printed_flag flags.nuw nuw_word) _ (of_flag flags.nuw nuw_word of_nuw)
     (append (printed_flag flags.nsw nsw_word) (printed_flag flags.exact exact_word) (of_flag flags.nsw nsw_word of_nsw) (of_flag flags.exact exact_word of_exact))
-
-of_to : Ascii (codes " to ")
-of_to = of_small (codes " to ") refl
-
-of_comma : Ascii (codes ", ")
-of_comma = of_small (codes ", ") refl
 
 -- over registers of which each is printed so
 module _ {R : Type 0} (register : R → List ℕ) (of : (r : R) → Ascii (register r)) where
@@ -242,6 +294,14 @@ module _ {R : Type 0} (register : R → List ℕ) (of : (r : R) → Ascii (regis
   of_operands : (ty : Ty) (a b : Atom R) → Ascii (printed_operands register ty a b)
   of_operands ty a b = append (printed_type ty) _ (of_type ty) (begun 32 _ (lit< tt)
       (append (printed_atom register ty a) _ (of_atom ty a) (append (codes ", ") _ of_comma (of_atom ty b))))
+
+  of_further : (os : List (Operand R)) → Ascii (further_operands register os)
+  of_further [] = empty
+  of_further (o ∷ os) = append (codes ", " ++ printed_operand register o) _ (append (codes ", ") _ of_comma (of_operand o)) (of_further os)
+
+  of_align : (align : Option ℕ) → Ascii (printed_align align)
+  of_align None = empty
+  of_align (Some n) = append (codes ", ") _ of_comma (append (spaced align_word) (decimal n) (of_spaced align_word refl) (of_decimal n))
 
   of_text : (e : Expr R) → Ascii (printed_expr register e)
   of_text (expr.Plain operand) = of_operand operand
@@ -257,6 +317,15 @@ module _ {R : Type 0} (register : R → List ℕ) (of : (r : R) → Ascii (regis
       (append (codes ", ") _ of_comma
       (append (printed_operand register s.left) _ (of_operand s.left)
       (append (codes ", ") _ of_comma (of_operand s.right)))))
+  of_text (expr.Element e) =
+      append (spaced getelementptr_word) _ (of_spaced getelementptr_word refl)
+      (append (printed_flag e.inbounds inbounds_word) _ (of_flag e.inbounds inbounds_word (of_spaced inbounds_word refl))
+      (append (printed_type e.of) _ (of_type e.of) (of_further (e.base ∷ e.indices))))
+  of_text (expr.Load l) =
+      append (spaced load_word) _ (of_spaced load_word refl)
+      (append (printed_type l.of) _ (of_type l.of)
+      (append (codes ", ") _ of_comma
+      (append (printed_operand register l.pointer) _ (of_operand l.pointer) (of_align l.align))))
 
 pub logic_is_ascii : (e : Expr Reg) → IsAscii (printed_expr printed_register e)
 logic_is_ascii e = (of_text printed_register of_register e).bytes

@@ -7,13 +7,13 @@ use Rattle.ir_types.proofs.Induction as fold
 use Rattle.expression_printer.specs.Examples.{TypesAreWritten}
 use Rattle.expression_printer.specs.Printed.{printed_local, printed_parts, struct_text, type_text}
 
-at_int : (width : ℕ) → printed_parts (Int width) ≡ 105 ∷ decimal width
+pub at_int : (width : ℕ) → printed_parts (Int width) ≡ 105 ∷ decimal width
 at_int = fold.at_int (List ℕ) type_text
 
-at_ptr : (t : Ty) → printed_parts (Ptr t) ≡ printed_parts t ++ 42 ∷ []
+pub at_ptr : (t : Ty) → printed_parts (Ptr t) ≡ printed_parts t ++ 42 ∷ []
 at_ptr = fold.at_ptr (List ℕ) type_text
 
-at_array : (count : ℕ) (t : Ty) → printed_parts (Array count t) ≡ 91 ∷ decimal count ++ codes " x " ++ printed_parts t ++ 93 ∷ []
+pub at_array : (count : ℕ) (t : Ty) → printed_parts (Array count t) ≡ 91 ∷ decimal count ++ codes " x " ++ printed_parts t ++ 93 ∷ []
 at_array = fold.at_array (List ℕ) type_text
 
 at_struct : (ts : List Ty) → printed_parts (Struct ts) ≡ struct_text (map printed_parts ts)

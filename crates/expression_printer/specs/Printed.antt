@@ -1,5 +1,5 @@
 -- How names, types, numbers and expressions are printed (LangRef 3.7, Identifiers, Type System, Constants).
-use Rattle.std.specs.Prelude.{ℕ, ◌-◌, ◌/◌, ◌%◌, ◌^◌, ◌==◌, ◌&&◌, Bool, true, not, nat_le, nat_lt, if◌then◌else◌, List, [], ◌∷◌, ◌++◌, codes}
+use Rattle.std.specs.Prelude.{ℕ, ◌-◌, ◌/◌, ◌%◌, ◌^◌, ◌==◌, ◌&&◌, Bool, true, not, nat_le, nat_lt, if◌then◌else◌, List, [], ◌∷◌, ◌++◌, Option, None, Some, codes}
 use Rattle.std.specs.List.{flat_map}
 use Rattle.std.specs.Fmt.{decimal, digit_glyph}
 use Rattle.ir_types.specs.declared.names.Name.{Name}
@@ -10,8 +10,10 @@ use Rattle.ir_types.specs.declared.ty.Ty.{Ty, Int, fold-Ty}
 use Rattle.ir_types.specs.declared.ty.Ty.TheOpen.{Ty-F}
 use Rattle.ir_types.specs.declared.ty.Ty.TheOpen as ty
 use Rattle.ir_types.specs.Folded.{folded}
-use Rattle.ir_core.specs.declared.operands.Const.{Const}
+use Rattle.ir_core.specs.declared.operands.Const.{Const, fold-Const}
 use Rattle.ir_core.specs.declared.operands.Const.TheVariants as const
+use Rattle.ir_core.specs.declared.operands.Const.TheOpen.{Const-F}
+use Rattle.ir_core.specs.declared.operands.Const.TheOpen as part
 use Rattle.ir_core.specs.declared.operands.Atom.{Atom}
 use Rattle.ir_core.specs.declared.operands.Atom.TheVariants.{Constant, Register}
 use Rattle.ir_core.specs.declared.operands.Operand.{Operand}
@@ -23,10 +25,12 @@ use Rattle.ir_core.specs.declared.expressions.Binary.{Binary}
 use Rattle.ir_core.specs.declared.expressions.Icmp.{Icmp}
 use Rattle.ir_core.specs.declared.expressions.Cast.{Cast}
 use Rattle.ir_core.specs.declared.expressions.Select.{Select}
+use Rattle.ir_core.specs.declared.expressions.Element.{Element}
+use Rattle.ir_core.specs.declared.expressions.Load.{Load}
 use Rattle.ir_core.specs.declared.expressions.Expr.{Expr}
 use Rattle.ir_core.specs.declared.expressions.Expr.TheVariants as expr
 use Rattle.ir_core.specs.Names.{is_plain}
-use Rattle.ir_core.specs.Words.{void_word, false_word, true_word, undef_word, op_word, nuw_word, nsw_word, exact_word, icmp_word, pred_word, cast_word, select_word}
+use Rattle.ir_core.specs.Words.{void_word, false_word, true_word, undef_word, null_word, op_word, nuw_word, nsw_word, exact_word, icmp_word, pred_word, cast_word, select_word, getelementptr_word, inbounds_word, load_word, align_word}
 
 -- ---- names
 
@@ -92,9 +96,49 @@ abbrev pub number_text : Ty → ℕ → List ℕ
 number_text (Int width) n = if width == 1 then (if n == 0 then false_word else true_word) else signed_text width n
 number_text t n = decimal n
 
+-- a word and a space
+abbrev pub spaced : List ℕ → List ℕ
+spaced word = word ++ 32 ∷ []
+
+abbrev pub printed_flag : Bool → List ℕ → List ℕ
+printed_flag set word = if set then spaced word else []
+
+-- a constant behind its type, of its text at a type: `i32 1`
+abbrev pub typed_text : Ty × (Ty → List ℕ) → List ℕ
+typed_text c = printed_type c.0 ++ 32 ∷ c.1 c.0
+
+-- the same behind a comma
+abbrev pub further_text : Ty × (Ty → List ℕ) → List ℕ
+further_text c = codes ", " ++ typed_text c
+
+abbrev pub element_word : Bool → List ℕ
+element_word inbounds = spaced getelementptr_word ++ printed_flag inbounds inbounds_word
+
+-- `getelementptr inbounds ([4 x i8]`
+abbrev pub element_head : Bool → Ty → List ℕ
+element_head inbounds of = element_word inbounds ++ 40 ∷ printed_type of
+
+-- A constant at the type that is stated for it, of the texts of those in it: `getelementptr inbounds ([4 x i8], [4 x i8]* @s, i32 0)`,
+-- `bitcast (i32* @g to i8*)`.
+abbrev pub constant_text : Const-F (Ty → List ℕ) → Ty → List ℕ
+constant_text (part.Number n) t = number_text t n
+constant_text part.Undef t = undef_word
+constant_text part.Null t = null_word
+constant_text (part.Global x) t = printed_name Global x
+constant_text (part.Element e) t =
+    element_head e.0 e.1 ++ flat_map further_text e.2 ++ 41 ∷ []
+constant_text (part.Cast c) t = codes "bitcast (" ++ flat_map typed_text c.1 ++ codes " to " ++ printed_type c.0 ++ 41 ∷ []
+
+abbrev pub constant_parts : Const → Ty → List ℕ
+constant_parts = fold-Const (Ty → List ℕ) constant_text
+
+-- one without constants in it is printed at once
 abbrev pub printed_constant : Ty → Const → List ℕ
 printed_constant ty (const.Number n) = number_text ty n
 printed_constant ty const.Undef = undef_word
+printed_constant ty const.Null = null_word
+printed_constant ty (const.Global x) = printed_name Global x
+printed_constant ty c = constant_parts c ty
 
 -- ---- operands and expressions
 
@@ -120,15 +164,8 @@ printed_value ty atom = printed_atom printed_local ty atom
 abbrev pub printed_operand : {R : Type 0} → (R → List ℕ) → Operand R → List ℕ
 printed_operand register operand = printed_type operand.ty ++ 32 ∷ printed_atom register operand.ty operand.atom
 
--- a word and a space
-abbrev pub spaced : List ℕ → List ℕ
-spaced word = word ++ 32 ∷ []
-
 abbrev pub printed_op : BinOp → List ℕ
 printed_op op = spaced (op_word op)
-
-abbrev pub printed_flag : Bool → List ℕ → List ℕ
-printed_flag set word = if set then spaced word else []
 
 abbrev pub printed_flags : Flags → List ℕ
 printed_flags flags = printed_flag flags.nuw nuw_word ++ (printed_flag flags.nsw nsw_word ++ printed_flag flags.exact exact_word)
@@ -155,6 +192,25 @@ printed_select register s =
     spaced select_word ++ (printed_operand register s.condition
     ++ (codes ", " ++ (printed_operand register s.left ++ (codes ", " ++ printed_operand register s.right))))
 
+-- each of the operands behind a comma
+abbrev pub further_operands : {R : Type 0} → (R → List ℕ) → List (Operand R) → List ℕ
+further_operands register = flat_map (λ operand. codes ", " ++ printed_operand register operand)
+
+-- `getelementptr inbounds i8, i8* %p, i32 1`
+abbrev pub printed_element : {R : Type 0} → (R → List ℕ) → Element R → List ℕ
+printed_element register e =
+    spaced getelementptr_word ++ (printed_flag e.inbounds inbounds_word ++ (printed_type e.of ++ further_operands register (e.base ∷ e.indices)))
+
+-- nothing where none is stated
+abbrev pub printed_align : Option ℕ → List ℕ
+printed_align None = []
+printed_align (Some n) = codes ", " ++ (spaced align_word ++ decimal n)
+
+-- `load i32, i32* %p, align 4`
+abbrev pub printed_load : {R : Type 0} → (R → List ℕ) → Load R → List ℕ
+printed_load register l =
+    spaced load_word ++ (printed_type l.of ++ (codes ", " ++ (printed_operand register l.pointer ++ printed_align l.align)))
+
 -- the right side of a line, or an expression of the logic
 abbrev pub printed_expr : {R : Type 0} → (R → List ℕ) → Expr R → List ℕ
 printed_expr register (expr.Plain operand) = printed_operand register operand
@@ -162,3 +218,5 @@ printed_expr register (expr.Binary binary) = printed_binary register binary
 printed_expr register (expr.Icmp icmp) = printed_icmp register icmp
 printed_expr register (expr.Cast cast) = printed_cast register cast
 printed_expr register (expr.Select select) = printed_select register select
+printed_expr register (expr.Element element) = printed_element register element
+printed_expr register (expr.Load load) = printed_load register load

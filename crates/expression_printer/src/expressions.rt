@@ -1,13 +1,14 @@
 ghost use Rattle.std.specs.Prelude.{◌≡◌, ◌++◌, ◌∷◌, OnOk, IfOk, IsAscii};
 ghost use Rattle.ir_core.specs.Words.{nuw_word, nsw_word, exact_word, icmp_word, select_word};
-ghost use Rattle.expression_printer.specs.Printed.{printed_local, printed_register, printed_atom, printed_value, printed_operand, spaced, printed_op, printed_flag, printed_flags, printed_operands, printed_binary, printed_icmp, printed_cast, printed_select, printed_expr};
+ghost use Rattle.expression_printer.specs.Printed.{printed_local, printed_register, printed_atom, printed_value, printed_operand, spaced, printed_op, printed_flag, printed_flags, printed_operands, printed_binary, printed_icmp, printed_cast, printed_select, further_operands, printed_element, printed_align, printed_load, printed_expr};
 
+use crate::names::push_decimal;
 use crate::registers::Register;
 use crate::types::push_type;
-use crate::values::push_constant;
+use crate::values::{push_constant, push_flag, push_word};
 use ir_core::{
-    Atom, BinOp, Binary, Cast, Expr, Expr0, Flags, Icmp, Name, Operand, Select, Ty, cast_word,
-    op_word, pred_word,
+    Atom, BinOp, Binary, Cast, Element, Expr, Expr0, Flags, Icmp, Load, Name, Operand, Select, Ty,
+    cast_word, op_word, pred_word,
 };
 use std::alloc::{AllocError, Global};
 
@@ -47,6 +48,8 @@ fn push_expr<R: Register>(text: &mut Vec<u8>, expr: &Expr<R>) -> Result<(), Allo
         Expr::Icmp(icmp) => push_icmp(text, icmp),
         Expr::Cast(cast) => push_cast(text, cast),
         Expr::Select(select) => push_select(text, select.get()),
+        Expr::Element(element) => push_element(text, element.get()),
+        Expr::Load(load) => push_load(text, load),
     }
 }
 
@@ -90,24 +93,10 @@ fn push_operand<R: Register>(text: &mut Vec<u8>, operand: &Operand<R>) -> Result
     push_atom(text, &operand.ty, &operand.atom)
 }
 
-fn push_word(text: &mut Vec<u8>, word: &[u8]) -> Result<(), AllocError>
-    ensures { OnOk result (text.new.items ≡ text.old.items ++ spaced word.now) }
-{
-    text.extend_from_slice(word)?;
-    text.push(b' ')?;
-    Ok(())
-}
-
 fn push_op(text: &mut Vec<u8>, op: BinOp) -> Result<(), AllocError>
     ensures { OnOk result (text.new.items ≡ text.old.items ++ printed_op op) }
 {
     push_word(text, op_word(op))
-}
-
-fn push_flag(text: &mut Vec<u8>, set: bool, word: &[u8]) -> Result<(), AllocError>
-    ensures { OnOk result (text.new.items ≡ text.old.items ++ printed_flag set word.now) }
-{
-    if set { push_word(text, word) } else { Ok(()) }
 }
 
 fn push_flags(text: &mut Vec<u8>, flags: Flags) -> Result<(), AllocError>
@@ -168,4 +157,49 @@ fn push_select<R: Register>(text: &mut Vec<u8>, select: &Select<R>) -> Result<()
     push_operand(text, &select.left)?;
     text.extend_from_slice(b", ")?;
     push_operand(text, &select.right)
+}
+
+/// Each of the operands behind a comma.
+fn push_further<R: Register>(text: &mut Vec<u8>, operands: &[Operand<R>]) -> Result<(), AllocError>
+    ensures { OnOk result (text.new.items ≡ text.old.items ++ further_operands R.printed operands.now) }
+{
+    for operand in operands {
+        text.extend_from_slice(b", ")?;
+        push_operand(text, operand)?;
+    }
+    Ok(())
+}
+
+fn push_element<R: Register>(text: &mut Vec<u8>, element: &Element<R>) -> Result<(), AllocError>
+    ensures { OnOk result (text.new.items ≡ text.old.items ++ printed_element R.printed element.now) }
+{
+    push_word(text, b"getelementptr")?;
+    push_flag(text, element.inbounds, b"inbounds")?;
+    push_type(text, &element.of)?;
+    text.extend_from_slice(b", ")?;
+    push_operand(text, &element.base)?;
+    push_further(text, element.indices.as_slice())
+}
+
+/// Puts the alignment behind a comma at the end of the text, where one is stated.
+pub fn push_align(text: &mut Vec<u8>, align: Option<u32>) -> Result<(), AllocError>
+    ensures { OnOk result (text.new.items ≡ text.old.items ++ printed_align align) }
+{
+    match align {
+        Some(bytes) => {
+            text.extend_from_slice(b", align ")?;
+            push_decimal(text, bytes as u64)
+        }
+        None => Ok(()),
+    }
+}
+
+fn push_load<R: Register>(text: &mut Vec<u8>, load: &Load<R>) -> Result<(), AllocError>
+    ensures { OnOk result (text.new.items ≡ text.old.items ++ printed_load R.printed load.now) }
+{
+    push_word(text, b"load")?;
+    push_type(text, &load.of)?;
+    text.extend_from_slice(b", ")?;
+    push_operand(text, &load.pointer)?;
+    push_align(text, load.align)
 }

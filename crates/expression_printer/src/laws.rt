@@ -1,4 +1,4 @@
-ghost use Rattle.expression_printer.specs.Examples.{TypesAreWritten};
+ghost use Rattle.expression_printer.specs.Examples.{ConstantsAreWritten, MemoryIsWritten, TypesAreWritten};
 
 /// Empty on purpose: its contract is the law.
 ///
@@ -6,4 +6,13 @@ ghost use Rattle.expression_printer.specs.Examples.{TypesAreWritten};
 #[tactic(auto, using(crate::proofs::WrittenTypes::types_are_written))]
 pub fn examples_of_printed_types()
     ensures { TypesAreWritten }
+{}
+
+/// Empty on purpose: its contract is the law.
+///
+/// How numbers, `null`, globals, `getelementptr` and `bitcast` are printed as constants, and `getelementptr` and `load` as expressions.
+#[tactic(auto, using(crate::proofs::WrittenConstants::constants_are_written, crate::proofs::WrittenConstants::memory_is_written))]
+pub fn examples_of_printed_expressions()
+    ensures constants { ConstantsAreWritten }
+    ensures memory { MemoryIsWritten }
 {}

@@ -1,16 +1,83 @@
 ghost use Rattle.std.specs.Prelude.{◌≡◌, ◌++◌, ◌-◌, ◌^◌, ◌<◌, ◌≤◌, ◌↔◌, IsTrue, OnOk, IfOk};
-ghost use Rattle.expression_printer.specs.Printed.{printed_type, is_negative, signed_text, number_text, printed_constant};
+ghost use Rattle.expression_printer.specs.Printed.{constant_parts, element_head, element_word, printed_type, is_negative, signed_text, number_text, printed_constant, spaced, printed_flag};
 
-use crate::names::push_decimal;
-use ir_core::{Const, Ty};
+use crate::names::{push_decimal, push_name};
+use crate::types::push_type;
+use ir_core::{Const, Sigil, Ty};
 use std::alloc::{AllocError, Global};
 
+#[tactic(auto, using(crate::proofs::ConstantTexts::constants_by_parts))]
 pub(crate) fn push_constant(text: &mut Vec<u8>, ty: &Ty, constant: &Const) -> Result<(), AllocError>
     ensures { OnOk result (text.new.items ≡ text.old.items ++ printed_constant ty.now constant.now) }
+{
+    push_constant_parts(text, constant, ty)
+}
+
+pub(crate) fn push_word(text: &mut Vec<u8>, word: &[u8]) -> Result<(), AllocError>
+    ensures { OnOk result (text.new.items ≡ text.old.items ++ spaced word.now) }
+{
+    text.extend_from_slice(word)?;
+    text.push(b' ')?;
+    Ok(())
+}
+
+pub(crate) fn push_flag(text: &mut Vec<u8>, set: bool, word: &[u8]) -> Result<(), AllocError>
+    ensures { OnOk result (text.new.items ≡ text.old.items ++ printed_flag set word.now) }
+{
+    if set { push_word(text, word) } else { Ok(()) }
+}
+
+fn push_element_word(text: &mut Vec<u8>, inbounds: bool) -> Result<(), AllocError>
+    ensures { OnOk result (text.new.items ≡ text.old.items ++ element_word inbounds) }
+{
+    push_word(text, b"getelementptr")?;
+    push_flag(text, inbounds, b"inbounds")
+}
+
+fn push_element_head(text: &mut Vec<u8>, inbounds: bool, of: &Ty) -> Result<(), AllocError>
+    ensures { OnOk result (text.new.items ≡ text.old.items ++ element_head inbounds of.now) }
+{
+    push_element_word(text, inbounds)?;
+    text.push(b'(')?;
+    push_type(text, of)
+}
+
+/// Goes as deep as constants stand in one another.
+fn push_constant_parts(text: &mut Vec<u8>, constant: &Const, ty: &Ty) -> Result<(), AllocError>
+    ensures { OnOk result (text.new.items ≡ text.old.items ++ constant_parts constant.now ty.now) }
 {
     match constant {
         Const::Number(number) => push_number(text, ty, number.get()),
         Const::Undef => text.extend_from_slice(b"undef"),
+        Const::Null => text.extend_from_slice(b"null"),
+        Const::Global(name) => push_name(text, Sigil::Global, name.get()),
+        Const::Element(element) => {
+            let element = element.get();
+            push_element_head(text, element.0, &element.1)?;
+            for i in 0..element.2.len() {
+                let one = &element.2.as_slice()[i];
+                text.extend_from_slice(b", ")?;
+                push_type(text, &one.0)?;
+                text.push(b' ')?;
+                push_constant_parts(text, &one.1, &one.0)?;
+            }
+            text.push(b')')?;
+            Ok(())
+        }
+        Const::Cast(cast) => {
+            let cast = cast.get();
+            text.extend_from_slice(b"bitcast (")?;
+            for i in 0..cast.1.len() {
+                let one = &cast.1.as_slice()[i];
+                push_type(text, &one.0)?;
+                text.push(b' ')?;
+                push_constant_parts(text, &one.1, &one.0)?;
+            }
+            text.extend_from_slice(b" to ")?;
+            push_type(text, &cast.0)?;
+            text.push(b')')?;
+            Ok(())
+        }
     }
 }
 

@@ -5,8 +5,9 @@ use Rattle.indexmap.specs.IndexSet.{insert_key}
 use Rattle.ir_types.specs.declared.names.Name.{Name}
 use Rattle.ir_core.specs.declared.operands.Atom.{Atom}
 use Rattle.ir_core.specs.declared.operands.Atom.TheVariants as atom
+use Rattle.ir_core.specs.declared.operands.Operand.{Operand}
 use Rattle.ir_core.specs.declared.expressions.Reg.{Reg}
-use Rattle.ir_core.specs.declared.expressions.Expr.TheVariants.{Plain, Binary, Icmp, Cast, Select}
+use Rattle.ir_core.specs.declared.expressions.Expr.TheVariants.{Plain, Binary, Icmp, Cast, Select, Element, Load}
 use Rattle.ir_types.specs.Same.{same_name}
 use Rattle.ir_core.specs.Same.{same_reg}
 use Rattle.ir_core.specs.Expressions.{Expr0, atom_has}
@@ -15,7 +16,7 @@ use Rattle.erhl_assert.specs.declared.facts.Fact.TheVariants.{LessDef}
 use Rattle.erhl_assert.specs.Facts.{expr_names, fact_names, with_fact, has_fact}
 use Rattle.erhl_assert.specs.Named.{name_of}
 use Rattle.fact_sets.proofs.Indexing.{Has, or_cases, any_append, insert_keeps, register_has}
-use Rattle.fact_sets.specs.Names.{with_atom, with_expr, with_named, IsKept, IsIndexed}
+use Rattle.fact_sets.specs.Names.{with_atom, with_expr, with_named, with_operands, IsKept, IsIndexed}
 
 atom_keeps : (n : Name) (a : Atom Reg) (names : List Name) → Has n names → Has n (with_atom a names)
 atom_keeps n (atom.Constant c) names h = h
@@ -25,12 +26,25 @@ atom_has_it : (r : Reg) (a : Atom Reg) (names : List Name) → atom_has (same_re
 atom_has_it r (atom.Constant c) names h = cc
 atom_has_it r (atom.Register s) names h = register_has r s names h
 
+operands_keep : (n : Name) (os : List (Operand Reg)) (names : List Name) → Has n names → Has n (with_operands os names)
+operands_keep n [] names h = h
+operands_keep n (o ∷ os) names h = operands_keep n os _ (atom_keeps n o.atom names h)
+
+operands_have_it : (r : Reg) (os : List (Operand Reg)) (names : List Name) → list_any (λ (o : Operand Reg). atom_has (same_reg r) o.atom) os ≡ true
+    → Has (name_of r) (with_operands os names)
+operands_have_it r [] names h = cc
+operands_have_it r (o ∷ os) names h =
+    or_cases (atom_has (same_reg r) o.atom) (list_any (λ (p : Operand Reg). atom_has (same_reg r) p.atom) os) h
+    (λ k. operands_keep _ os _ (atom_has_it r o.atom names k)) (λ k. operands_have_it r os _ k)
+
 expr_keeps : (n : Name) (e : Expr0) (names : List Name) → Has n names → Has n (with_expr e names)
 expr_keeps n (Plain o) names h = atom_keeps n o.atom names h
 expr_keeps n (Binary e) names h = atom_keeps n e.right _ (atom_keeps n e.left names h)
 expr_keeps n (Icmp e) names h = atom_keeps n e.right _ (atom_keeps n e.left names h)
 expr_keeps n (Cast e) names h = atom_keeps n e.operand.atom names h
 expr_keeps n (Select e) names h = atom_keeps n e.right.atom _ (atom_keeps n e.left.atom _ (atom_keeps n e.condition.atom names h))
+expr_keeps n (Element e) names h = operands_keep n e.indices _ (atom_keeps n e.base.atom names h)
+expr_keeps n (Load e) names h = atom_keeps n e.pointer.atom names h
 
 expr_has_it : (r : Reg) (e : Expr0) (names : List Name) → expr_names r e ≡ true → Has (name_of r) (with_expr e names)
 expr_has_it r (Plain o) names h = atom_has_it r o.atom names h
@@ -45,6 +59,10 @@ expr_has_it r (Select e) names h =
     (λ k. atom_keeps _ e.right.atom _ (atom_keeps _ e.left.atom _ (atom_has_it r e.condition.atom names k)))
     (λ k. atom_keeps _ e.right.atom _ (atom_has_it r e.left.atom _ k)))
     (λ k. atom_has_it r e.right.atom _ k)
+expr_has_it r (Element e) names h =
+    or_cases (atom_has (same_reg r) e.base.atom) (list_any (λ (o : Operand Reg). atom_has (same_reg r) o.atom) e.indices) h
+    (λ k. operands_keep _ e.indices _ (atom_has_it r e.base.atom names k)) (λ k. operands_have_it r e.indices _ k)
+expr_has_it r (Load e) names h = atom_has_it r e.pointer.atom names h
 
 fact_keeps : (n : Name) (f : Fact) (names : List Name) → Has n names → Has n (with_named f names)
 unfolding with_named

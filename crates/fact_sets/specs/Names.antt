@@ -5,9 +5,10 @@ use Rattle.indexmap.specs.IndexSet.{insert_key}
 use Rattle.ir_types.specs.declared.names.Name.{Name}
 use Rattle.ir_core.specs.declared.operands.Atom.{Atom}
 use Rattle.ir_core.specs.declared.operands.Atom.TheVariants as atom
+use Rattle.ir_core.specs.declared.operands.Operand.{Operand}
 use Rattle.ir_core.specs.declared.expressions.Reg.{Reg}
 use Rattle.ir_core.specs.declared.expressions.Reg.TheVariants.{Now, Old, Ghost}
-use Rattle.ir_core.specs.declared.expressions.Expr.TheVariants.{Plain, Binary, Icmp, Cast, Select}
+use Rattle.ir_core.specs.declared.expressions.Expr.TheVariants.{Plain, Binary, Icmp, Cast, Select, Element, Load}
 use Rattle.ir_types.specs.Same.{same_name}
 use Rattle.ir_core.specs.Expressions.{Expr0}
 use Rattle.erhl_assert.specs.declared.facts.Fact.{Fact}
@@ -20,12 +21,18 @@ abbrev pub with_atom : Atom Reg → List Name → List Name
 with_atom (atom.Constant c) names = names
 with_atom (atom.Register r) names = insert_key same_name names (name_of r)
 
+abbrev pub with_operands : List (Operand Reg) → List Name → List Name
+with_operands [] names = names
+with_operands (o ∷ os) names = with_operands os (with_atom o.atom names)
+
 abbrev pub with_expr : Expr0 → List Name → List Name
 with_expr (Plain o) names = with_atom o.atom names
 with_expr (Binary e) names = with_atom e.right (with_atom e.left names)
 with_expr (Icmp e) names = with_atom e.right (with_atom e.left names)
 with_expr (Cast e) names = with_atom e.operand.atom names
 with_expr (Select e) names = with_atom e.right.atom (with_atom e.left.atom (with_atom e.condition.atom names))
+with_expr (Element e) names = with_operands e.indices (with_atom e.base.atom names)
+with_expr (Load e) names = with_atom e.pointer.atom names
 
 unfoldable pub with_named : Fact → List Name → List Name
 with_named (LessDef a b) names = with_expr b (with_expr a names)

@@ -19,7 +19,7 @@ use Rattle.fact_sets.specs.declared.near_facts.NearFacts.{NearFacts}
 -- a constant is found under the name of the register of its number, so beside that register
 abbrev pub constant_name : Const → Name
 constant_name (constant.Number n) = name.Number (n % 2 ^ 32)
-constant_name constant.Undef = name.Number 0
+constant_name c = name.Number 0
 
 abbrev pub found_under : Atom Reg → Name
 found_under (atom.Constant c) = constant_name c

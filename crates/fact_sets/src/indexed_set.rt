@@ -21,11 +21,12 @@ impl Model for IndexedSet {
     ghost use Rattle.erhl_assert.specs.Facts.{fact_names};
     ghost use Rattle.fact_sets.specs.Names.{IsIndexed};
     ghost use Rattle.std.specs.Coded.{codes};
+    ghost use Rattle.ir_core.specs.contracts.operands.Const as constant;
     ghost use Rattle.ir_types.specs.contracts.ty.Ty as ty;
 
     ghost Value = { List Fact };
 
-    ghost coded = { Prim.hlevel (codes, ty.the_row.coded) };
+    ghost coded = { Prim.hlevel (codes, ty.the_row.coded, constant.the_row.coded) };
 
     ghost view = { λ it. it.facts.keys };
 

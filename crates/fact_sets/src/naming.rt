@@ -2,12 +2,12 @@
 ghost use Rattle.std.specs.Prelude.{◌≡◌, OnOk};
 ghost use Rattle.ir_types.specs.Same.{same_name};
 ghost use Rattle.indexmap.specs.IndexSet.{insert_key};
-ghost use Rattle.fact_sets.specs.Names.{with_atom, with_expr, with_named, IsKept};
+ghost use Rattle.fact_sets.specs.Names.{with_atom, with_expr, with_named, with_operands, IsKept};
 
 use contents::Exact;
 use erhl_assert::{Fact, bare_name};
 use indexmap::IndexSet;
-use ir_core::{Atom, Expr, Expr0, Name, Reg};
+use ir_core::{Atom, Expr, Expr0, Name, Operand, Reg};
 use std::alloc::{AllocError, Global};
 
 #[tactic(auto, using(crate::proofs::Names::kept_same, crate::proofs::Names::kept_insert))]
@@ -34,6 +34,21 @@ fn add_atom(alloc: Global, atom: &Atom<Reg>, names: &mut IndexSet<Name>) -> Resu
     }
 }
 
+#[tactic(auto, using(crate::proofs::Names::kept_same, crate::proofs::Names::kept_then))]
+fn add_operands(
+    alloc: Global,
+    operands: &[Operand<Reg>],
+    names: &mut IndexSet<Name>,
+) -> Result<(), AllocError>
+    ensures ok { OnOk result (names.new.keys ≡ with_operands operands.now names.old.keys) }
+    ensures kept { IsKept names.old.keys names.new.keys }
+{
+    for operand in operands {
+        add_atom(alloc, &operand.atom, names)?;
+    }
+    Ok(())
+}
+
 #[tactic(auto, using(crate::proofs::Names::kept_then))]
 fn add_expr(alloc: Global, expr: &Expr0, names: &mut IndexSet<Name>) -> Result<(), AllocError>
     ensures ok { OnOk result (names.new.keys ≡ with_expr expr.now names.old.keys) }
@@ -56,6 +71,12 @@ fn add_expr(alloc: Global, expr: &Expr0, names: &mut IndexSet<Name>) -> Result<(
             add_atom(alloc, &select.left.atom, names)?;
             add_atom(alloc, &select.right.atom, names)
         }
+        Expr::Element(element) => {
+            let element = element.get();
+            add_atom(alloc, &element.base.atom, names)?;
+            add_operands(alloc, element.indices.as_slice(), names)
+        }
+        Expr::Load(load) => add_atom(alloc, &load.pointer.atom, names),
     }
 }
 

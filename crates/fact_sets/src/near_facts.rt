@@ -30,7 +30,7 @@ fn constant_name(constant: &Const) -> Name
 {
     match constant {
         Const::Number(number) => Name::Number((number.get() % (1 << 32)) as u32),
-        Const::Undef => Name::Number(0),
+        _ => Name::Number(0),
     }
 }
 

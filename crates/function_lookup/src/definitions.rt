@@ -1,5 +1,5 @@
 //! The registers that a function defines, with their types.
-ghost use Rattle.std.specs.Prelude.{◌≡◌, ◌++◌, map, IfOk, OnOk};
+ghost use Rattle.std.specs.Prelude.{◌≡◌, ◌++◌, [], ◌∷◌, map, IfOk, OnOk};
 ghost use Rattle.std.specs.List.{flat_map, list_any};
 ghost use Rattle.std.specs.Option.{option_eq};
 ghost use Rattle.ir_core.specs.Functions.{phi_registers, set_by, registers_of, typed_of};
@@ -9,7 +9,7 @@ ghost use Rattle.ir_core.specs.Types.{kind_of};
 ghost use Rattle.function_lookup.specs.Defining.{some_other_kind};
 
 use contents::Exact;
-use ir_core::{BitType, Block, Expr0, Function, Instr, Kind, Name, Param, Phi, Ty, kind_of};
+use ir_core::{BitType, Block, Call, Expr0, Function, Instr, Kind, Name, Param, Phi, Ty, kind_of};
 use line_align::{ByName, Named};
 use std::alloc::{AllocError, Global};
 use std::marker::Model;
@@ -83,13 +83,42 @@ fn note_phis<'a>(phis: &'a [Phi], found: &mut Vec<Definition<'a>>) -> Result<(),
     Ok(())
 }
 
+fn note_call<'a>(call: &'a Call, found: &mut Vec<Definition<'a>>) -> Result<(), AllocError>
+    ensures { OnOk result (found.new.items ≡ found.old.items ++ set_by (Instr.Call call.now ∷ [])) }
+{
+    if let Some(name) = &call.name {
+        found.push(defined(*found.allocator(), name, &call.result)?)?;
+    }
+    Ok(())
+}
+
+fn note_line<'a>(
+    bit: &BitType,
+    line: &'a Instr,
+    found: &mut Vec<Definition<'a>>,
+) -> Result<(), AllocError>
+    ensures { OnOk result (found.new.items ≡ found.old.items ++ set_by (line.now ∷ [])) }
+{
+    match line {
+        Instr::Calm(calm) => {
+            found.push(defined(*found.allocator(), &calm.name, calm.right.ty(bit))?)?
+        }
+        Instr::Alloca(alloca) => {
+            found.push(defined(*found.allocator(), &alloca.name, &alloca.to)?)?
+        }
+        Instr::Store(_) => {}
+        Instr::Call(call) => note_call(call.get(), found)?,
+    }
+    Ok(())
+}
+
+#[tactic(auto, using(ir_core::proofs::Lines::set_more))]
 fn note_lines<'a>(lines: &'a [Instr], found: &mut Vec<Definition<'a>>) -> Result<(), AllocError>
     ensures { OnOk result (found.new.items ≡ found.old.items ++ set_by lines.now) }
 {
     let bit = BitType::new();
     for line in lines {
-        let Instr::Calm(calm) = line;
-        found.push(defined(*found.allocator(), &calm.name, calm.right.ty(&bit))?)?;
+        note_line(&bit, line, found)?;
     }
     Ok(())
 }

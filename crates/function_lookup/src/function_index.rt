@@ -24,10 +24,11 @@ impl<'a> Model for IndexedBlock<'a> {
     ghost use Rattle.ir_core.specs.declared.functions.Block.{Block};
     ghost use Rattle.std.specs.Coded.{codes};
     ghost use Rattle.ir_types.specs.contracts.ty.Ty as ty;
+    ghost use Rattle.ir_core.specs.contracts.operands.Const as constant;
 
     ghost Value = { Block };
 
-    ghost coded = { Prim.hlevel (codes, ty.the_row.coded) };
+    ghost coded = { Prim.hlevel (codes, ty.the_row.coded, constant.the_row.coded) };
 
     ghost view = { λ it. it.block.now };
 
@@ -86,10 +87,11 @@ impl<'a> Model for FunctionParts<'a> {
     ghost use Rattle.ir_core.specs.Functions.{typed_of};
     ghost use Rattle.std.specs.Coded.{codes};
     ghost use Rattle.ir_types.specs.contracts.ty.Ty as ty;
+    ghost use Rattle.ir_core.specs.contracts.operands.Const as constant;
 
     ghost Value = { Function };
 
-    ghost coded = { Prim.hlevel (codes, ty.the_row.coded) };
+    ghost coded = { Prim.hlevel (codes, ty.the_row.coded, constant.the_row.coded) };
 
     ghost view = { λ it. it.defining.now };
 
@@ -156,10 +158,11 @@ impl<'b, 'a> Model for FunctionIndex<'b, 'a> {
     ghost use Rattle.ir_core.specs.Functions.{typed_of};
     ghost use Rattle.std.specs.Coded.{codes};
     ghost use Rattle.ir_types.specs.contracts.ty.Ty as ty;
+    ghost use Rattle.ir_core.specs.contracts.operands.Const as constant;
 
     ghost Value = { Function };
 
-    ghost coded = { Prim.hlevel (codes, ty.the_row.coded) };
+    ghost coded = { Prim.hlevel (codes, ty.the_row.coded, constant.the_row.coded) };
 
     ghost view = { λ it. it.defining.now };
 

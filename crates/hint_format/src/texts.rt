@@ -1,11 +1,14 @@
 //! The texts of a hint file: expressions and names.
 ghost use Rattle.std.specs.Prelude.{◌≡◌, codes, IfOk, Ok};
+ghost use Rattle.std.specs.List.{list_any};
 ghost use Rattle.std.specs.Option.{option_copied};
 ghost use Rattle.std.specs.Str.{bytes_eq};
 ghost use Rattle.expression_printer.specs.Printed.{printed_name};
 ghost use Rattle.json_forms.specs.Answers.{Answers};
 ghost use Rattle.json_forms.specs.Forms.{read_then};
+ghost use Rattle.ir_core.specs.declared.expressions.Reg.{Reg};
 ghost use Rattle.ir_core.specs.declared.expressions.Reg.TheVariants.{Now, Ghost};
+ghost use Rattle.ir_core.specs.declared.operands.Operand.{Operand};
 ghost use Rattle.ir_types.specs.declared.names.Sigil.TheVariants.{Local};
 ghost use Rattle.ir_core.specs.Expressions.{atom_has, expr_has};
 ghost use Rattle.erhl_assert.specs.Edges.{is_old};
@@ -13,7 +16,7 @@ ghost use Rattle.hint_format.specs.Form.{behind, expression_of_text, ghost_or_no
 ghost use Rattle.hint_format.specs.Reading.{expression_reading, failure_of, name_reading, read_leaves};
 
 use expression_printer::print_name;
-use ir_core::{Atom, Expr, Expr0, Name, Reg, Sigil};
+use ir_core::{Atom, Expr, Expr0, Name, Operand, Reg, Sigil};
 use ir_reader::{read_expr, read_name};
 use ir_spelling::TextFault;
 use json_forms::{Failure, Fault, TextForm, unfit};
@@ -60,6 +63,12 @@ fn is_old_atom(atom: &Atom<Reg>) -> bool
     }
 }
 
+fn operands_old(operands: &[Operand<Reg>]) -> bool
+    ensures { result ≡ list_any (λ (o : Operand Reg). atom_has is_old o.atom) operands.now }
+{
+    operands.iter().any(|operand| is_old_atom(&operand.atom))
+}
+
 /// Whether the expression names an old register.
 fn names_old(expression: &Expr0) -> bool
     ensures { result ≡ expr_has is_old expression.now }
@@ -75,6 +84,11 @@ fn names_old(expression: &Expr0) -> bool
                 || is_old_atom(&select.left.atom)
                 || is_old_atom(&select.right.atom)
         }
+        Expr::Element(element) => {
+            let element = element.get();
+            is_old_atom(&element.base.atom) || operands_old(element.indices.as_slice())
+        }
+        Expr::Load(load) => is_old_atom(&load.pointer.atom),
     }
 }
 

@@ -96,6 +96,8 @@ prints (expr.Binary b) writable = by_operator (expr.Binary b) tt writable
 prints (expr.Icmp c) writable = by_operator (expr.Icmp c) tt writable
 prints (expr.Cast c) writable = by_operator (expr.Cast c) tt writable
 prints (expr.Select s) writable = by_operator (expr.Select s) tt writable
+prints (expr.Element e) (typed, flags, writable) = absurd flags
+prints (expr.Load l) (typed, flags, writable) = absurd flags
 
 pub printed_expressions_are_read : PrintedExpressionsAreRead
 printed_expressions_are_read e writable =

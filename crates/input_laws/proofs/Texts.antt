@@ -2,7 +2,7 @@
 use Rattle.std.proofs.Common.{◌≡◌, ◌≢◌, ◌⊎◌, ⊎_elim, inl, inr, ℕ, ◌≤◌, List, [], ◌∷◌, ◌++◌, length, Option, None, Some, refl, ap}
 use Rattle.std.specs.List.{AllByRecursion}
 use Rattle.ir_core.specs.declared.functions.Function.{Function}
-use Rattle.ir_core.specs.declared.functions.Module.{Module}
+use Rattle.ir_core.specs.declared.modules.Module.{Module}
 use Rattle.ir_core.specs.Limits.{text_limit}
 use Rattle.ir_core.specs.Ranges.{AreBytes}
 use Rattle.ir_core.specs.WellFormed.{HasFunctionShape, IsFunctionDefined}

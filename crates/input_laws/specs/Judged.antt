@@ -1,7 +1,7 @@
 -- What is judged of a function, and of a text, is decided: it is as it must be, or something is first at fault in it.
 use Rattle.std.specs.Prelude.{◌≢◌, ◌⊎◌, ◌≤◌, ℕ, List, length}
 use Rattle.ir_core.specs.declared.functions.Function.{Function}
-use Rattle.ir_core.specs.declared.functions.Module.{Module}
+use Rattle.ir_core.specs.declared.modules.Module.{Module}
 use Rattle.ir_core.specs.Limits.{text_limit}
 use Rattle.ir_core.specs.Ranges.{AreBytes}
 use Rattle.ir_core.specs.WellFormed.{IsFunctionDefined}

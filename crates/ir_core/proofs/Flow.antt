@@ -103,6 +103,7 @@ before_range : (t : Term) → AllByRecursion IsOperandInRange (flat_map operands
     → AllByRecursion IsCaseInRange (flat_map (λ (b : Block). cases_of b.term) (before_return t).blocks) → IsInRange (alone (before_return t))
 before_range t operands cases = record {
   types = tt;
+  globals = refl;
   functions = (
     record {
       name = name_f;
@@ -113,9 +114,12 @@ before_range t operands cases = record {
       flags = tt;
       cases = cases;
       lines = omega arith;
+      linkage = refl;
+      extensions = (refl, tt);
     },
     tt,
   );
+  declarations = refl;
 }
 
 -- ---- jumps
@@ -126,6 +130,7 @@ to_known = (1, omega arith, refl)
 of_end_range : (t : Term) → operands_at_end t ≡ [] → cases_of t ≡ [] → IsInRange (alone (of_end t))
 of_end_range t operands cases = record {
   types = tt;
+  globals = refl;
   functions = (
     record {
       name = name_f;
@@ -136,9 +141,12 @@ of_end_range t operands cases = record {
       flags = tt;
       cases = subst (λ (cs : List Case). AllByRecursion IsCaseInRange (cs ++ [])) (sym cases) tt;
       lines = omega arith;
+      linkage = refl;
+      extensions = (refl, tt);
     },
     tt,
   );
+  declarations = refl;
 }
 
 of_end_defined : (t : Term) → operands_at_end t ≡ [] → IsDefined (alone (of_end t))
@@ -213,6 +221,7 @@ jumps_go_to_blocks = record {
 joining_range : (entries : List Entry) → AllByRecursion IsOperandInRange (flat_map operands_in_block (joining entries).blocks) → IsInRange (alone (joining entries))
 joining_range entries operands = record {
   types = tt;
+  globals = refl;
   functions = (
     record {
       name = name_f;
@@ -223,9 +232,12 @@ joining_range entries operands = record {
       flags = tt;
       cases = tt;
       lines = omega arith;
+      linkage = refl;
+      extensions = (refl, tt);
     },
     tt,
   );
+  declarations = refl;
 }
 
 -- entries of constants use no registers
@@ -249,8 +261,7 @@ both_alike d e first second same =
 
 abbrev number_in : Atom Name → ℕ
 number_in (Constant (constant.Number n)) = n
-number_in (Constant constant.Undef) = 0
-number_in (Register r) = 0
+number_in a = 0
 
 other_number : (m n : ℕ) → nat_eq m m ≡ true → nat_eq m n ≡ false → from_f m ≡ from_f n → ⊥
 other_number m n same other is =
@@ -419,6 +430,7 @@ paths_define = record {
         in_none z uses.2.0,
     record {
       types = tt;
+      globals = refl;
       functions = (
         record {
           name = name_f;
@@ -429,9 +441,12 @@ paths_define = record {
           flags = (refl, tt);
           cases = tt;
           lines = omega arith;
+          linkage = refl;
+          extensions = (refl, tt);
         },
         tt,
       );
+      declarations = refl;
     },
   );
   looping = record {
@@ -470,6 +485,7 @@ paths_define = record {
     defined = (each_path looping loop_lines loop_edges, tt);
     range = record {
       types = tt;
+      globals = refl;
       functions = (
         record {
           name = name_f;
@@ -480,9 +496,12 @@ paths_define = record {
           flags = tt;
           cases = tt;
           lines = omega arith;
+          linkage = refl;
+          extensions = (refl, tt);
         },
         tt,
       );
+      declarations = refl;
     };
   };
 }

@@ -1,9 +1,14 @@
+pub mod Constants
+pub mod Lines
+pub mod SameConstants
+pub mod SameInits
 pub mod SameLaws
 pub mod Widths
 pub mod WellFormed
 pub mod Shapes
 pub mod Operations
 pub mod Mapped
+pub mod MemoryExamples
 pub mod Flow
 pub mod TypeExamples
 pub mod TypeNames

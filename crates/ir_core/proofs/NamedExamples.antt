@@ -31,7 +31,9 @@ named_types_are_known = record {
     defined = tt;
     range = record {
       types = (record { name = name_x; fields = (refl, tt) }, (record { name = name_y; fields = (refl, tt) }, tt));
+      globals = refl;
       functions = tt;
+      declarations = refl;
     };
   };
   one_name = (
@@ -39,7 +41,9 @@ named_types_are_known = record {
     tt,
     record {
       types = (record { name = name_x; fields = (refl, tt) }, (record { name = name_x; fields = (refl, tt) }, tt));
+      globals = refl;
       functions = tt;
+      declarations = refl;
     },
   );
   known = record {

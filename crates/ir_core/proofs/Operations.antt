@@ -48,6 +48,7 @@ cast_defined op v w = (defined (of_cast op (Int v) (Int w)) _ [] refl refl ((tt,
 cast_range : (op : CastOp) (v w : ℕ) → is_width v ≡ true → fits 1 v ≡ true → is_width w ≡ true → IsInRange (alone (of_cast op (Int v) (Int w)))
 cast_range op v w width one to = record {
   types = tt;
+  globals = refl;
   functions = (
     record {
       name = name_f;
@@ -58,9 +59,12 @@ cast_range op v w width one to = record {
       flags = (tt, tt);
       cases = tt;
       lines = omega arith;
+      linkage = refl;
+      extensions = (refl, tt);
     },
     tt,
   );
+  declarations = refl;
 }
 
 cast_stands : (op : CastOp) (v w : ℕ) → converts op (Int v) (Int w) ≡ true → is_width v ≡ true → fits 1 v ≡ true → is_width w ≡ true
@@ -98,6 +102,7 @@ select_range : (c l r : ℕ) → is_width c ≡ true → fits 1 c ≡ true → i
     → IsInRange (alone (of_select (Int c) (Int l) (Int r)))
 select_range c l r c_width c_fits l_width l_fits r_width r_fits = record {
   types = tt;
+  globals = refl;
   functions = (
     record {
       name = name_f;
@@ -108,9 +113,12 @@ select_range c l r c_width c_fits l_width l_fits r_width r_fits = record {
       flags = (tt, tt);
       cases = tt;
       lines = omega arith;
+      linkage = refl;
+      extensions = (refl, tt);
     },
     tt,
   );
+  declarations = refl;
 }
 
 pub selections_have_one_type : SelectionsHaveOneType
@@ -176,6 +184,7 @@ comparisons_give_bits = record {
   defined = (defined compared _ [] refl refl ((tt, (tt, tt)), ((zero, omega arith, refl), tt)), tt);
   range = record {
     types = tt;
+    globals = refl;
     functions = (
       record {
         name = name_f;
@@ -186,9 +195,12 @@ comparisons_give_bits = record {
         flags = (tt, tt);
         cases = tt;
         lines = omega arith;
+        linkage = refl;
+        extensions = (refl, tt);
       },
       tt,
     );
+    declarations = refl;
   };
 }
 
@@ -224,6 +236,7 @@ flags_stand op flags h = record {
   defined = flags_defined op flags;
   range = record {
     types = tt;
+    globals = refl;
     functions = (
       record {
         name = name_f;
@@ -234,9 +247,12 @@ flags_stand op flags h = record {
         flags = (h, tt);
         cases = tt;
         lines = omega arith;
+        linkage = refl;
+        extensions = (refl, tt);
       },
       tt,
     );
+    declarations = refl;
   };
 }
 
@@ -262,6 +278,7 @@ nothing_defined ty = (defined (returning_nothing ty) _ [] refl refl tt, tt)
 nothing_range : (ty : Ty) → IsTypeInRange ty → IsInRange (alone (returning_nothing ty))
 nothing_range ty result = record {
   types = tt;
+  globals = refl;
   functions = (
     record {
       name = name_f;
@@ -272,9 +289,12 @@ nothing_range ty result = record {
       flags = tt;
       cases = tt;
       lines = omega arith;
+      linkage = refl;
+      extensions = (refl, tt);
     },
     tt,
   );
+  declarations = refl;
 }
 
 pub void_returns : VoidReturns

@@ -1,10 +1,9 @@
 -- The tests of specs/Same are true exactly of equal things: two laws for each. Where a test takes the test of its elements
 -- or registers, its laws take theirs.
-use Rattle.std.proofs.Common.{◌≡◌, ◌∙◌, ℕ, zero, suc, Bool, true, false, ◌&&◌, refl, sym, ap}
+use Rattle.std.proofs.Common.{◌≡◌, ◌∙◌, ℕ, zero, suc, Bool, true, false, ◌&&◌, List, Option, None, Some, refl, sym, ap}
+use Rattle.std.specs.Prelude.{nat_eq}
 use Rattle.ir_types.specs.declared.names.Name.{Name}
 use Rattle.ir_types.specs.declared.ty.Ty.{Ty}
-use Rattle.ir_core.specs.declared.operands.Const.{Const}
-use Rattle.ir_core.specs.declared.operands.Const.TheVariants as constant
 use Rattle.ir_core.specs.declared.operands.Atom.{Atom}
 use Rattle.ir_core.specs.declared.operands.Atom.TheVariants as atom
 use Rattle.ir_core.specs.declared.operands.Operand.{Operand}
@@ -21,32 +20,15 @@ use Rattle.ir_core.specs.declared.expressions.Binary.{Binary}
 use Rattle.ir_core.specs.declared.expressions.Icmp.{Icmp}
 use Rattle.ir_core.specs.declared.expressions.Cast.{Cast}
 use Rattle.ir_core.specs.declared.expressions.Select.{Select}
+use Rattle.ir_core.specs.declared.expressions.Element.{Element}
+use Rattle.ir_core.specs.declared.expressions.Load.{Load}
 use Rattle.ir_core.specs.declared.expressions.Expr.{Expr}
 use Rattle.ir_core.specs.declared.expressions.Expr.TheVariants as expr
-use Rattle.ir_types.specs.NameLaws.{left_true, right_true, all_true, same_nat_true, same_nat_refl, same_name_true, same_name_refl}
-use Rattle.ir_types.specs.Same.{same_name, same_ty}
+use Rattle.ir_types.specs.NameLaws.{left_true, right_true, all_true, same_list_true, same_list_refl, same_nat_true, same_nat_refl, same_name_true, same_name_refl}
+use Rattle.ir_types.specs.Same.{same_list, same_name, same_ty}
 use Rattle.ir_types.proofs.SameLaws.{same_ty_true, same_ty_refl}
-use Rattle.ir_core.specs.Same.{same_bool, same_const, same_atom, same_operand, op_code, same_op, cast_code, same_cast, pred_code, same_pred, same_flags, same_reg, same_binary, same_icmp, same_conversion, same_select, same_expr}
-
-pub same_bool_true : (a b : Bool) → same_bool a b ≡ true → a ≡ b
-same_bool_true true true h = refl
-same_bool_true true false h = cc
-same_bool_true false true h = cc
-same_bool_true false false h = refl
-
-pub same_bool_refl : (a : Bool) → same_bool a a ≡ true
-same_bool_refl true = refl
-same_bool_refl false = refl
-
-pub same_const_true : (a b : Const) → same_const a b ≡ true → a ≡ b
-same_const_true (constant.Number m) (constant.Number n) h = ap constant.Number (same_nat_true m n h)
-same_const_true constant.Undef constant.Undef h = refl
-same_const_true (constant.Number m) constant.Undef h = cc
-same_const_true constant.Undef (constant.Number n) h = cc
-
-pub same_const_refl : (a : Const) → same_const a a ≡ true
-same_const_refl (constant.Number n) = same_nat_refl n
-same_const_refl constant.Undef = refl
+pub use Rattle.ir_core.proofs.SameConstants.{same_bool_true, same_bool_refl, same_const_true, same_const_refl}
+use Rattle.ir_core.specs.Same.{same_bool, same_const, same_atom, same_operand, op_code, same_op, cast_code, same_cast, pred_code, same_pred, same_flags, same_reg, same_binary, same_icmp, same_conversion, same_select, same_align, same_element, same_load, same_expr}
 
 pub same_atom_true : {R : Type 0} (same : R → R → Bool) → ((a b : R) → same a b ≡ true → a ≡ b) → (a b : Atom R) → same_atom same a b ≡ true → a ≡ b
 same_atom_true same law (atom.Constant c) (atom.Constant d) h = ap atom.Constant (same_const_true c d h)
@@ -262,12 +244,63 @@ same_select_true {R = R} same law a b h =
 pub same_select_refl : {R : Type 0} (same : R → R → Bool) → ((a : R) → same a a ≡ true) → (a : Select R) → same_select same a a ≡ true
 same_select_refl same law a = all_true (all_true (same_operand_refl same law a.condition) (same_operand_refl same law a.left)) (same_operand_refl same law a.right)
 
+pub same_align_true : (a b : Option ℕ) → same_align a b ≡ true → a ≡ b
+same_align_true None None h = refl
+same_align_true (Some m) (Some n) h = ap Some (same_nat_true m n h)
+same_align_true None (Some n) h = cc
+same_align_true (Some m) None h = cc
+
+pub same_align_refl : (a : Option ℕ) → same_align a a ≡ true
+same_align_refl None = refl
+same_align_refl (Some n) = same_nat_refl n
+
+pub same_element_true : {R : Type 0} (same : R → R → Bool) → ((a b : R) → same a b ≡ true → a ≡ b) → (a b : Element R) → same_element same a b ≡ true → a ≡ b
+same_element_true {R = R} same law a b h =
+    let i = same_bool a.inbounds b.inbounds in
+    let t = same_ty a.of b.of in
+    let o = same_operand same a.base b.base in
+    let l = same_list (same_operand same) a.indices b.indices in
+    let r = same_ty a.to b.to in
+    let h1 : (i && t && o && l) ≡ true = left_true (i && t && o && l) r h in
+    let h2 : (i && t && o) ≡ true = left_true (i && t && o) l h1 in
+    let h3 : (i && t) ≡ true = left_true (i && t) o h2 in
+    let parts : ((a.inbounds, a.of, a.base, a.indices, a.to) ≡ (b.inbounds, b.of, b.base, b.indices, b.to)) = cc (
+      same_bool_true a.inbounds b.inbounds (left_true i t h3),
+      same_ty_true a.of b.of (right_true i t h3),
+      same_operand_true same law a.base b.base (right_true (i && t) o h2),
+      same_list_true (same_operand same) (same_operand_true same law) a.indices b.indices (right_true (i && t && o) l h1),
+      same_ty_true a.to b.to (right_true (i && t && o && l) r h),
+    ) in
+    ap (λ (p : Bool × Ty × Operand R × List (Operand R) × Ty). record { inbounds = p.0; of = p.1; base = p.2; indices = p.3; to = p.4 }) parts
+
+pub same_element_refl : {R : Type 0} (same : R → R → Bool) → ((a : R) → same a a ≡ true) → (a : Element R) → same_element same a a ≡ true
+same_element_refl same law a = all_true (all_true (all_true (all_true (same_bool_refl a.inbounds) (same_ty_refl a.of)) (same_operand_refl same law a.base))
+    (same_list_refl (same_operand same) (same_operand_refl same law) a.indices)) (same_ty_refl a.to)
+
+pub same_load_true : {R : Type 0} (same : R → R → Bool) → ((a b : R) → same a b ≡ true → a ≡ b) → (a b : Load R) → same_load same a b ≡ true → a ≡ b
+same_load_true {R = R} same law a b h =
+    let t = same_ty a.of b.of in
+    let o = same_operand same a.pointer b.pointer in
+    let n = same_align a.align b.align in
+    let h1 : (t && o) ≡ true = left_true (t && o) n h in
+    let parts : ((a.of, a.pointer, a.align) ≡ (b.of, b.pointer, b.align)) = cc (
+      same_ty_true a.of b.of (left_true t o h1),
+      same_operand_true same law a.pointer b.pointer (right_true t o h1),
+      same_align_true a.align b.align (right_true (t && o) n h),
+    ) in
+    ap (λ (p : Ty × Operand R × Option ℕ). record { of = p.0; pointer = p.1; align = p.2 }) parts
+
+pub same_load_refl : {R : Type 0} (same : R → R → Bool) → ((a : R) → same a a ≡ true) → (a : Load R) → same_load same a a ≡ true
+same_load_refl same law a = all_true (all_true (same_ty_refl a.of) (same_operand_refl same law a.pointer)) (same_align_refl a.align)
+
 pub same_expr_true : {R : Type 0} (same : R → R → Bool) → ((a b : R) → same a b ≡ true → a ≡ b) → (a b : Expr R) → same_expr same a b ≡ true → a ≡ b
 same_expr_true same law (expr.Plain a) (expr.Plain b) h = ap expr.Plain (same_operand_true same law a b h)
 same_expr_true same law (expr.Binary a) (expr.Binary b) h = ap expr.Binary (same_binary_true same law a b h)
 same_expr_true same law (expr.Icmp a) (expr.Icmp b) h = ap expr.Icmp (same_icmp_true same law a b h)
 same_expr_true same law (expr.Cast a) (expr.Cast b) h = ap expr.Cast (same_conversion_true same law a b h)
 same_expr_true same law (expr.Select a) (expr.Select b) h = ap expr.Select (same_select_true same law a b h)
+same_expr_true same law (expr.Element a) (expr.Element b) h = ap expr.Element (same_element_true same law a b h)
+same_expr_true same law (expr.Load a) (expr.Load b) h = ap expr.Load (same_load_true same law a b h)
 same_expr_true same law a b h = cc
 
 pub same_expr_refl : {R : Type 0} (same : R → R → Bool) → ((a : R) → same a a ≡ true) → (a : Expr R) → same_expr same a a ≡ true
@@ -276,6 +309,8 @@ same_expr_refl same law (expr.Binary a) = same_binary_refl same law a
 same_expr_refl same law (expr.Icmp a) = same_icmp_refl same law a
 same_expr_refl same law (expr.Cast a) = same_conversion_refl same law a
 same_expr_refl same law (expr.Select a) = same_select_refl same law a
+same_expr_refl same law (expr.Element a) = same_element_refl same law a
+same_expr_refl same law (expr.Load a) = same_load_refl same law a
 
 -- at the registers of functions, and at those of the logic
 pub same_name_atom_true : (a b : Atom Name) → same_atom same_name a b ≡ true → a ≡ b

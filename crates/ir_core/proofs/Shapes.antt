@@ -28,6 +28,7 @@ other_widths_are_not = (
   (defined other_width (block y [] (Int 32) (Register x)) [] refl refl ((zero, omega arith, refl), tt), tt),
   record {
     types = tt;
+    globals = refl;
     functions = (
       record {
         name = name_f;
@@ -38,9 +39,12 @@ other_widths_are_not = (
         flags = tt;
         cases = tt;
         lines = omega arith;
+        linkage = refl;
+        extensions = (refl, (refl, tt));
       },
       tt,
     );
+    declarations = refl;
   },
 )
 
@@ -53,6 +57,7 @@ other_results_are_not = (
   (defined other_result (block y [] (Int 64) (Register x)) [] refl refl ((zero, omega arith, refl), tt), tt),
   record {
     types = tt;
+    globals = refl;
     functions = (
       record {
         name = name_f;
@@ -63,9 +68,12 @@ other_results_are_not = (
         flags = tt;
         cases = tt;
         lines = omega arith;
+        linkage = refl;
+        extensions = (refl, (refl, tt));
       },
       tt,
     );
+    declarations = refl;
   },
 )
 
@@ -75,6 +83,7 @@ void_parameters_are_not = (
   (defined void_parameter (block y [] (Int 32) (number 0)) [] refl refl (tt, tt), tt),
   record {
     types = tt;
+    globals = refl;
     functions = (
       record {
         name = name_f;
@@ -85,9 +94,12 @@ void_parameters_are_not = (
         flags = tt;
         cases = tt;
         lines = omega arith;
+        linkage = refl;
+        extensions = (refl, (refl, tt));
       },
       tt,
     );
+    declarations = refl;
   },
 )
 
@@ -105,6 +117,7 @@ lines_without_operators_are_not = (
   (defined no_operator _ [] refl refl ((tt, tt), ((zero, omega arith, refl), tt)), tt),
   record {
     types = tt;
+    globals = refl;
     functions = (
       record {
         name = name_f;
@@ -115,9 +128,12 @@ lines_without_operators_are_not = (
         flags = (tt, tt);
         cases = tt;
         lines = omega arith;
+        linkage = refl;
+        extensions = (refl, tt);
       },
       tt,
     );
+    declarations = refl;
   },
 )
 
@@ -129,6 +145,7 @@ phis_of_no_edge_are_not = (
   (defined phi_of_no_edge _ [] refl refl ((zero, omega arith, refl), tt), tt),
   record {
     types = tt;
+    globals = refl;
     functions = (
       record {
         name = name_f;
@@ -139,9 +156,12 @@ phis_of_no_edge_are_not = (
         flags = tt;
         cases = tt;
         lines = omega arith;
+        linkage = refl;
+        extensions = (refl, tt);
       },
       tt,
     );
+    declarations = refl;
   },
 )
 
@@ -153,6 +173,7 @@ phis_of_nothing_are_not = (
   (defined phi_of_nothing _ [] refl refl ((zero, omega arith, refl), tt), tt),
   record {
     types = tt;
+    globals = refl;
     functions = (
       record {
         name = name_f;
@@ -163,9 +184,12 @@ phis_of_nothing_are_not = (
         flags = tt;
         cases = tt;
         lines = omega arith;
+        linkage = refl;
+        extensions = (refl, tt);
       },
       tt,
     );
+    declarations = refl;
   },
 )
 
@@ -181,6 +205,8 @@ returning_in_range name h = record {
   flags = tt;
   cases = tt;
   lines = omega arith;
+  linkage = refl;
+  extensions = (refl, tt);
 }
 
 returning_defined : (name : Name) → IsFunctionDefined (returning name)
@@ -190,7 +216,7 @@ pub functions_of_one_name_are_not : FunctionsOfOneNameAreNot
 functions_of_one_name_are_not = (
   λ shape. shape.names.1.0 (zero, omega arith, refl),
   (returning_defined f, (returning_defined f, tt)),
-  record { types = tt; functions = (returning_in_range f name_f, (returning_in_range f name_f, tt)) },
+  record { types = tt; globals = refl; functions = (returning_in_range f name_f, (returning_in_range f name_f, tt)); declarations = refl },
 )
 
 pub names_set_twice_are_not : NamesSetTwiceAreNot
@@ -199,6 +225,7 @@ names_set_twice_are_not = (
   (defined name_set_twice _ [] refl refl ((tt, (tt, tt)), ((tt, (tt, tt)), ((1, omega arith, refl), tt))), tt),
   record {
     types = tt;
+    globals = refl;
     functions = (
       record {
         name = name_f;
@@ -209,9 +236,12 @@ names_set_twice_are_not = (
         flags = (refl, (refl, tt));
         cases = tt;
         lines = omega arith;
+        linkage = refl;
+        extensions = (refl, tt);
       },
       tt,
     );
+    declarations = refl;
   },
 )
 
@@ -223,10 +253,12 @@ debug_names_are_not = (
   (returning_defined (Text (codes "llvm.dbg.value")), tt),
   record {
     types = tt;
+    globals = refl;
     functions = (
       returning_in_range (Text (codes "llvm.dbg.value")) (omega arith, (omega arith, (omega arith, (omega arith, (omega arith, (omega arith, (omega arith, (omega arith, (omega arith, (omega arith, (omega arith, (omega arith, (omega arith, (omega arith, (omega arith, tt))))))))))))))),
       tt,
     );
+    declarations = refl;
   },
 )
 
@@ -243,6 +275,7 @@ functions_without_blocks_are_not = (
   ),
   record {
     types = tt;
+    globals = refl;
     functions = (
       record {
         name = name_f;
@@ -253,8 +286,11 @@ functions_without_blocks_are_not = (
         flags = tt;
         cases = tt;
         lines = omega arith;
+        linkage = refl;
+        extensions = (refl, tt);
       },
       tt,
     );
+    declarations = refl;
   },
 )

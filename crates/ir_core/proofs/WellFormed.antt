@@ -71,6 +71,7 @@ two_blocks_are_well_formed = record {
   defined = (defined (function (Int 32) f (block x [] (Int 32) (number 0) ∷ block y [] (Int 32) (number 0) ∷ [])) (block x [] (Int 32) (number 0)) (block y [] (Int 32) (number 0) ∷ []) refl refl (tt, tt), tt);
   range = record {
     types = tt;
+    globals = refl;
     functions = (
       record {
         name = name_f;
@@ -81,9 +82,12 @@ two_blocks_are_well_formed = record {
         flags = tt;
         cases = tt;
         lines = omega arith;
+        linkage = refl;
+        extensions = (refl, tt);
       },
       tt,
     );
+    declarations = refl;
   };
 }
 
@@ -138,6 +142,7 @@ early_uses_are_not = (
       in_none y uses.0.0,
   record {
     types = tt;
+    globals = refl;
     functions = (
       record {
         name = name_f;
@@ -148,9 +153,12 @@ early_uses_are_not = (
         flags = (refl, (refl, tt));
         cases = tt;
         lines = omega arith;
+        linkage = refl;
+        extensions = (refl, tt);
       },
       tt,
     );
+    declarations = refl;
   },
 )
 

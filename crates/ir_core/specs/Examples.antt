@@ -6,7 +6,7 @@ use Rattle.ir_core.specs.declared.functions.Block.{Block}
 use Rattle.ir_core.specs.declared.functions.Function.{Function}
 use Rattle.ir_core.specs.declared.functions.Instr.{Instr}
 use Rattle.ir_core.specs.declared.functions.Instr.TheVariants as line
-use Rattle.ir_core.specs.declared.functions.Module.{Module}
+use Rattle.ir_core.specs.declared.modules.Module.{Module}
 use Rattle.ir_core.specs.declared.functions.Phi.{Phi}
 use Rattle.ir_core.specs.declared.functions.Entry.{Entry}
 use Rattle.ir_core.specs.declared.functions.Term.TheVariants.{Ret, RetVoid}
@@ -24,6 +24,7 @@ use Rattle.ir_core.specs.declared.operands.Flags.{Flags}
 use Rattle.ir_core.specs.declared.operands.Operand.{Operand}
 use Rattle.ir_core.specs.declared.operands.Pred.TheVariants.{Eq}
 use Rattle.ir_types.specs.declared.ty.Ty.{Ty, Int, Ptr, Array, Struct, Named, Void}
+use Rattle.ir_core.specs.Modules.{plain_function, plain_module, plain_param}
 
 abbrev pub number : ℕ → Atom Name
 number n = Constant (constant.Number n)
@@ -53,11 +54,11 @@ block name lines ty result = record { name = name; phis = []; body = lines; term
 
 -- define ty @name() { blocks }
 abbrev pub function : Ty → Name → List Block → Function
-function ty name blocks = record { name = name; result = ty; params = []; blocks = blocks }
+function ty name blocks = plain_function ty name [] blocks
 
 -- that function alone
 abbrev pub defining : Ty → Name → List Block → Module
-defining ty name blocks = record { types = []; functions = function ty name blocks ∷ [] }
+defining ty name blocks = plain_module [] (function ty name blocks ∷ [])
 
 -- define i32 @f() { x: ret i32 0  y: ret i32 0 }
 abbrev pub two_blocks : Module
@@ -88,12 +89,7 @@ phi name entries = record { name = name; ty = Int 32; entries = entries }
 
 -- define ty @f(in %x) { y: ret out result }
 abbrev pub passing : Ty → Ty → Ty → Atom Name → Function
-passing ty in_ty out_ty result = record {
-  name = f;
-  result = ty;
-  params = record { name = x; ty = in_ty } ∷ [];
-  blocks = block y [] out_ty result ∷ [];
-}
+passing ty in_ty out_ty result = plain_function ty f (plain_param in_ty x ∷ []) (block y [] out_ty result ∷ [])
 
 -- define i32 @f(i64 %x) { y: ret i32 %x }
 abbrev pub other_width : Function
@@ -142,11 +138,11 @@ abbrev pub debug_name : Function
 debug_name = returning (Text (codes "llvm.dbg.value"))
 
 abbrev pub alone : Function → Module
-alone g = record { types = []; functions = g ∷ [] }
+alone g = plain_module [] (g ∷ [])
 
 -- that function twice
 abbrev pub two_of_one_name : Module
-two_of_one_name = record { types = []; functions = returning f ∷ returning f ∷ [] }
+two_of_one_name = plain_module [] (returning f ∷ returning f ∷ [])
 
 -- ---- of named types alone
 
@@ -155,7 +151,7 @@ abbrev pub struct : Name → List Ty → NamedTy
 struct name fields = record { name = name; fields = Some fields }
 
 abbrev pub naming : List NamedTy → Module
-naming types = record { types = types; functions = [] }
+naming types = plain_module types []
 
 -- %x = type { i32, %y* }  %y = type { %x, %f* }  %f = type opaque
 abbrev pub three_types : Module

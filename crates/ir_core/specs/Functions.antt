@@ -1,13 +1,14 @@
 -- What functions define, use and lead to: the names and types of registers, the operands of lines, the successors of blocks.
-use Rattle.std.specs.Prelude.{◌+◌, ℕ, Bool, false, List, [], ◌∷◌, ◌++◌, length, map, nat_eq, codes, Option, Some}
+use Rattle.std.specs.Prelude.{◌+◌, ℕ, Bool, false, List, [], ◌∷◌, ◌++◌, length, map, nat_eq, codes, Option, None, Some}
 use Rattle.std.specs.List.{filter, filter_map, flat_map, starts_with, sum_by}
+use Rattle.ir_core.specs.declared.functions.Argument.{Argument}
 use Rattle.ir_core.specs.declared.functions.Block.{Block}
 use Rattle.ir_core.specs.declared.functions.Case.{Case}
 use Rattle.ir_core.specs.declared.functions.Entry.{Entry}
 use Rattle.ir_core.specs.declared.functions.Function.{Function}
 use Rattle.ir_core.specs.declared.functions.Instr.{Instr}
 use Rattle.ir_core.specs.declared.functions.Instr.TheVariants as instr
-use Rattle.ir_core.specs.declared.functions.Module.{Module}
+use Rattle.ir_core.specs.declared.modules.Module.{Module}
 use Rattle.ir_core.specs.declared.functions.Param.{Param}
 use Rattle.ir_core.specs.declared.functions.Phi.{Phi}
 use Rattle.ir_core.specs.declared.functions.Term.{Term}
@@ -15,15 +16,34 @@ use Rattle.ir_core.specs.declared.functions.Term.TheVariants as term
 use Rattle.ir_types.specs.declared.names.Name.{Name}
 use Rattle.ir_types.specs.declared.names.Name.TheVariants.{Text, Number}
 use Rattle.ir_core.specs.declared.operands.Operand.{Operand}
-use Rattle.ir_types.specs.declared.ty.Ty.{Ty}
+use Rattle.ir_types.specs.declared.ty.Ty.{Ty, Void}
 use Rattle.ir_core.specs.Expressions.{operands_in, type_of}
 use Rattle.ir_types.specs.Same.{same_name}
 
 -- ---- registers
 
+-- the name of the register that a line sets, if it sets one
+abbrev pub name_set : Instr → Option Name
+name_set (instr.Calm c) = Some c.name
+name_set (instr.Alloca a) = Some a.name
+name_set (instr.Store s) = None
+name_set (instr.Call c) = c.name
+
+-- the type of what a line gives: an alloca's is kept beside it, and a store gives nothing
+abbrev pub type_set : Instr → Ty
+type_set (instr.Calm c) = type_of c.right
+type_set (instr.Alloca a) = a.to
+type_set (instr.Store s) = Void
+type_set (instr.Call c) = c.result
+
+-- a register of that type, where there is a name for it
+abbrev pub named_register : Ty → Option Name → Option (Name × Ty)
+named_register t None = None
+named_register t (Some name) = Some (name, t)
+
 -- the register that a line sets, with its type, if it sets one
 abbrev pub register_of : Instr → Option (Name × Ty)
-register_of (instr.Calm c) = Some (c.name, type_of c.right)
+register_of line = named_register (type_set line) (name_set line)
 
 abbrev pub set_by : List Instr → List (Name × Ty)
 set_by = filter_map register_of
@@ -69,6 +89,9 @@ is_debug (Number n) = false
 
 abbrev pub operands_of : Instr → List (Operand Name)
 operands_of (instr.Calm c) = operands_in c.right
+operands_of (instr.Alloca a) = []
+operands_of (instr.Store s) = s.value ∷ s.pointer ∷ []
+operands_of (instr.Call c) = map (λ (a : Argument). a.operand) c.arguments
 
 abbrev pub operands_at_end : Term → List (Operand Name)
 operands_at_end (term.Ret operand) = operand ∷ []

@@ -1,5 +1,5 @@
 -- Which modules are well-formed.
-use Rattle.ir_core.specs.declared.functions.Module.{Module}
+use Rattle.ir_core.specs.declared.modules.Module.{Module}
 use Rattle.std.specs.Prelude.{◌≡◌, false, true, [], ◌∷◌, map}
 use Rattle.ir_core.specs.declared.expressions.Expr.{Expr}
 use Rattle.ir_core.specs.declared.expressions.Reg.{Reg}

@@ -15,3 +15,4 @@ pub mod Laws
 pub mod FlowExamples
 pub mod FlowLaws
 pub mod TypeLaws
+pub mod MemoryLaws

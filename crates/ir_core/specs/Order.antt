@@ -1,7 +1,7 @@
 -- How names stand in order (LangRef 3.7, Identifiers): each is defined once, and the unnamed ones are counted in order of appearance.
 use Rattle.std.specs.Prelude.{◌≡◌, ℕ, ◌+◌, List, [], ◌∷◌, ◌++◌}
 use Rattle.std.specs.List.{AllByRecursion, Contains}
-use Rattle.ir_core.specs.declared.functions.Module.{Module}
+use Rattle.ir_core.specs.declared.modules.Module.{Module}
 use Rattle.ir_types.specs.declared.names.Name.{Name}
 use Rattle.ir_types.specs.declared.names.Name.TheVariants.{Text, Number}
 use Rattle.ir_core.specs.Functions.{function_names, names_of}

@@ -1,5 +1,5 @@
 -- The ranges of names, types, constants, flags, cases and lines within which text can write them; the types of the syntax tree hold more.
-use Rattle.std.specs.Prelude.{◌≡◌, ℕ, ◌<◌, ◌≤◌, ◌^◌, Bool, true, false, not, ◌&&◌, ◌||◌, List, length}
+use Rattle.std.specs.Prelude.{◌≡◌, ℕ, ◌<◌, ◌≤◌, ◌^◌, Bool, true, false, not, ◌&&◌, ◌||◌, List, [], length}
 use Rattle.std.specs.List.{AllByRecursion, flat_map}
 use Rattle.ir_core.specs.declared.expressions.Expr.{Expr}
 use Rattle.ir_core.specs.declared.expressions.Expr.TheVariants as expr
@@ -8,7 +8,9 @@ use Rattle.ir_core.specs.declared.functions.Case.{Case}
 use Rattle.ir_core.specs.declared.functions.Function.{Function}
 use Rattle.ir_core.specs.declared.functions.Instr.{Instr}
 use Rattle.ir_core.specs.declared.functions.Instr.TheVariants as instr
-use Rattle.ir_core.specs.declared.functions.Module.{Module}
+use Rattle.ir_core.specs.declared.functions.Extensions.{Extensions}
+use Rattle.ir_core.specs.declared.modules.Linkage.TheVariants as linkage
+use Rattle.ir_core.specs.declared.modules.Module.{Module}
 use Rattle.ir_types.specs.declared.named.NamedTy.{NamedTy}
 use Rattle.ir_types.specs.declared.names.Name.{Name}
 use Rattle.ir_types.specs.declared.names.Name.TheVariants.{Text, Number}
@@ -24,6 +26,7 @@ use Rattle.ir_types.specs.declared.ty.Ty.TheVariants as ty
 use Rattle.ir_types.specs.Named.{fields_or_none}
 use Rattle.ir_core.specs.Functions.{cases_of, line_count, names_of, operands_in_block, typed_of}
 use Rattle.ir_core.specs.Limits.{line_limit}
+use Rattle.ir_core.specs.Modules.{extensions_of, not_extended}
 use Rattle.ir_core.specs.Types.{constant_fits, is_width}
 
 abbrev pub AreBytes : List ℕ → Type 0
@@ -40,7 +43,7 @@ IsTypeInRange (ty.Int width) = is_width width ≡ true
 IsTypeInRange ty.Void = Unit {0}
 IsTypeInRange t = ⊥
 
--- A number has no more bits than its type: 255 is one of `i8`, 256 is none.
+-- A number has no more bits than its type: 255 is one of `i8`, 256 is none. No text writes a constant yet that is neither a number nor undef.
 abbrev pub IsAtomInRange : {R : Type 0} → Ty → Atom R → Type 0
 IsAtomInRange t (Constant c) = constant_fits t c ≡ true
 IsAtomInRange t (Register r) = Unit {0}
@@ -68,17 +71,23 @@ may_leave op = false
 abbrev pub may_have : BinOp → Flags → Bool
 may_have op flags = (not flags.nuw || may_wrap op) && (not flags.nsw || may_wrap op) && (not flags.exact || may_leave op)
 
+-- An operator has flags that it may have. No text writes an element or a load yet.
 abbrev pub AreFlagsInRange : {R : Type 0} → Expr R → Type 0
 AreFlagsInRange (expr.Binary b) = may_have b.op b.flags ≡ true
+AreFlagsInRange (expr.Element e) = ⊥
+AreFlagsInRange (expr.Load l) = ⊥
 AreFlagsInRange e = Unit {0}
 
+-- no text writes an alloca, a store or a call yet
 abbrev pub IsLineInRange : Instr → Type 0
 IsLineInRange (instr.Calm c) = AreFlagsInRange c.right
+IsLineInRange line = ⊥
 
 -- a case's number has no more bits than its type
 abbrev pub IsCaseInRange : Case → Type 0
 IsCaseInRange c = IsTypeInRange c.ty × (constant_fits c.ty (constant.Number c.number) ≡ true)
 
+-- No text writes a linkage yet, nor what widens a parameter or a result.
 pub record IsFunctionInRange (f : Function) : Type 0 where
   pub name : IsNameInRange f.name
   pub names : AllByRecursion IsNameInRange (names_of f)
@@ -88,12 +97,17 @@ pub record IsFunctionInRange (f : Function) : Type 0 where
   pub flags : AllByRecursion IsLineInRange (flat_map (λ (b : Block). b.body) f.blocks)
   pub cases : AllByRecursion IsCaseInRange (flat_map (λ (b : Block). cases_of b.term) f.blocks)
   pub lines : line_count f ≤ line_limit
+  pub linkage : f.linkage ≡ linkage.External
+  pub extensions : AllByRecursion (λ (e : Extensions). e ≡ not_extended) (extensions_of f)
 
 -- a named type has a name, and fields whose types are in range
 pub record IsNamedTypeInRange (t : NamedTy) : Type 0 where
   pub name : IsNameInRange t.name
   pub fields : AllByRecursion IsTypeInRange (fields_or_none t.fields)
 
+-- no text writes a global or a declaration yet
 pub record IsInRange (m : Module) : Type 0 where
   pub types : AllByRecursion IsNamedTypeInRange m.types
+  pub globals : m.globals ≡ []
   pub functions : AllByRecursion IsFunctionInRange m.functions
+  pub declarations : m.declarations ≡ []

@@ -1,9 +1,12 @@
 -- Whether two parts of a syntax tree are the same, as tests that compute. Each is true exactly of equal things, which is
 -- the contract of `tests_are_equality`.
-use Rattle.std.specs.Prelude.{ℕ, Bool, true, false, ◌&&◌, nat_eq}
-use Rattle.ir_types.specs.Same.{same_name, same_ty}
-use Rattle.ir_core.specs.declared.operands.Const.{Const}
-use Rattle.ir_core.specs.declared.operands.Const.TheVariants as constant
+use Rattle.std.specs.Prelude.{ℕ, Bool, true, false, ◌&&◌, List, [], ◌∷◌, Option, None, Some, nat_eq}
+use Rattle.ir_types.specs.declared.names.Name.{Name}
+use Rattle.ir_types.specs.declared.ty.Ty.{Ty}
+use Rattle.ir_types.specs.Same.{same_list, same_name, same_ty}
+use Rattle.ir_core.specs.declared.operands.Const.{Const, Number, Undef, Null, Global, out-Const, fold-Const}
+use Rattle.ir_core.specs.declared.operands.Const.TheOpen.{Const-F}
+use Rattle.ir_core.specs.declared.operands.Const.TheOpen as constant
 use Rattle.ir_core.specs.declared.operands.Atom.{Atom}
 use Rattle.ir_core.specs.declared.operands.Atom.TheVariants as atom
 use Rattle.ir_core.specs.declared.operands.Operand.{Operand}
@@ -20,6 +23,8 @@ use Rattle.ir_core.specs.declared.expressions.Binary.{Binary}
 use Rattle.ir_core.specs.declared.expressions.Icmp.{Icmp}
 use Rattle.ir_core.specs.declared.expressions.Cast.{Cast}
 use Rattle.ir_core.specs.declared.expressions.Select.{Select}
+use Rattle.ir_core.specs.declared.expressions.Element.{Element}
+use Rattle.ir_core.specs.declared.expressions.Load.{Load}
 use Rattle.ir_core.specs.declared.expressions.Expr.{Expr}
 use Rattle.ir_core.specs.declared.expressions.Expr.TheVariants as expr
 
@@ -28,11 +33,50 @@ same_bool true b = b
 same_bool false true = false
 same_bool false false = true
 
+-- constants behind their types are the same where each is the same as the one at its place
+abbrev pub same_typed : List (Ty × (Const → Bool)) → List (Ty × Const) → Bool
+same_typed [] [] = true
+same_typed (test ∷ rest) (c ∷ cs) = same_ty test.0 c.0 && test.1 c.1 && same_typed rest cs
+same_typed [] (c ∷ cs) = false
+same_typed (test ∷ rest) [] = false
+
+-- One level of a constant, with the test of each part in its place, and one level of another.
+abbrev pub same_const_level : Const-F (Const → Bool) → Const-F Const → Bool
+same_const_level (constant.Number m) (constant.Number n) = nat_eq m n
+same_const_level constant.Undef constant.Undef = true
+same_const_level constant.Null constant.Null = true
+same_const_level (constant.Global x) (constant.Global y) = same_name x y
+same_const_level (constant.Element a) (constant.Element b) = same_bool a.0 b.0 && same_ty a.1 b.1 && same_typed a.2 b.2
+same_const_level (constant.Cast a) (constant.Cast b) = same_ty a.0 b.0 && same_typed a.1 b.1
+same_const_level a b = false
+
+-- part by part
+abbrev pub same_const_parts : Const → Const → Bool
+same_const_parts = fold-Const (Const → Bool) (λ level c. same_const_level level (out-Const c))
+
+abbrev pub is_number : ℕ → Const → Bool
+is_number m (Number n) = nat_eq m n
+is_number m c = false
+
+abbrev pub is_undef : Const → Bool
+is_undef Undef = true
+is_undef c = false
+
+abbrev pub is_null : Const → Bool
+is_null Null = true
+is_null c = false
+
+abbrev pub is_global : Name → Const → Bool
+is_global x (Global y) = same_name x y
+is_global x c = false
+
+-- A constant without parts is the same as one of its kind alone, of its number or its name; others are so where each part is.
 abbrev pub same_const : Const → Const → Bool
-same_const (constant.Number m) (constant.Number n) = nat_eq m n
-same_const constant.Undef constant.Undef = true
-same_const (constant.Number m) constant.Undef = false
-same_const constant.Undef (constant.Number n) = false
+same_const (Number m) c = is_number m c
+same_const Undef c = is_undef c
+same_const Null c = is_null c
+same_const (Global x) c = is_global x c
+same_const c d = same_const_parts c d
 
 -- registers are compared by the test that is given
 abbrev pub same_atom : {R : Type 0} → (R → R → Bool) → Atom R → Atom R → Bool
@@ -116,10 +160,26 @@ abbrev pub same_select : {R : Type 0} → (R → R → Bool) → Select R → Se
 same_select same a b =
     same_operand same a.condition b.condition && same_operand same a.left b.left && same_operand same a.right b.right
 
+abbrev pub same_align : Option ℕ → Option ℕ → Bool
+same_align None None = true
+same_align (Some m) (Some n) = nat_eq m n
+same_align None (Some n) = false
+same_align (Some m) None = false
+
+abbrev pub same_element : {R : Type 0} → (R → R → Bool) → Element R → Element R → Bool
+same_element same a b =
+    same_bool a.inbounds b.inbounds && same_ty a.of b.of && same_operand same a.base b.base
+    && same_list (same_operand same) a.indices b.indices && same_ty a.to b.to
+
+abbrev pub same_load : {R : Type 0} → (R → R → Bool) → Load R → Load R → Bool
+same_load same a b = same_ty a.of b.of && same_operand same a.pointer b.pointer && same_align a.align b.align
+
 abbrev pub same_expr : {R : Type 0} → (R → R → Bool) → Expr R → Expr R → Bool
 same_expr same (expr.Plain a) (expr.Plain b) = same_operand same a b
 same_expr same (expr.Binary a) (expr.Binary b) = same_binary same a b
 same_expr same (expr.Icmp a) (expr.Icmp b) = same_icmp same a b
 same_expr same (expr.Cast a) (expr.Cast b) = same_conversion same a b
 same_expr same (expr.Select a) (expr.Select b) = same_select same a b
+same_expr same (expr.Element a) (expr.Element b) = same_element same a b
+same_expr same (expr.Load a) (expr.Load b) = same_load same a b
 same_expr same a b = false

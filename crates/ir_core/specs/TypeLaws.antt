@@ -5,6 +5,7 @@ use Rattle.ir_core.specs.declared.functions.Function.{Function}
 use Rattle.ir_core.specs.declared.functions.Term.TheVariants.{Unreachable}
 use Rattle.ir_core.specs.declared.values.Kind.TheVariants as kind
 use Rattle.ir_core.specs.Examples.{alone, f, linked_type, nameless_type, passing, number, three_types, two_types, type_in_itself, types_of_one_name, unknown_type, wide_field, x}
+use Rattle.ir_core.specs.Modules.{plain_function}
 use Rattle.ir_core.specs.Ranges.{IsInRange}
 use Rattle.ir_core.specs.Types.{kind_of}
 use Rattle.ir_core.specs.Laws.{LacksShapeAlone}
@@ -24,7 +25,7 @@ pub record IntegersHaveKinds : Type 0 where
 
 -- define ty @f() { f: unreachable }
 abbrev pub never_returning : Ty → Function
-never_returning ty = record { name = f; result = ty; params = []; blocks = record { name = f; phis = []; body = []; term = Unreachable } ∷ [] }
+never_returning ty = plain_function ty f [] (record { name = f; phis = []; body = []; term = Unreachable } ∷ [])
 
 -- no parameter is a pointer or an array, nothing of a named type is returned, and no function has a pointer for its result
 pub record OtherTypesAreNot : Type 0 where

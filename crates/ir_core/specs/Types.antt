@@ -23,7 +23,7 @@ abbrev pub number_at : Ty → ℕ → ℕ
 number_at (ty.Int width) n = n % 2 ^ width
 number_at t n = n
 
--- the constant is one of the type's values, or undef
+-- the constant is one of the type's values, or undef; other types than integers have none yet
 abbrev pub constant_fits : Ty → Const → Bool
 constant_fits (ty.Int width) (constant.Number n) = fits n width
 constant_fits (ty.Int width) constant.Undef = true

@@ -9,7 +9,7 @@ use Rattle.ir_core.specs.declared.functions.Entry.{Entry}
 use Rattle.ir_core.specs.declared.functions.Function.{Function}
 use Rattle.ir_core.specs.declared.functions.Instr.{Instr}
 use Rattle.ir_core.specs.declared.functions.Instr.TheVariants as instr
-use Rattle.ir_core.specs.declared.functions.Module.{Module}
+use Rattle.ir_core.specs.declared.modules.Module.{Module}
 use Rattle.ir_core.specs.declared.functions.Phi.{Phi}
 use Rattle.ir_core.specs.declared.functions.Term.{Term}
 use Rattle.ir_core.specs.declared.functions.Term.TheVariants as term
@@ -43,16 +43,20 @@ IsInteger (ty.Int width) = Unit {0}
 IsInteger t = ⊥
 
 -- An operator over operands of types that it takes, and no operand alone: a binary one and `icmp` take integers, and `select` takes
--- an i1 and two arms of one type.
+-- an i1 and two arms of one type. No module has an element or a load yet.
 abbrev pub IsOperator : {R : Type 0} → Expr R → Type 0
 IsOperator (expr.Plain o) = ⊥
 IsOperator (expr.Binary b) = IsInteger b.ty
 IsOperator (expr.Icmp c) = IsInteger c.ty
 IsOperator (expr.Cast c) = converts c.op c.operand.ty c.to ≡ true
 IsOperator (expr.Select s) = (s.condition.ty ≡ ty.Int 1) × (s.left.ty ≡ s.right.ty)
+IsOperator (expr.Element e) = ⊥
+IsOperator (expr.Load l) = ⊥
 
+-- no module has an alloca, a store or a call yet
 abbrev pub SetsByOperator : Instr → Type 0
 SetsByOperator (instr.Calm c) = IsOperator c.right
+SetsByOperator line = ⊥
 
 -- what is returned is of the function's result type, and nothing is where that is void
 abbrev pub Returns : Ty → Term → Type 0

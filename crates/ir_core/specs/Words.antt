@@ -1,5 +1,7 @@
 -- The words of the language, which the grammar and printing share (LangRef 3.7).
 use Rattle.std.specs.Prelude.{ℕ, List, codes}
+use Rattle.ir_core.specs.declared.modules.Linkage.{Linkage}
+use Rattle.ir_core.specs.declared.modules.Linkage.TheVariants.{External, Private, Internal, Common, AvailableExternally, LinkonceOdr, WeakOdr}
 use Rattle.ir_core.specs.declared.operands.BinOp.{BinOp}
 use Rattle.ir_core.specs.declared.operands.BinOp.TheVariants.{Add, Sub, Mul, Shl, UDiv, SDiv, LShr, AShr, URem, SRem, And, Or, Xor}
 use Rattle.ir_core.specs.declared.operands.CastOp.{CastOp}
@@ -11,6 +13,23 @@ use Rattle.ir_core.specs.declared.operands.Pred.TheVariants.{Eq, Ne, Ugt, Uge, U
 
 abbrev pub define_word : List ℕ
 define_word = codes "define"
+
+-- the word of a linkage; the one that a definition has without a word is that of a global which another module defines (Linkage Types)
+abbrev pub linkage_word : Linkage → List ℕ
+linkage_word External = codes "external"
+linkage_word Private = codes "private"
+linkage_word Internal = codes "internal"
+linkage_word Common = codes "common"
+linkage_word AvailableExternally = codes "available_externally"
+linkage_word LinkonceOdr = codes "linkonce_odr"
+linkage_word WeakOdr = codes "weak_odr"
+
+-- how parameters and results are made wider (Parameter Attributes)
+abbrev pub signext_word : List ℕ
+signext_word = codes "signext"
+
+abbrev pub zeroext_word : List ℕ
+zeroext_word = codes "zeroext"
 
 -- ---- types (Type System)
 
@@ -30,6 +49,9 @@ true_word = codes "true"
 
 abbrev pub undef_word : List ℕ
 undef_word = codes "undef"
+
+abbrev pub null_word : List ℕ
+null_word = codes "null"
 
 -- ---- instructions (Binary Operations, Bitwise Binary Operations, Conversion Operations, Other Operations, Terminator Instructions)
 
@@ -90,6 +112,22 @@ pred_word Sle = codes "sle"
 
 abbrev pub select_word : List ℕ
 select_word = codes "select"
+
+-- ---- memory (Memory Access and Addressing Operations)
+
+abbrev pub getelementptr_word : List ℕ
+getelementptr_word = codes "getelementptr"
+
+-- no address outside of what is pointed into
+abbrev pub inbounds_word : List ℕ
+inbounds_word = codes "inbounds"
+
+abbrev pub load_word : List ℕ
+load_word = codes "load"
+
+-- before the bytes of an alignment
+abbrev pub align_word : List ℕ
+align_word = codes "align"
 
 abbrev pub ret_word : List ℕ
 ret_word = codes "ret"

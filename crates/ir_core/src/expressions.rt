@@ -1,8 +1,9 @@
 ghost use Rattle.std.specs.Prelude.{◌≡◌};
 ghost use Rattle.ir_core.specs.Expressions.{type_of};
 
+use crate::operands::is_align;
 use crate::{Atom, BinOp, BitType, CastOp, Flags, Name, Operand, Pred, Ty};
-use contents::{Boxed, Exact};
+use contents::{Boxed, Exact, Seq};
 use std::alloc::{AllocError, Global};
 
 /// A register of the logic (Crellvm): as the function has it now, as it was before the edge that is being
@@ -24,13 +25,16 @@ impl Drop for Reg {
 }
 
 /// The right side of a line, or an expression of the logic, over the registers that it names: one operand, or one
-/// operator over operands. No text has a line of one operand alone. A selection is boxed, so that the others take no more room than they need.
+/// operator over operands. No text has a line of one operand alone. A selection and an element are boxed, so that the others take no more
+/// room than they need.
 pub enum Expr<R> {
     Plain(Operand<R>),
     Binary(Binary<R>),
     Icmp(Icmp<R>),
     Cast(Cast<R>),
     Select(Boxed<Select<R>>),
+    Element(Boxed<Element<R>>),
+    Load(Load<R>),
 }
 
 impl<R: Drop> Drop for Expr<R> {
@@ -41,13 +45,15 @@ impl<R: Drop> Drop for Expr<R> {
             Expr::Icmp(_) => {}
             Expr::Cast(_) => {}
             Expr::Select(_) => {}
+            Expr::Element(_) => {}
+            Expr::Load(_) => {}
         }
     }
 }
 
 impl<R> Expr<R> {
     /// The type of what it gives, as the text states it: a comparison's is `i1`, a conversion's the one that stands behind `to`, a
-    /// selection's that of its first arm.
+    /// selection's that of its first arm, and a load's the one that stands first; an element's, which no text states, is kept beside it.
     pub fn ty<'a>(&'a self, bit: &'a BitType) -> &'a Ty
         ensures { result.now ≡ type_of self.now }
     {
@@ -57,6 +63,8 @@ impl<R> Expr<R> {
             Expr::Icmp(_) => bit.get(),
             Expr::Cast(cast) => &cast.to,
             Expr::Select(select) => &select.get().left.ty,
+            Expr::Element(element) => &element.get().to,
+            Expr::Load(load) => &load.of,
         }
     }
 }
@@ -134,6 +142,47 @@ impl<R: Drop> Drop for Select<R> {
             condition: _,
             left: _,
             right: _,
+        } = self;
+    }
+}
+
+/// `getelementptr inbounds of, base, indices`: the address of a part, from the address of the base on (LangRef 3.7, getelementptr
+/// Instruction).
+pub struct Element<R> {
+    pub inbounds: bool,
+    pub of: Ty,
+    pub base: Operand<R>,
+    pub indices: Seq<Operand<R>>,
+    /// The type of what it gives, which no text states: the indices lead to it through `of`, and through the types that the module names.
+    pub to: Ty,
+}
+
+impl<R: Drop> Drop for Element<R> {
+    fn drop(self) {
+        let Element {
+            inbounds: _,
+            of: _,
+            base: _,
+            indices: _,
+            to: _,
+        } = self;
+    }
+}
+
+/// `load of, pointer, align N` (LangRef 3.7, load Instruction). The alignment is kept as it is read; an expression of the logic has one
+/// always.
+pub struct Load<R> {
+    pub of: Ty,
+    pub pointer: Operand<R>,
+    pub align: Option<u32>,
+}
+
+impl<R: Drop> Drop for Load<R> {
+    fn drop(self) {
+        let Load {
+            of: _,
+            pointer: _,
+            align: _,
         } = self;
     }
 }
@@ -225,6 +274,42 @@ impl<R: Exact> Exact for Select<R> {
     }
 }
 
+impl<R: Exact> Exact for Element<R> {
+    fn is(&self, other: &Element<R>) -> bool {
+        self.inbounds == other.inbounds
+            && self.of.is(&other.of)
+            && self.base.is(&other.base)
+            && self.indices.is(&other.indices)
+            && self.to.is(&other.to)
+    }
+
+    fn copy(&self, alloc: Global) -> Result<Element<R>, AllocError> {
+        Ok(Element {
+            inbounds: self.inbounds,
+            of: self.of.copy(alloc)?,
+            base: self.base.copy(alloc)?,
+            indices: self.indices.copy(alloc)?,
+            to: self.to.copy(alloc)?,
+        })
+    }
+}
+
+impl<R: Exact> Exact for Load<R> {
+    fn is(&self, other: &Load<R>) -> bool {
+        self.of.is(&other.of)
+            && self.pointer.is(&other.pointer)
+            && is_align(self.align, other.align)
+    }
+
+    fn copy(&self, alloc: Global) -> Result<Load<R>, AllocError> {
+        Ok(Load {
+            of: self.of.copy(alloc)?,
+            pointer: self.pointer.copy(alloc)?,
+            align: self.align,
+        })
+    }
+}
+
 impl<R: Exact> Exact for Expr<R> {
     fn is(&self, other: &Expr<R>) -> bool {
         match (self, other) {
@@ -233,6 +318,8 @@ impl<R: Exact> Exact for Expr<R> {
             (Expr::Icmp(mine), Expr::Icmp(theirs)) => mine.is(theirs),
             (Expr::Cast(mine), Expr::Cast(theirs)) => mine.is(theirs),
             (Expr::Select(mine), Expr::Select(theirs)) => mine.get().is(theirs.get()),
+            (Expr::Element(mine), Expr::Element(theirs)) => mine.get().is(theirs.get()),
+            (Expr::Load(mine), Expr::Load(theirs)) => mine.is(theirs),
             _ => false,
         }
     }
@@ -247,6 +334,11 @@ impl<R: Exact> Exact for Expr<R> {
                 let copied = select.get().copy(alloc)?;
                 Ok(Expr::Select(Boxed::new(alloc, copied)?))
             }
+            Expr::Element(element) => {
+                let copied = element.get().copy(alloc)?;
+                Ok(Expr::Element(Boxed::new(alloc, copied)?))
+            }
+            Expr::Load(load) => Ok(Expr::Load(load.copy(alloc)?)),
         }
     }
 }

@@ -1,6 +1,11 @@
-use crate::{Atom, Bits, Expr, Name, Operand, Ty};
-use contents::Seq;
-use ir_types::NamedTypes;
+ghost use Rattle.std.specs.Prelude.{◌≡◌, None, Some, IfNone, IfSome};
+ghost use Rattle.std.specs.Option.{option_copied};
+ghost use Rattle.ir_core.specs.Functions.{name_set, named_register, register_of};
+ghost use Rattle.ir_core.specs.Modules.{not_extended};
+
+use crate::{Atom, BitType, Bits, Expr, Linkage, Name, Operand, Ty};
+use contents::{Boxed, Exact, Seq};
+use std::alloc::{AllocError, Global};
 
 /// `name = right`: a line that sets a register and does nothing else.
 pub struct Calm {
@@ -14,16 +19,166 @@ impl Drop for Calm {
     }
 }
 
-/// A body line.
+/// A body line (LangRef 3.7, Memory Access and Addressing Operations, Other Operations).
 pub enum Instr {
     Calm(Calm),
+    Alloca(Alloca),
+    Store(Store),
+    Call(Boxed<Call>),
 }
 
 impl Drop for Instr {
     fn drop(self) {
         match self {
             Instr::Calm(_) => {}
+            Instr::Alloca(_) => {}
+            Instr::Store(_) => {}
+            Instr::Call(_) => {}
         }
+    }
+}
+
+impl Instr {
+    /// The name of the register that it sets, if it sets one.
+    pub fn name(&self) -> Option<&Name>
+        ensures { option_copied result ≡ name_set self.now }
+    {
+        match self {
+            Instr::Calm(calm) => Some(&calm.name),
+            Instr::Alloca(alloca) => Some(&alloca.name),
+            Instr::Store(_) => None,
+            Instr::Call(call) => call.get().name.as_ref(),
+        }
+    }
+
+    /// The register that it sets, with its type, if it sets one.
+    pub fn register<'a>(&'a self, bit: &'a BitType) -> Option<(&'a Name, &'a Ty)>
+        ensures some { IfSome result (λ it. register_of self.now ≡ Some (it.0.now, it.1.now)) }
+        ensures none { IfNone result (register_of self.now ≡ None) }
+    {
+        match self {
+            Instr::Calm(calm) => Some((&calm.name, calm.right.ty(bit))),
+            Instr::Alloca(alloca) => Some((&alloca.name, &alloca.to)),
+            Instr::Store(_) => None,
+            Instr::Call(call) => call.get().register(),
+        }
+    }
+}
+
+/// `name = alloca of, ty count, align N`. The count stands behind its type; where it is left out it is 1. The alignment is kept as it is
+/// read.
+pub struct Alloca {
+    pub name: Name,
+    pub of: Ty,
+    /// The type of its register, a pointer to what it is of, which no text states. It is kept here to be lent.
+    pub to: Ty,
+    pub count: Option<(Ty, Bits)>,
+    pub align: Option<u32>,
+}
+
+impl Drop for Alloca {
+    fn drop(self) {
+        let Alloca {
+            name: _,
+            of: _,
+            to: _,
+            count: _,
+            align: _,
+        } = self;
+    }
+}
+
+/// `store value, pointer, align N`. The alignment is kept as it is read.
+pub struct Store {
+    pub value: Operand<Name>,
+    pub pointer: Operand<Name>,
+    pub align: Option<u32>,
+}
+
+impl Drop for Store {
+    fn drop(self) {
+        let Store {
+            value: _,
+            pointer: _,
+            align: _,
+        } = self;
+    }
+}
+
+/// `signext` and `zeroext`, as a set: how a parameter or a result is made wider (LangRef 3.7, Parameter Attributes).
+#[derive(Drop, Clone, Copy)]
+pub struct Extensions {
+    pub signed: bool,
+    pub zero: bool,
+}
+
+impl Extensions {
+    /// Neither word.
+    pub fn none() -> Extensions
+        ensures { result ≡ not_extended }
+    {
+        Extensions {
+            signed: false,
+            zero: false,
+        }
+    }
+}
+
+impl Exact for Extensions {
+    fn is(&self, other: &Extensions) -> bool {
+        self.signed == other.signed && self.zero == other.zero
+    }
+
+    fn copy(&self, _alloc: Global) -> Result<Extensions, AllocError> {
+        Ok(*self)
+    }
+}
+
+/// `ty extensions value` of a call.
+pub struct Argument {
+    pub operand: Operand<Name>,
+    pub extensions: Extensions,
+}
+
+impl Drop for Argument {
+    fn drop(self) {
+        let Argument {
+            operand: _,
+            extensions: _,
+        } = self;
+    }
+}
+
+/// `name = call result_extensions result @callee(arguments)`. One whose result is `void` sets no register.
+pub struct Call {
+    pub name: Option<Name>,
+    pub result: Ty,
+    pub result_extensions: Extensions,
+    pub callee: Name,
+    pub arguments: Seq<Argument>,
+}
+
+impl Call {
+    fn register(&self) -> Option<(&Name, &Ty)>
+        ensures some { IfSome result (λ it. named_register self.now.result self.now.name ≡ Some (it.0.now, it.1.now)) }
+        ensures none { IfNone result (named_register self.now.result self.now.name ≡ None) }
+    {
+        match &self.name {
+            Some(name) => Some((name, &self.result)),
+            None => None,
+        }
+    }
+}
+
+impl Drop for Call {
+    fn drop(self) {
+        let Call {
+            name: _,
+            result: _,
+            result_extensions: _,
+            callee: _,
+            arguments: _,
+        } = self;
     }
 }
 
@@ -154,18 +309,25 @@ impl Drop for Block {
 pub struct Param {
     pub name: Name,
     pub ty: Ty,
+    pub extensions: Extensions,
 }
 
 impl Drop for Param {
     fn drop(self) {
-        let Param { name: _, ty: _ } = self;
+        let Param {
+            name: _,
+            ty: _,
+            extensions: _,
+        } = self;
     }
 }
 
 /// A definition. Its first block is the entry.
 pub struct Function {
-    pub name: Name,
+    pub linkage: Linkage,
+    pub result_extensions: Extensions,
     pub result: Ty,
+    pub name: Name,
     pub params: Seq<Param>,
     pub blocks: Seq<Block>,
 }
@@ -173,25 +335,12 @@ pub struct Function {
 impl Drop for Function {
     fn drop(self) {
         let Function {
-            name: _,
+            linkage: _,
+            result_extensions: _,
             result: _,
+            name: _,
             params: _,
             blocks: _,
-        } = self;
-    }
-}
-
-/// A module: the types that it names and its definitions, each in the order of the file.
-pub struct Module {
-    pub types: NamedTypes,
-    pub functions: Seq<Function>,
-}
-
-impl Drop for Module {
-    fn drop(self) {
-        let Module {
-            types: _,
-            functions: _,
         } = self;
     }
 }

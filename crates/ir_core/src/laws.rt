@@ -4,6 +4,7 @@ ghost use Rattle.ir_core.specs.Laws.{LinesWithoutOperatorsAreNot, PhisOfNoEdgeAr
 ghost use Rattle.ir_core.specs.Laws.{FunctionsOfOneNameAreNot, NamesSetTwiceAreNot, DebugNamesAreNot, FunctionsWithoutBlocksAreNot};
 ghost use Rattle.ir_core.specs.Laws.{ConversionsChangeWidths, SelectionsHaveOneType, ComparisonsGiveBits, FlagsHaveOperators, OperatorsOfFlags, VoidReturns, ExpressionsAreRead, ExpressionsAreMapped};
 ghost use Rattle.ir_core.specs.TypeLaws.{IntegersHaveKinds, NamedTypesAreInRange, NamedTypesAreKnown, OtherTypesAreNot};
+ghost use Rattle.ir_core.specs.MemoryLaws.{AddressesAreRead, MemoryIsOutOfRange, MemoryLinesAreRead};
 ghost use Rattle.ir_core.specs.FlowLaws.{JumpsGoToBlocks, PhisFollowEdges, CasesAreApart, PathsDefine, SuccessorsInOrder};
 
 /// Empty on purpose: its contract is the law.
@@ -101,4 +102,15 @@ pub fn examples_of_control_flow()
     ensures cases { CasesAreApart }
     ensures paths { PathsDefine }
     ensures successors { SuccessorsInOrder }
+{}
+
+/// Empty on purpose: its contract is the law.
+///
+/// The registers, types and operands of lines of memory are those of the text. No function in range has `null`, a global, a constant of
+/// constants, a `getelementptr`, `load`, `alloca`, `store` or `call`.
+#[tactic(auto, using(crate::proofs::MemoryExamples::addresses_are_read, crate::proofs::MemoryExamples::memory_lines_are_read, crate::proofs::MemoryExamples::memory_is_out_of_range))]
+pub fn examples_of_memory()
+    ensures expressions { AddressesAreRead }
+    ensures lines { MemoryLinesAreRead }
+    ensures range { MemoryIsOutOfRange }
 {}

@@ -11,6 +11,7 @@ mod functions;
 mod laws;
 mod layout;
 mod limits;
+mod modules;
 mod operands;
 mod same;
 mod types;
@@ -19,19 +20,23 @@ mod words;
 
 pub use bit_type::BitType;
 pub use bits::Bits;
-pub use expressions::{Binary, Cast, Expr, Expr0, Icmp, Reg, Select};
+pub use expressions::{Binary, Cast, Element, Expr, Expr0, Icmp, Load, Reg, Select};
 pub use functions::{
-    Block, Calm, Case, CondBr, Entry, Function, Instr, Module, Param, Phi, Switch, Term,
+    Alloca, Argument, Block, Call, Calm, Case, CondBr, Entry, Extensions, Function, Instr, Param,
+    Phi, Store, Switch, Term,
 };
 pub use ir_types::{Name, NamedTy, NamedTypes, Shared, Sigil, SizeFault, Ty, same_name, same_ty};
 pub use laws::{
     examples_of_control_flow, examples_of_expressions, examples_of_kinds, examples_of_lines,
-    examples_of_named_types, examples_of_names_and_blocks, examples_of_operations,
-    examples_of_types, examples_of_well_formedness,
+    examples_of_memory, examples_of_named_types, examples_of_names_and_blocks,
+    examples_of_operations, examples_of_types, examples_of_well_formedness,
 };
 pub use layout::{align_of, field_offset, fits_block, size_of};
 pub use limits::Limit;
-pub use operands::{Atom, BinOp, CastOp, Const, Flags, Operand, Pred};
+pub use modules::{Declaration, DeclaredParam, GlobalVar, Init, Linkage, Module, TypedInit};
+pub use operands::{
+    Atom, BinOp, CastOp, Const, ConstCast, ConstElement, Flags, Operand, Pred, TypedConst,
+};
 pub use same::{
     same_cast, same_const, same_expr, same_flags, same_name_atom, same_name_operand, same_op,
     same_pred, same_reg, same_reg_atom, same_reg_operand, tests_are_equality,

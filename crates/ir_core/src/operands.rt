@@ -1,8 +1,8 @@
-ghost use Rattle.std.specs.Prelude.{◌≡◌};
+ghost use Rattle.std.specs.Prelude.{◌≡◌, ◌↔◌, IsTrue};
 ghost use Rattle.ir_core.specs.Same as same;
 
-use crate::{Bits, Ty};
-use contents::Exact;
+use crate::{Bits, Name, Shared, Ty};
+use contents::{Exact, Seq};
 use std::alloc::{AllocError, Global};
 
 /// A constant (LangRef 3.7, Constants). What it is worth depends on the type that stands beside it.
@@ -10,13 +10,33 @@ pub enum Const {
     /// A number of `iN`, kept as it is modulo 2 to the N.
     Number(Bits),
     Undef,
+    Null,
+    /// The address of the global or function of that name.
+    Global(Shared<Name>),
+    Element(Shared<ConstElement>),
+    Cast(Shared<ConstCast>),
 }
+
+/// A constant behind the type that is stated for it.
+pub type TypedConst = (Ty, Const);
+
+/// `getelementptr inbounds (of, base, indices)`, a constant (LangRef 3.7, Constant Expressions): whether it is `inbounds`, the type
+/// behind that, and a list of the base and then the indices.
+pub type ConstElement = (bool, Ty, Seq<TypedConst>);
+
+/// `bitcast (constant to ty)`, a constant (LangRef 3.7, Constant Expressions): the type that stands behind `to`, and a list of the one
+/// constant before it.
+pub type ConstCast = (Ty, Seq<TypedConst>);
 
 impl Drop for Const {
     fn drop(self) {
         match self {
             Const::Number(_) => {}
             Const::Undef => {}
+            Const::Null => {}
+            Const::Global(_) => {}
+            Const::Element(_) => {}
+            Const::Cast(_) => {}
         }
     }
 }
@@ -104,14 +124,51 @@ impl Exact for Const {
         match (self, other) {
             (Const::Number(mine), Const::Number(theirs)) => *mine == *theirs,
             (Const::Undef, Const::Undef) => true,
+            (Const::Null, Const::Null) => true,
+            (Const::Global(mine), Const::Global(theirs)) => mine.get().is(theirs.get()),
+            (Const::Element(mine), Const::Element(theirs)) => {
+                let mine = mine.get();
+                let theirs = theirs.get();
+                if mine.0 != theirs.0 || !mine.1.is(&theirs.1) || mine.2.len() != theirs.2.len() {
+                    return false;
+                }
+                for i in 0..mine.2.len() {
+                    let one = &mine.2.as_slice()[i];
+                    let other = &theirs.2.as_slice()[i];
+                    if !one.0.is(&other.0) || !one.1.is(&other.1) {
+                        return false;
+                    }
+                }
+                true
+            }
+            (Const::Cast(mine), Const::Cast(theirs)) => {
+                let mine = mine.get();
+                let theirs = theirs.get();
+                if !mine.0.is(&theirs.0) || mine.1.len() != theirs.1.len() {
+                    return false;
+                }
+                for i in 0..mine.1.len() {
+                    let one = &mine.1.as_slice()[i];
+                    let other = &theirs.1.as_slice()[i];
+                    if !one.0.is(&other.0) || !one.1.is(&other.1) {
+                        return false;
+                    }
+                }
+                true
+            }
             _ => false,
         }
     }
 
+    /// Takes no memory, and no walk through the constant.
     fn copy(&self, _alloc: Global) -> Result<Const, AllocError> {
         match self {
             Const::Number(number) => Ok(Const::Number(*number)),
             Const::Undef => Ok(Const::Undef),
+            Const::Null => Ok(Const::Null),
+            Const::Global(name) => Ok(Const::Global(name.share()?)),
+            Const::Element(element) => Ok(Const::Element(element.share()?)),
+            Const::Cast(cast) => Ok(Const::Cast(cast.share()?)),
         }
     }
 }
@@ -143,6 +200,17 @@ impl<R: Exact> Exact for Operand<R> {
             ty: self.ty.copy(alloc)?,
             atom: self.atom.copy(alloc)?,
         })
+    }
+}
+
+/// Alignments as they are read: one that is left out is the same as one that is left out alone.
+pub(crate) fn is_align(mine: Option<u32>, theirs: Option<u32>) -> bool
+    ensures { IsTrue result ↔ (mine ≡ theirs) }
+{
+    match (mine, theirs) {
+        (Some(mine), Some(theirs)) => mine == theirs,
+        (None, None) => true,
+        _ => false,
     }
 }
 

@@ -5,7 +5,7 @@ use Rattle.ir_types.specs.declared.names.Name.{Name}
 use Rattle.ir_core.specs.declared.operands.Atom.TheVariants.{Register}
 use Rattle.ir_types.specs.declared.ty.Ty.TheVariants.{Void}
 use Rattle.ir_core.specs.declared.functions.Block.{Block}
-use Rattle.ir_core.specs.declared.functions.Module.{Module}
+use Rattle.ir_core.specs.declared.modules.Module.{Module}
 use Rattle.ir_core.specs.declared.functions.Term.TheVariants.{RetVoid}
 use Rattle.ir_types.specs.NameLaws.{same_name_refl}
 use Rattle.ir_machine.specs.declared.items.Item.{Item}
@@ -17,6 +17,7 @@ use Rattle.ir_machine.specs.Laws.{AreShownAtOnce, LinesGiveThese, TrapsAreWrong,
 use Rattle.ir_machine.specs.Registers.{no_registers}
 use Rattle.ir_machine.proofs.Refining.{alone, entering}
 use Rattle.ir_machine.proofs.Runs.{over_shows, shows_nothing}
+use Rattle.ir_core.specs.Modules.{plain_function}
 
 -- a step that asks for nothing, and after which the run is over
 abbrev pub EndsAtOnce : Module → State → List Item → Type 0
@@ -54,7 +55,7 @@ abbrev empty_block : Name → Block
 empty_block b = record { name = b; phis = []; body = []; term = RetVoid }
 
 abbrev nothing_left : Name → Name → State
-nothing_left f b = Running (at_block (record { name = f; result = Void; params = []; blocks = empty_block b ∷ [] }) (empty_block b) no_registers) [] no_world
+nothing_left f b = Running (at_block (plain_function Void f [] (empty_block b ∷ [])) (empty_block b) no_registers) [] no_world
 
 pub void_returns_are_shown : VoidReturnsAreShown
 void_returns_are_shown f b = at_once (returning_nothing f b) f (nothing_left f b) (Turn ∷ Returned None ∷ []) (rw (same_name_refl f) refl) refl

@@ -11,7 +11,7 @@ use Rattle.ir_core.specs.declared.functions.Term.TheVariants.{Ret, RetVoid, Br, 
 use Rattle.ir_core.specs.declared.functions.Param.{Param}
 use Rattle.ir_core.specs.declared.functions.Block.{Block}
 use Rattle.ir_core.specs.declared.functions.Function.{Function}
-use Rattle.ir_core.specs.declared.functions.Module.{Module}
+use Rattle.ir_core.specs.declared.modules.Module.{Module}
 use Rattle.ir_values.specs.declared.operations.Outcome.{Outcome}
 use Rattle.ir_values.specs.declared.operations.Outcome.TheVariants.{Gives, Trap}
 use Rattle.ir_machine.specs.declared.items.Item.{Item}
@@ -94,6 +94,7 @@ ends_from m (line.Calm b ∷ lines) frame returns = by_outcome (outcome (read fr
         later m (left_in frame (line.Calm b ∷ lines)) (left_in (record frame { registers = set frame.registers b.name (kind_of (type_of b.right)) v }) lines)
         (rw e refl) (rest (set frame.registers b.name (kind_of (type_of b.right)) v))
     by_outcome Trap e rest = last_step m (left_in frame (line.Calm b ∷ lines)) (record { told = []; items = Wrong ∷ []; after = Over }) (rw e refl) refl
+ends_from m (i ∷ lines) frame returns = last_step m (left_in frame (i ∷ lines)) (record { told = []; items = Wrong ∷ []; after = Over }) refl refl
 
 fit_enters : (ps : List Param) (args : List Shown) (registers : Registers) → Fit ps args → (after : Registers) × (entered ps args registers ≡ Some after)
 fit_enters [] [] registers fit = (registers, refl)

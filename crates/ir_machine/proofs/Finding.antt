@@ -9,7 +9,7 @@ use Rattle.ir_core.specs.declared.functions.Entry.{Entry}
 use Rattle.ir_core.specs.declared.functions.Function.{Function}
 use Rattle.ir_core.specs.declared.functions.Instr.{Instr}
 use Rattle.ir_core.specs.declared.functions.Instr.TheVariants as line
-use Rattle.ir_core.specs.declared.functions.Module.{Module}
+use Rattle.ir_core.specs.declared.modules.Module.{Module}
 use Rattle.ir_core.specs.declared.functions.Phi.{Phi}
 use Rattle.ir_core.specs.declared.functions.Term.{Term}
 use Rattle.ir_core.specs.declared.functions.Term.TheVariants.{Ret, RetVoid, Br, CondBr, Switch, Unreachable}
@@ -159,6 +159,7 @@ term_stands m Unreachable frame rest world h w = tt
 frame_stands : (m : Module) (lines : List Instr) (frame : Frame) (rest : List Pending) (world : World) → FrameStands m frame → AllStand m rest → AllDo (LeadsThere m) (frame_step lines frame rest world)
 frame_stands m (line.Calm l ∷ left) frame rest world h w =
     all_do_set_to (LeadsThere m) (kind_of (type_of l.right)) l.name (outcome (read frame.registers) l.right) (record frame { lines = left }) rest world (λ v e. (h, w)) tt
+frame_stands m (i ∷ left) frame rest world h w = tt
 frame_stands m [] frame rest world h w = term_stands m frame.term frame rest world h w
 
 step_stands : (m : Module) (s : State) → Stands m s → AllDo (LeadsThere m) (asks m s)

@@ -29,7 +29,7 @@ use Rattle.ir_core.specs.declared.functions.Param.{Param}
 use Rattle.ir_core.specs.declared.functions.Phi.{Phi}
 use Rattle.ir_core.specs.declared.functions.Block.{Block}
 use Rattle.ir_core.specs.declared.functions.Function.{Function}
-use Rattle.ir_core.specs.declared.functions.Module.{Module}
+use Rattle.ir_core.specs.declared.modules.Module.{Module}
 use Rattle.ir_values.specs.declared.operations.Outcome.{Outcome}
 use Rattle.ir_values.specs.Values.{HasWidth, IsInKind, IsInKindOf}
 use Rattle.ir_values.specs.Operations.{GivesInKind}
@@ -59,6 +59,7 @@ number_in_kind n width false h = tt
 pub constant_in_kind : (k : Kind) (c : Const) → IsInKind k (constant_value k c)
 constant_in_kind (Int width) (constant.Number n) = number_in_kind n width (nat_lt n (2 ^ width)) (ltb-true n (2 ^ width))
 constant_in_kind (Int width) constant.Undef = tt
+constant_in_kind (Int width) c = tt
 
 pub atom_at_in_kind : {R : Type 0} (reading : Kind → R → Value) → ((k : Kind) (r : R) → IsInKind k (reading k r)) → (k : Kind) (a : Atom R) → IsInKind k (atom_at reading k a)
 atom_at_in_kind reading h k (atom.Constant c) = constant_in_kind k c
@@ -79,7 +80,7 @@ pub icmp_in_kind : (pred : Pred) (k : Option Kind) (a b : Value) → GivesInKind
 icmp_in_kind pred None a b = tt
 icmp_in_kind pred (Some k) a b = law.icmp_in_kind pred k a b
 
-poison_of : (k : Option Kind) → GivesInKind k (Gives value.Poison)
+pub poison_of : (k : Option Kind) → GivesInKind k (Gives value.Poison)
 poison_of None = tt
 poison_of (Some k) = poison_in_kind k
 
@@ -115,6 +116,8 @@ outcome_in_kind reading h (expr.Cast c) = cast_in_kind c.op (kind_of c.operand.t
 outcome_in_kind reading h (expr.Select s) =
     select_in_kind s.condition.ty s.left.ty s.right.ty (operand_value reading s.condition) (operand_value reading s.left) (operand_value reading s.right)
     (operand_in_kind reading h s.left) (operand_in_kind reading h s.right)
+outcome_in_kind reading h (expr.Element e) = poison_of (kind_of e.to)
+outcome_in_kind reading h (expr.Load l) = poison_of (kind_of l.of)
 
 -- a type's kind has a width
 width_of : (width : ℕ) (is : Bool) → is_width width ≡ is → (k : Kind) → cond is (Some (Int width)) None ≡ Some k → HasWidth k
@@ -194,6 +197,7 @@ frame_in_kind (line.Calm b ∷ left) frame rest world h w =
       w,
     ))
     tt
+frame_in_kind (i ∷ left) frame rest world h w = tt
 frame_in_kind [] frame rest world h w = term_in_kind frame.term frame rest world h w
 
 pub step_in_kind : (m : Module) (s : State) → StateInKind s → AllDo LeadsInKind (asks m s)

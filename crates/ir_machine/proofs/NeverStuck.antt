@@ -14,7 +14,7 @@ use Rattle.ir_core.specs.declared.functions.Instr.{Instr}
 use Rattle.ir_core.specs.declared.functions.Instr.TheVariants as line
 use Rattle.ir_core.specs.declared.functions.Term.{Term}
 use Rattle.ir_core.specs.declared.functions.Term.TheVariants.{Ret, RetVoid, Br, CondBr, Switch, Unreachable}
-use Rattle.ir_core.specs.declared.functions.Module.{Module}
+use Rattle.ir_core.specs.declared.modules.Module.{Module}
 use Rattle.ir_values.specs.declared.operations.Outcome.{Outcome}
 use Rattle.ir_values.specs.declared.operations.Outcome.TheVariants.{Gives, Trap}
 use Rattle.ir_machine.specs.declared.items.Item.{Item}
@@ -92,6 +92,7 @@ set_can_step k x Trap frame rest world = does_step (Wrong ∷ []) Over
 frame_can_step : (lines : List Instr) (frame : Frame) (rest : List Pending) (world : World) → CanStep (frame_step lines frame rest world)
 frame_can_step (line.Calm b ∷ left) frame rest world =
     set_can_step (kind_of (type_of b.right)) b.name (outcome (read frame.registers) b.right) (record frame { lines = left }) rest world
+frame_can_step (i ∷ left) frame rest world = does_step (Wrong ∷ []) Over
 frame_can_step [] frame rest world = term_can_step frame.term frame rest world
 
 pub none_is_stuck : NoneIsStuck
@@ -144,6 +145,7 @@ frame_shows_end : (lines : List Instr) (frame : Frame) (rest : List Pending) (wo
 frame_shows_end (line.Calm b ∷ left) frame rest world =
     all_do_set_to ShowsItsEnd (kind_of (type_of b.right)) b.name (outcome (read frame.registers) b.right) (record frame { lines = left }) rest world
     (λ v e. goes_on [] _ rest world (no_end [] refl)) (ends (Wrong ∷ []) [] Wrong refl tt)
+frame_shows_end (i ∷ left) frame rest world = wrong_ends
 frame_shows_end [] frame rest world = term_shows_end frame.term frame rest world
 
 step_shows_end : (m : Module) (s : State) → AllDo ShowsItsEnd (asks m s)
@@ -208,6 +210,7 @@ set_always k x Trap frame rest world = tt
 frame_always : (lines : List Instr) (frame : Frame) (rest : List Pending) (world : World) → AlwaysSteps (frame_step lines frame rest world)
 frame_always (line.Calm b ∷ left) frame rest world =
     set_always (kind_of (type_of b.right)) b.name (outcome (read frame.registers) b.right) (record frame { lines = left }) rest world
+frame_always (i ∷ left) frame rest world = tt
 frame_always [] frame rest world = term_always frame.term frame rest world
 
 always_answers : (tree : Asks) (told : List Choice) → AlwaysSteps tree → answer tree told ≡ NoStep → ⊥

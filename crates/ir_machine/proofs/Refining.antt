@@ -12,7 +12,7 @@ use Rattle.ir_core.specs.declared.operands.Atom.TheVariants.{Constant, Register}
 use Rattle.ir_core.specs.declared.functions.Instr.{Instr}
 use Rattle.ir_core.specs.declared.functions.Param.{Param}
 use Rattle.ir_core.specs.declared.functions.Function.{Function}
-use Rattle.ir_core.specs.declared.functions.Module.{Module}
+use Rattle.ir_core.specs.declared.modules.Module.{Module}
 use Rattle.ir_types.specs.NameLaws.{same_name_refl}
 use Rattle.ir_types.specs.Same.{same_name}
 use Rattle.ir_machine.specs.declared.items.Item.{Item}
@@ -28,9 +28,10 @@ use Rattle.ir_machine.specs.Laws.{ConstantsRefineByValue, NumbersAreKept, Number
 use Rattle.ir_machine.proofs.InKind.{constant_in_kind}
 use Rattle.ir_machine.proofs.Runs.{step_on, may_show_nothing, may_step_on}
 use Rattle.ir_machine.proofs.Returning.{Returns, IsReturn, returns_only, returns_shown, may_return, may_show_turn, return_turns, less_defined, simulates}
+use Rattle.ir_core.specs.Modules.{plain_function, plain_param}
 
 abbrev pub alone : Name → List Param → Name → List Instr → Atom Name → Function
-alone f params b lines result = record { name = f; result = ty.Int 32; params = params; blocks = block b lines result ∷ [] }
+alone f params b lines result = plain_function (ty.Int 32) f params (block b lines result ∷ [])
 
 -- in the function, at a block's start
 abbrev pub entering : Function → Name → List Instr → Atom Name → Registers → State
@@ -44,7 +45,7 @@ abbrev wrapper : Name → Name → Name → Function
 wrapper f b y = alone f [] b (wrapping_line y ∷ []) (Register y)
 
 abbrev taker : Name → Name → Name → Atom Name → Function
-taker f x b result = alone f (record { name = x; ty = ty.Int 32 } ∷ []) b [] result
+taker f x b result = alone f (plain_param (ty.Int 32) x ∷ []) b [] result
 
 -- the target runs from its state only as the source may from its own
 abbrev pub RunsLike : Module → State → Module → State → Type 0

@@ -8,7 +8,7 @@ use Rattle.ir_types.specs.declared.names.Name.{Name}
 use Rattle.ir_core.specs.declared.values.Value.{Value}
 use Rattle.ir_core.specs.declared.values.Value.TheVariants.{Poison}
 use Rattle.ir_core.specs.declared.values.Kind.{Kind}
-use Rattle.ir_core.specs.declared.functions.Module.{Module}
+use Rattle.ir_core.specs.declared.modules.Module.{Module}
 use Rattle.ir_values.specs.Values.{IsInKind, same_kind}
 pub use Rattle.ir_values.specs.Values.{IsInKindOf}
 use Rattle.ir_values.proofs.KindLaws.{same_kind_true, same_kind_refl, poison_in_kind}

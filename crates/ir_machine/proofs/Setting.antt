@@ -12,7 +12,7 @@ use Rattle.ir_core.specs.declared.functions.Entry.{Entry}
 use Rattle.ir_core.specs.declared.functions.Function.{Function}
 use Rattle.ir_core.specs.declared.functions.Instr.{Instr}
 use Rattle.ir_core.specs.declared.functions.Instr.TheVariants as line
-use Rattle.ir_core.specs.declared.functions.Module.{Module}
+use Rattle.ir_core.specs.declared.modules.Module.{Module}
 use Rattle.ir_core.specs.declared.functions.Param.{Param}
 use Rattle.ir_core.specs.declared.functions.Phi.{Phi}
 use Rattle.ir_core.specs.declared.functions.Term.{Term}
@@ -283,6 +283,7 @@ term_ready m well Unreachable frame world is ready = tt
 frame_ready : (m : Module) → IsWellFormed m → (lines : List Instr) (frame : Frame) (world : World) → Ready m lines frame → AllDo (LeadsReady m) (frame_step lines frame [] world)
 frame_ready m well (line.Calm l ∷ left) frame world ready =
     all_do_set_to (LeadsReady m) (kind_of (type_of l.right)) l.name (outcome (read frame.registers) l.right) (record frame { lines = left }) [] world (λ v e. (line_ready m l left frame v ready, refl)) tt
+frame_ready m well (i ∷ left) frame world ready = tt
 frame_ready m well [] frame world ready = term_ready m well frame.term frame world refl ready
 
 step_ready : (m : Module) → IsWellFormed m → (s : State) → StateReady m s → AllDo (LeadsReady m) (asks m s)

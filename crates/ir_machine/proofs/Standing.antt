@@ -9,7 +9,7 @@ use Rattle.ir_core.specs.declared.functions.Instr.{Instr}
 use Rattle.ir_core.specs.declared.functions.Instr.TheVariants as line
 use Rattle.ir_core.specs.declared.functions.Block.{Block}
 use Rattle.ir_core.specs.declared.functions.Function.{Function}
-use Rattle.ir_core.specs.declared.functions.Module.{Module}
+use Rattle.ir_core.specs.declared.modules.Module.{Module}
 use Rattle.ir_values.specs.declared.operations.Outcome.{Outcome}
 use Rattle.ir_values.specs.declared.operations.Outcome.TheVariants.{Gives, Trap}
 use Rattle.ir_machine.specs.declared.items.Item.TheVariants.{Wrong}
@@ -17,8 +17,8 @@ use Rattle.ir_machine.specs.declared.machine.Place.{Place}
 use Rattle.ir_core.specs.Types.{kind_of}
 use Rattle.ir_core.specs.Expressions.{type_of}
 use Rattle.ir_machine.specs.Registers.{Registers, read, set, outcome}
-use Rattle.ir_machine.specs.State.{no_world, State, Running, Over}
-use Rattle.ir_machine.specs.Machine.{Asks, Does, asks, term_step, set_to}
+use Rattle.ir_machine.specs.State.{Frame, Pending, World, no_world, State, Running, Over}
+use Rattle.ir_machine.specs.Machine.{Asks, Does, asks, line_step, term_step, set_to}
 use Rattle.ir_machine.specs.Places.{at_end, state_at, in_function, in_block, next_line}
 
 pub drop_at : {X : Type 0} (xs : List X) (k : ℕ) (x : X) → k < length xs → x ≡ get_or xs k x → drop k xs ≡ x ∷ drop (k + 1) xs
@@ -62,6 +62,17 @@ trap_asks m p registers f b i some block within is traps =
     let sets : asks_over m f b (line.Calm i ∷ drop (p.line + 1) b.body) registers ≡ Does (Wrong ∷ []) Over =
     ap (λ (o : Outcome). set_to (kind_of (type_of i.right)) i.name o (record { function = f; block = b.name; lines = drop (p.line + 1) b.body; term = b.term; registers = registers }) [] no_world) traps in
     here ∙ lines ∙ sets
+
+-- a line that is undefined behaviour
+pub wrong_asks : (m : Module) (p : Place) (registers : Registers) (f : Function) (b : Block) (i : Instr)
+    → slice_get m.functions p.function ≡ Some f → slice_get f.blocks p.block ≡ Some b → p.line < length b.body → i ≡ get_or b.body p.line i
+    → ((frame : Frame) (rest : List Pending) (world : World) → line_step i frame rest world ≡ Does (Wrong ∷ []) Over)
+    → asks m (state_at m (Some p) registers) ≡ Does (Wrong ∷ []) Over
+wrong_asks m p registers f b i some block within is steps =
+    let here : asks m (state_at m (Some p) registers) ≡ asks m (in_block f (Some b) p.line registers) = ap (asks m) (stands m p registers f b some block) in
+    let lines : asks m (in_block f (Some b) p.line registers) ≡ asks_over m f b (i ∷ drop (p.line + 1) b.body) registers =
+    ap (λ (l : List Instr). asks_over m f b l registers) (drop_at b.body p.line i within is) in
+    here ∙ lines ∙ steps (record { function = f; block = b.name; lines = drop (p.line + 1) b.body; term = b.term; registers = registers }) [] no_world
 
 pub term_asks : (m : Module) (p : Place) (registers : Registers) (f : Function) (b : Block)
     → slice_get m.functions p.function ≡ Some f → slice_get f.blocks p.block ≡ Some b → length b.body ≤ p.line

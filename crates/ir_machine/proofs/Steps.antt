@@ -7,7 +7,7 @@ use Rattle.ir_core.specs.declared.functions.Instr.{Instr}
 use Rattle.ir_core.specs.declared.functions.Instr.TheVariants as line
 use Rattle.ir_core.specs.declared.functions.Block.{Block}
 use Rattle.ir_core.specs.declared.functions.Function.{Function}
-use Rattle.ir_core.specs.declared.functions.Module.{Module}
+use Rattle.ir_core.specs.declared.modules.Module.{Module}
 use Rattle.ir_values.specs.declared.operations.Outcome.{Outcome}
 use Rattle.ir_values.specs.declared.operations.Outcome.TheVariants.{Gives, Trap}
 use Rattle.ir_machine.specs.declared.items.Item.{Item}
@@ -26,7 +26,8 @@ use Rattle.ir_machine.specs.State.{no_world, State, Over}
 use Rattle.ir_machine.specs.Machine.{Asks, Does, asks, term_step}
 use Rattle.ir_machine.specs.Choices.{Did, Lacks, answer, Leaves, TakesAsked}
 use Rattle.ir_machine.specs.Places.{at_end, state_at, in_block, next_line, progress_of}
-use Rattle.ir_machine.proofs.Standing.{line_asks, trap_asks, term_asks, stands}
+use Rattle.ir_machine.specs.Stepping.{line_outcome, line_set}
+use Rattle.ir_machine.proofs.Standing.{line_asks, trap_asks, wrong_asks, term_asks, stands}
 
 -- a line that was done
 abbrev pub LineDid : Stepped → Place → Option Place → Registers → Registers → Type 0
@@ -55,16 +56,20 @@ module _ (m : Module) (place : Option Place) (p : Place) (registers : Registers)
         did.1 ∙ ap (λ (s : State). progress_of stepped.items s) (sym stands_after),
       )
 
-  line_failed : (i : Calm) → p.line < length b.body → line.Calm i ≡ get_or b.body p.line (line.Calm i)
-      → outcome (read registers) i.right ≡ Trap → (stepped : Stepped) (next : Option Place) (after : Registers) (script : List Choice)
+  failed : asks m (state_at m (Some p) registers) ≡ Does (Wrong ∷ []) Over → (stepped : Stepped) (next : Option Place) (after : Registers) (script : List Choice)
       → WentWrong stepped next → StepsTo script script stepped (state_at m next after)
-  line_failed i within is e stepped next after script wrong =
+  failed is_wrong stepped next after script wrong =
       let reached : state_at m next after ≡ Over = ap (λ (o : Option Place). state_at m o after) wrong.2 in
       let asked : asks m (state_at m place registers) ≡ Does stepped.items (state_at m next after) =
-      ap (asks m) here ∙ trap_asks m p registers f b i some block within is e ∙ cc (wrong.0, reached) in (
+      ap (asks m) here ∙ is_wrong ∙ cc (wrong.0, reached) in (
         ap (λ (tree : Asks). answer tree script) asked,
         cc (wrong.1, ap (λ (items : List Item). progress_of items Over) wrong.0, ap (λ (s : State). progress_of stepped.items s) reached),
       )
+
+  wrong_done : asks m (state_at m (Some p) registers) ≡ Does (Wrong ∷ []) Over → {E : Type 0} (r : Result Stepped E) (next : Option Place) (after : Registers) (script : List Choice)
+      → IfOk r (λ stepped. WentWrong stepped next) → IfOk r (λ stepped. StepsTo script script stepped (state_at m next after))
+  wrong_done is_wrong (Ok stepped) next after script wrong = failed is_wrong stepped next after script wrong
+  wrong_done is_wrong (Err x) next after script wrong = tt
 
   line_done_at : (i : Calm) → p.line < length b.body → line.Calm i ≡ get_or b.body p.line (line.Calm i)
       → (o : Outcome) → outcome (read registers) i.right ≡ o → {E : Type 0} (r : Result Stepped E) (next : Option Place) (after : Registers) (script : List Choice)
@@ -72,15 +77,16 @@ module _ (m : Module) (place : Option Place) (p : Place) (registers : Registers)
       → (outcome (read registers) i.right ≡ Trap → IfOk r (λ stepped. WentWrong stepped next))
       → IfOk r (λ stepped. StepsTo script script stepped (state_at m next after))
   line_done_at i within is (Gives v) e (Ok stepped) next after script gives traps = line_did i within is v e stepped next after script (gives v e)
-  line_done_at i within is Trap e (Ok stepped) next after script gives traps = line_failed i within is e stepped next after script (traps e)
+  line_done_at i within is Trap e (Ok stepped) next after script gives traps =
+      failed (trap_asks m p registers f b i some block within is e) stepped next after script (traps e)
   line_done_at i within is o e (Err x) next after script gives traps = tt
 
   pub line_done : (i : Instr) → p.line < length b.body → i ≡ get_or b.body p.line i → {E : Type 0} (r : Result Stepped E) (next : Option Place) (after : Registers) (script : List Choice)
-      → ((l : Calm) → i ≡ line.Calm l → (v : Value) → outcome (read registers) l.right ≡ Gives v → IfOk r (λ stepped. LineDid stepped p next after (set registers l.name (kind_of (type_of l.right)) v)))
-      → ((l : Calm) → i ≡ line.Calm l → outcome (read registers) l.right ≡ Trap → IfOk r (λ stepped. WentWrong stepped next))
+      → ((v : Value) → line_outcome registers i ≡ Gives v → IfOk r (λ stepped. LineDid stepped p next after (line_set registers i v)))
+      → (line_outcome registers i ≡ Trap → IfOk r (λ stepped. WentWrong stepped next))
       → IfOk r (λ stepped. StepsTo script script stepped (state_at m next after))
-  line_done (line.Calm l) within is r next after script gives traps =
-      line_done_at l within is (outcome (read registers) l.right) refl r next after script (gives l refl) (traps l refl)
+  line_done (line.Calm l) within is r next after script gives traps = line_done_at l within is (outcome (read registers) l.right) refl r next after script gives traps
+  line_done i within is r next after script gives traps = wrong_done (wrong_asks m p registers f b i some block within is (λ frame rest world. refl)) r next after script (traps refl)
 
   -- a line takes no choice
   line_asked : (i : Calm) → p.line < length b.body → line.Calm i ≡ get_or b.body p.line (line.Calm i)
@@ -92,6 +98,9 @@ module _ (m : Module) (place : Option Place) (p : Place) (registers : Registers)
   line_tells (line.Calm l) within is script =
       let asked : (items : List Item) × (after : State) × (asks m (state_at m place registers) ≡ Does items after) = line_asked l within is (outcome (read registers) l.right) refl in
       ([], refl, subst (λ (tree : Asks). Leaves (answer tree []) []) (sym asked.2) refl)
+  line_tells i within is script =
+      let asked = ap (asks m) here ∙ wrong_asks m p registers f b i some block within is (λ frame rest world. refl) in
+      ([], refl, subst (λ (tree : Asks). Leaves (answer tree []) []) (sym asked) refl)
 
   pub end_asked : length b.body ≤ p.line → term_step b.term (at_end f b registers) [] no_world ≡ asks m (state_at m place registers)
   end_asked past = sym (ap (asks m) here ∙ term_asks m p registers f b some block past)

@@ -9,7 +9,7 @@ use Rattle.ir_core.specs.declared.functions.Instr.{Instr}
 use Rattle.ir_core.specs.declared.functions.Instr.TheVariants as line
 use Rattle.ir_core.specs.declared.functions.Term.{Term}
 use Rattle.ir_core.specs.declared.functions.Term.TheVariants.{Ret, RetVoid, Br, CondBr, Switch, Unreachable}
-use Rattle.ir_core.specs.declared.functions.Module.{Module}
+use Rattle.ir_core.specs.declared.modules.Module.{Module}
 use Rattle.ir_machine.specs.declared.items.Item.{Item}
 use Rattle.ir_machine.specs.declared.items.Item.TheVariants.{Turn, Returned, Wrong}
 use Rattle.ir_core.specs.Types.{kind_of}
@@ -91,6 +91,7 @@ term_ends Unreachable frame rest world = at_once
 frame_ends : (lines : List Instr) (frame : Frame) (rest : List Pending) (world : World) → AllDo WrongOnlyLast (frame_step lines frame rest world)
 frame_ends (line.Calm b ∷ left) frame rest world = all_do_set_to WrongOnlyLast (kind_of (type_of b.right)) b.name (outcome (read frame.registers) b.right) (record frame { lines = left }) rest world
     (λ v e. inl calm_none) (inr (refl, ends_here))
+frame_ends (i ∷ left) frame rest world = at_once
 frame_ends [] frame rest world = term_ends frame.term frame rest world
 
 pub step_ends : (m : Module) (s : State) → AllDo WrongOnlyLast (asks m s)

@@ -16,7 +16,8 @@ use Rattle.ir_core.specs.declared.functions.Instr.TheVariants as line
 use Rattle.ir_core.specs.declared.functions.Term.TheVariants.{Ret, RetVoid}
 use Rattle.ir_core.specs.declared.functions.Param.{Param}
 use Rattle.ir_core.specs.declared.functions.Block.{Block}
-use Rattle.ir_core.specs.declared.functions.Module.{Module}
+use Rattle.ir_core.specs.declared.modules.Module.{Module}
+use Rattle.ir_core.specs.Modules.{plain_function, plain_module, plain_param}
 
 abbrev pub number : ℕ → Atom Name
 number n = Constant (constant.Number n)
@@ -30,10 +31,7 @@ block b lines result = record { name = b; phis = []; body = lines; term = Ret (r
 
 -- define i32 @f(PARAMS) { b: LINES  ret i32 RESULT }
 abbrev pub defining : Name → List Param → Name → List Instr → Atom Name → Module
-defining f params b lines result = record {
-  types = [];
-  functions = record { name = f; result = Int 32; params = params; blocks = block b lines result ∷ [] } ∷ [];
-}
+defining f params b lines result = plain_module [] (plain_function (Int 32) f params (block b lines result ∷ []) ∷ [])
 
 -- define i32 @f() { b: ret i32 RESULT }
 abbrev pub returning : Name → Name → Atom Name → Module
@@ -41,7 +39,7 @@ returning f b result = defining f [] b [] result
 
 -- define i32 @f(i32 %x) { b: ret i32 RESULT }
 abbrev pub taking : Name → Name → Name → Atom Name → Module
-taking f x b result = defining f (record { name = x; ty = Int 32 } ∷ []) b [] result
+taking f x b result = defining f (plain_param (Int 32) x ∷ []) b [] result
 
 -- %y = add nsw i32 2147483647, 1
 abbrev pub wrapping_line : Name → Instr
@@ -79,11 +77,7 @@ dividing f b y = defining f [] b (dividing_line y ∷ []) (Register y)
 
 -- define void @f() { b: ret void }
 abbrev pub returning_nothing : Name → Name → Module
-returning_nothing f b = record {
-  types = [];
-  functions =
-      record { name = f; result = Void; params = []; blocks = record { name = b; phis = []; body = []; term = RetVoid } ∷ [] } ∷ [];
-}
+returning_nothing f b = plain_module [] (plain_function Void f [] (record { name = b; phis = []; body = []; term = RetVoid } ∷ []) ∷ [])
 
 -- ---- right sides of lines, of constants
 

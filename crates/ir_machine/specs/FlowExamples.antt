@@ -4,7 +4,7 @@ use Rattle.ir_core.specs.declared.functions.Block.{Block}
 use Rattle.ir_core.specs.declared.functions.Case.{Case}
 use Rattle.ir_core.specs.declared.functions.Entry.{Entry}
 use Rattle.ir_core.specs.declared.functions.Function.{Function}
-use Rattle.ir_core.specs.declared.functions.Module.{Module}
+use Rattle.ir_core.specs.declared.modules.Module.{Module}
 use Rattle.ir_core.specs.declared.functions.Phi.{Phi}
 use Rattle.ir_core.specs.declared.functions.Term.{Term}
 use Rattle.ir_core.specs.declared.functions.Term.TheVariants.{Ret, Br, CondBr, Switch}
@@ -15,6 +15,7 @@ use Rattle.ir_core.specs.declared.operands.Atom.TheVariants.{Register}
 use Rattle.ir_types.specs.declared.ty.Ty.{Ty}
 use Rattle.ir_types.specs.declared.ty.Ty.TheVariants.{Int, Void}
 use Rattle.ir_machine.specs.Examples.{number}
+use Rattle.ir_core.specs.Modules.{plain_function, plain_module}
 
 -- [ VALUE, %from ]
 abbrev pub entry : Atom Name → ℕ → Entry
@@ -30,10 +31,10 @@ block n phis term = record { name = Number n; phis = phis; body = []; term = ter
 
 -- define TY @0() { BLOCKS }
 abbrev pub function : Ty → List Block → Function
-function ty blocks = record { name = Number 0; result = ty; params = []; blocks = blocks }
+function ty blocks = plain_function ty (Number 0) [] blocks
 
 abbrev pub alone : Function → Module
-alone f = record { types = []; functions = f ∷ [] }
+alone f = plain_module [] (f ∷ [])
 
 -- define void @0() { 1: PHIS  TERM }
 abbrev pub ending : List Phi → Term → Module

@@ -15,7 +15,7 @@ use Rattle.ir_core.specs.declared.functions.Term.TheVariants.{Ret, RetVoid, Br, 
 use Rattle.ir_core.specs.declared.functions.Param.{Param}
 use Rattle.ir_core.specs.declared.functions.Block.{Block}
 use Rattle.ir_core.specs.declared.functions.Function.{Function}
-use Rattle.ir_core.specs.declared.functions.Module.{Module}
+use Rattle.ir_core.specs.declared.modules.Module.{Module}
 use Rattle.ir_values.specs.Values.{IsLessDefined}
 use Rattle.ir_values.specs.declared.operations.Outcome.TheVariants.{Gives}
 use Rattle.ir_machine.specs.declared.items.Item.{Item}

@@ -18,7 +18,7 @@ use Rattle.ir_core.specs.declared.functions.Param.{Param}
 use Rattle.ir_core.specs.declared.functions.Phi.{Phi}
 use Rattle.ir_core.specs.declared.functions.Block.{Block}
 use Rattle.ir_core.specs.declared.functions.Function.{Function}
-use Rattle.ir_core.specs.declared.functions.Module.{Module}
+use Rattle.ir_core.specs.declared.modules.Module.{Module}
 use Rattle.ir_types.specs.Same.{same_name}
 use Rattle.ir_core.specs.Expressions.{type_of}
 use Rattle.ir_values.specs.declared.operations.Outcome.{Outcome}
@@ -76,9 +76,10 @@ abbrev pub set_to : Option Kind → Name → Outcome → Frame → List Pending 
 set_to k x (Gives v) frame rest world = Does [] (Running (record frame { registers = set frame.registers x k v }) rest world)
 set_to k x Trap frame rest world = wrong
 
--- the frame stands after the line
+-- The frame stands after the line. No well-formed module has an alloca, a store or a call yet; they are undefined behaviour.
 abbrev pub line_step : Instr → Frame → List Pending → World → Asks
 line_step (line.Calm l) frame rest world = set_to (kind_of (type_of l.right)) l.name (outcome (read frame.registers) l.right) frame rest world
+line_step i frame rest world = wrong
 
 -- a value of a kind as it is read at another: poison where the two differ, or there is none to read it at
 abbrev pub at_kind : Option Kind → Option Kind → Value → Value

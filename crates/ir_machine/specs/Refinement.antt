@@ -1,7 +1,7 @@
 -- What a module can show, and when one module refines another.
 use Rattle.std.specs.Prelude.{◌≡◌, ◌≢◌, ◌↔◌, ◌⊎◌, ℕ, List, [], ◌∷◌, ◌++◌, MatchOption}
 use Rattle.ir_types.specs.declared.names.Name.{Name}
-use Rattle.ir_core.specs.declared.functions.Module.{Module}
+use Rattle.ir_core.specs.declared.modules.Module.{Module}
 use Rattle.ir_machine.specs.declared.items.Item.{Item}
 use Rattle.ir_machine.specs.declared.items.Item.TheVariants.{Turn, Returned, Wrong}
 use Rattle.ir_machine.specs.declared.items.Input.{Input}

@@ -18,7 +18,7 @@ use Rattle.ir_types.specs.declared.ty.Ty.{Ty}
 use Rattle.ir_types.specs.declared.ty.Ty.TheVariants as ty
 use Rattle.ir_types.specs.Same.{same_name, same_ty}
 use Rattle.ir_core.specs.declared.expressions.Expr.{Expr}
-use Rattle.ir_core.specs.declared.expressions.Expr.TheVariants.{Plain, Binary, Icmp, Cast, Select}
+use Rattle.ir_core.specs.declared.expressions.Expr.TheVariants.{Plain, Binary, Icmp, Cast, Select, Element, Load}
 use Rattle.ir_core.specs.Types.{converts, fits, kind_of}
 use Rattle.ir_values.specs.declared.operations.Outcome.{Outcome}
 use Rattle.ir_values.specs.declared.operations.Outcome.TheVariants.{Gives}
@@ -60,10 +60,11 @@ set registers x k v = λ y. cond (same_name x y) (holding k v) (registers y)
 abbrev pub AreInKind : Registers → Type 0
 AreInKind registers = (x : Name) (k : Kind) → IsInKind k (read registers k x)
 
--- a number that isn't of its type is worth poison
+-- a number that isn't of its type is worth poison, and so is a constant that is none of integers
 abbrev pub constant_value : Kind → Const → Value
 constant_value (kind.Int width) (constant.Number n) = cond (fits n width) (Num n) Poison
 constant_value (kind.Int width) constant.Undef = Undef
+constant_value (kind.Int width) c = Poison
 
 -- what an atom is worth at a kind, where registers are read by the function given
 abbrev pub atom_at : {R : Type 0} → (Kind → R → Value) → Kind → Atom R → Value
@@ -113,3 +114,5 @@ outcome reading (Cast c) =
 outcome reading (Select s) =
     cond (selects s.condition.ty s.left.ty s.right.ty)
     (select_outcome (operand_value reading s.condition) (operand_value reading s.left) (operand_value reading s.right)) (Gives Poison)
+outcome reading (Element e) = Gives Poison
+outcome reading (Load l) = Gives Poison

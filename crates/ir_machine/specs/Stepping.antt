@@ -1,7 +1,14 @@
 -- Words of private functions. What a step of the code is to the tree that it answers, and where a jump lands.
 use Rattle.std.specs.Prelude.{◌≡◌, List, [], ◌∷◌, Option, None, Some, Result, IfOk, IsErrOf, slice_get}
 use Rattle.ir_core.specs.declared.functions.Function.{Function}
+use Rattle.ir_core.specs.declared.functions.Instr.{Instr}
+use Rattle.ir_core.specs.declared.functions.Instr.TheVariants as line
+use Rattle.ir_core.specs.declared.values.Value.{Value}
 use Rattle.ir_types.specs.declared.names.Name.{Name}
+use Rattle.ir_core.specs.Expressions.{type_of}
+use Rattle.ir_core.specs.Types.{kind_of}
+use Rattle.ir_values.specs.declared.operations.Outcome.{Outcome}
+use Rattle.ir_values.specs.declared.operations.Outcome.TheVariants.{Trap}
 use Rattle.ir_machine.specs.declared.items.Choice.{Choice}
 use Rattle.ir_machine.specs.declared.items.Item.TheVariants.{Turn}
 use Rattle.ir_machine.specs.declared.jumping.Landing.{Landing}
@@ -12,7 +19,18 @@ use Rattle.ir_machine.specs.declared.machine.Stepped.{Stepped}
 use Rattle.ir_machine.specs.Choices.{Did, Lacks, answer, TakesAsked}
 use Rattle.ir_machine.specs.Machine.{Asks, Does, wrong}
 use Rattle.ir_machine.specs.Places.{in_block, progress_of, registers_in}
+use Rattle.ir_machine.specs.Registers.{Registers, outcome, read, set}
 use Rattle.ir_machine.specs.State.{State}
+
+-- what a line leads to, over the registers before it
+abbrev pub line_outcome : Registers → Instr → Outcome
+line_outcome registers (line.Calm l) = outcome (read registers) l.right
+line_outcome registers i = Trap
+
+-- the registers behind a line that gives this value
+abbrev pub line_set : Registers → Instr → Value → Registers
+line_set registers (line.Calm l) v = set registers l.name (kind_of (type_of l.right)) v
+line_set registers i v = registers
 
 -- What the step makes of the choices before and after it, in that state, is what the tree answers.
 pub record Answers (tree : Asks) (before after : List Choice) (state : State) (result : Result Stepped StepEnd) : Type 0 where

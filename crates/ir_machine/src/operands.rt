@@ -38,6 +38,7 @@ fn constant_value(kind: &Kind, constant: &Const) -> Value
             }
         }
         Const::Undef => Value::Undef,
+        Const::Null | Const::Global(_) | Const::Element(_) | Const::Cast(_) => Value::Poison,
     }
 }
 
@@ -160,6 +161,7 @@ fn select_outcome(registers: &RegisterFile, select: &Select<Name>) -> Outcome
 }
 
 /// What an expression of a line leads to.
+#[tactic(auto, using(crate::proofs::InKind::poison_of))]
 pub(crate) fn outcome(registers: &RegisterFile, right: &Expr<Name>) -> Outcome
     ensures value { result ≡ meaning.outcome (meaning.read (registers_in registers.now)) right.now }
     ensures in_kind { GivesInKind (types.kind_of (type_of right.now)) result }
@@ -170,5 +172,6 @@ pub(crate) fn outcome(registers: &RegisterFile, right: &Expr<Name>) -> Outcome
         Expr::Icmp(icmp) => icmp_outcome(registers, icmp),
         Expr::Cast(cast) => cast_outcome(registers, cast),
         Expr::Select(select) => select_outcome(registers, select.get()),
+        Expr::Element(_) | Expr::Load(_) => Outcome::Gives(Value::Poison),
     }
 }

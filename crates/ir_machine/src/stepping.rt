@@ -11,7 +11,7 @@ ghost use Rattle.ir_machine.specs.Machine as machine;
 ghost use Rattle.ir_machine.specs.Choices.{Did, Lacks, answer, TakesAsked};
 ghost use Rattle.ir_machine.specs.Machine.{Does};
 ghost use Rattle.ir_machine.specs.Places.{at_end, registers_in, state_in, state_of, progress_of, next_line};
-ghost use Rattle.ir_machine.specs.Stepping.{Answers, StaysIn};
+ghost use Rattle.ir_machine.specs.Stepping.{Answers, StaysIn, line_outcome, line_set};
 ghost use Rattle.ir_core.specs.Functions.{successors_of};
 ghost use Rattle.ir_core.specs.declared.values.Value.TheVariants.{Num};
 
@@ -221,8 +221,8 @@ fn do_terminator<C: Chooser>(
     }
 }
 
-/// A line is done: its register is set, and the run stands after it; or the run is wrong.
-fn do_line(
+/// A line that does nothing but set its register is done: the run stands after it, or is wrong.
+fn do_calm(
     alloc: Global,
     line: &Calm,
     place: Place,
@@ -259,6 +259,32 @@ fn do_line(
             })
         }
         Outcome::Trap => Ok(go_wrong(alloc, state)?),
+    }
+}
+
+/// A line is done, and the run stands after it; or the run is wrong.
+fn do_line(
+    alloc: Global,
+    line: &Instr,
+    place: Place,
+    state: &mut RunState,
+) -> Result<Stepped, StepEnd>
+    requires room { place.line < usize.MAX }
+    ensures gives { (v : _) → line_outcome (registers_in state.old.registers) line.now ≡ outcome.Gives v
+        → IfOk result (λ stepped. (stepped.items ≡ []) × (stepped.progress ≡ progress.Goes)
+        × (state.new.place ≡ Some (next_line place))
+        × (registers_in state.new.registers ≡ line_set (registers_in state.old.registers) line.now v)) }
+    ensures traps { line_outcome (registers_in state.old.registers) line.now ≡ outcome.Trap
+        → IfOk result (λ stepped. (stepped.items ≡ item.Wrong ∷ []) × (stepped.progress ≡ progress.IsWrong)
+        × (state.new.place ≡ None)) }
+    ensures same_place { OnErr result (state.new.place ≡ state.old.place) }
+    ensures same_registers { OnErr result
+        (registers_in state.new.registers ≡ registers_in state.old.registers) }
+    ensures memory { IsErr result → IsErrOf result StepEnd.Memory }
+{
+    match line {
+        Instr::Calm(calm) => do_calm(alloc, calm, place, state),
+        Instr::Alloca(_) | Instr::Store(_) | Instr::Call(_) => Ok(go_wrong(alloc, state)?),
     }
 }
 
@@ -299,9 +325,7 @@ pub fn step<C: Chooser>(
     };
     let lines = block.body.as_slice();
     if place.line < lines.len() {
-        return match &lines[place.line] {
-            Instr::Calm(line) => do_line(alloc, line, place, state),
-        };
+        return do_line(alloc, &lines[place.line], place, state);
     }
     let here = Here {
         function,

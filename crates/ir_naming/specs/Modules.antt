@@ -7,7 +7,7 @@ use Rattle.ir_core.specs.declared.functions.Entry.{Entry}
 use Rattle.ir_core.specs.declared.functions.Function.{Function}
 use Rattle.ir_core.specs.declared.functions.Instr.{Instr}
 use Rattle.ir_core.specs.declared.functions.Instr.TheVariants.{Calm}
-use Rattle.ir_core.specs.declared.functions.Module.{Module}
+use Rattle.ir_core.specs.declared.modules.Module.{Module}
 use Rattle.ir_core.specs.declared.functions.Param.{Param}
 use Rattle.ir_core.specs.declared.functions.Phi.{Phi}
 use Rattle.ir_core.specs.declared.functions.Switch.{Switch}
@@ -34,12 +34,13 @@ use Rattle.ir_grammar.specs.declared.trees.TermText.{TermText}
 use Rattle.ir_grammar.specs.declared.trees.TermText.TheVariants as written
 use Rattle.ir_naming.specs.Naming.{block_things, blocks_in, due_behind, due_from, entries_in, label_name, name_due, param_thing, phi_thing}
 use Rattle.ir_naming.specs.Values.{atom_of, built, expression_of, int_of, operand_of, type_at}
+use Rattle.ir_core.specs.Modules.{plain_function, plain_module, plain_param}
 
 -- each with the number that is due at the first
 
 abbrev pub params_from : ℕ → List ParamText → List Param
 params_from due [] = []
-params_from due (p ∷ ps) = record { name = name_due due p.name; ty = type_at p.ty } ∷ params_from (due_behind due p.name) ps
+params_from due (p ∷ ps) = plain_param (type_at p.ty) (name_due due p.name) ∷ params_from (due_behind due p.name) ps
 
 -- `[ 7, %a ]` of a phi of this width
 abbrev pub entry_of : ℕ → EntryText → Entry
@@ -102,12 +103,9 @@ result_of (Some ty) = type_at ty
 
 -- `define i32 @f(i32) { %x = add i32 %0, 7 ret i32 %x }` is built as the function `f` with the parameter 0 and the block 1.
 abbrev pub function_of : DefinitionText → Function
-function_of d = record {
-  name = d.name.what;
-  result = result_of d.result;
-  params = params_from 0 d.params;
-  blocks = blocks_from d.name (due_from 0 (map (param_thing d.name) d.params)) (blocks_in d);
-}
+function_of d =
+    plain_function (result_of d.result) d.name.what (params_from 0 d.params)
+    (blocks_from d.name (due_from 0 (map (param_thing d.name) d.params)) (blocks_in d))
 
 abbrev pub module_of : ModuleText → Module
-module_of m = record { types = []; functions = map function_of m.definitions }
+module_of m = plain_module [] (map function_of m.definitions)

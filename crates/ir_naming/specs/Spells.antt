@@ -8,7 +8,8 @@ use Rattle.ir_core.specs.declared.functions.Entry.{Entry}
 use Rattle.ir_core.specs.declared.functions.Function.{Function}
 use Rattle.ir_core.specs.declared.functions.Instr.{Instr}
 use Rattle.ir_core.specs.declared.functions.Instr.TheVariants as instr
-use Rattle.ir_core.specs.declared.functions.Module.{Module}
+use Rattle.ir_core.specs.declared.modules.Linkage.TheVariants as linkage
+use Rattle.ir_core.specs.declared.modules.Module.{Module}
 use Rattle.ir_core.specs.declared.functions.Param.{Param}
 use Rattle.ir_core.specs.declared.functions.Phi.{Phi}
 use Rattle.ir_core.specs.declared.functions.Switch.{Switch}
@@ -20,6 +21,7 @@ use Rattle.ir_types.specs.declared.ty.Ty.{Ty}
 use Rattle.ir_types.specs.declared.ty.Ty.TheVariants.{Int, Void}
 use Rattle.ir_core.specs.Functions.{function_names, line_count, names_of, typed_of}
 use Rattle.ir_core.specs.Limits.{line_limit}
+use Rattle.ir_core.specs.Modules.{not_extended}
 use Rattle.ir_core.specs.Order.{AreInOrder}
 use Rattle.ir_core.specs.Ranges.{IsNameInRange}
 use Rattle.ir_grammar.specs.declared.trees.BlockText.{BlockText}
@@ -58,10 +60,11 @@ abbrev pub IsValue : List (Name × Ty) → Names Name
 IsValue registers width = IsAtom width (MeansOne registers width)
 
 abbrev pub IsParam : ParamText → Param → Type 0
-IsParam w p = IsNamed w.name p.name × (p.ty ≡ type_at w.ty)
+IsParam w p = IsNamed w.name p.name × (p.ty ≡ type_at w.ty) × (p.extensions ≡ not_extended)
 
 abbrev pub IsLine : List (Name × Ty) → LineText → Instr → Type 0
 IsLine registers w (instr.Calm c) = IsNamed w.register c.name × IsOperation (IsValue registers) w.operation c.right
+IsLine registers w line = ⊥
 
 -- a label that is used is one of the function's
 abbrev pub IsLabel : List Name → Placed Name → Name → Type 0
@@ -135,8 +138,10 @@ labels_of f = map (λ (b : Block). b.name) f.blocks
 -- A function. Parameters, blocks and registers share one name space and one count of what has no name. Phis and terminators are
 -- lines.
 pub record NamesFunction (w : DefinitionText) (f : Function) : Type 0 where
-  pub name : f.name ≡ w.name.what
+  pub linkage : f.linkage ≡ linkage.External
+  pub extensions : f.result_extensions ≡ not_extended
   pub result : IsResult w.result f.result
+  pub name : f.name ≡ w.name.what
   pub params : AllZip IsParam w.params f.params
   pub blocks : AllZip (NamesBlock (typed_of f) (labels_of f)) (blocks_in w) f.blocks
   pub order : AreInOrder (names_of f)
@@ -154,5 +159,7 @@ pub record NamesFunction (w : DefinitionText) (f : Function) : Type 0 where
 -- No definition names a type.
 pub record NamesModule (w : ModuleText) (m : Module) : Type 0 where
   pub types : m.types ≡ []
+  pub globals : m.globals ≡ []
   pub functions : AllZip NamesFunction w.definitions m.functions
+  pub declarations : m.declarations ≡ []
   pub order : AreInOrder (function_names m)

@@ -48,6 +48,8 @@ use Rattle.ir_naming.specs.Values.{IsNumber, IsOperation, atom_of, built, expres
 use Rattle.ir_naming_laws.proofs.Lists.{zip_is}
 use Rattle.ir_naming_laws.proofs.Operations.{Determines, binary_is, cast_is, compare_is, operand_is, operation_cases, select_is}
 use Rattle.ir_naming_laws.proofs.Terms.{branch_cases, term_cases}
+use Rattle.ir_core.specs.Modules.{not_extended, plain_function, plain_param}
+use Rattle.ir_core.specs.declared.modules.Linkage.TheVariants as linkage
 
 -- ---- one name
 
@@ -169,9 +171,9 @@ result_is (Some w) ty is = is
 abbrev param_names : List Param → List Name
 param_names ps = names_in (map (λ (p : Param). (p.name, p.ty)) ps)
 
-param_same : (p : Param) (name : Name) (ty : Ty) → p.name ≡ name → p.ty ≡ ty → p ≡ record { name = name; ty = ty }
-param_same p name ty e f =
-    let of : Name → Ty → Param = λ n t. record { name = n; ty = t } in ap (λ n. of n p.ty) e ∙ ap (of name) f
+param_same : (p : Param) (name : Name) (ty : Ty) → p.name ≡ name → p.ty ≡ ty → p.extensions ≡ not_extended → p ≡ plain_param ty name
+param_same p name ty e f x =
+    ap (λ y. record p { extensions = y }) x ∙ ap (plain_param p.ty) e ∙ ap (λ t. plain_param t name) f
 
 pub record ParamsAre (function : Placed Name) (ws : List ParamText) (ps : List Param) (due : ℕ) (more : List Name) (count : ℕ) : Type 0 where
   pub same : ps ≡ params_from due ws
@@ -185,8 +187,8 @@ params_are function (w ∷ ws) (p ∷ ps) due more count zip counted =
     let next = due_behind due w.name in
     let at : counted.0 ≡ next = behind_is due w.name p.name counted.0 zip.0.0 counted.1 in
     let rest = params_are function ws ps next more count zip.1 (subst (λ n. AreCounted n (param_names ps ++ more) count) at counted.2) in
-    let same = param_same p (name_due due w.name) (type_at w.ty) (name_is due w.name p.name counted.0 zip.0.0 counted.1) zip.0.1 in
-    record { same = ap (λ q. q ∷ ps) same ∙ ap (λ qs. record { name = name_due due w.name; ty = type_at w.ty } ∷ qs) rest.same; counted = rest.counted }
+    let same = param_same p (name_due due w.name) (type_at w.ty) (name_is due w.name p.name counted.0 zip.0.0 counted.1) zip.0.1 zip.0.2 in
+    record { same = ap (λ q. q ∷ ps) same ∙ ap (λ qs. plain_param (type_at w.ty) (name_due due w.name) ∷ qs) rest.same; counted = rest.counted }
 
 calm_same : (c : Calm) (name : Name) (right : Expr Name) → c.name ≡ name → c.right ≡ right → c ≡ record { name = name; right = right }
 calm_same c name right e f =
@@ -224,6 +226,7 @@ lines_are registers function (w ∷ ws) (instr.Calm c ∷ ls) due more count zip
       same = ap (λ d. instr.Calm d ∷ ls) same ∙ ap (λ more. instr.Calm (record { name = name_due due w.register; right = expression_of w.operation }) ∷ more) rest.same;
       counted = rest.counted;
     }
+lines_are registers function (w ∷ ws) (l ∷ ls) due more count zip counted = absurd zip.0
 
 -- ---- blocks
 
@@ -277,10 +280,14 @@ blocks_are registers labels function (w ∷ ws) (b ∷ bs) due count zip counted
 
 -- ---- a function
 
-function_same : (f : Function) (name : Name) (ty : Ty) (params : List Param) (blocks : List Block) → f.name ≡ name → f.result ≡ ty → f.params ≡ params → f.blocks ≡ blocks → f ≡ record { name = name; result = ty; params = params; blocks = blocks }
-function_same f name ty params blocks e g h k =
-    let of : Name → Ty → List Param → List Block → Function = λ n t p b. record { name = n; result = t; params = p; blocks = b } in
-    ap (λ n. of n f.result f.params f.blocks) e
+-- without a linkage and without what makes the result wider
+function_same : (f : Function) (name : Name) (ty : Ty) (params : List Param) (blocks : List Block) → f.linkage ≡ linkage.External → f.result_extensions ≡ not_extended → f.name ≡ name → f.result ≡ ty
+    → f.params ≡ params → f.blocks ≡ blocks → f ≡ plain_function ty name params blocks
+function_same f name ty params blocks l x e g h k =
+    let of : Name → Ty → List Param → List Block → Function = λ n t p b. plain_function t n p b in
+    ap (λ m. record f { linkage = m }) l
+    ∙ ap (λ y. record f { linkage = linkage.External; result_extensions = y }) x
+    ∙ ap (λ n. of n f.result f.params f.blocks) e
     ∙ ap (λ t. of name t f.params f.blocks) g
     ∙ ap (λ p. of name ty p f.blocks) h
     ∙ ap (λ b. of name ty params b) k
@@ -291,4 +298,4 @@ function_is d f n =
     let due = due_from 0 (map (param_thing d.name) d.params) in
     let params = params_are d.name d.params f.params 0 (flat_map block_names f.blocks) count n.params n.order.2 in
     let blocks = blocks_are (typed_of f) (labels_of f) d.name (blocks_in d) f.blocks due count n.blocks params.counted in
-    function_same f d.name.what (result_of d.result) (params_from 0 d.params) (blocks_from d.name due (blocks_in d)) n.name (result_is d.result f.result n.result) params.same blocks
+    function_same f d.name.what (result_of d.result) (params_from 0 d.params) (blocks_from d.name due (blocks_in d)) n.linkage n.extensions n.name (result_is d.result f.result n.result) params.same blocks

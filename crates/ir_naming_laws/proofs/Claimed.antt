@@ -216,6 +216,7 @@ lines_right ds [] ls new zip = tt
 lines_right ds (w ∷ ws) [] new zip = absurd zip
 lines_right ds (w ∷ ws) (instr.Calm c ∷ ls) new zip =
     all_append (IsRight ds) (line_claims w) (flat_map line_claims ws) (operation_right ds new w.operation c.right zip.0.1) (lines_right ds ws ls new zip.1)
+lines_right ds (w ∷ ws) (l ∷ ls) new zip = absurd zip.0
 
 return_right : (ds : List Definition) (w : Option OperandText) (t : Term) → AreNew [] (defined_names ds) → IsReturn (registers_in ds) w t → AreRight ds (return_claims w)
 return_right ds None t new is = tt

@@ -60,18 +60,12 @@ operation_named (form.Select s) right = select_named [] number_range IsLogicAtom
 
 expression_is : (w : ExprText) (e : Expr0) → NamesExpression w e → e ≡ logic_expression w
 expression_is (Plain w) (expr.Plain operand) named = ap expr.Plain (operand_is IsLogicAtom logic_atom atom_is w operand named)
-expression_is (Plain w) (expr.Binary b) named = absurd named
-expression_is (Plain w) (expr.Icmp c) named = absurd named
-expression_is (Plain w) (expr.Cast c) named = absurd named
-expression_is (Plain w) (expr.Select s) named = absurd named
+expression_is (Plain w) e named = absurd named
 expression_is (Operation o) e named = operation_is o e named
 
 are_right : (w : ExprText) (e : Expr0) → NamesExpression w e → AreRight [] (ranges_of w)
 are_right (Plain w) (expr.Plain operand) named = operand_right [] number_range IsLogicAtom number_right w operand named
-are_right (Plain w) (expr.Binary b) named = absurd named
-are_right (Plain w) (expr.Icmp c) named = absurd named
-are_right (Plain w) (expr.Cast c) named = absurd named
-are_right (Plain w) (expr.Select s) named = absurd named
+are_right (Plain w) e named = absurd named
 are_right (Operation o) e named = operation_right o e named
 
 pub expression_right : (w : ExprText) (e : Expr0) → NamesExpression w e → ((f : Fault) → HasFault (expression_claims w) f → ⊥) × (e ≡ logic_expression w)

@@ -5,7 +5,7 @@ use Rattle.ir_core.specs.Functions.{function_names, line_count, names_of, typed_
 use Rattle.ir_core.specs.Limits.{line_limit}
 use Rattle.ir_core.specs.Order.{AreInOrder}
 use Rattle.ir_core.specs.declared.functions.Function.{Function}
-use Rattle.ir_core.specs.declared.functions.Module.{Module}
+use Rattle.ir_core.specs.declared.modules.Module.{Module}
 use Rattle.ir_types.specs.declared.named.NamedTy.{NamedTy}
 use Rattle.ir_types.specs.declared.names.Name.{Name}
 use Rattle.ir_grammar.specs.declared.trees.BlockText.{BlockText}
@@ -28,6 +28,9 @@ use Rattle.ir_naming_laws.proofs.Known.{labels_are, labels_in, names_are, regist
 use Rattle.ir_naming_laws.proofs.Lists.{all_append, all_from, all_left, all_lists, all_mapped, all_right, all_to, zip_lists, zip_mapped}
 use Rattle.ir_naming_laws.proofs.Ordered.{AreRight, IsRight, defined_names, in_order}
 use Rattle.ir_naming_laws.proofs.Parts.{label_named, lines_are, lines_named, params_named, phis_named, result_named, term_named}
+use Rattle.ir_core.specs.Modules.{plain_module}
+use Rattle.ir_core.specs.declared.modules.Declaration.{Declaration}
+use Rattle.ir_core.specs.declared.modules.GlobalVar.{GlobalVar}
 
 -- ---- each claim is right
 
@@ -78,8 +81,10 @@ function_named d right few =
     let values = flat_map block_claims (blocks_in d) in
     let blocks = blocks_from d.name count (blocks_in d) in
     record {
-      name = refl;
+      linkage = refl;
+      extensions = refl;
       result = result_named d.result;
+      name = refl;
       params = params_named 0 d.params;
       blocks = subst (λ registers. AllZip (NamesBlock registers (labels_of (function_of d))) (blocks_in d) blocks) (sym (registers_are d)) (subst (λ labels. AllZip (NamesBlock (registers_in ds) labels) (blocks_in d) blocks) (sym (labels_are d)) (blocks_named ds d.name count (blocks_in d) (all_right (IsRight ds) named values right)));
       order = subst AreInOrder (sym (names_are d)) (in_order things (all_left (IsRight ds) named values right));
@@ -99,6 +104,8 @@ module_named w faultless within =
     let last = all_right IsRightItem (map item_of w.definitions) (module_item w ∷ []) items in
     record {
       types = refl;
+      globals = refl;
+      declarations = refl;
       functions = zip_mapped NamesFunction function_of w.definitions (functions w.definitions each within);
       order = subst AreInOrder (sym (functions_names 0 w.definitions)) (in_order (map function_thing w.definitions) last.0);
     }
@@ -153,11 +160,12 @@ no_fault_of items right f has =
     let some : fault_at item has.2.0 ≡ Some f.reason = has.2.2.2 in
     cc
 
-module_same : (m : Module) (fs : List Function) → m.types ≡ [] → m.functions ≡ fs → m ≡ record { types = []; functions = fs }
-module_same m fs none e =
-    let of_types : List NamedTy → Module = λ ts. record { types = ts; functions = m.functions } in
-    let of : List Function → Module = λ gs. record { types = []; functions = gs } in
-    ap of_types none ∙ ap of e
+module_same : (m : Module) (fs : List Function) → m.types ≡ [] → m.globals ≡ [] → m.declarations ≡ [] → m.functions ≡ fs → m ≡ plain_module [] fs
+module_same m fs none no_globals no_declarations e =
+    ap (λ (ts : List NamedTy). record m { types = ts }) none
+    ∙ ap (λ (gs : List GlobalVar). record m { types = []; globals = gs }) no_globals
+    ∙ ap (λ (ds : List Declaration). record m { types = []; globals = []; declarations = ds }) no_declarations
+    ∙ ap (plain_module []) e
 
 pub module_right : (w : ModuleText) (m : Module) → NamesModule w m → IsFaultless w × IsWithinLines w × (m ≡ module_of w)
 module_right w m n =
@@ -169,5 +177,5 @@ module_right w m n =
     let last : IsRightItem (module_item w) = names_right ds [] things 0 0 order.1 refl refl order.0 order.2 in (
       no_fault_of (claims_of w) (all_append IsRightItem (map item_of w.definitions) (module_item w ∷ []) functions.right (last, tt)),
       functions.few,
-      module_same m (map function_of w.definitions) n.types functions.same,
+      module_same m (map function_of w.definitions) n.types n.globals n.declarations functions.same,
     )

@@ -30,26 +30,11 @@ use Rattle.ir_naming_laws.proofs.Ordered.{AreRight, IsRight}
 
 -- An operation names an expression of its own form alone.
 pub operation_cases : {R : Type 0} (names : Names R) (P : OperationText → Expr R → Type 0) → ((w : BinaryText) (b : Binary R) → IsBinary names w b → P (form.Binary w) (expr.Binary b)) → ((w : CompareText) (c : Icmp R) → IsCompare names w c → P (form.Compare w) (expr.Icmp c)) → ((w : CastText) (c : Cast R) → IsCast names w c → P (form.Cast w) (expr.Cast c)) → ((w : SelectText) (s : Select R) → IsSelect names w s → P (form.Select w) (expr.Select s)) → (w : OperationText) (e : Expr R) → IsOperation names w e → P w e
-operation_cases names P f g h k (form.Binary w) (expr.Plain o) is = absurd is
 operation_cases names P f g h k (form.Binary w) (expr.Binary b) is = f w b is
-operation_cases names P f g h k (form.Binary w) (expr.Icmp c) is = absurd is
-operation_cases names P f g h k (form.Binary w) (expr.Cast c) is = absurd is
-operation_cases names P f g h k (form.Binary w) (expr.Select s) is = absurd is
-operation_cases names P f g h k (form.Compare w) (expr.Plain o) is = absurd is
-operation_cases names P f g h k (form.Compare w) (expr.Binary b) is = absurd is
 operation_cases names P f g h k (form.Compare w) (expr.Icmp c) is = g w c is
-operation_cases names P f g h k (form.Compare w) (expr.Cast c) is = absurd is
-operation_cases names P f g h k (form.Compare w) (expr.Select s) is = absurd is
-operation_cases names P f g h k (form.Cast w) (expr.Plain o) is = absurd is
-operation_cases names P f g h k (form.Cast w) (expr.Binary b) is = absurd is
-operation_cases names P f g h k (form.Cast w) (expr.Icmp c) is = absurd is
 operation_cases names P f g h k (form.Cast w) (expr.Cast c) is = h w c is
-operation_cases names P f g h k (form.Cast w) (expr.Select s) is = absurd is
-operation_cases names P f g h k (form.Select w) (expr.Plain o) is = absurd is
-operation_cases names P f g h k (form.Select w) (expr.Binary b) is = absurd is
-operation_cases names P f g h k (form.Select w) (expr.Icmp c) is = absurd is
-operation_cases names P f g h k (form.Select w) (expr.Cast c) is = absurd is
 operation_cases names P f g h k (form.Select w) (expr.Select s) is = k w s is
+operation_cases names P f g h k w e is = absurd is
 
 -- ---- it is what is named
 

@@ -147,7 +147,7 @@ result_named (Some w) = refl
 
 pub params_named : (due : ℕ) (ps : List ParamText) → AllZip IsParam ps (params_from due ps)
 params_named due [] = tt
-params_named due (p ∷ ps) = ((name_named due p.name, refl), params_named (due_behind due p.name) ps)
+params_named due (p ∷ ps) = ((name_named due p.name, refl, refl), params_named (due_behind due p.name) ps)
 
 pub phis_named : (ds : List Definition) (due : ℕ) (ps : List PhiText) → AllByRecursion (λ p. AreRight ds (phi_claims p)) ps → AllZip (IsPhi (registers_in ds) (labels_in ds)) ps (phis_from due ps)
 phis_named ds due [] right = tt

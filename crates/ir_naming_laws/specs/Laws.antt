@@ -2,7 +2,7 @@
 -- and no other.
 use Rattle.std.specs.Prelude.{ℕ, ◌+◌, ◌≤◌, ◌≡◌, length}
 use Rattle.std.specs.List.{AllByRecursion, sum_by}
-use Rattle.ir_core.specs.declared.functions.Module.{Module}
+use Rattle.ir_core.specs.declared.modules.Module.{Module}
 use Rattle.ir_core.specs.Expressions.{Expr0}
 use Rattle.ir_core.specs.Limits.{line_limit}
 use Rattle.ir_grammar.specs.declared.trees.BlockText.{BlockText}

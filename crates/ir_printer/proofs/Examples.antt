@@ -1,14 +1,17 @@
 -- The examples, computed.
-use Rattle.std.proofs.Common.{◌≡◌, [], ◌∷◌, ◌++◌, List, ℕ, codes, refl, ap}
-use Rattle.std.specs.Fmt.{digits}
+use Rattle.std.proofs.Common.{◌≡◌, [], ◌∷◌, ◌++◌, List, ℕ, refl}
+use Rattle.std.specs.Fmt.{decimal, digits}
 use Rattle.ir_types.specs.declared.names.Name.{Name}
-use Rattle.ir_types.specs.declared.ty.Ty.{Ty, Ptr, Named}
+use Rattle.ir_types.specs.declared.ty.Ty.{Ty, Int, Ptr, Named}
 use Rattle.ir_types.proofs.Induction as fold
 use Rattle.expression_printer.specs.Printed.{printed_local, printed_parts, type_text}
-use Rattle.ir_printer.specs.Examples.{ModulesArePrinted, module_with, smallest_text, three_types, three_types_text}
+use Rattle.ir_printer.specs.Examples.{ModulesArePrinted, module_with, three_types, three_types_text}
 use Rattle.ir_printer.specs.Printed.{printed_module}
 
-at_ptr : (t : Ty) → printed_parts (Ptr t) ≡ printed_parts t ++ 42 ∷ []
+pub at_int : (width : ℕ) → printed_parts (Int width) ≡ 105 ∷ decimal width
+at_int = fold.at_int (List ℕ) type_text
+
+pub at_ptr : (t : Ty) → printed_parts (Ptr t) ≡ printed_parts t ++ 42 ∷ []
 at_ptr = fold.at_ptr (List ℕ) type_text
 
 at_named : (name : Name) → printed_parts (Named name) ≡ printed_local name

@@ -20,9 +20,11 @@ use Rattle.ir_core.specs.declared.functions.Term.TheVariants.{Ret, RetVoid, Br, 
 use Rattle.ir_core.specs.declared.functions.Block.{Block}
 use Rattle.ir_core.specs.declared.functions.Param.{Param}
 use Rattle.ir_core.specs.declared.functions.Function.{Function}
-use Rattle.ir_core.specs.declared.functions.Module.{Module}
+use Rattle.ir_core.specs.declared.modules.Module.{Module}
 use Rattle.ir_core.specs.Examples.{add, number}
 use Rattle.ir_printer.specs.Printed.{printed_module}
+use Rattle.ir_core.specs.declared.modules.Linkage.TheVariants as linkage
+use Rattle.ir_core.specs.Modules.{not_extended, plain_module, plain_param}
 
 -- lines, each with its end
 abbrev pub lines : List (List ℕ) → List ℕ
@@ -33,10 +35,10 @@ abbrev pub quote : List ℕ → List ℕ
 quote text = 34 ∷ (text ++ 34 ∷ [])
 
 abbrev pub module_of : List Function → Module
-module_of functions = record { types = []; functions = functions }
+module_of functions = plain_module [] functions
 
 abbrev pub module_with : List NamedTy → List Function → Module
-module_with types functions = record { types = types; functions = functions }
+module_with types functions = plain_module types functions
 
 abbrev pub named : List ℕ → Name
 named bytes = Text bytes
@@ -48,7 +50,7 @@ abbrev pub typed : Ty → Atom Name → Operand Name
 typed ty atom = record { ty = ty; atom = atom }
 
 abbrev pub param : Ty → Name → Param
-param ty name = record { name = name; ty = ty }
+param ty name = plain_param ty name
 
 abbrev pub block : Name → List Phi → List Instr → Term → Block
 block name phis body term = record { name = name; phis = phis; body = body; term = term }
@@ -64,8 +66,10 @@ case ty n label = record { ty = ty; number = n; label = label }
 -- one function of one block, which has no name
 abbrev pub smallest : Function
 smallest = record {
-  name = named (codes "f");
+  linkage = linkage.External;
+  result_extensions = not_extended;
   result = Int 32;
+  name = named (codes "f");
   params = param (Int 32) (named (codes "x")) ∷ [];
   blocks = block (Number 0) [] (add (named (codes "y")) (register (codes "x")) (number 0) ∷ []) (Ret (typed (Int 32) (register (codes "y")))) ∷ [];
 }
@@ -76,8 +80,10 @@ smallest_text = lines (codes "define i32 @f(i32 %x) {" ∷ codes "  %y = add i32
 -- a loop, whose blocks all have names
 abbrev pub loop : Function
 loop = record {
-  name = named (codes "f");
+  linkage = linkage.External;
+  result_extensions = not_extended;
   result = Void;
+  name = named (codes "f");
   params = param (Int 8) (named (codes "n")) ∷ [];
   blocks =
       block (named (codes "entry")) [] [] (Br (named (codes "head")))
@@ -107,8 +113,10 @@ loop_text = lines (
 -- no parameter, block or result has a name
 abbrev pub unnamed : Function
 unnamed = record {
-  name = Number 0;
+  linkage = linkage.External;
+  result_extensions = not_extended;
   result = Int 8;
+  name = Number 0;
   params = param (Int 8) (Number 0) ∷ param (Int 1) (Number 1) ∷ [];
   blocks =
       block (Number 2) [] [] (CondBr (record { condition = typed (Int 1) (Register (Number 1)); on_true = Number 3; on_false = Number 4 }))
@@ -147,8 +155,10 @@ unnamed_text = lines (
 -- names that are quoted: one with a blank, and one of digits, which isn't the number
 abbrev pub quoted : Function
 quoted = record {
-  name = named (codes "a b");
+  linkage = linkage.External;
+  result_extensions = not_extended;
   result = Int 1;
+  name = named (codes "a b");
   params = param (Int 1) (named (codes "0")) ∷ [];
   blocks =
       block (named (codes "5x")) [] [] (Br (named (codes "-")))

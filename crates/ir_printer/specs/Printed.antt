@@ -1,5 +1,5 @@
 -- How modules are printed (LangRef 3.7, Module Structure, Structure Types, Functions, phi and Terminator Instructions).
-use Rattle.std.specs.Prelude.{ℕ, List, [], ◌∷◌, ◌++◌, codes, map, Option, None, Some}
+use Rattle.std.specs.Prelude.{ℕ, Bool, if◌then◌else◌, List, [], ◌∷◌, ◌++◌, codes, map, Option, None, Some}
 use Rattle.std.specs.List.{flat_map}
 use Rattle.std.specs.Fmt.{decimal}
 use Rattle.ir_types.specs.declared.names.Name.{Name}
@@ -7,21 +7,29 @@ use Rattle.ir_types.specs.declared.names.Name.TheVariants.{Text, Number}
 use Rattle.ir_types.specs.declared.names.Sigil.TheVariants.{Global}
 use Rattle.ir_types.specs.declared.named.NamedTy.{NamedTy}
 use Rattle.ir_types.specs.declared.ty.Ty.{Ty}
+use Rattle.ir_core.specs.declared.functions.Alloca.{Alloca}
+use Rattle.ir_core.specs.declared.functions.Argument.{Argument}
+use Rattle.ir_core.specs.declared.functions.Call.{Call}
 use Rattle.ir_core.specs.declared.functions.Calm.{Calm}
+use Rattle.ir_core.specs.declared.functions.Extensions.{Extensions}
 use Rattle.ir_core.specs.declared.functions.Instr.{Instr}
 use Rattle.ir_core.specs.declared.functions.Instr.TheVariants as instr
 use Rattle.ir_core.specs.declared.functions.Phi.{Phi}
 use Rattle.ir_core.specs.declared.functions.Entry.{Entry}
 use Rattle.ir_core.specs.declared.functions.CondBr.{CondBr}
 use Rattle.ir_core.specs.declared.functions.Case.{Case}
+use Rattle.ir_core.specs.declared.functions.Store.{Store}
 use Rattle.ir_core.specs.declared.functions.Switch.{Switch}
 use Rattle.ir_core.specs.declared.functions.Term.{Term}
 use Rattle.ir_core.specs.declared.functions.Term.TheVariants as term
 use Rattle.ir_core.specs.declared.functions.Block.{Block}
 use Rattle.ir_core.specs.declared.functions.Param.{Param}
 use Rattle.ir_core.specs.declared.functions.Function.{Function}
-use Rattle.ir_core.specs.declared.functions.Module.{Module}
-use Rattle.expression_printer.specs.Printed.{name_text, printed_name, printed_local, printed_type, number_text, listed, struct_text, printed_value, printed_operand, printed_expr}
+use Rattle.ir_core.specs.declared.modules.Linkage.{Linkage}
+use Rattle.ir_core.specs.declared.modules.Linkage.TheVariants as linkage
+use Rattle.ir_core.specs.declared.modules.Module.{Module}
+use Rattle.ir_core.specs.Words.{linkage_word, signext_word, zeroext_word}
+use Rattle.expression_printer.specs.Printed.{name_text, printed_name, printed_local, printed_type, number_text, listed, struct_text, printed_align, printed_flag, printed_value, spaced, printed_operand, printed_expr}
 
 -- ---- lines
 
@@ -45,8 +53,46 @@ phi_text p = set_text p.name ++ (codes "phi " ++ (printed_type p.ty ++ listed (c
 abbrev pub calm_text : Calm → List ℕ
 calm_text c = set_text c.name ++ printed_expr printed_local c.right
 
+-- `, i32 4`, where a count is kept
+abbrev pub count_text : Option (Ty × ℕ) → List ℕ
+count_text None = []
+count_text (Some c) = codes ", " ++ (printed_type c.0 ++ (32 ∷ number_text c.0 c.1))
+
+-- `%x = alloca i8, i32 4, align 1`
+abbrev pub alloca_text : Alloca → List ℕ
+alloca_text a = set_text a.name ++ (codes "alloca " ++ (printed_type a.of ++ (count_text a.count ++ printed_align a.align)))
+
+-- `store i32 %v, i32* %p, align 4`
+abbrev pub store_text : Store → List ℕ
+store_text s =
+    codes "store " ++ (printed_operand printed_local s.value ++ (codes ", " ++ (printed_operand printed_local s.pointer ++ printed_align s.align)))
+
+abbrev pub extensions_text : Extensions → List ℕ
+extensions_text e = printed_flag e.signed signext_word ++ printed_flag e.zero zeroext_word
+
+-- `i8 signext %x`
+abbrev pub argument_text : Argument → List ℕ
+argument_text a = printed_type a.operand.ty ++ (32 ∷ (extensions_text a.extensions ++ printed_value a.operand.ty a.operand.atom))
+
+-- the register that a call sets, if it sets one
+abbrev pub may_set_text : Option Name → List ℕ
+may_set_text None = []
+may_set_text (Some register) = set_text register
+
+-- `@f(i8 signext %y, i32 1)`
+abbrev pub callee_text : Call → List ℕ
+callee_text c = printed_name Global c.callee ++ (40 ∷ (listed [] (map argument_text c.arguments) ++ 41 ∷ []))
+
+-- `%x = call signext i8 @f(i8 signext %y, i32 1)`
+abbrev pub call_text : Call → List ℕ
+call_text c =
+    may_set_text c.name ++ (codes "call " ++ (extensions_text c.result_extensions ++ (printed_type c.result ++ (32 ∷ callee_text c))))
+
 abbrev pub instr_text : Instr → List ℕ
 instr_text (instr.Calm c) = calm_text c
+instr_text (instr.Alloca a) = alloca_text a
+instr_text (instr.Store s) = store_text s
+instr_text (instr.Call c) = call_text c
 
 -- ---- terminators
 
@@ -117,15 +163,31 @@ abbrev pub param_name : Name → List ℕ
 param_name (Text bytes) = 32 ∷ printed_local (Text bytes)
 param_name (Number n) = []
 
--- `i32 %x`, and `i32` without name
-abbrev pub param_text : Param → List ℕ
-param_text p = printed_type p.ty ++ param_name p.name
+-- a space and a word
+abbrev pub behind_space : Bool → List ℕ → List ℕ
+behind_space set word = if set then 32 ∷ word else []
 
--- `define i32 @f(i32 %x, i8) {`
+-- ` signext`, behind a type
+abbrev pub extended_text : Extensions → List ℕ
+extended_text e = behind_space e.signed signext_word ++ behind_space e.zero zeroext_word
+
+-- `i32 signext %x`, and `i32 signext` without name
+abbrev pub param_text : Param → List ℕ
+param_text p = printed_type p.ty ++ (extended_text p.extensions ++ param_name p.name)
+
+-- `private `, and nothing for the linkage without a word
+abbrev pub linkage_text : Linkage → List ℕ
+linkage_text linkage.External = []
+linkage_text l = spaced (linkage_word l)
+
+-- `@f(i32 %x, i8) {`
+abbrev pub signature_text : Function → List ℕ
+signature_text f = printed_name Global f.name ++ (40 ∷ (listed [] (map param_text f.params) ++ (codes ") {" ++ 10 ∷ [])))
+
+-- `define internal signext i32 @f(i32 %x, i8) {`
 abbrev pub head_text : Function → List ℕ
 head_text f =
-    codes "define " ++ (printed_type f.result ++ (32 ∷ (printed_name Global f.name
-    ++ (40 ∷ (listed [] (map param_text f.params) ++ (codes ") {" ++ 10 ∷ []))))))
+    codes "define " ++ (linkage_text f.linkage ++ (extensions_text f.result_extensions ++ (printed_type f.result ++ (32 ∷ signature_text f))))
 
 abbrev pub function_text : Function → List ℕ
 function_text f = head_text f ++ (blocks_text f.blocks ++ (125 ∷ 10 ∷ []))

@@ -12,5 +12,5 @@ mod named_types;
 mod terms;
 
 pub use expression_printer::{print_expr, print_name, print_type};
-pub use laws::examples_of_printed_modules;
+pub use laws::{examples_of_printed_lines, examples_of_printed_modules};
 pub use modules::print_module;

@@ -1,7 +1,7 @@
 -- What is read is what the text spells.
 use Rattle.std.proofs.Common.{◌≡◌, ◌≤◌, ℕ, List, [], length, map, Option, None, Some, Result, Ok, Err, IfOk, IfErr, ap, sym, ◌∙◌, subst, arith}
 use Rattle.std.specs.Prelude.{IfNone}
-use Rattle.ir_core.specs.declared.functions.Module.{Module}
+use Rattle.ir_core.specs.declared.modules.Module.{Module}
 use Rattle.ir_core.specs.Expressions.{Expr0}
 use Rattle.ir_core.specs.Limits.{text_limit}
 use Rattle.ir_core.specs.Order.{IsInOrder}

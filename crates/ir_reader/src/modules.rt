@@ -1,5 +1,5 @@
 ghost use Rattle.std.specs.Prelude.{◌≡◌, ◌≤◌, ◌<◌, length, map, IfOk, IfErr, Err, ℕ};
-ghost use Rattle.ir_core.specs.declared.functions.Module.{Module};
+ghost use Rattle.ir_core.specs.declared.modules.Module.{Module};
 ghost use Rattle.ir_core.specs.Limits.{text_limit};
 ghost use Rattle.ir_core.specs.Order.{IsInOrder};
 ghost use Rattle.ir_grammar.specs.declared.words.Language.TheVariants.{Ir};

@@ -5,7 +5,7 @@ use Rattle.std.proofs.Math.Path.{fun_ext}
 use Rattle.std.proofs.lemmas.Bool.{ltb-true}
 use Rattle.std.proofs.lemmas.Fmt.{decimal_digit}
 use Rattle.ir_core.specs.declared.functions.Function.{Function}
-use Rattle.ir_core.specs.declared.functions.Module.{Module}
+use Rattle.ir_core.specs.declared.modules.Module.{Module}
 use Rattle.ir_types.specs.declared.names.Name.{Name}
 use Rattle.ir_types.specs.declared.names.Name.TheVariants.{Text, Number}
 use Rattle.ir_core.specs.Functions.{names_of}
@@ -38,7 +38,7 @@ abbrev function_by : (List Name → Name → Name) → Function → Function
 function_by w f = rename_function (renaming (names_of f) (map (w (names_of f)) (names_of f))) f
 
 abbrev all_by : (List Name → Name → Name) → Module → Module
-all_by w m = record { types = m.types; functions = map (function_by w) m.functions }
+all_by w m = record m { functions = map (function_by w) m.functions }
 
 pub by_hand : (m : Module) → named_all m ≡ all_by word m
 by_hand m = ap (λ (w : List Name → Name → Name). all_by w m) (fun_ext (λ taken. fun_ext (λ x. word_is taken x)))

@@ -44,6 +44,8 @@ by_text_injective names range a b in_a in_b e =
 pub naming_renames : NamingRenames
 naming_renames m range = record {
   types = refl;
+  globals = refl;
+  declarations = refl;
   functions =
       zip_mapped (λ f g. (ρ : Name → Name) × IsRenamed ρ f g) named_function m.functions
       (all_from (λ f. (ρ : Name → Name) × IsRenamed ρ f (named_function f)) m.functions

@@ -38,6 +38,8 @@ is_renamed f range new = record {
 pub numbering_renames : NumberingRenames
 numbering_renames m range new = record {
   types = refl;
+  globals = refl;
+  declarations = refl;
   functions =
       zip_mapped (λ f g. (ρ : Name → Name) × IsRenamed ρ f g) numbered_function m.functions
       (all_from (λ f. (ρ : Name → Name) × IsRenamed ρ f (numbered_function f)) m.functions
@@ -82,7 +84,7 @@ one_stays f range order =
 
 pub order_stays : OrderStays
 order_stays m range order =
-    ap (λ (fs : List Function). record { types = m.types; functions = fs })
+    ap (λ (fs : List Function). record m { functions = fs })
     (all_kept numbered_function m.functions
     (λ f there.
     one_stays f (all_to InRange m.functions range f there) (all_to (λ g. AreInOrder (names_of g)) m.functions order.functions f there)))

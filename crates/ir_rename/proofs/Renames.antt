@@ -1,9 +1,12 @@
 -- The names of a function under other names; a function under its own names is itself.
-use Rattle.std.proofs.Common.{◌≡◌, ◌∙◌, List, [], ◌∷◌, ◌++◌, map, refl, sym, ap}
+use Rattle.std.proofs.Common.{◌≡◌, ◌∙◌, List, [], ◌∷◌, ◌++◌, map, Option, None, Some, refl, sym, ap}
 use Rattle.std.proofs.lemmas.List.{map-append}
 use Rattle.std.proofs.Math.Path.{fun_ext}
-use Rattle.std.specs.List.{flat_map}
+use Rattle.std.specs.List.{cons_option, flat_map}
+use Rattle.std.specs.Option.{option_map}
 use Rattle.ir_core.specs.declared.expressions.Expr.{Expr}
+use Rattle.ir_core.specs.declared.expressions.Expr.TheVariants as expr
+use Rattle.ir_core.specs.declared.functions.Argument.{Argument}
 use Rattle.ir_core.specs.declared.functions.Block.{Block}
 use Rattle.ir_core.specs.declared.functions.Case.{Case}
 use Rattle.ir_core.specs.declared.functions.Entry.{Entry}
@@ -18,10 +21,11 @@ use Rattle.ir_core.specs.declared.operands.Atom.{Atom}
 use Rattle.ir_core.specs.declared.operands.Atom.TheVariants.{Constant, Register}
 use Rattle.ir_core.specs.declared.operands.Operand.{Operand}
 use Rattle.ir_types.specs.declared.names.Name.{Name}
-use Rattle.ir_core.specs.Expressions.{map_atom, map_expr, map_operand}
-use Rattle.ir_core.specs.Functions.{block_names, names_in, names_of, params_of, phi_registers, registers_of, set_by}
+use Rattle.ir_types.specs.declared.ty.Ty.{Ty}
+use Rattle.ir_core.specs.Expressions.{map_atom, map_expr, map_operand, type_of}
+use Rattle.ir_core.specs.Functions.{block_names, named_register, names_in, names_of, params_of, phi_registers, register_of, registers_of, set_by}
 use Rattle.ir_core.proofs.Mapped.{expressions_are_mapped}
-use Rattle.ir_rename.specs.Renamed.{rename_block, rename_case, rename_entry, rename_function, rename_line, rename_param, rename_phi, rename_term}
+use Rattle.ir_rename.specs.Renamed.{rename_argument, rename_block, rename_case, rename_entry, rename_function, rename_line, rename_param, rename_phi, rename_term}
 
 -- ---- names
 
@@ -33,9 +37,45 @@ pub phi_names : (ρ : Name → Name) (ps : List Phi) → names_in (phi_registers
 phi_names ρ [] = refl
 phi_names ρ (p ∷ ps) = ap (λ names. ρ p.name ∷ names) (phi_names ρ ps)
 
+abbrev pub typed : (Name → Name) → Name × Ty → Name × Ty
+typed ρ r = (ρ r.0, r.1)
+
+same_type : (ρ : Name → Name) (e : Expr Name) → type_of (map_expr ρ e) ≡ type_of e
+same_type ρ (expr.Plain o) = refl
+same_type ρ (expr.Binary b) = refl
+same_type ρ (expr.Icmp c) = refl
+same_type ρ (expr.Cast c) = refl
+same_type ρ (expr.Select s) = refl
+same_type ρ (expr.Element e) = refl
+same_type ρ (expr.Load l) = refl
+
+named_renamed : (ρ : Name → Name) (t : Ty) (name : Option Name) → named_register t (option_map ρ name) ≡ option_map (typed ρ) (named_register t name)
+named_renamed ρ t None = refl
+named_renamed ρ t (Some name) = refl
+
+register_renamed : (ρ : Name → Name) (l : Instr) → register_of (rename_line ρ l) ≡ option_map (typed ρ) (register_of l)
+register_renamed ρ (instr.Calm c) = ap (λ (t : Ty). Some (ρ c.name, t)) (same_type ρ c.right)
+register_renamed ρ (instr.Alloca a) = refl
+register_renamed ρ (instr.Store s) = refl
+register_renamed ρ (instr.Call c) = named_renamed ρ c.result c.name
+
+put_renamed : (ρ : Name → Name) (r : Option (Name × Ty)) (rs : List (Name × Ty)) → cons_option (option_map (typed ρ) r) (map (typed ρ) rs) ≡ map (typed ρ) (cons_option r rs)
+put_renamed ρ None rs = refl
+put_renamed ρ (Some r) rs = refl
+
+pub line_types : (ρ : Name → Name) (ls : List Instr) → set_by (map (rename_line ρ) ls) ≡ map (typed ρ) (set_by ls)
+line_types ρ [] = refl
+line_types ρ (l ∷ ls) =
+    ap (λ (r : Option (Name × Ty)). cons_option r (set_by (map (rename_line ρ) ls))) (register_renamed ρ l)
+    ∙ ap (cons_option (option_map (typed ρ) (register_of l))) (line_types ρ ls)
+    ∙ put_renamed ρ (register_of l) (set_by ls)
+
+names_typed : (ρ : Name → Name) (rs : List (Name × Ty)) → names_in (map (typed ρ) rs) ≡ map ρ (names_in rs)
+names_typed ρ [] = refl
+names_typed ρ (r ∷ rs) = ap (λ names. ρ r.0 ∷ names) (names_typed ρ rs)
+
 pub line_names : (ρ : Name → Name) (ls : List Instr) → names_in (set_by (map (rename_line ρ) ls)) ≡ map ρ (names_in (set_by ls))
-line_names ρ [] = refl
-line_names ρ (instr.Calm c ∷ ls) = ap (λ names. ρ c.name ∷ names) (line_names ρ ls)
+line_names ρ ls = ap names_in (line_types ρ ls) ∙ names_typed ρ (set_by ls)
 
 set_names : (b : Block) → names_in (registers_of b) ≡ names_in (phi_registers b.phis) ++ names_in (set_by b.body)
 set_names b = map-append (λ register. register.0) (phi_registers b.phis) (set_by b.body)
@@ -80,8 +120,24 @@ own_atom (Register r) = refl
 own_operand : (o : Operand Name) → map_operand (λ r. r) o ≡ o
 own_operand o = ap (λ (a : Atom Name). record { ty = o.ty; atom = a }) (own_atom o.atom)
 
+own_name : (name : Option Name) → option_map (λ n. n) name ≡ name
+own_name None = refl
+own_name (Some name) = refl
+
+own_argument : (a : Argument) → rename_argument (λ n. n) a ≡ a
+own_argument a = ap (λ (o : Operand Name). record { operand = o; extensions = a.extensions }) (own_operand a.operand)
+
 own_line : (l : Instr) → rename_line (λ n. n) l ≡ l
 own_line (instr.Calm c) = ap (λ (e : Expr Name). instr.Calm (record { name = c.name; right = e })) (own_expr c.right)
+own_line (instr.Alloca a) = refl
+own_line (instr.Store s) =
+    ap (λ (o : Operand Name). instr.Store (record { value = o; pointer = map_operand (λ n. n) s.pointer; align = s.align })) (own_operand s.value)
+    ∙ ap (λ (o : Operand Name). instr.Store (record { value = s.value; pointer = o; align = s.align })) (own_operand s.pointer)
+own_line (instr.Call c) =
+    let of : Option Name → List Argument → Instr =
+    λ n xs. instr.Call (record { name = n; result = c.result; result_extensions = c.result_extensions; callee = c.callee; arguments = xs }) in
+    ap (λ (n : Option Name). of n (map (rename_argument (λ n. n)) c.arguments)) (own_name c.name)
+    ∙ ap (of c.name) (all_same (rename_argument (λ n. n)) own_argument c.arguments)
 
 own_entry : (e : Entry) → rename_entry (λ n. n) e ≡ e
 own_entry e = ap (λ (a : Atom Name). record { value = a; from = e.from }) (own_atom e.value)
@@ -114,8 +170,8 @@ own_param p = refl
 
 own : (f : Function) → rename_function (λ n. n) f ≡ f
 own f =
-    ap (λ (ps : List Param). record { name = f.name; result = f.result; params = ps; blocks = map (rename_block (λ n. n)) f.blocks }) (all_same (rename_param (λ n. n)) own_param f.params)
-    ∙ ap (λ (bs : List Block). record { name = f.name; result = f.result; params = f.params; blocks = bs }) (all_same (rename_block (λ n. n)) own_block f.blocks)
+    ap (λ (ps : List Param). record f { params = ps; blocks = map (rename_block (λ n. n)) f.blocks }) (all_same (rename_param (λ n. n)) own_param f.params)
+    ∙ ap (λ (bs : List Block). record f { blocks = bs }) (all_same (rename_block (λ n. n)) own_block f.blocks)
 
 pub stays : (ρ : Name → Name) → ((n : Name) → ρ n ≡ n) → (f : Function) → rename_function ρ f ≡ f
 stays ρ same f = ap (λ (σ : Name → Name). rename_function σ f) (fun_ext same) ∙ own f

@@ -6,6 +6,7 @@ use Rattle.std.proofs.lemmas.List.Sorted.{Contains-permutation, IsPermutation-sy
 use Rattle.std.specs.List.{AllByRecursion, Contains, filter, flat_map}
 use Rattle.ir_core.specs.declared.expressions.Expr.{Expr}
 use Rattle.ir_core.specs.declared.expressions.Expr.TheVariants as expr
+use Rattle.ir_core.specs.declared.functions.Argument.{Argument}
 use Rattle.ir_core.specs.declared.functions.Block.{Block}
 use Rattle.ir_core.specs.declared.functions.Case.{Case}
 use Rattle.ir_core.specs.declared.functions.Entry.{Entry}
@@ -23,11 +24,13 @@ use Rattle.ir_types.specs.declared.names.Name.{Name}
 use Rattle.ir_types.specs.declared.ty.Ty.{Ty}
 use Rattle.ir_types.specs.NameLaws.{same_name_refl}
 use Rattle.ir_types.specs.Same.{same_name}
-use Rattle.ir_core.specs.Expressions.{map_atom, map_expr, map_operand, type_of}
+use Rattle.ir_core.specs.Expressions.{map_atom, map_expr, map_operand}
 use Rattle.ir_core.specs.Functions.{block_names, edges_into, names_in, names_of, operands_at_end, operands_in_block, operands_of, operands_of_phi, params_of, phi_registers, registers_of, set_by, successors_of, typed_of}
 use Rattle.ir_core.specs.WellFormed.{FitsEdges, HasBlockShape, HasFunctionShape, HasType}
-use Rattle.ir_rename.specs.Renamed.{IsInjectiveOn, rename_block, rename_case, rename_entry, rename_function, rename_line, rename_param, rename_phi, rename_term}
+use Rattle.ir_rename.specs.Renamed.{IsInjectiveOn, rename_argument, rename_block, rename_case, rename_entry, rename_function, rename_line, rename_param, rename_phi, rename_term}
 use Rattle.ir_rename.proofs.Apart.{AreApart}
+pub use Rattle.ir_rename.proofs.Renames.{typed}
+use Rattle.ir_rename.proofs.Renames.{line_types}
 use Rattle.ir_rename.proofs.Lists.{all_to, append_cases, behind, cases, differ, here, none_in, same_or}
 
 -- ---- lists under a word
@@ -91,22 +94,6 @@ apart_mapped ρ (x ∷ xs) one apart = (
 
 -- ---- registers, with their types
 
-abbrev pub typed : (Name → Name) → Name × Ty → Name × Ty
-typed ρ r = (ρ r.0, r.1)
-
-same_type : (ρ : Name → Name) (e : Expr Name) → type_of (map_expr ρ e) ≡ type_of e
-same_type ρ (expr.Plain o) = refl
-same_type ρ (expr.Binary b) = refl
-same_type ρ (expr.Icmp c) = refl
-same_type ρ (expr.Cast c) = refl
-same_type ρ (expr.Select s) = refl
-
-line_types : (ρ : Name → Name) (ls : List Instr) → set_by (map (rename_line ρ) ls) ≡ map (typed ρ) (set_by ls)
-line_types ρ [] = refl
-line_types ρ (instr.Calm c ∷ ls) =
-    ap (λ (t : Ty). (ρ c.name, t) ∷ set_by (map (rename_line ρ) ls)) (same_type ρ c.right)
-    ∙ ap (λ (rs : List (Name × Ty)). (ρ c.name, type_of c.right) ∷ rs) (line_types ρ ls)
-
 phi_types : (ρ : Name → Name) (ps : List Phi) → phi_registers (map (rename_phi ρ) ps) ≡ map (typed ρ) (phi_registers ps)
 phi_types ρ [] = refl
 phi_types ρ (p ∷ ps) = ap (λ (rs : List (Name × Ty)). (ρ p.name, p.ty) ∷ rs) (phi_types ρ ps)
@@ -129,6 +116,11 @@ all_types ρ f =
 
 -- ---- operands
 
+argument_operands : (ρ : Name → Name) (xs : List Argument)
+    → map (λ (a : Argument). a.operand) (map (rename_argument ρ) xs) ≡ map (map_operand ρ) (map (λ (a : Argument). a.operand) xs)
+argument_operands ρ [] = refl
+argument_operands ρ (x ∷ xs) = ap (λ os. map_operand ρ x.operand ∷ os) (argument_operands ρ xs)
+
 pub line_operands : (ρ : Name → Name) (l : Instr) → operands_of (rename_line ρ l) ≡ map (map_operand ρ) (operands_of l)
 line_operands ρ (instr.Calm c) = by c.right
   where
@@ -138,6 +130,11 @@ line_operands ρ (instr.Calm c) = by c.right
     by (expr.Icmp i) = refl
     by (expr.Cast x) = refl
     by (expr.Select s) = refl
+    by (expr.Element e) = refl
+    by (expr.Load l) = refl
+line_operands ρ (instr.Alloca a) = refl
+line_operands ρ (instr.Store s) = refl
+line_operands ρ (instr.Call c) = argument_operands ρ c.arguments
 
 pub end_operands : (ρ : Name → Name) (t : Term) → operands_at_end (rename_term ρ t) ≡ map (map_operand ρ) (operands_at_end t)
 end_operands ρ (term.Ret operand) = refl

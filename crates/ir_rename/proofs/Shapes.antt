@@ -60,9 +60,12 @@ operator ρ (expr.Binary b) is = is
 operator ρ (expr.Icmp c) is = is
 operator ρ (expr.Cast c) is = is
 operator ρ (expr.Select s) is = is
+operator ρ (expr.Element e) is = is
+operator ρ (expr.Load l) is = is
 
 sets : (ρ : Name → Name) (l : Instr) → SetsByOperator l → SetsByOperator (rename_line ρ l)
 sets ρ (instr.Calm c) is = operator ρ c.right is
+sets ρ l is = absurd is
 
 returns : (ρ : Name → Name) (result : Ty) (t : Term) → Returns result t → Returns result (rename_term ρ t)
 returns ρ result (term.Ret operand) is = is

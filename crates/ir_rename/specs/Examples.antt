@@ -2,7 +2,7 @@
 use Rattle.std.specs.Prelude.{◌≡◌, ◌+◌, ℕ, List, [], ◌∷◌, ◌++◌, codes, map}
 use Rattle.ir_core.specs.declared.functions.Block.{Block}
 use Rattle.ir_core.specs.declared.functions.Function.{Function}
-use Rattle.ir_core.specs.declared.functions.Module.{Module}
+use Rattle.ir_core.specs.declared.modules.Module.{Module}
 use Rattle.ir_core.specs.declared.functions.Param.{Param}
 use Rattle.ir_core.specs.declared.functions.Term.TheVariants.{Br, CondBr}
 use Rattle.ir_types.specs.declared.names.Name.{Name}
@@ -12,17 +12,19 @@ use Rattle.ir_types.specs.declared.ty.Ty.{Int}
 use Rattle.ir_core.specs.Examples.{add, block, f, number, x, y}
 use Rattle.ir_rename.specs.Numbered.{numbered_in_order}
 use Rattle.ir_rename.specs.Named.{fresh, named_all}
+use Rattle.ir_core.specs.declared.modules.Linkage.TheVariants as linkage
+use Rattle.ir_core.specs.Modules.{not_extended, plain_function, plain_module, plain_param}
 
 -- a parameter of i32
 abbrev pub i32 : Name → Param
-i32 name = record { name = name; ty = Int 32 }
+i32 name = plain_param (Int 32) name
 
 -- define i32 @name(params) { blocks }
 abbrev pub taking : Name → List Name → List Block → Function
-taking name params blocks = record { name = name; result = Int 32; params = map i32 params; blocks = blocks }
+taking name params blocks = plain_function (Int 32) name (map i32 params) blocks
 
 abbrev pub of : List Function → Module
-of functions = record { types = []; functions = functions }
+of functions = plain_module [] functions
 
 -- ---- numbers
 
@@ -35,9 +37,11 @@ adding_to param entry sum =
 abbrev pub counting : Name → Name → Name → Name → Name → Name → Name → Function
 counting from again entry loop now next end =
     record {
-      name = f;
+      linkage = linkage.External;
+      result_extensions = not_extended;
       result = Int 32;
-      params = i32 from ∷ record { name = again; ty = Int 1 } ∷ [];
+      name = f;
+      params = i32 from ∷ plain_param (Int 1) again ∷ [];
       blocks =
           record { name = entry; phis = []; body = []; term = Br loop }
           ∷ record {

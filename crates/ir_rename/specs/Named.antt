@@ -3,7 +3,7 @@ use Rattle.std.specs.Prelude.{◌≡◌, ◌<◌, ℕ, zero, suc, if◌then◌el
 use Rattle.std.specs.Fmt.{decimal}
 use Rattle.std.specs.List.{Contains}
 use Rattle.ir_core.specs.declared.functions.Function.{Function}
-use Rattle.ir_core.specs.declared.functions.Module.{Module}
+use Rattle.ir_core.specs.declared.modules.Module.{Module}
 use Rattle.ir_types.specs.declared.names.Name.{Name}
 use Rattle.ir_types.specs.declared.names.Name.TheVariants.{Text, Number}
 use Rattle.ir_core.specs.Functions.{names_of}
@@ -49,4 +49,4 @@ abbrev pub named_function : Function → Function
 named_function f = rename_function (renaming (names_of f) (map (named (names_of f)) (names_of f))) f
 
 abbrev pub named_all : Module → Module
-named_all m = record { types = m.types; functions = map named_function m.functions }
+named_all m = record m { functions = map named_function m.functions }

@@ -1,7 +1,7 @@
 -- A module whose unnamed values are numbered in order of appearance (LangRef 3.7, Identifiers).
 use Rattle.std.specs.Prelude.{ℕ, ◌+◌, ◌^◌, nat_lt, if◌then◌else◌, List, [], ◌∷◌, map}
 use Rattle.ir_core.specs.declared.functions.Function.{Function}
-use Rattle.ir_core.specs.declared.functions.Module.{Module}
+use Rattle.ir_core.specs.declared.modules.Module.{Module}
 use Rattle.ir_types.specs.declared.names.Name.{Name}
 use Rattle.ir_types.specs.declared.names.Name.TheVariants.{Text, Number}
 use Rattle.ir_types.specs.Same.{same_name}
@@ -30,4 +30,4 @@ abbrev pub numbered_function : Function → Function
 numbered_function f = rename_function (renaming (names_of f) (counted 0 (names_of f))) f
 
 abbrev pub numbered_in_order : Module → Module
-numbered_in_order m = record { types = m.types; functions = map numbered_function m.functions }
+numbered_in_order m = record m { functions = map numbered_function m.functions }

@@ -1,16 +1,20 @@
 -- A function under other names: its blocks, lines, types and constants stay, and each name of a parameter, a block or a register
 -- becomes another one, where it is defined and where it is used.
-use Rattle.std.specs.Prelude.{◌≡◌, List, map}
+use Rattle.std.specs.Prelude.{◌≡◌, List, map, option_map}
 use Rattle.std.specs.List.{AllZip, Contains}
+use Rattle.ir_core.specs.declared.functions.Alloca.{Alloca}
+use Rattle.ir_core.specs.declared.functions.Argument.{Argument}
 use Rattle.ir_core.specs.declared.functions.Block.{Block}
+use Rattle.ir_core.specs.declared.functions.Call.{Call}
 use Rattle.ir_core.specs.declared.functions.Case.{Case}
 use Rattle.ir_core.specs.declared.functions.Entry.{Entry}
 use Rattle.ir_core.specs.declared.functions.Function.{Function}
 use Rattle.ir_core.specs.declared.functions.Instr.{Instr}
 use Rattle.ir_core.specs.declared.functions.Instr.TheVariants as instr
-use Rattle.ir_core.specs.declared.functions.Module.{Module}
+use Rattle.ir_core.specs.declared.modules.Module.{Module}
 use Rattle.ir_core.specs.declared.functions.Param.{Param}
 use Rattle.ir_core.specs.declared.functions.Phi.{Phi}
+use Rattle.ir_core.specs.declared.functions.Store.{Store}
 use Rattle.ir_core.specs.declared.functions.Term.{Term}
 use Rattle.ir_core.specs.declared.functions.Term.TheVariants as term
 use Rattle.ir_types.specs.declared.names.Name.{Name}
@@ -18,10 +22,32 @@ use Rattle.ir_core.specs.Expressions.{map_atom, map_expr, map_operand}
 use Rattle.ir_core.specs.Functions.{names_of}
 
 abbrev pub rename_param : (Name → Name) → Param → Param
-rename_param ρ p = record { name = ρ p.name; ty = p.ty }
+rename_param ρ p = record p { name = ρ p.name }
+
+abbrev pub rename_argument : (Name → Name) → Argument → Argument
+rename_argument ρ a = record { operand = map_operand ρ a.operand; extensions = a.extensions }
+
+abbrev pub rename_alloca : (Name → Name) → Alloca → Alloca
+rename_alloca ρ a = record { name = ρ a.name; of = a.of; to = a.to; count = a.count; align = a.align }
+
+abbrev pub rename_store : (Name → Name) → Store → Store
+rename_store ρ s = record { value = map_operand ρ s.value; pointer = map_operand ρ s.pointer; align = s.align }
+
+-- a callee keeps its name, which is none of the function's own
+abbrev pub rename_call : (Name → Name) → Call → Call
+rename_call ρ c = record {
+  name = option_map ρ c.name;
+  result = c.result;
+  result_extensions = c.result_extensions;
+  callee = c.callee;
+  arguments = map (rename_argument ρ) c.arguments;
+}
 
 abbrev pub rename_line : (Name → Name) → Instr → Instr
 rename_line ρ (instr.Calm c) = instr.Calm (record { name = ρ c.name; right = map_expr ρ c.right })
+rename_line ρ (instr.Alloca a) = instr.Alloca (rename_alloca ρ a)
+rename_line ρ (instr.Store s) = instr.Store (rename_store ρ s)
+rename_line ρ (instr.Call c) = instr.Call (rename_call ρ c)
 
 abbrev pub rename_entry : (Name → Name) → Entry → Entry
 rename_entry ρ e = record { value = map_atom ρ e.value; from = ρ e.from }
@@ -51,12 +77,7 @@ rename_block ρ b = record {
 }
 
 abbrev pub rename_function : (Name → Name) → Function → Function
-rename_function ρ f = record {
-  name = f.name;
-  result = f.result;
-  params = map (rename_param ρ) f.params;
-  blocks = map (rename_block ρ) f.blocks;
-}
+rename_function ρ f = record f { params = map (rename_param ρ) f.params; blocks = map (rename_block ρ) f.blocks }
 
 -- no two of the names become one
 abbrev pub IsInjectiveOn : List Name → (Name → Name) → Type 0
@@ -67,7 +88,9 @@ pub record IsRenamed (ρ : Name → Name) (f g : Function) : Type 0 where
   pub same : g ≡ rename_function ρ f
   pub injective : IsInjectiveOn (names_of f) ρ
 
--- each function of a module is renamed, by names of its own; its types and the names of its functions stay
+-- each function of a module is renamed, by names of its own; its types, globals and declarations stay, and so do the names of its functions
 pub record AreRenamed (m n : Module) : Type 0 where
   pub types : n.types ≡ m.types
+  pub globals : n.globals ≡ m.globals
+  pub declarations : n.declarations ≡ m.declarations
   pub functions : AllZip (λ f g. (ρ : Name → Name) × IsRenamed ρ f g) m.functions n.functions

@@ -113,6 +113,8 @@ pub fn name_all(alloc: Global, module: &Module) -> Result<Module, AllocError>
 {
     Ok(Module {
         types: module.types.copy(alloc)?,
+        globals: module.globals.copy(alloc)?,
         functions: named_functions(alloc, module.functions.as_slice())?,
+        declarations: module.declarations.copy(alloc)?,
     })
 }

@@ -1,5 +1,5 @@
 //! The names of a function's parameters, blocks and registers, lent.
-ghost use Rattle.std.specs.Prelude.{◌≡◌, ◌++◌, map, IfOk, OnOk};
+ghost use Rattle.std.specs.Prelude.{◌≡◌, ◌++◌, [], ◌∷◌, map, IfOk, OnOk};
 ghost use Rattle.ir_core.specs.declared.functions.Param.{Param};
 ghost use Rattle.ir_core.specs.Functions.{block_names, names_in, names_of, phi_registers, set_by};
 ghost use Rattle.ir_rename.specs.Lent.{lent};
@@ -26,12 +26,22 @@ fn add_phis<'a>(phis: &'a [Phi], names: &mut Vec<&'a Name>) -> Result<(), AllocE
     Ok(())
 }
 
+#[tactic(auto, using(ir_core::proofs::Lines::names_one, ir_core::proofs::Lines::names_none))]
+fn add_line<'a>(line: &'a Instr, names: &mut Vec<&'a Name>) -> Result<(), AllocError>
+    ensures { OnOk result (lent names.new.items ≡ lent names.old.items ++ names_in (set_by (line.now ∷ []))) }
+{
+    if let Some(name) = line.name() {
+        names.push(name)?;
+    }
+    Ok(())
+}
+
+#[tactic(auto, using(ir_core::proofs::Lines::names_more))]
 fn add_lines<'a>(lines: &'a [Instr], names: &mut Vec<&'a Name>) -> Result<(), AllocError>
     ensures { OnOk result (lent names.new.items ≡ lent names.old.items ++ names_in (set_by lines.now)) }
 {
     for line in lines {
-        let Instr::Calm(calm) = line;
-        names.push(&calm.name)?;
+        add_line(line, names)?;
     }
     Ok(())
 }

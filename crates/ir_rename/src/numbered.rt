@@ -60,6 +60,8 @@ pub fn number_in_order(alloc: Global, module: &Module) -> Result<Module, AllocEr
 {
     Ok(Module {
         types: module.types.copy(alloc)?,
+        globals: module.globals.copy(alloc)?,
         functions: numbered_functions(alloc, module.functions.as_slice())?,
+        declarations: module.declarations.copy(alloc)?,
     })
 }

@@ -1,14 +1,14 @@
 //! Each part of a function under the names of a renaming.
-ghost use Rattle.std.specs.Prelude.{◌≡◌, map, IfOk};
-ghost use Rattle.ir_core.specs.Expressions.{map_atom, map_binary, map_cast, map_expr, map_icmp, map_operand, map_select};
+ghost use Rattle.std.specs.Prelude.{◌≡◌, map, option_map, IfOk};
+ghost use Rattle.ir_core.specs.Expressions.{map_atom, map_binary, map_cast, map_element, map_expr, map_icmp, map_load, map_operand, map_select};
 ghost use Rattle.ir_rename.specs.Lent.{renamed};
 ghost use Rattle.ir_rename.specs.Renamed as under;
 
 use crate::renaming::Renaming;
 use contents::{Boxed, Exact, Seq};
 use ir_core::{
-    Atom, Binary, Block, Calm, Case, Cast, CondBr, Entry, Expr, Function, Icmp, Instr, Name,
-    Operand, Param, Phi, Select, Switch, Term,
+    Alloca, Argument, Atom, Binary, Bits, Block, Call, Calm, Case, Cast, CondBr, Element, Entry,
+    Expr, Function, Icmp, Instr, Load, Name, Operand, Param, Phi, Select, Store, Switch, Term, Ty,
 };
 use std::alloc::{AllocError, Global};
 
@@ -87,6 +87,46 @@ fn rename_select(
     })
 }
 
+fn rename_operands(
+    alloc: Global,
+    names: &Renaming,
+    operands: &[Operand<Name>],
+) -> Result<Seq<Operand<Name>>, AllocError>
+    ensures { IfOk result (λ it. it ≡ map (map_operand (renamed names.now)) operands.now) }
+{
+    let mut renamed = Vec::with_capacity(alloc, operands.len())?;
+    for operand in operands {
+        renamed.push(rename_operand(alloc, names, operand)?)?;
+    }
+    Ok(Seq::from_vec(renamed))
+}
+
+fn rename_element(
+    alloc: Global,
+    names: &Renaming,
+    element: &Element<Name>,
+) -> Result<Element<Name>, AllocError>
+    ensures { IfOk result (λ it. it ≡ map_element (renamed names.now) element.now) }
+{
+    Ok(Element {
+        inbounds: element.inbounds,
+        of: element.of.copy(alloc)?,
+        base: rename_operand(alloc, names, &element.base)?,
+        indices: rename_operands(alloc, names, element.indices.as_slice())?,
+        to: element.to.copy(alloc)?,
+    })
+}
+
+fn rename_load(alloc: Global, names: &Renaming, load: &Load<Name>) -> Result<Load<Name>, AllocError>
+    ensures { IfOk result (λ it. it ≡ map_load (renamed names.now) load.now) }
+{
+    Ok(Load {
+        of: load.of.copy(alloc)?,
+        pointer: rename_operand(alloc, names, &load.pointer)?,
+        align: load.align,
+    })
+}
+
 fn rename_expr(alloc: Global, names: &Renaming, expr: &Expr<Name>) -> Result<Expr<Name>, AllocError>
     ensures { IfOk result (λ it. it ≡ map_expr (renamed names.now) expr.now) }
 {
@@ -99,10 +139,99 @@ fn rename_expr(alloc: Global, names: &Renaming, expr: &Expr<Name>) -> Result<Exp
             let renamed = rename_select(alloc, names, select.get())?;
             Ok(Expr::Select(Boxed::new(alloc, renamed)?))
         }
+        Expr::Element(element) => {
+            let renamed = rename_element(alloc, names, element.get())?;
+            Ok(Expr::Element(Boxed::new(alloc, renamed)?))
+        }
+        Expr::Load(load) => Ok(Expr::Load(rename_load(alloc, names, load)?)),
     }
 }
 
 // ---- lines and phis
+
+fn copy_count(alloc: Global, count: &Option<(Ty, Bits)>) -> Result<Option<(Ty, Bits)>, AllocError>
+    ensures { IfOk result (λ it. it ≡ count.now) }
+{
+    match count {
+        Some((ty, number)) => Ok(Some((ty.copy(alloc)?, *number))),
+        None => Ok(None),
+    }
+}
+
+fn rename_alloca(alloc: Global, names: &Renaming, alloca: &Alloca) -> Result<Alloca, AllocError>
+    ensures { IfOk result (λ it. it ≡ under.rename_alloca (renamed names.now) alloca.now) }
+{
+    Ok(Alloca {
+        name: names.get(alloc, &alloca.name)?,
+        of: alloca.of.copy(alloc)?,
+        to: alloca.to.copy(alloc)?,
+        count: copy_count(alloc, &alloca.count)?,
+        align: alloca.align,
+    })
+}
+
+fn rename_store(alloc: Global, names: &Renaming, store: &Store) -> Result<Store, AllocError>
+    ensures { IfOk result (λ it. it ≡ under.rename_store (renamed names.now) store.now) }
+{
+    Ok(Store {
+        value: rename_operand(alloc, names, &store.value)?,
+        pointer: rename_operand(alloc, names, &store.pointer)?,
+        align: store.align,
+    })
+}
+
+fn rename_argument(
+    alloc: Global,
+    names: &Renaming,
+    argument: &Argument,
+) -> Result<Argument, AllocError>
+    ensures { IfOk result (λ it. it ≡ under.rename_argument (renamed names.now) argument.now) }
+{
+    Ok(Argument {
+        operand: rename_operand(alloc, names, &argument.operand)?,
+        extensions: argument.extensions,
+    })
+}
+
+fn rename_arguments(
+    alloc: Global,
+    names: &Renaming,
+    arguments: &[Argument],
+) -> Result<Seq<Argument>, AllocError>
+    ensures { IfOk result (λ it. it ≡ map (under.rename_argument (renamed names.now)) arguments.now) }
+{
+    let mut renamed = Vec::with_capacity(alloc, arguments.len())?;
+    for argument in arguments {
+        renamed.push(rename_argument(alloc, names, argument)?)?;
+    }
+    Ok(Seq::from_vec(renamed))
+}
+
+/// A name that there may be.
+fn rename_name(
+    alloc: Global,
+    names: &Renaming,
+    name: &Option<Name>,
+) -> Result<Option<Name>, AllocError>
+    ensures { IfOk result (λ it. it ≡ option_map (renamed names.now) name.now) }
+{
+    match name {
+        Some(name) => Ok(Some(names.get(alloc, name)?)),
+        None => Ok(None),
+    }
+}
+
+fn rename_call(alloc: Global, names: &Renaming, call: &Call) -> Result<Call, AllocError>
+    ensures { IfOk result (λ it. it ≡ under.rename_call (renamed names.now) call.now) }
+{
+    Ok(Call {
+        name: rename_name(alloc, names, &call.name)?,
+        result: call.result.copy(alloc)?,
+        result_extensions: call.result_extensions,
+        callee: call.callee.copy(alloc)?,
+        arguments: rename_arguments(alloc, names, call.arguments.as_slice())?,
+    })
+}
 
 fn rename_line(alloc: Global, names: &Renaming, line: &Instr) -> Result<Instr, AllocError>
     ensures { IfOk result (λ it. it ≡ under.rename_line (renamed names.now) line.now) }
@@ -112,6 +241,12 @@ fn rename_line(alloc: Global, names: &Renaming, line: &Instr) -> Result<Instr, A
             name: names.get(alloc, &calm.name)?,
             right: rename_expr(alloc, names, &calm.right)?,
         })),
+        Instr::Alloca(alloca) => Ok(Instr::Alloca(rename_alloca(alloc, names, alloca)?)),
+        Instr::Store(store) => Ok(Instr::Store(rename_store(alloc, names, store)?)),
+        Instr::Call(call) => {
+            let renamed = rename_call(alloc, names, call.get())?;
+            Ok(Instr::Call(Boxed::new(alloc, renamed)?))
+        }
     }
 }
 
@@ -219,6 +354,7 @@ fn rename_param(alloc: Global, names: &Renaming, param: &Param) -> Result<Param,
     Ok(Param {
         name: names.get(alloc, &param.name)?,
         ty: param.ty.copy(alloc)?,
+        extensions: param.extensions,
     })
 }
 
@@ -269,8 +405,10 @@ pub(crate) fn rename_function(
     ensures { IfOk result (λ it. it ≡ under.rename_function (renamed names.now) «function».now) }
 {
     Ok(Function {
-        name: function.name.copy(alloc)?,
+        linkage: function.linkage,
+        result_extensions: function.result_extensions,
         result: function.result.copy(alloc)?,
+        name: function.name.copy(alloc)?,
         params: rename_params(alloc, names, function.params.as_slice())?,
         blocks: rename_blocks(alloc, names, function.blocks.as_slice())?,
     })

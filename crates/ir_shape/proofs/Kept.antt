@@ -1,16 +1,25 @@
--- The types of registers as they are kept.
-use Rattle.std.proofs.Common.{◌≡◌, ◌∙◌, Bool, true, false, cond, [], None, Some, refl, sym, ap, if◌then◌else◌}
+-- The types and the names of registers as they are kept.
+use Rattle.std.proofs.Common.{◌≡◌, ◌∙◌, Bool, true, false, cond, List, [], ◌∷◌, None, Some, refl, sym, ap, if◌then◌else◌}
 use Rattle.std.specs.Borrow.{Bor}
 use Rattle.std.specs.Map.{lookup}
 use Rattle.indexmap.specs.IndexMap.{insert_entry}
+use Rattle.ir_core.specs.declared.functions.Instr.{Instr}
 use Rattle.ir_types.specs.declared.names.Name.{Name}
 use Rattle.ir_types.specs.declared.ty.Ty.{Ty}
 use Rattle.ir_types.specs.NameLaws.{same_name_true}
 use Rattle.ir_types.specs.Same.{same_name}
+use Rattle.ir_core.specs.Functions.{names_in, set_by}
+use Rattle.ir_core.proofs.Lines.{names_more}
 use Rattle.ir_shape.specs.declared.types.Types.{Types as Kept}
-use Rattle.shape_tests.specs.Kinds.{none_typed, or_else, type_at, with_type}
+use Rattle.ir_shape.specs.Shape.{with_lines}
+use Rattle.shape_tests.specs.Kinds.{none_typed, or_else, type_at, with_names, with_type}
+use Rattle.shape_tests.proofs.Taken.{names_joined}
 use Rattle.ir_shape.specs.Typed.{found_in, lent, type_in}
 use Rattle.shape_tests.proofs.Typed.{or_none, put_entry}
+
+-- the names of a line and then of further ones
+pub lines_joined : (taken : List Name) (l : Instr) (ls : List Instr) → with_lines taken (l ∷ ls) ≡ with_lines (with_lines taken (l ∷ [])) ls
+lines_joined taken l ls = ap (with_names taken) (names_more l ls) ∙ names_joined taken (names_in (set_by (l ∷ []))) (names_in (set_by ls))
 
 -- where a register of that name is there
 pub put_there : (types : Kept) (name : Name) (t : Ty) (v : Bor Ty) → found_in types name ≡ Some v → type_in types ≡ with_type (type_in types) name t

@@ -1,5 +1,5 @@
 -- A module without fault has shape, and one that has shape is without fault.
-use Rattle.std.proofs.Common.{◌≡◌, ◌∙◌, ⊎_elim, ◌&&◌, Bool, true, false, not, List, [], ◌∷◌, ◌++◌, length, map, nat_lt, Option, None, refl, sym, ap, subst, arith}
+use Rattle.std.proofs.Common.{◌≡◌, ◌∙◌, ⊎_elim, ◌&&◌, Bool, true, false, not, List, [], ◌∷◌, ◌++◌, length, map, nat_lt, Option, None, Some, refl, sym, ap, subst, arith}
 use Rattle.std.proofs.lemmas.Bool.{lt-ltb}
 use Rattle.std.proofs.lemmas.List.Sorted.{Contains-permutation, IsPermutation-sym}
 use Rattle.std.specs.List.{AllByRecursion, Contains, filter, flat_map, list_all}
@@ -7,7 +7,7 @@ use Rattle.ir_core.specs.declared.functions.Block.{Block}
 use Rattle.ir_core.specs.declared.functions.Function.{Function}
 use Rattle.ir_core.specs.declared.functions.Instr.{Instr}
 use Rattle.ir_core.specs.declared.functions.Instr.TheVariants as instr
-use Rattle.ir_core.specs.declared.functions.Module.{Module}
+use Rattle.ir_core.specs.declared.modules.Module.{Module}
 use Rattle.ir_core.specs.declared.functions.Param.{Param}
 use Rattle.ir_core.specs.declared.functions.Phi.{Phi}
 use Rattle.ir_core.specs.declared.functions.Term.{Term}
@@ -70,6 +70,7 @@ lines_by rs taken (instr.Calm c ∷ ls) all =
       operands = all_joined _ (operands_in c.right) (flat_map operands_of ls) (operands_by rs (operands_in c.right) (both_right value (are_typed types (operands_in c.right)) typed)) more.operands;
       operators = (operator_by c.right operator, more.operators);
     }
+lines_by rs taken (l ∷ ls) all = let no : Some kind.OperandType ≡ None = all.0 in absurd cc
 
 lines_are : (rs : List (Name × Ty)) → AreNew [] (names_in rs) → (taken : List Name) (ls : List Instr) → LinesFit rs taken ls → AllNone (line_kinds (with_types none_typed rs) taken ls)
 lines_are rs unique taken [] fit = tt
@@ -94,6 +95,7 @@ lines_are rs unique taken (instr.Calm c ∷ ls) fit =
           }
           ),
     )
+lines_are rs unique taken (l ∷ ls) fit = absurd fit.operators.0
 
 -- ---- phis
 

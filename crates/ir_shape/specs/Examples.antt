@@ -8,7 +8,7 @@ use Rattle.ir_core.specs.declared.functions.Entry.{Entry}
 use Rattle.ir_core.specs.declared.functions.Function.{Function}
 use Rattle.ir_core.specs.declared.functions.Instr.{Instr}
 use Rattle.ir_core.specs.declared.functions.Instr.TheVariants as line
-use Rattle.ir_core.specs.declared.functions.Module.{Module}
+use Rattle.ir_core.specs.declared.modules.Module.{Module}
 use Rattle.ir_core.specs.declared.functions.Param.{Param}
 use Rattle.ir_core.specs.declared.functions.Phi.{Phi}
 use Rattle.ir_core.specs.declared.functions.Term.{Term}
@@ -27,6 +27,7 @@ use Rattle.ir_types.specs.declared.ty.Ty.{Ty}
 use Rattle.ir_types.specs.declared.ty.Ty.TheVariants.{Int}
 use Rattle.ir_shape.specs.declared.fault.ShapeFault.{ShapeFault}
 use Rattle.shape_tests.specs.declared.kind.ShapeKind.{ShapeKind}
+use Rattle.ir_core.specs.Modules.{plain_function, plain_module, plain_param}
 
 abbrev pub f : Name
 f = Text (codes "f")
@@ -42,7 +43,7 @@ debug = Text (codes "llvm.dbg.x")
 
 -- i1 %1, i8 %8, i32 %32: a parameter of each of these widths, with that name
 abbrev pub params : List Param
-params = record { name = Number 1; ty = Int 1 } ∷ record { name = Number 8; ty = Int 8 } ∷ record { name = Number 32; ty = Int 32 } ∷ []
+params = plain_param (Int 1) (Number 1) ∷ plain_param (Int 8) (Number 8) ∷ plain_param (Int 32) (Number 32) ∷ []
 
 -- the parameter of that integer type; of another type `%32`
 abbrev pub given : Ty → Operand Name
@@ -120,7 +121,7 @@ last = block y [] [] returning
 
 -- define i32 @name(i1 %1, i8 %8, i32 %32) { blocks }
 abbrev pub of_blocks : Name → List Block → Function
-of_blocks name blocks = record { name = name; result = Int 32; params = params; blocks = blocks }
+of_blocks name blocks = plain_function (Int 32) name params blocks
 
 -- the function of that name, of a block %0: phis lines end and the last one
 abbrev pub function : Name → List Phi → List Instr → Term → Function
@@ -136,11 +137,11 @@ in_named name kind = record { sigil = Local; function = name; place = None; kind
 
 -- those named types alone
 abbrev pub naming : List NamedTy → Module
-naming types = record { types = types; functions = [] }
+naming types = plain_module types []
 
 -- the module of that function alone
 abbrev pub alone : Function → Module
-alone of = record { types = []; functions = of ∷ [] }
+alone of = plain_module [] (of ∷ [])
 
 -- the function @f of these lines alone, returning %32
 abbrev pub of_lines : List Instr → Module

@@ -2,7 +2,7 @@
 use Rattle.std.specs.Prelude.{◌≡◌, false, [], ◌∷◌, None, Some}
 use Rattle.ir_core.specs.declared.expressions.Expr.TheVariants.{Plain}
 use Rattle.ir_core.specs.declared.functions.Function.{Function}
-use Rattle.ir_core.specs.declared.functions.Module.{Module}
+use Rattle.ir_core.specs.declared.modules.Module.{Module}
 use Rattle.ir_core.specs.declared.functions.Term.TheVariants.{Ret, RetVoid}
 use Rattle.ir_types.specs.declared.names.Name.TheVariants.{Number}
 use Rattle.ir_types.specs.declared.names.Sigil.TheVariants.{Global}
@@ -13,6 +13,7 @@ use Rattle.ir_core.specs.WellFormed.{HasFunctionShape, HasShape}
 use Rattle.shape_tests.specs.declared.kind.ShapeKind.TheVariants as kind
 use Rattle.ir_shape.specs.Examples.{add, alone, block, branching, cast, cast_of, debug, entering, entry, f, fitting, function, icmp, in_f, in_header, in_named, in_y, jumping, last, naming, of_blocks, of_lines, params, phi, returning, select, setting, struct, switching, given, x, y}
 use Rattle.ir_shape.specs.Shape.{first_fault, in_function}
+use Rattle.ir_core.specs.Modules.{plain_function, plain_module, plain_param}
 
 -- A module has no fault exactly where it has shape.
 abbrev pub FaultlessModulesHaveShape : Type 0
@@ -99,8 +100,8 @@ Cases =
 abbrev pub Names : Type 0
 Names =
     (first_fault (alone (function debug [] [] returning)) ≡ Some (in_header debug kind.Name))
-    × (first_fault (record { types = []; functions = function f [] [] returning ∷ function f [] [] returning ∷ [] }) ≡ Some (in_header f kind.Name))
-    × (first_fault (alone (record { name = f; result = Int 32; params = record { name = x; ty = Int 1 } ∷ record { name = x; ty = Int 8 } ∷ []; blocks = last ∷ [] }))
+    × (first_fault (plain_module [] (function f [] [] returning ∷ function f [] [] returning ∷ [])) ≡ Some (in_header f kind.Name))
+    × (first_fault (alone (plain_function (Int 32) f (plain_param (Int 1) x ∷ plain_param (Int 8) x ∷ []) (last ∷ [])))
     ≡ Some (in_header f kind.Name))
     × (first_fault (of_lines (add 101 (Int 32) ∷ add 101 (Int 32) ∷ [])) ≡ Some (in_f 1 kind.Name))
     × (first_fault (of_lines (add 0 (Int 32) ∷ [])) ≡ Some (in_f 0 kind.Name))
@@ -135,9 +136,9 @@ Operands =
 abbrev pub Registers : Type 0
 Registers =
     (first_fault (of_lines (cast_of 101 BitCast (record { ty = Void; atom = Register (Number 101) }) Void ∷ [])) ≡ Some (in_f 0 kind.OperandType))
-    × (first_fault (alone (record { name = f; result = Int 32; params = record { name = x; ty = Void } ∷ params; blocks = last ∷ [] }))
+    × (first_fault (alone (plain_function (Int 32) f (plain_param Void x ∷ params) (last ∷ [])))
     ≡ Some (in_header f kind.OperandType))
-    × (first_fault (alone (record { name = f; result = Int 32; params = record { name = x; ty = Ptr (Int 8) } ∷ params; blocks = last ∷ [] }))
+    × (first_fault (alone (plain_function (Int 32) f (plain_param (Ptr (Int 8)) x ∷ params) (last ∷ [])))
     ≡ Some (in_header f kind.OperandType))
 
 -- the first place decides: a line before a terminator, a name before the lines, a function before the next one's name
@@ -151,11 +152,11 @@ NamesComeBeforeLines = first_fault (alone (function debug [] (add 101 Void ∷ [
 -- a named type before a function
 abbrev pub TypesComeFirst : Type 0
 TypesComeFirst =
-    first_fault (record { types = struct x (Named y ∷ []) ∷ []; functions = function debug [] [] returning ∷ [] }) ≡ Some (in_named x kind.Name)
+    first_fault (plain_module (struct x (Named y ∷ []) ∷ []) (function debug [] [] returning ∷ [])) ≡ Some (in_named x kind.Name)
 
 abbrev pub FunctionsComeInOrder : Type 0
 FunctionsComeInOrder =
-    first_fault (record { types = []; functions = function f [] [] RetVoid ∷ function debug [] [] returning ∷ [] }) ≡ Some (in_f 0 kind.ReturnType)
+    first_fault (plain_module [] (function f [] [] RetVoid ∷ function debug [] [] returning ∷ [])) ≡ Some (in_f 0 kind.ReturnType)
 
 -- At one place the first kind counts: of a line that converts an unknown register, or the i8 of an i32, to too few bits; and of a block
 -- with an earlier one's name, the first line of which uses an unknown register.

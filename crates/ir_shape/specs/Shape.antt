@@ -1,18 +1,17 @@
 -- What is wrong with a module (LangRef 3.7, Well-Formedness), in the order of the places, and what is first.
-use Rattle.std.specs.Prelude.{◌≡◌, ◌≤◌, ◌+◌, ℕ, Bool, not, ◌&&◌, List, [], ◌∷◌, ◌++◌, map, Option, None, Some}
+use Rattle.std.specs.Prelude.{◌≡◌, ◌≤◌, ◌+◌, ℕ, Bool, false, not, ◌&&◌, List, [], ◌∷◌, ◌++◌, map, Option, None, Some}
 use Rattle.std.specs.List.{AllByRecursion}
 use Rattle.ir_core.specs.declared.functions.Block.{Block}
 use Rattle.ir_core.specs.declared.functions.Function.{Function}
 use Rattle.ir_core.specs.declared.functions.Instr.{Instr}
-use Rattle.ir_core.specs.declared.functions.Instr.TheVariants as instr
-use Rattle.ir_core.specs.declared.functions.Module.{Module}
+use Rattle.ir_core.specs.declared.modules.Module.{Module}
 use Rattle.ir_core.specs.declared.functions.Phi.{Phi}
 use Rattle.ir_core.specs.declared.limits.Limit.TheVariants.{Lines}
 use Rattle.ir_types.specs.declared.named.NamedTy.{NamedTy}
 use Rattle.ir_types.specs.declared.names.Name.{Name}
 use Rattle.ir_types.specs.declared.names.Sigil.{Sigil}
 use Rattle.ir_types.specs.declared.names.Sigil.TheVariants as sigil
-use Rattle.ir_core.specs.Functions.{edges_into, line_count, names_in, params_of, phi_registers, set_by}
+use Rattle.ir_core.specs.Functions.{edges_into, line_count, name_set, names_in, params_of, phi_registers, set_by}
 use Rattle.ir_core.specs.Limits.{line_limit}
 use Rattle.ir_core.specs.TypeNames.{names_in_struct}
 use Rattle.name_index.specs.Among.{is_among}
@@ -58,8 +57,13 @@ phi_kinds labels types edges taken (p ∷ ps) =
 abbrev pub with_phis : List Name → List Phi → List Name
 with_phis taken ps = with_names taken (names_in (phi_registers ps))
 
+abbrev pub is_name_taken : List Name → Option Name → Bool
+is_name_taken taken None = false
+is_name_taken taken (Some name) = is_among name taken
+
+-- the name of the register that a line sets, if it sets one
 abbrev pub is_taken : List Name → Instr → Bool
-is_taken taken (instr.Calm c) = is_among c.name taken
+is_taken taken line = is_name_taken taken (name_set line)
 
 abbrev pub with_lines : List Name → List Instr → List Name
 with_lines taken ls = with_names taken (names_in (set_by ls))

@@ -182,7 +182,20 @@ fn push_block_phis<'a>(
     push_with(alloc, scope, row, names, block.phis.as_slice(), kinds)
 }
 
+/// Takes the name of the register that a line sets, if it sets one, and says whether it was taken.
+#[tactic(auto, using(ir_core::proofs::Lines::names_one, ir_core::proofs::Lines::names_none))]
+fn take_line<'a>(names: &mut LentNames<'a>, line: &'a Instr) -> Result<bool, AllocError>
+    ensures taken { IfOk result (λ taken. taken ≡ meaning.is_taken names.old line.now) }
+    ensures names { OnOk result (names.new ≡ meaning.with_lines names.old (line.now ∷ [])) }
+{
+    match line.name() {
+        Some(name) => names.take(name),
+        None => Ok(false),
+    }
+}
+
 /// Puts the kinds of lines behind the others, and takes their names.
+#[tactic(auto, using(crate::proofs::Kept::lines_joined))]
 fn push_lines<'a>(
     alloc: Global,
     scope: &Scope,
@@ -195,8 +208,7 @@ fn push_lines<'a>(
     ensures names { OnOk result (names.new ≡ meaning.with_lines names.old lines.now) }
 {
     for line in lines {
-        let Instr::Calm(calm) = line;
-        let taken = names.take(&calm.name)?;
+        let taken = take_line(names, line)?;
         kinds.push(line_kind(&scope.types, taken, line))?;
     }
     Ok(())

@@ -37,6 +37,7 @@ pub(crate) fn line_kind(types: &Types, taken: bool, line: &Instr) -> Option<Shap
 {
     match line {
         Instr::Calm(calm) => set_kind(types, taken, &calm.right),
+        Instr::Alloca(_) | Instr::Store(_) | Instr::Call(_) => Some(ShapeKind::OperandType),
     }
 }
 

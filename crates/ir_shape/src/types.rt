@@ -10,7 +10,8 @@ ghost use Rattle.ir_shape.specs.Typed.{type_in};
 
 use indexmap::IndexMap;
 use ir_core::{
-    Atom, BitType, Block, Entry, Expr, Function, Instr, Name, Param, Phi, Term, Ty, same_ty,
+    Atom, BitType, Block, Entry, Expr, Function, Instr, Name, Operand, Param, Phi, Term, Ty,
+    same_ty,
 };
 use shape_tests::is_integer;
 use std::alloc::{AllocError, Global};
@@ -27,6 +28,7 @@ impl<'a> Drop for Types<'a> {
 }
 
 impl<'a> Types<'a> {
+    ghost use Rattle.std.specs.Prelude.{[], ◌∷◌};
     ghost use Rattle.std.specs.Option.{option_copied};
     ghost use Rattle.shape_tests.specs.Kinds.{none_typed, with_type, with_types};
     ghost use Rattle.ir_shape.specs.Typed.{found_in};
@@ -76,12 +78,21 @@ impl<'a> Types<'a> {
         Ok(())
     }
 
+    #[tactic(auto, using(ir_core::proofs::Lines::set_one, ir_core::proofs::Lines::set_none))]
+    fn put_line(&mut self, bit: &'a BitType, line: &'a Instr) -> Result<(), AllocError>
+        ensures { OnOk result (type_in self.new ≡ with_types (type_in self.old) (functions.set_by (line.now ∷ []))) }
+    {
+        match line.register(bit) {
+            Some((name, ty)) => self.put(name, ty),
+            None => Ok(()),
+        }
+    }
+
     fn put_lines(&mut self, bit: &'a BitType, lines: &'a [Instr]) -> Result<(), AllocError>
         ensures { OnOk result (type_in self.new ≡ with_types (type_in self.old) (functions.set_by lines.now)) }
     {
         for line in lines {
-            let Instr::Calm(calm) = line;
-            self.put(&calm.name, calm.right.ty(bit))?;
+            self.put_line(bit, line)?;
         }
         Ok(())
     }
@@ -134,6 +145,30 @@ impl<'a> Types<'a> {
             Atom::Register(name) => self.is_of(name, ty),
         }
     }
+
+    /// Whether the registers that these name are such.
+    fn are_known(&self, operands: &[Operand<Name>]) -> bool
+        ensures { result ≡ fitting.are_known (type_in self.now) operands.now }
+    {
+        for operand in operands {
+            if !self.is_known(&operand.atom) {
+                return false;
+            }
+        }
+        true
+    }
+
+    /// Whether they are of the types that are stated for them.
+    fn are_typed(&self, operands: &[Operand<Name>]) -> bool
+        ensures { result ≡ fitting.are_typed (type_in self.now) operands.now }
+    {
+        for operand in operands {
+            if !self.has_type(&operand.ty, &operand.atom) {
+                return false;
+            }
+        }
+        true
+    }
 }
 
 /// The types of the function's registers.
@@ -167,6 +202,11 @@ fn operands_are_known(types: &Types, right: &Expr<Name>) -> bool
                 && types.is_known(&select.left.atom)
                 && types.is_known(&select.right.atom)
         }
+        Expr::Element(element) => {
+            let element = element.get();
+            types.is_known(&element.base.atom) && types.are_known(element.indices.as_slice())
+        }
+        Expr::Load(load) => types.is_known(&load.pointer.atom),
     }
 }
 
@@ -190,6 +230,12 @@ pub(crate) fn operands_are_typed(types: &Types, right: &Expr<Name>) -> bool
                 && types.has_type(&select.left.ty, &select.left.atom)
                 && types.has_type(&select.right.ty, &select.right.atom)
         }
+        Expr::Element(element) => {
+            let element = element.get();
+            types.has_type(&element.base.ty, &element.base.atom)
+                && types.are_typed(element.indices.as_slice())
+        }
+        Expr::Load(load) => types.has_type(&load.pointer.ty, &load.pointer.atom),
     }
 }
 

@@ -6,8 +6,8 @@ ghost use Rattle.ir_machine.specs.Places.{state_of};
 
 use contents::Seq;
 use ir_core::{
-    Atom, BinOp, Binary, Bits, Block, Calm, Const, Expr, Flags, Function, Instr, Module, Name,
-    NamedTypes, Operand, Param, Term, Ty,
+    Atom, BinOp, Binary, Bits, Block, Calm, Const, Expr, Extensions, Flags, Function, Instr,
+    Linkage, Module, Name, NamedTypes, Operand, Param, Term, Ty,
 };
 use ir_machine::{
     Choice, Chooser, Input, Item, Progress, RunState, Shown, StartEnd, StepEnd, start, step,
@@ -87,19 +87,26 @@ fn sample(alloc: Global, flags: Flags, value: Returns) -> Result<Module, AllocEr
         Param {
             name: Name::Number(0),
             ty: Ty::Int(8),
+            extensions: Extensions::none(),
         },
     )?;
     let functions = one(
         alloc,
         Function {
-            name: Name::Number(0),
+            linkage: Linkage::External,
+            result_extensions: Extensions::none(),
             result: Ty::Int(8),
+            name: Name::Number(0),
             params,
             blocks,
         },
     )?;
-    let types = NamedTypes::none(alloc);
-    Ok(Module { types, functions })
+    Ok(Module {
+        types: NamedTypes::none(alloc),
+        globals: Seq::new(alloc),
+        functions,
+        declarations: Seq::new(alloc),
+    })
 }
 
 fn input_of(alloc: Global, numbers: &[u64]) -> Result<Input, AllocError> {

@@ -4,7 +4,7 @@ use Rattle.std.proofs.lemmas.Bool.{false≢true}
 use Rattle.std.specs.List.{list_any}
 use Rattle.ir_core.specs.declared.operands.Operand.{Operand}
 use Rattle.ir_core.specs.declared.expressions.Reg.{Reg}
-use Rattle.ir_core.specs.declared.expressions.Expr.TheVariants.{Plain, Binary, Icmp, Cast, Select}
+use Rattle.ir_core.specs.declared.expressions.Expr.TheVariants.{Plain, Binary, Icmp, Cast, Select, Element, Load}
 use Rattle.ir_types.specs.Same.{same_name}
 use Rattle.ir_core.specs.Same.{same_expr, same_reg}
 use Rattle.ir_types.specs.NameLaws.{same_name_refl}
@@ -35,10 +35,14 @@ into_none p b (LessDef (Binary e) (Plain q)) h = and_false (same_expr same_reg (
 into_none p b (LessDef (Icmp e) (Plain q)) h = and_false (same_expr same_reg (Plain q) (Plain b))
 into_none p b (LessDef (Cast e) (Plain q)) h = and_false (same_expr same_reg (Plain q) (Plain b))
 into_none p b (LessDef (Select e) (Plain q)) h = and_false (same_expr same_reg (Plain q) (Plain b))
+into_none p b (LessDef (Element e) (Plain q)) h = and_false (same_expr same_reg (Plain q) (Plain b))
+into_none p b (LessDef (Load e) (Plain q)) h = and_false (same_expr same_reg (Plain q) (Plain b))
 into_none p b (LessDef x (Binary e)) h = refl
 into_none p b (LessDef x (Icmp e)) h = refl
 into_none p b (LessDef x (Cast e)) h = refl
 into_none p b (LessDef x (Select e)) h = refl
+into_none p b (LessDef x (Element e)) h = refl
+into_none p b (LessDef x (Load e)) h = refl
 
 from_none : (p : Operand Reg → Bool) (a : Operand Reg) (f : Fact) → joins f ≡ false → from_fact p a f ≡ false
 from_none p a (LessDef (Plain o) (Plain q)) h = absurd (false≢true (sym h))
@@ -46,10 +50,14 @@ from_none p a (LessDef (Plain o) (Binary e)) h = and_false (same_expr same_reg (
 from_none p a (LessDef (Plain o) (Icmp e)) h = and_false (same_expr same_reg (Plain o) (Plain a))
 from_none p a (LessDef (Plain o) (Cast e)) h = and_false (same_expr same_reg (Plain o) (Plain a))
 from_none p a (LessDef (Plain o) (Select e)) h = and_false (same_expr same_reg (Plain o) (Plain a))
+from_none p a (LessDef (Plain o) (Element e)) h = and_false (same_expr same_reg (Plain o) (Plain a))
+from_none p a (LessDef (Plain o) (Load e)) h = and_false (same_expr same_reg (Plain o) (Plain a))
 from_none p a (LessDef (Binary e) y) h = refl
 from_none p a (LessDef (Icmp e) y) h = refl
 from_none p a (LessDef (Cast e) y) h = refl
 from_none p a (LessDef (Select e) y) h = refl
+from_none p a (LessDef (Element e) y) h = refl
+from_none p a (LessDef (Load e) y) h = refl
 
 any_none : (p : Fact → Bool) → ((f : Fact) → joins f ≡ false → p f ≡ false) → (fs : List Fact) → list_any joins fs ≡ false → list_any p fs ≡ false
 any_none p none [] h = refl
@@ -90,10 +98,14 @@ into_near p b (LessDef (Binary e) y) h = absurd (false≢true (sym (into_none p 
 into_near p b (LessDef (Icmp e) y) h = absurd (false≢true (sym (into_none p b (LessDef (Icmp e) y) refl) ∙ h))
 into_near p b (LessDef (Cast e) y) h = absurd (false≢true (sym (into_none p b (LessDef (Cast e) y) refl) ∙ h))
 into_near p b (LessDef (Select e) y) h = absurd (false≢true (sym (into_none p b (LessDef (Select e) y) refl) ∙ h))
+into_near p b (LessDef (Element e) y) h = absurd (false≢true (sym (into_none p b (LessDef (Element e) y) refl) ∙ h))
+into_near p b (LessDef (Load e) y) h = absurd (false≢true (sym (into_none p b (LessDef (Load e) y) refl) ∙ h))
 into_near p b (LessDef (Plain o) (Binary e)) h = absurd (false≢true h)
 into_near p b (LessDef (Plain o) (Icmp e)) h = absurd (false≢true h)
 into_near p b (LessDef (Plain o) (Cast e)) h = absurd (false≢true h)
 into_near p b (LessDef (Plain o) (Select e)) h = absurd (false≢true h)
+into_near p b (LessDef (Plain o) (Element e)) h = absurd (false≢true h)
+into_near p b (LessDef (Plain o) (Load e)) h = absurd (false≢true h)
 
 from_near : (p : Operand Reg → Bool) (a : Operand Reg) (f : Fact) → from_fact p a f ≡ true → is_near (found_under a.atom) f ≡ true
 from_near p a (LessDef (Plain o) (Plain q)) h =
@@ -103,10 +115,14 @@ from_near p a (LessDef (Plain o) (Binary e)) h = absurd (false≢true (sym (from
 from_near p a (LessDef (Plain o) (Icmp e)) h = absurd (false≢true (sym (from_none p a (LessDef (Plain o) (Icmp e)) refl) ∙ h))
 from_near p a (LessDef (Plain o) (Cast e)) h = absurd (false≢true (sym (from_none p a (LessDef (Plain o) (Cast e)) refl) ∙ h))
 from_near p a (LessDef (Plain o) (Select e)) h = absurd (false≢true (sym (from_none p a (LessDef (Plain o) (Select e)) refl) ∙ h))
+from_near p a (LessDef (Plain o) (Element e)) h = absurd (false≢true (sym (from_none p a (LessDef (Plain o) (Element e)) refl) ∙ h))
+from_near p a (LessDef (Plain o) (Load e)) h = absurd (false≢true (sym (from_none p a (LessDef (Plain o) (Load e)) refl) ∙ h))
 from_near p a (LessDef (Binary e) y) h = absurd (false≢true h)
 from_near p a (LessDef (Icmp e) y) h = absurd (false≢true h)
 from_near p a (LessDef (Cast e) y) h = absurd (false≢true h)
 from_near p a (LessDef (Select e) y) h = absurd (false≢true h)
+from_near p a (LessDef (Element e) y) h = absurd (false≢true h)
+from_near p a (LessDef (Load e) y) h = absurd (false≢true h)
 
 pub into_found : (p : Operand Reg → Bool) (b : Operand Reg) (near fs : List Fact) → HasAllNear (found_under b.atom) near fs
     → list_any (λ f. has_fact f fs && into_fact p b f) near ≡ list_any (into_fact p b) fs

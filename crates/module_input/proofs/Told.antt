@@ -1,7 +1,7 @@
 -- What is said of a module that is spelled is said of the text.
 use Rattle.std.proofs.Common.{◌≡◌, ◌∙◌, ◌<◌, ◌^◌, ℕ, suc, List, [], ◌∷◌, ◌++◌, ap, get_or, Fits, w8, Result, None, Ok, Err, IfOk, IfErr, subst, sym, arith}
 use Rattle.std.specs.List.{AllByRecursion}
-use Rattle.ir_core.specs.declared.functions.Module.{Module}
+use Rattle.ir_core.specs.declared.modules.Module.{Module}
 use Rattle.ir_types.specs.declared.named.NamedTy.{NamedTy}
 use Rattle.ir_core.specs.Ranges.{AreBytes}
 use Rattle.ir_core.specs.WellFormed.{IsFunctionDefined, IsWellFormed}

@@ -1,6 +1,6 @@
 -- The first faults of one text are of one kind, and a text with a fault spells no well-formed module.
 use Rattle.std.specs.Prelude.{◌≡◌, ◌≢◌, ◌≤◌, ℕ, List, length}
-use Rattle.ir_core.specs.declared.functions.Module.{Module}
+use Rattle.ir_core.specs.declared.modules.Module.{Module}
 use Rattle.ir_core.specs.Limits.{text_limit}
 use Rattle.ir_spelling.specs.declared.fault.TextFault.{TextFault}
 use Rattle.ir_spelling.specs.declared.fault.TextFault.TheVariants as text

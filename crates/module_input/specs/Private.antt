@@ -1,7 +1,7 @@
 -- Words of private functions.
 use Rattle.std.specs.Prelude.{◌≡◌, List, None, Some}
 use Rattle.ir_core.specs.declared.functions.Function.{Function}
-use Rattle.ir_core.specs.declared.functions.Module.{Module}
+use Rattle.ir_core.specs.declared.modules.Module.{Module}
 use Rattle.ir_core.specs.WellFormed.{IsFunctionDefined}
 use Rattle.ir_shape.specs.Shape.{first_fault}
 use Rattle.definedness.specs.Undefined.{IsFirstUndefined}

@@ -1,6 +1,6 @@
 ghost use Rattle.std.specs.Prelude.{◌≡◌, [], None, IfOk, IfErr, true};
 ghost use Rattle.std.specs.List.{AllByRecursion};
-ghost use Rattle.ir_core.specs.declared.functions.Module.{Module};
+ghost use Rattle.ir_core.specs.declared.modules.Module.{Module};
 ghost use Rattle.ir_core.specs.WellFormed.{HasFunctionShape, HasShape, IsFunctionDefined, IsWellFormed};
 ghost use Rattle.ir_shape.specs.Shape.{IsShort, first_fault, in_functions};
 ghost use Rattle.ir_spelling.specs.Spells.{Spells, SpellsWellFormed};

@@ -2,6 +2,7 @@ ghost use Rattle.std.specs.Prelude.{◌≡◌, ◌-◌, ◌++◌, [], ◌∷◌,
 ghost use Rattle.name_claims.specs.Faults.{HasFault, IsFirst};
 ghost use Rattle.name_claims.specs.Indexes.{first_in, first_of};
 ghost use Rattle.std.specs.List.{flat_map};
+ghost use Rattle.ir_core.specs.Modules.{plain_param};
 ghost use Rattle.ir_naming.specs.Naming.{name_due, label_name, label_thing, param_thing, phi_thing, line_thing, function_thing, block_things, blocks_in, things_of, due_from, phi_claims, line_claims, block_claims, item_of, claims_of};
 ghost use Rattle.ir_naming.specs.Modules.{params_from, phi_named, phis_from, lines_from, block_from, blocks_from, result_of, function_of, module_of};
 ghost use Rattle.ir_naming.specs.Values.{expression_of, type_at};
@@ -9,7 +10,10 @@ ghost use Rattle.ir_naming.specs.Walk.{HasRoom, with_thing, with_things};
 
 use crate::flow::{name_node, name_term};
 use contents::{Boxed, Exact, Seq};
-use ir_core::{BitType, Block, Calm, Function, Instr, Module, Name, NamedTypes, Param, Phi, Ty};
+use ir_core::{
+    BitType, Block, Calm, Extensions, Function, Instr, Linkage, Module, Name, NamedTypes, Param,
+    Phi, Ty,
+};
 use ir_grammar::{
     BlockText, BodyText, DefinitionText, LineText, ModuleText, ParamText, PhiText, Placed,
 };
@@ -48,7 +52,7 @@ fn name_param(
     tally: &mut Tally,
 ) -> Result<Param, AllocError>
     requires { HasRoom tally.old }
-    ensures param { IfOk result (λ made. made ≡ record { name = name_due tally.old.next param.name; ty = type_at param.ty }) }
+    ensures param { IfOk result (λ made. made ≡ plain_param (type_at param.ty) (name_due tally.old.next param.name)) }
     ensures defined { OnOk result (tally.new ≡ with_thing (param_thing function.now param) tally.old) }
 {
     let ParamText { ty, name } = param;
@@ -63,6 +67,7 @@ fn name_param(
     Ok(Param {
         name,
         ty: Ty::Int(width),
+        extensions: Extensions::none(),
     })
 }
 
@@ -350,8 +355,10 @@ fn function_in(
     } = definition;
     let (params, blocks) = name_parts(alloc, &name, params, entry, others, tally, claims)?;
     Ok(Function {
-        name: name_of(name),
+        linkage: Linkage::External,
+        result_extensions: Extensions::none(),
         result: result_of(result),
+        name: name_of(name),
         params,
         blocks,
     })
@@ -478,6 +485,11 @@ pub fn name_module(alloc: Global, text: ModuleText) -> Result<(Module, Option<Fa
     ensures first { IfOk result (λ named. IfSome named.1 (λ f. IsFirst (claims_of text) f)) }
 {
     let (functions, found) = name_all(alloc, text)?;
-    let types = NamedTypes::none(alloc);
-    Ok((Module { types, functions }, found))
+    let module = Module {
+        types: NamedTypes::none(alloc),
+        globals: Seq::new(alloc),
+        functions,
+        declarations: Seq::new(alloc),
+    };
+    Ok((module, found))
 }

@@ -143,13 +143,6 @@ fn after_target<S: FactSet>(alloc: Global, t: &Calm, sides: &mut Sides<S>) -> Re
     Ok(())
 }
 
-fn calm_of(instr: &Instr) -> &Calm
-    ensures { instr.now ≡ line.Calm result.now }
-{
-    let Instr::Calm(calm) = instr;
-    calm
-}
-
 /// A line of the source and a line of the target, of which one may be absent.
 #[derive(Drop, Clone, Copy)]
 pub struct Line<'a> {
@@ -163,18 +156,17 @@ fn past<S: FactSet>(
     source: Option<&Instr>,
     target: Option<&Instr>,
 ) -> Result<(), AddEnd>
+    requires { line_fault_of sides.old (option_copied source) (option_copied target) ≡ None }
     ensures { Follows result sides.new
         (over_allowed (record { source = option_copied source.entry; target = option_copied target.entry }) sides.old) }
 {
-    match source {
-        Some(s) => match target {
-            Some(t) => after_both(alloc, calm_of(s), calm_of(t), sides),
-            None => after_source(alloc, calm_of(s), sides),
-        },
-        None => match target {
-            Some(t) => after_target(alloc, calm_of(t), sides),
-            None => Ok(()),
-        },
+    match (source, target) {
+        (None, None) => Ok(()),
+        (Some(Instr::Calm(s)), None) => after_source(alloc, s, sides),
+        (None, Some(Instr::Calm(t))) => after_target(alloc, t, sides),
+        (Some(Instr::Calm(s)), Some(Instr::Calm(t))) => after_both(alloc, s, t, sides),
+        // No other line is allowed.
+        _ => unreachable!(),
     }
 }
 

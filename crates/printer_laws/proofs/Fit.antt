@@ -9,7 +9,7 @@ use Rattle.ir_core.specs.declared.functions.Entry.{Entry}
 use Rattle.ir_core.specs.declared.functions.Function.{Function}
 use Rattle.ir_core.specs.declared.functions.Instr.{Instr}
 use Rattle.ir_core.specs.declared.functions.Instr.TheVariants as instr
-use Rattle.ir_core.specs.declared.functions.Module.{Module}
+use Rattle.ir_core.specs.declared.modules.Module.{Module}
 use Rattle.ir_core.specs.declared.functions.Param.{Param}
 use Rattle.ir_core.specs.declared.functions.Phi.{Phi}
 use Rattle.ir_core.specs.declared.functions.Switch.{Switch}
@@ -32,6 +32,8 @@ use Rattle.ir_types.specs.declared.names.Name.{Name}
 use Rattle.ir_types.specs.declared.ty.Ty.{Ty}
 use Rattle.ir_naming.specs.Spells.{labels_of}
 use Rattle.printer_laws.specs.Writable.{IsWritableType}
+use Rattle.ir_core.specs.Modules.{not_extended}
+use Rattle.ir_core.specs.declared.modules.Linkage.TheVariants as linkage
 
 -- it is no operand alone
 abbrev pub IsNoOperand : {R : Type 0} → Expr R → Type 0
@@ -40,6 +42,7 @@ IsNoOperand e = Unit {0}
 
 abbrev pub SetsByOperation : Instr → Type 0
 SetsByOperation (instr.Calm c) = IsNoOperand c.right
+SetsByOperation line = ⊥
 
 module _ (registers : List (Name × Ty)) (labels : List Name) where
   -- a constant of the type, or a register of it
@@ -62,6 +65,7 @@ module _ (registers : List (Name × Ty)) (labels : List Name) where
 
   abbrev pub FitsLine : Instr → Type 0
   FitsLine (instr.Calm c) = FitsCalm c
+  FitsLine line = ⊥
 
   abbrev pub FitsEntry : Ty → Entry → Type 0
   FitsEntry t e = FitsAtom t e.value × FitsLabel e.from
@@ -96,7 +100,7 @@ module _ (registers : List (Name × Ty)) (labels : List Name) where
     pub ends : FitsTerm b.term
 
 abbrev pub FitsParam : Param → Type 0
-FitsParam p = IsNameInRange p.name × IsWritableType p.ty
+FitsParam p = IsNameInRange p.name × IsWritableType p.ty × (p.extensions ≡ not_extended)
 
 pub record FitsFunction (f : Function) : Type 0 where
   pub name : IsNameInRange f.name
@@ -106,9 +110,13 @@ pub record FitsFunction (f : Function) : Type 0 where
   pub blocks : AllByRecursion (FitsBlock (typed_of f) (labels_of f)) f.blocks
   pub order : AreInOrder (names_of f)
   pub few : line_count f ≤ line_limit
+  pub linkage : f.linkage ≡ linkage.External
+  pub extensions : f.result_extensions ≡ not_extended
 
 pub record FitsModule (m : Module) : Type 0 where
   pub types : m.types ≡ []
+  pub globals : m.globals ≡ []
+  pub declarations : m.declarations ≡ []
   pub functions : AllByRecursion FitsFunction m.functions
   pub order : AreInOrder (function_names m)
 

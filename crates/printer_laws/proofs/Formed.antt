@@ -1,6 +1,6 @@
 -- Functions in order, of the form that a text has, and in range can be written as text.
-use Rattle.std.proofs.Common.{◌≡◌, ◌<◌, true, true≢false, List, [], ◌∷◌, ◌++◌, map, length, sym}
-use Rattle.std.specs.List.{AllByRecursion, Contains, flat_map}
+use Rattle.std.proofs.Common.{◌≡◌, ◌<◌, true, true≢false, List, [], ◌∷◌, ◌++◌, map, length, Option, None, Some, sym}
+use Rattle.std.specs.List.{AllByRecursion, Contains, cons_option, flat_map}
 use Rattle.ir_core.specs.declared.functions.Block.{Block}
 use Rattle.ir_core.specs.declared.functions.Case.{Case}
 use Rattle.ir_core.specs.declared.functions.Entry.{Entry}
@@ -16,7 +16,7 @@ use Rattle.ir_core.specs.declared.operands.Atom.TheVariants.{Constant, Register}
 use Rattle.ir_core.specs.declared.operands.Const.{Const}
 use Rattle.ir_core.specs.declared.operands.Operand.{Operand}
 use Rattle.ir_core.specs.Expressions.{type_of}
-use Rattle.ir_core.specs.Functions.{block_names, cases_of, names_in, names_of, operands_at_end, operands_in_block, operands_of, operands_of_phi, params_of, phi_registers, registers_of, set_by, successors_of, typed_of}
+use Rattle.ir_core.specs.Functions.{block_names, cases_of, names_in, names_of, operands_at_end, operands_in_block, operands_of, operands_of_phi, params_of, phi_registers, register_of, registers_of, set_by, successors_of, typed_of}
 use Rattle.ir_core.specs.Order.{AreInOrder}
 use Rattle.ir_core.specs.Ranges.{IsAtomInRange, IsCaseInRange, IsFunctionInRange, IsLineInRange, IsNameInRange, IsOperandInRange, IsTypeInRange}
 use Rattle.ir_core.specs.Types.{constant_fits}
@@ -27,7 +27,9 @@ use Rattle.ir_types.specs.declared.ty.Ty.TheVariants.{Int}
 use Rattle.ir_naming.specs.Spells.{labels_of}
 use Rattle.ir_naming_laws.proofs.Lists.{all_both, all_from, all_left, all_lists, all_mapped, all_over, all_right, all_to, all_append}
 use Rattle.printer_laws.specs.Writable.{IsWritableType}
-use Rattle.printer_laws.proofs.Fit.{FitsAtom, FitsBlock, FitsCase, FitsEntry, FitsFunction, FitsLabel, FitsLine, FitsOperand, FitsPhi, FitsTerm, HasBlockForm, HasForm, HasPhiForm, SetsByOperation}
+use Rattle.printer_laws.proofs.Fit.{FitsAtom, FitsBlock, FitsCase, FitsEntry, FitsFunction, FitsLabel, FitsLine, FitsOperand, FitsParam, FitsPhi, FitsTerm, HasBlockForm, HasForm, HasPhiForm, SetsByOperation}
+use Rattle.ir_core.specs.Modules.{not_extended}
+use Rattle.ir_core.specs.declared.functions.Extensions.{Extensions}
 
 -- ---- types
 
@@ -88,10 +90,16 @@ module _ (registers : List (Name × Ty)) (labels : List Name) (known : Known reg
   -- the register that a line sets is such a one
   abbrev Sets : (Name × Ty → Type 0) → Instr → Type 0
   Sets P (instr.Calm c) = P (c.name, type_of c.right)
+  Sets P line = Unit {0}
+
+  behind : (P : Name × Ty → Type 0) (r : Option (Name × Ty)) (rs : List (Name × Ty)) → AllByRecursion P (cons_option r rs) → AllByRecursion P rs
+  behind P None rs all = all
+  behind P (Some r) rs all = all.1
 
   all_set : (P : Name × Ty → Type 0) (lines : List Instr) → AllByRecursion P (set_by lines) → AllByRecursion (Sets P) lines
   all_set P [] all = tt
   all_set P (instr.Calm c ∷ lines) all = (all.0, all_set P lines all.1)
+  all_set P (l ∷ lines) all = (tt, all_set P lines (behind P (register_of l) (set_by lines) all))
 
   -- what is known of a line
   record KnownLine (line : Instr) : Type 0 where
@@ -103,6 +111,7 @@ module _ (registers : List (Name × Ty)) (labels : List Name) (known : Known reg
 
   fits_line : (line : Instr) → KnownLine line → FitsLine registers labels line
   fits_line (instr.Calm c) is = record { name = is.name; operator = is.operator; typed = is.typed; flags = is.flags; operands = is.operands }
+  fits_line line is = absurd is.operator
 
   -- ---- terminators
 
@@ -247,10 +256,15 @@ module _ (f : Function) (order : AreInOrder (names_of f)) (form : HasForm f) (ra
   fits_function = record {
     name = range.name;
     result = range.result;
-    params = all_both (λ (p : Param). IsNameInRange p.name) (λ (p : Param). IsWritableType p.ty) f.params
-        (all_mapped (λ (r : Name × Ty). IsNameInRange r.0) (λ (p : Param). (p.name, p.ty)) f.params param_names) param_types;
+    params = all_from FitsParam f.params (λ p there. (
+      all_to (λ (p : Param). IsNameInRange p.name) f.params (all_mapped (λ (r : Name × Ty). IsNameInRange r.0) (λ (p : Param). (p.name, p.ty)) f.params param_names) p there,
+      all_to (λ (p : Param). IsWritableType p.ty) f.params param_types p there,
+      all_to (λ (p : Param). p.extensions ≡ not_extended) f.params (all_mapped (λ (e : Extensions). e ≡ not_extended) (λ (p : Param). p.extensions) f.params range.extensions.1) p there,
+    ));
     some = form.some;
     blocks = all_from (FitsBlock (typed_of f) (labels_of f)) f.blocks (λ b there. fits_block f known b (known_block b there));
     order = order;
     few = range.lines;
+    linkage = range.linkage;
+    extensions = range.extensions.0;
   }

@@ -2,7 +2,7 @@
 use Rattle.std.proofs.Common.{◌≡◌, ℕ, List, [], ◌∷◌, ◌++◌, map, append_assoc, Option, Some, None, refl, ap, sym, ◌∙◌, subst}
 use Rattle.std.specs.List.{AllByRecursion, AllZip, flat_map}
 use Rattle.ir_core.specs.declared.functions.Function.{Function}
-use Rattle.ir_core.specs.declared.functions.Module.{Module}
+use Rattle.ir_core.specs.declared.modules.Module.{Module}
 use Rattle.ir_core.specs.declared.functions.Param.{Param}
 use Rattle.ir_core.specs.Functions.{typed_of}
 use Rattle.ir_core.specs.Ranges.{IsNameInRange, IsTypeInRange}
@@ -24,7 +24,7 @@ use Rattle.ir_naming.specs.Spells.{IsNamed, IsParam, IsResult, NamesFunction, Na
 use Rattle.ir_naming_laws.proofs.Named.{module_right}
 use Rattle.ir_spelling.specs.Spells.{Spells}
 use Rattle.expression_printer.specs.Printed.{listed, printed_type}
-use Rattle.ir_printer.specs.Printed.{function_text, functions_text, head_text, later_function, param_name, param_text, printed_module}
+use Rattle.ir_printer.specs.Printed.{extended_text, extensions_text, function_text, functions_text, head_text, linkage_text, later_function, param_name, param_text, printed_module, signature_text}
 use Rattle.printer_laws.proofs.Blocks.{blocks, blocks_written}
 use Rattle.printer_laws.proofs.Fit.{FitsFunction, FitsModule, FitsParam}
 use Rattle.printer_laws.proofs.Marks.{close_brace, close_paren, global, key_alone, line_end, local, open_brace, open_paren, some, space}
@@ -33,6 +33,11 @@ use Rattle.printer_laws.proofs.Operations.{typed}
 use Rattle.printer_laws.proofs.Places.{symbols_from}
 use Rattle.printer_laws.proofs.Prints.{Prints, before, behind, both, each, empty, read_as}
 use Rattle.printer_laws.proofs.ReadTexts.{Any, Stops, whole}
+use Rattle.ir_core.specs.Modules.{not_extended}
+use Rattle.ir_core.specs.declared.functions.Extensions.{Extensions}
+use Rattle.ir_core.specs.declared.modules.Linkage.{Linkage}
+use Rattle.ir_core.specs.declared.modules.Linkage.TheVariants as linkage
+use Rattle.std.specs.Prelude.{codes}
 
 -- ---- parameters
 
@@ -47,11 +52,16 @@ name_stops : (n : Name) (rest : List ℕ) → Stops rest → Stops (param_name n
 name_stops (Text bytes) rest stop = refl
 name_stops (Number n) rest stop = stop
 
+-- a parameter that nothing makes wider
+plain_text : (p : Param) → p.extensions ≡ not_extended → printed_type p.ty ++ param_name p.name ≡ param_text p
+plain_text p plain = sym (ap (λ (e : Extensions). printed_type p.ty ++ (extended_text e ++ param_name p.name)) plain)
+
 param : (p : Param) → FitsParam p → Prints Ir Stops write.param (λ (w : ParamText). IsParam w p) (param_text p)
 param p fits =
-    read_as Ir write.param (λ (w : ParamText). IsParam w p) (λ t. record { ty = t.0; name = t.1 }) (λ t named. refl)
-    (λ t named. (named.1, typed p.ty t.0 fits.1 named.0))
-    (both Ir (marks.type Ir p.ty fits.1) (written_name p.name fits.0) (name_stops p.name))
+    subst (Prints Ir Stops write.param (λ (w : ParamText). IsParam w p)) (plain_text p fits.2)
+    (read_as Ir write.param (λ (w : ParamText). IsParam w p) (λ t. record { ty = t.0; name = t.1 }) (λ t named. refl)
+    (λ t named. (named.1, typed p.ty t.0 fits.1 named.0, fits.2))
+    (both Ir (marks.type Ir p.ty fits.1) (written_name p.name fits.0) (name_stops p.name)))
 
 params : (ps : List Param) → AllByRecursion FitsParam ps → Prints Ir Stops write.params (λ (ws : List ParamText). AllZip IsParam ws ps) (listed [] (map param_text ps))
 params [] all = read_as Ir write.params (λ (ws : List ParamText). AllZip IsParam ws []) (λ t. []) (λ t named. refl) (λ t named. tt) (empty Ir Stops)
@@ -82,16 +92,23 @@ record NamesHead (f : Function) (w : Head) : Type 0 where
   pub name : f.name ≡ w.1.0.what
   pub params : AllZip IsParam w.1.1 f.params
 
+-- a head without a linkage, of which nothing makes the result wider
+plain_head : (f : Function) → f.linkage ≡ linkage.External → f.result_extensions ≡ not_extended → codes "define " ++ (printed_type f.result ++ (32 ∷ signature_text f)) ≡ head_text f
+plain_head f external plain =
+    sym (ap (λ (l : Linkage). codes "define " ++ (linkage_text l ++ (extensions_text f.result_extensions ++ (printed_type f.result ++ (32 ∷ signature_text f))))) external
+    ∙ ap (λ (e : Extensions). codes "define " ++ (extensions_text e ++ (printed_type f.result ++ (32 ∷ signature_text f)))) plain)
+
 head : (f : Function) → FitsFunction f → Prints Ir Any head_written (NamesHead f) (head_text f)
 head f fits =
-    read_as Ir head_written (NamesHead f) (λ t. t) (λ t named. refl) (λ t named. record { result = named.0; name = named.1.0; params = named.1.1 })
+    subst (Prints Ir Any head_written (NamesHead f)) (plain_head f fits.linkage fits.extensions)
+    (read_as Ir head_written (NamesHead f) (λ t. t) (λ t named. refl) (λ t named. record { result = named.0; name = named.1.0; params = named.1.1 })
     (before Ir (marks.key Ir key.Define tt)
     (both Ir (result f.result fits.result)
     (before Ir (space Ir)
     (both Ir (global Ir f.name fits.name)
     (before Ir (open_paren Ir)
     (behind Ir (params f.params fits.params) (before Ir (close_paren Ir) (before Ir (space Ir) (before Ir (open_brace Ir) (line_end Ir)))) (λ rest end. refl)))
-    (λ rest end. refl))) (λ rest end. refl)))
+    (λ rest end. refl))) (λ rest end. refl))))
 
 -- ---- functions
 
@@ -111,7 +128,16 @@ function : (f : Function) → FitsFunction f → Prints Ir Any write.definition 
 function f fits =
     read_as Ir write.definition (λ (w : DefinitionText). NamesFunction w f)
     (λ t. record { result = t.0.0; name = t.0.1.0; params = t.0.1.1; entry = t.1.0; others = t.1.1 }) (λ t named. defined t.0 t.1)
-    (λ t named. record { name = named.0.name; result = named.0.result; params = named.0.params; blocks = named.1; order = fits.order; few = fits.few })
+    (λ t named. record {
+      linkage = fits.linkage;
+      extensions = fits.extensions;
+      result = named.0.result;
+      name = named.0.name;
+      params = named.0.params;
+      blocks = named.1;
+      order = fits.order;
+      few = fits.few;
+    })
     (both Ir (head f fits)
     (behind Ir (blocks (typed_of f) (labels_of f) f.blocks fits.some fits.blocks) (before Ir (close_brace Ir) (line_end Ir)) (λ rest end. tt)) (λ rest end. tt))
 
@@ -128,7 +154,7 @@ functions (f ∷ fs) all =
 
 -- without types the functions are all that is printed
 functions_alone : (m : Module) → m.types ≡ [] → functions_text m.functions ≡ printed_module m
-functions_alone m none = sym (ap (λ types. printed_module (record { types = types; functions = m.functions })) none)
+functions_alone m none = sym (ap (λ types. printed_module (record m { types = types })) none)
 
 pub module_spelled : (m : Module) → FitsModule m → Spells (printed_module m) m
 module_spelled m fits =
@@ -137,6 +163,6 @@ module_spelled m fits =
     let (ss, is, at) = symbols_from Ir bytes p.tokens (whole Any bytes p.tokens tt p.reads) in
     let w = p.is ss at in
     let tree : ModuleText = record { definitions = w.tree } in
-    let named : NamesModule tree m = record { types = fits.types; functions = w.names; order = fits.order } in
+    let named : NamesModule tree m = record { types = fits.types; globals = fits.globals; functions = w.names; declarations = fits.declarations; order = fits.order } in
     subst (λ text. Spells text m) (functions_alone m fits.types)
     (record { tree = tree; symbols = is ∙ ap Some w.are; no_fault = (module_right tree m named).0; names = named })

@@ -83,6 +83,7 @@ module _ (registers : List (Name × Ty)) (labels : List Name) where
       (on_line (both Ir (set c.name fits.name)
       (operation Ir (MeansOne registers) printed_local c.right fits.operator fits.typed fits.flags
       (all_over (FitsOperand registers labels) (CanPrint Ir (MeansOne registers) printed_local) (operands_in c.right) can_print fits.operands)) (λ rest end. tt)))
+  line i fits = absurd fits
 
   -- ---- phis
 

@@ -143,3 +143,5 @@ module _ (language : Language) {R : Type 0} (means : Means R) (register : R → 
   operation (expr.Icmp c) is writable may can = compare c can.0.0 can.0.1 can.1.0.1
   operation (expr.Cast c) is writable may can = cast c can.0 writable
   operation (expr.Select s) is writable may can = select s can.0 can.1.0 can.1.1.0
+  operation (expr.Element e) is writable may can = absurd may
+  operation (expr.Load l) is writable may can = absurd may

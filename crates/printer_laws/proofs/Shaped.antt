@@ -9,7 +9,7 @@ use Rattle.ir_core.specs.declared.functions.Entry.{Entry}
 use Rattle.ir_core.specs.declared.functions.Function.{Function}
 use Rattle.ir_core.specs.declared.functions.Instr.{Instr}
 use Rattle.ir_core.specs.declared.functions.Instr.TheVariants as instr
-use Rattle.ir_core.specs.declared.functions.Module.{Module}
+use Rattle.ir_core.specs.declared.modules.Module.{Module}
 use Rattle.ir_core.specs.declared.functions.Phi.{Phi}
 use Rattle.ir_core.specs.Functions.{edges_into, names_of, successors_of}
 use Rattle.ir_core.specs.Order.{AreInOrder, IsInOrder}
@@ -54,9 +54,12 @@ no_operand (expr.Binary b) is = tt
 no_operand (expr.Icmp c) is = tt
 no_operand (expr.Cast c) is = tt
 no_operand (expr.Select s) is = tt
+no_operand (expr.Element e) is = tt
+no_operand (expr.Load l) is = tt
 
 by_operation : (l : Instr) → SetsByOperator l → SetsByOperation l
 by_operation (instr.Calm c) is = no_operand c.right is
+by_operation l is = absurd is
 
 block_form : (f : Function) (b : Block) → HasBlockShape f b → HasBlockForm (labels_of f) b
 block_form f b shape = record {
@@ -76,6 +79,8 @@ form f shape = record {
 pub fits_module : (m : Module) → m.types ≡ [] → IsInOrder m → HasShape m → IsInRange m → FitsModule m
 fits_module m none order shape range = record {
   types = none;
+  globals = range.globals;
+  declarations = range.declarations;
   functions = all_from FitsFunction m.functions
       (λ f there. fits_function f (all_to (λ (f : Function). AreInOrder (names_of f)) m.functions order.functions f there) (form f (all_to HasFunctionShape m.functions shape.functions f there))
       (all_to IsFunctionInRange m.functions range.functions f there));

@@ -8,7 +8,7 @@ use Rattle.ir_core.specs.declared.functions.Entry.{Entry}
 use Rattle.ir_core.specs.declared.functions.Function.{Function}
 use Rattle.ir_core.specs.declared.functions.Instr.{Instr}
 use Rattle.ir_core.specs.declared.functions.Instr.TheVariants as instr
-use Rattle.ir_core.specs.declared.functions.Module.{Module}
+use Rattle.ir_core.specs.declared.modules.Module.{Module}
 use Rattle.ir_core.specs.declared.functions.Phi.{Phi}
 use Rattle.ir_core.specs.declared.functions.Switch.{Switch}
 use Rattle.ir_core.specs.declared.functions.Term.{Term}
@@ -87,6 +87,7 @@ module _ (registers : List (Name × Ty)) (labels : List Name) where
   operation_form : (w : LineText) (l : Instr) → IsLine registers w l → SetsByOperation l
   operation_form w (instr.Calm c) is =
       operation_cases (IsValue registers) (λ w e. IsNoOperand e) (λ w b is. tt) (λ w c is. tt) (λ w c is. tt) (λ w s is. tt) w.operation c.right is.1
+  operation_form w l is = absurd is
 
   label_form : (w : TermText) (t : Term) → IsTerm registers labels w t → AllByRecursion (Contains labels) (successors_of t)
   label_form =
@@ -128,6 +129,8 @@ functions_fit (d ∷ ds) (f ∷ fs) zip range = (fits_function f zip.0.order (fo
 pub fits_spelled : (bytes : List ℕ) (m : Module) → Spells bytes m → IsInRange m → FitsModule m
 fits_spelled bytes m s range = record {
   types = s.names.types;
+  globals = s.names.globals;
+  declarations = s.names.declarations;
   functions = functions_fit s.tree.definitions m.functions s.names.functions range.functions;
   order = s.names.order;
 }

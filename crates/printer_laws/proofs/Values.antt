@@ -141,3 +141,5 @@ module _ (language : Language) {R : Type 0} (means : Means R) (register : R → 
       (λ i named. is_number R (int_of (width t) i) n named) (number language t n typed fits)
   constant t const.Undef typed fits =
       read_as language write.value (λ (v : ValueText). names (width t) v (Constant const.Undef)) (λ t. text.Undef) (λ t named. refl) (λ t named. refl) (key_alone language key.Undef tt)
+  constant (Int w) c typed fits = absurd (cc)
+  constant t c typed fits = absurd typed

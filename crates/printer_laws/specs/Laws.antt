@@ -1,6 +1,6 @@
 -- The laws of printing and reading modules.
 use Rattle.std.specs.Prelude.{◌≡◌, ℕ, [], List}
-use Rattle.ir_core.specs.declared.functions.Module.{Module}
+use Rattle.ir_core.specs.declared.modules.Module.{Module}
 use Rattle.ir_core.specs.Order.{IsInOrder}
 use Rattle.ir_core.specs.Ranges.{AreBytes, IsInRange}
 use Rattle.ir_core.specs.WellFormed.{HasShape, IsWellFormed}

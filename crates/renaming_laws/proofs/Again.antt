@@ -2,7 +2,7 @@
 use Rattle.std.proofs.Common.{◌≡◌, ◌∙◌, ℕ, ◌+◌, List, [], ◌∷◌, map, refl, sym, ap}
 use Rattle.std.specs.List.{AllByRecursion}
 use Rattle.ir_core.specs.declared.functions.Function.{Function}
-use Rattle.ir_core.specs.declared.functions.Module.{Module}
+use Rattle.ir_core.specs.declared.modules.Module.{Module}
 use Rattle.ir_types.specs.declared.names.Name.{Name}
 use Rattle.ir_types.specs.declared.names.Name.TheVariants.{Text, Number}
 use Rattle.ir_types.specs.declared.named.NamedTy.{NamedTy}
@@ -24,10 +24,9 @@ unchanged : (names to : List Name) → to ≡ names → (n : Name) → renaming 
 unchanged names to same n = ap (λ ns. renaming names ns n) same ∙ given_itself names n
 
 -- functions of which each stays
-functions_stay : (given : Function → Function) (types : List NamedTy) (fs : List Function) → AllByRecursion (λ f. given f ≡ f) fs
-    → (let m : Module = record { types = types; functions = map given fs } in m) ≡ record { types = types; functions = fs }
-functions_stay given types fs all =
-    ap (λ (gs : List Function). record { types = types; functions = gs }) (all_kept given fs (λ f there. all_to (λ g. given g ≡ g) fs all f there))
+functions_stay : (given : Function → Function) (m : Module) (fs : List Function) → AllByRecursion (λ f. given f ≡ f) fs → record m { functions = map given fs } ≡ record m { functions = fs }
+functions_stay given m fs all =
+    ap (λ (gs : List Function). record m { functions = gs }) (all_kept given fs (λ f there. all_to (λ g. given g ≡ g) fs all f there))
 
 each : (P Q : Function → Type 0) → ((f : Function) → P f → Q f) → (fs : List Function) → AllByRecursion P fs → AllByRecursion Q fs
 each P Q step [] all = tt
@@ -50,7 +49,7 @@ named_stays f texts =
 
 pub texts_stay : TextsStay
 texts_stay m texts =
-    functions_stay named_function m.types m.functions (each AllTexts (λ f. named_function f ≡ f) named_stays m.functions texts)
+    functions_stay named_function m m.functions (each AllTexts (λ f. named_function f ≡ f) named_stays m.functions texts)
 
 pub naming_again : NamedAreTexts → NamingAgainChangesNothing
 naming_again are m = texts_stay (named_all m) (are m)
@@ -68,7 +67,7 @@ uncounted_stays f texts =
 
 pub named_have_no_numbers : NamedAreTexts → NamedHaveNoNumbers
 named_have_no_numbers are m =
-    functions_stay numbered_function m.types (named_all m).functions
+    functions_stay numbered_function (named_all m) (named_all m).functions
     (each AllTexts (λ f. numbered_function f ≡ f) uncounted_stays (named_all m).functions (are m))
 
 counted_again : (due : ℕ) (names : List Name) → counted due (counted due names) ≡ counted due names
@@ -89,5 +88,5 @@ numbered_again f new =
 
 pub numbering_again : NumberingAgainChangesNothing
 numbering_again m apart =
-    functions_stay numbered_function m.types (numbered_in_order m).functions
+    functions_stay numbered_function (numbered_in_order m) (numbered_in_order m).functions
     (all_under (λ f. AreNew [] (names_of f)) (λ g. numbered_function g ≡ g) numbered_function numbered_again m.functions apart)

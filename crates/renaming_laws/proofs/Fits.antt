@@ -45,6 +45,8 @@ no_operand ρ (expr.Binary b) is = is
 no_operand ρ (expr.Icmp c) is = is
 no_operand ρ (expr.Cast c) is = is
 no_operand ρ (expr.Select s) is = is
+no_operand ρ (expr.Element e) is = is
+no_operand ρ (expr.Load l) is = is
 
 same_type : (ρ : Name → Name) (e : Expr Name) → type_of (map_expr ρ e) ≡ type_of e
 same_type ρ (expr.Plain o) = refl
@@ -52,6 +54,8 @@ same_type ρ (expr.Binary b) = refl
 same_type ρ (expr.Icmp c) = refl
 same_type ρ (expr.Cast c) = refl
 same_type ρ (expr.Select s) = refl
+same_type ρ (expr.Element e) = refl
+same_type ρ (expr.Load l) = refl
 
 some : {A B : Type 0} (h : A → B) (xs : List A) → 0 < length xs → 0 < length (map h xs)
 some h [] is = is
@@ -86,6 +90,7 @@ module _ (ρ : Name → Name) (keeps : (x : Name) → IsNameInRange x → IsName
             subst (AllByRecursion (FitsOperand new_rs new_ls)) (sym (line_operands ρ (instr.Calm c)))
             (all_under (FitsOperand rs ls) (FitsOperand new_rs new_ls) (map_operand ρ) operand (operands_in c.right) fits.operands);
       }
+  line l fits = absurd fits
 
   phi : (p : Phi) → FitsPhi rs ls p → FitsPhi new_rs new_ls (rename_phi ρ p)
   phi p fits = record {
@@ -125,7 +130,7 @@ pub function_fits : (ρ : Name → Name) → ((x : Name) → IsNameInRange x →
 function_fits ρ keeps f order fits = record {
   name = fits.name;
   result = fits.result;
-  params = all_under FitsParam FitsParam (rename_param ρ) (λ p is. (keeps p.name is.0, is.1)) f.params fits.params;
+  params = all_under FitsParam FitsParam (rename_param ρ) (λ p is. (keeps p.name is.0, is.1, is.2)) f.params fits.params;
   some = some (rename_block ρ) f.blocks fits.some;
   blocks =
       subst (λ (rs : List (Name × Ty)). AllByRecursion (FitsBlock rs (labels_of (rename_function ρ f))) (map (rename_block ρ) f.blocks)) (sym (all_types ρ f))
@@ -134,6 +139,8 @@ function_fits ρ keeps f order fits = record {
       (block ρ keeps (typed_of f) (labels_of f)) f.blocks fits.blocks));
   order = order;
   few = subst (λ n. n ≤ line_limit) (sym (as_many ρ f.blocks)) fits.few;
+  linkage = fits.linkage;
+  extensions = fits.extensions;
 }
 
 -- ---- spelled modules
@@ -157,7 +164,13 @@ named_can_be_read ranges orders bytes m are_bytes spells =
     let names = names_in m range in
     let order = orders m names (apart m.functions fits.functions) fits.order in
     module_spelled (named_all m)
-    (record { types = fits.types; functions = functions_fit m.functions fits.functions names order.functions; order = order.names })
+    (record {
+      types = fits.types;
+      globals = fits.globals;
+      functions = functions_fit m.functions fits.functions names order.functions;
+      declarations = fits.declarations;
+      order = order.names;
+    })
 
 -- what is spelled is in order, and stays
 pub numbered_can_be_read : ModulesAreInRange → ModulesAreInOrder → OrderStays → SpelledModulesArePrinted → SpelledCanBeRead numbered_in_order

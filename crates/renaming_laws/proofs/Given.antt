@@ -2,7 +2,7 @@
 use Rattle.std.proofs.Common.{◌≡◌, ◌∙◌, List, [], ◌∷◌, refl, sym, subst}
 use Rattle.std.specs.List.{AllByRecursion}
 use Rattle.ir_core.specs.declared.functions.Function.{Function}
-use Rattle.ir_core.specs.declared.functions.Module.{Module}
+use Rattle.ir_core.specs.declared.modules.Module.{Module}
 use Rattle.ir_types.specs.declared.names.Name.{Name}
 use Rattle.ir_types.specs.declared.names.Name.TheVariants.{Text, Number}
 use Rattle.ir_core.specs.Functions.{names_of}
@@ -50,6 +50,8 @@ numbered_names_in_range m range = all_under InRange InRange numbered_function nu
 pub named_range : KeepsRange named_all
 named_range m range = record {
   types = range.types;
+  globals = range.globals;
+  declarations = range.declarations;
   functions =
       all_under IsFunctionInRange IsFunctionInRange named_function (λ f is. in_range (by_text f) f is (named_in_range f is.names)) m.functions range.functions;
 }
@@ -57,6 +59,8 @@ named_range m range = record {
 pub numbered_range : KeepsRange numbered_in_order
 numbered_range m range = record {
   types = range.types;
+  globals = range.globals;
+  declarations = range.declarations;
   functions =
       all_under IsFunctionInRange IsFunctionInRange numbered_function (λ f is. in_range (by_count f) f is (numbered_in_range f is.names)) m.functions range.functions;
 }

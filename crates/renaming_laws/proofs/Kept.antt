@@ -89,6 +89,8 @@ range_of f g (ρ, is) range names =
 pub range_stays : RangeStays
 range_stays m n is range names = record {
   types = subst (AllByRecursion IsNamedTypeInRange) (sym is.types) range.types;
+  globals = is.globals ∙ range.globals;
+  declarations = is.declarations ∙ range.declarations;
   functions =
       over IsFunctionInRange (λ g. AllByRecursion IsNameInRange (names_of g)) IsFunctionInRange range_of m.functions n.functions is.functions range.functions names;
 }

@@ -20,9 +20,12 @@ use Rattle.ir_core.specs.Expressions.{map_expr, map_operand}
 use Rattle.ir_core.specs.Functions.{cases_of, names_of, operands_in_block, typed_of}
 use Rattle.ir_core.specs.Limits.{line_limit}
 use Rattle.ir_core.specs.Ranges.{AreFlagsInRange, IsCaseInRange, IsFunctionInRange, IsLineInRange, IsNameInRange, IsOperandInRange, IsTypeInRange}
-use Rattle.ir_rename.specs.Renamed.{rename_block, rename_case, rename_function, rename_line, rename_phi, rename_term}
+use Rattle.ir_rename.specs.Renamed.{rename_block, rename_case, rename_function, rename_line, rename_param, rename_phi, rename_term}
 use Rattle.ir_rename.proofs.Lists.{length_mapped}
 use Rattle.ir_rename.proofs.Shaped.{all_operands, all_types, all_under, typed}
+use Rattle.ir_core.specs.Modules.{not_extended}
+use Rattle.ir_core.specs.declared.functions.Extensions.{Extensions}
+use Rattle.ir_core.specs.declared.functions.Param.{Param}
 
 -- ---- lines
 
@@ -59,9 +62,12 @@ flags ρ (expr.Binary b) are = are
 flags ρ (expr.Icmp c) are = are
 flags ρ (expr.Cast c) are = are
 flags ρ (expr.Select s) are = are
+flags ρ (expr.Element e) are = absurd are
+flags ρ (expr.Load l) are = absurd are
 
 line : (ρ : Name → Name) (l : Instr) → IsLineInRange l → IsLineInRange (rename_line ρ l)
 line ρ (instr.Calm c) is = flags ρ c.right is
+line ρ l is = absurd is
 
 -- ---- operands
 
@@ -94,6 +100,10 @@ all_cases ρ (b ∷ bs) =
 
 -- ---- functions
 
+extensions_stay : (ρ : Name → Name) (ps : List Param) → map (λ (p : Param). p.extensions) (map (rename_param ρ) ps) ≡ map (λ (p : Param). p.extensions) ps
+extensions_stay ρ [] = refl
+extensions_stay ρ (p ∷ ps) = ap (λ es. p.extensions ∷ es) (extensions_stay ρ ps)
+
 abbrev HasTypeInRange : Name × Ty → Type 0
 HasTypeInRange r = IsTypeInRange r.1
 
@@ -112,4 +122,6 @@ in_range ρ f range names = record {
   cases =
       subst (AllByRecursion IsCaseInRange) (sym (all_cases ρ f.blocks)) (all_under IsCaseInRange IsCaseInRange (rename_case ρ) (λ c is. is) (flat_map cases_in f.blocks) range.cases);
   lines = subst (λ n. n ≤ line_limit) (sym (as_many ρ f.blocks)) range.lines;
+  linkage = range.linkage;
+  extensions = (range.extensions.0, subst (AllByRecursion (λ (e : Extensions). e ≡ not_extended)) (sym (extensions_stay ρ f.params)) range.extensions.1);
 }

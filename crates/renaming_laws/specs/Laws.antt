@@ -1,7 +1,7 @@
 -- What is named or numbered can be printed and run.
 use Rattle.std.specs.Prelude.{◌≡◌, ℕ, List, []}
 use Rattle.std.specs.List.{AllByRecursion}
-use Rattle.ir_core.specs.declared.functions.Module.{Module}
+use Rattle.ir_core.specs.declared.modules.Module.{Module}
 use Rattle.ir_core.specs.Functions.{function_names, names_of}
 use Rattle.ir_core.specs.Order.{AreInOrder, IsInOrder}
 use Rattle.ir_core.specs.Ranges.{AreBytes, IsInRange}

@@ -9,7 +9,7 @@ use Rattle.ir_core.specs.declared.operands.Const.TheVariants as constant
 use Rattle.ir_core.specs.declared.operands.Atom.{Atom}
 use Rattle.ir_core.specs.declared.operands.Atom.TheVariants as atom
 use Rattle.ir_core.specs.declared.expressions.Reg.{Reg}
-use Rattle.ir_core.specs.declared.expressions.Expr.TheVariants.{Plain, Binary, Icmp, Cast, Select}
+use Rattle.ir_core.specs.declared.expressions.Expr.TheVariants.{Plain, Binary, Icmp, Cast, Select, Element, Load}
 use Rattle.ir_core.specs.Expressions.{Expr0}
 use Rattle.ir_core.specs.Types.{kind_of}
 use Rattle.ir_types.specs.NameLaws.{left_true, right_true}
@@ -60,18 +60,21 @@ module _ (side : SideState) where
         number_worth (kind_of s.left.ty) s.left.atom (left_true l (r && true) arms),
         number_worth (kind_of s.right.ty) s.right.atom (left_true r true (right_true l (r && true) arms)),
       ) refl
+  folded_worth (Element e) h = refl
+  folded_worth (Load l) h = refl
 
   undef_less : (t : Ty) (c : Atom Reg) → is_constant c ≡ true → has_values t ≡ true → atom_fits t c ≡ true
       → IsLessDefined Undef (atom_value (read_reg side) (kind_of t) c)
   undef_less (ty.Int w) (atom.Constant (constant.Number n)) p v r = rw (v, r) tt
   undef_less (ty.Int w) (atom.Constant constant.Undef) p v r = rw v tt
+  undef_less (ty.Int w) (atom.Constant c) p v r = absurd (cc)
   undef_less (ty.Int w) (atom.Register s) p v r = absurd (cc)
   undef_less t c p v r = absurd (cc)
 
   number_less : (m : ℕ) (t : Ty) (c : Atom Reg) → may_become (Gives (Num m)) c ≡ true → has_values t ≡ true → atom_fits t c ≡ true
       → IsLessDefined (Num m) (atom_value (read_reg side) (kind_of t) c)
   number_less m (ty.Int w) (atom.Constant (constant.Number n)) p v r = rw (v, r) (ap Num (sym (eqb-true m n p)))
-  number_less m (ty.Int w) (atom.Constant constant.Undef) p v r = absurd (cc)
+  number_less m (ty.Int w) (atom.Constant c) p v r = absurd (cc)
   number_less m (ty.Int w) (atom.Register s) p v r = absurd (cc)
   number_less m t c p v r = absurd (cc)
 

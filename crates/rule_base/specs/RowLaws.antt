@@ -81,8 +81,9 @@ module _ (side : SideState) (fine : IsSideInKind side) where
       → IsLessDefined (atom_value (read_reg side) (kind_of t) x) (atom_value (read_reg side) (kind_of t) y)
   undef_less (ty.Int w) (atom.Constant constant.Undef) (atom.Constant (constant.Number n)) p q v r = rw (v, r) tt
   undef_less (ty.Int w) (atom.Constant constant.Undef) (atom.Constant constant.Undef) p q v r = rw v tt
+  undef_less (ty.Int w) (atom.Constant constant.Undef) (atom.Constant c) p q v r = cc
   undef_less (ty.Int w) (atom.Constant constant.Undef) (atom.Register s) p q v r = cc
-  undef_less (ty.Int w) (atom.Constant (constant.Number n)) y p q v r = cc
+  undef_less (ty.Int w) (atom.Constant c) y p q v r = cc
   undef_less (ty.Int w) (atom.Register s) y p q v r = cc
   undef_less t x y p q v r = tt
 
@@ -106,6 +107,7 @@ module _ (side : SideState) (fine : IsSideInKind side) where
   atom_in_kind : (w : ℕ) (x : Atom Reg) → atom_fits (ty.Int w) x ≡ true → IsInKind (kind.Int w) (atom_at (read_reg side) (kind.Int w) x)
   atom_in_kind w (atom.Constant (constant.Number n)) h = rw h (ltb-true n (2 ^ w) h)
   atom_in_kind w (atom.Constant constant.Undef) h = tt
+  atom_in_kind w (atom.Constant c) h = cc
   atom_in_kind w (atom.Register r) h = reg_in_kind (kind.Int w) r
 
   -- of a number and 0 the operator gives the number
@@ -142,7 +144,7 @@ module _ (side : SideState) (fine : IsSideInKind side) where
 
   zero_is_worth : (w : ℕ) (z : Atom Reg) → is_zero z ≡ true → atom_fits (ty.Int w) z ≡ true → atom_at (read_reg side) (kind.Int w) z ≡ value.Num 0
   zero_is_worth w (atom.Constant (constant.Number n)) p q = rw q (ap value.Num (eqb-true n 0 p))
-  zero_is_worth w (atom.Constant constant.Undef) p q = cc
+  zero_is_worth w (atom.Constant c) p q = cc
   zero_is_worth w (atom.Register r) p q = cc
 
   zero_right_less : (o : BinOp) (flags : Flags) (t : Ty) (x z : Atom Reg) → keeps_beside_zero o ≡ true → is_zero z ≡ true → has_values t ≡ true

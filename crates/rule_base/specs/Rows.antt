@@ -49,8 +49,8 @@ is_trans (x ∷ []) to = false
 is_trans (x ∷ y ∷ z ∷ more) to = false
 
 abbrev pub is_undef : Atom Reg → Bool
-is_undef (atom.Constant (constant.Number n)) = false
 is_undef (atom.Constant constant.Undef) = true
+is_undef (atom.Constant c) = false
 is_undef (atom.Register r) = false
 
 abbrev pub is_constant : Atom Reg → Bool
@@ -59,7 +59,7 @@ is_constant (atom.Register r) = false
 
 abbrev pub is_zero : Atom Reg → Bool
 is_zero (atom.Constant (constant.Number n)) = nat_eq n 0
-is_zero (atom.Constant constant.Undef) = false
+is_zero (atom.Constant c) = false
 is_zero (atom.Register r) = false
 
 -- `undef >= C`, C a number or undef
@@ -103,10 +103,10 @@ abbrev pub is_drop_flags : List Fact → Fact → Bool
 is_drop_flags [] (LessDef (expr.Binary a) (expr.Binary b)) = have_one_type (expr.Binary a) (expr.Binary b) && drops_flags a b
 is_drop_flags from to = false
 
--- a number, as which neither undef nor a register counts
+-- a number, as which no other constant counts and no register
 abbrev pub is_number : Atom Reg → Bool
 is_number (atom.Constant (constant.Number n)) = true
-is_number (atom.Constant constant.Undef) = false
+is_number (atom.Constant c) = false
 is_number (atom.Register r) = false
 
 -- all of its operands are numbers, a selection's condition too
@@ -123,7 +123,7 @@ may_become Trap c = is_constant c
 may_become (Gives Poison) c = is_constant c
 may_become (Gives Undef) c = is_constant c
 may_become (Gives (Num m)) (atom.Constant (constant.Number n)) = nat_eq m n
-may_become (Gives (Num m)) (atom.Constant constant.Undef) = false
+may_become (Gives (Num m)) (atom.Constant c) = false
 may_become (Gives (Num m)) (atom.Register r) = false
 
 -- `e >= C`, e over numbers: `add i8 200, 100 >= i8 44`, `udiv i8 5, 0 >= i8 3`

@@ -1,10 +1,15 @@
 //! The rule `fold`: an expression over numbers is a constant.
 ghost use Rattle.std.specs.Prelude.{◌≡◌};
+ghost use Rattle.std.specs.List.{list_all};
+ghost use Rattle.ir_core.specs.declared.expressions.Reg.{Reg};
+ghost use Rattle.ir_core.specs.declared.operands.Operand.{Operand};
 ghost use Rattle.ir_core.specs.declared.expressions.Expr.TheVariants as expr;
 ghost use Rattle.ir_core.specs.declared.values.Value.TheVariants.{Poison};
 ghost use Rattle.ir_core.specs.Types.{kind_of};
 ghost use Rattle.ir_machine.specs.Registers.{atom_at};
 ghost use Rattle.ir_machine.specs.Registers as meaning;
+ghost use Rattle.ir_core.specs.declared.values.Value.TheVariants.{Num};
+ghost use Rattle.ir_values.specs.declared.operations.Outcome.TheVariants.{Gives};
 ghost use Rattle.ir_values.specs.Values.{IsInKind};
 ghost use Rattle.rule_base.specs.Rows.{is_fold, is_number, is_over_numbers, folded, may_become};
 
@@ -38,6 +43,12 @@ fn is_number(atom: &Atom<Reg>) -> bool
     matches!(atom, Atom::Constant(Const::Number(_)))
 }
 
+fn are_numbers(operands: &[Operand<Reg>]) -> bool
+    ensures { result ≡ list_all (λ (o : Operand Reg). is_number o.atom) operands.now }
+{
+    operands.iter().all(|operand| is_number(&operand.atom))
+}
+
 fn is_over_numbers(expr: &Expr0) -> bool
     ensures { result ≡ is_over_numbers expr.now }
 {
@@ -52,6 +63,11 @@ fn is_over_numbers(expr: &Expr0) -> bool
                 && is_number(&select.left.atom)
                 && is_number(&select.right.atom)
         }
+        Expr::Element(element) => {
+            let element = element.get();
+            is_number(&element.base.atom) && are_numbers(element.indices.as_slice())
+        }
+        Expr::Load(load) => is_number(&load.pointer.atom),
     }
 }
 
@@ -59,12 +75,20 @@ fn is_over_numbers(expr: &Expr0) -> bool
 fn may_become(outcome: &Outcome, atom: &Atom<Reg>) -> bool
     ensures { result ≡ may_become outcome.now atom.now }
 {
-    match (outcome, atom) {
-        (Outcome::Gives(Value::Num(given)), Atom::Constant(Const::Number(number))) => {
-            *given == number.get()
-        }
-        (Outcome::Gives(Value::Num(_)), _) => false,
+    match outcome {
+        Outcome::Gives(Value::Num(given)) => is_that_number(*given, atom),
         _ => is_constant(atom),
+    }
+}
+
+/// Whether the atom is that number; no other constant is, and no register.
+fn is_that_number(number: u64, atom: &Atom<Reg>) -> bool
+    ensures { result ≡ may_become (Gives (Num number)) atom.now }
+{
+    match atom {
+        Atom::Constant(Const::Number(own)) => number == own.get(),
+        Atom::Constant(_) => false,
+        Atom::Register(_) => false,
     }
 }
 
@@ -84,7 +108,7 @@ fn value_at(kind: Kind, atom: &Atom<Reg>) -> Value
             }
         }
         Atom::Constant(Const::Undef) => Value::Undef,
-        Atom::Register(_) => Value::Poison,
+        Atom::Constant(_) | Atom::Register(_) => Value::Poison,
     }
 }
 
@@ -108,6 +132,7 @@ fn folded(expr: &Expr0) -> Outcome
         Expr::Icmp(icmp) => folded_icmp(icmp),
         Expr::Cast(cast) => folded_cast(cast),
         Expr::Select(select) => folded_select(select.get()),
+        Expr::Element(_) | Expr::Load(_) => Outcome::Gives(Value::Poison),
     }
 }
 

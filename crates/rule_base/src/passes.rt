@@ -1,5 +1,5 @@
 ghost use Rattle.std.specs.Prelude.{◌≡◌, ℕ, List, IfOk, Option};
-ghost use Rattle.ir_core.specs.declared.functions.Module.{Module};
+ghost use Rattle.ir_core.specs.declared.modules.Module.{Module};
 ghost use Rattle.ir_core.specs.declared.functions.Function.{Function};
 ghost use Rattle.erhl_assert.specs.declared.hints.Hint.{Hint};
 ghost use Rattle.erhl_assert.specs.declared.hints.LoopHints.{LoopHints};

@@ -1,12 +1,16 @@
 //! Which expressions have a type, and which of their constants fit.
 ghost use Rattle.std.specs.Prelude.{◌≡◌};
+ghost use Rattle.std.specs.List.{list_all};
+ghost use Rattle.ir_core.specs.declared.expressions.Reg.{Reg};
+ghost use Rattle.ir_core.specs.declared.operands.Operand.{Operand};
 ghost use Rattle.ir_core.specs.Ranges.{may_wrap, may_leave, may_have};
 ghost use Rattle.ir_machine.specs.Registers.{selects};
 ghost use Rattle.erhl_assert.specs.Typed.{has_values, has_type, constant_fits, atom_fits, fits_constants};
 ghost use Rattle.rule_base.specs.Rows.{is_typed, have_one_type};
 
 use ir_core::{
-    Atom, BinOp, BitType, Const, Expr, Expr0, Flags, Reg, Ty, converts, fits, is_width, same_ty,
+    Atom, BinOp, BitType, Const, Expr, Expr0, Flags, Operand, Reg, Ty, converts, fits, is_width,
+    same_ty,
 };
 
 fn has_values(ty: &Ty) -> bool
@@ -63,6 +67,7 @@ pub fn has_type(expr: &Expr0) -> bool
             has_values(&select.left.ty)
                 && selects(&select.condition.ty, &select.left.ty, &select.right.ty)
         }
+        Expr::Element(_) | Expr::Load(_) => false,
     }
 }
 
@@ -85,6 +90,14 @@ fn atom_fits(ty: &Ty, atom: &Atom<Reg>) -> bool
     }
 }
 
+fn atoms_fit(operands: &[Operand<Reg>]) -> bool
+    ensures { result ≡ list_all (λ (o : Operand Reg). atom_fits o.ty o.atom) operands.now }
+{
+    operands
+        .iter()
+        .all(|operand| atom_fits(&operand.ty, &operand.atom))
+}
+
 fn fits_constants(expr: &Expr0) -> bool
     ensures { result ≡ fits_constants expr.now }
 {
@@ -101,6 +114,11 @@ fn fits_constants(expr: &Expr0) -> bool
                 && atom_fits(&select.left.ty, &select.left.atom)
                 && atom_fits(&select.right.ty, &select.right.atom)
         }
+        Expr::Element(element) => {
+            let element = element.get();
+            atom_fits(&element.base.ty, &element.base.atom) && atoms_fit(element.indices.as_slice())
+        }
+        Expr::Load(load) => atom_fits(&load.pointer.ty, &load.pointer.atom),
     }
 }
 

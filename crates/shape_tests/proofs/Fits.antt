@@ -38,6 +38,8 @@ operator_by (expr.Cast c) none = fits_by _ _ none
 operator_by (expr.Select s) none =
     let both = fits_by _ _ none in
     (same_ty_true s.condition.ty (ty.Int 1) (both_left _ _ both), same_ty_true s.left.ty s.right.ty (both_right _ _ both))
+operator_by (expr.Element e) none = cc
+operator_by (expr.Load l) none = cc
 
 same_by : (a b : Ty) → a ≡ b → same_ty a b ≡ true
 same_by a b e = subst (λ t. same_ty a t ≡ true) e (same_ty_refl a)
@@ -48,6 +50,8 @@ operator_is (expr.Binary b) is = none_by _ _ (integer_is b.ty is)
 operator_is (expr.Icmp c) is = none_by _ _ (integer_is c.ty is)
 operator_is (expr.Cast c) is = none_by _ _ is
 operator_is (expr.Select s) is = none_by _ _ (both_hold _ _ (same_by s.condition.ty (ty.Int 1) is.0) (same_by s.left.ty s.right.ty is.1))
+operator_is (expr.Element e) is = absurd is
+operator_is (expr.Load l) is = absurd is
 
 pub return_by : (result : Ty) (t : Term) → return_fits result t ≡ true → Returns result t
 return_by result (term.Ret o) fits = same_ty_true o.ty result fits

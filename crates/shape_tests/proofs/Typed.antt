@@ -12,7 +12,9 @@ use Rattle.ir_core.specs.declared.operands.Atom.TheVariants.{Constant, Register}
 use Rattle.ir_core.specs.declared.operands.Operand.{Operand}
 use Rattle.ir_types.specs.declared.ty.Ty.{Ty}
 use Rattle.ir_types.specs.declared.ty.Ty.TheVariants as ty
-use Rattle.ir_core.specs.Functions.{names_in, registers_of}
+use Rattle.ir_core.specs.declared.functions.Instr.{Instr}
+use Rattle.ir_core.specs.Functions.{names_in, registers_of, set_by}
+use Rattle.ir_core.proofs.Lines.{set_more}
 use Rattle.ir_types.specs.NameLaws.{same_name_refl, same_name_true}
 use Rattle.ir_core.specs.Order.{AreNew}
 use Rattle.ir_types.specs.Same.{same_name}
@@ -73,6 +75,16 @@ blocks_more types new bs k b whole within at put so_far =
     ap (λ (t : Types). with_types t (flat_map registers_of rest)) put
     ∙ sym (types_joined types (registers_of b) (flat_map registers_of rest))
     ∙ ap (λ (cs : List Block). with_types types (flat_map registers_of cs)) (sym (drop_more bs k b within ∙ ap (λ (c : Block). c ∷ rest) (sym at)))
+    ∙ so_far
+
+pub lines_more : (types new : Types) (ls : List Instr) (k : ℕ) (l : Instr) (whole : Types) → k < length ls → l ≡ get_or ls k l → new ≡ with_types types (set_by (l ∷ []))
+    → with_types types (set_by (drop k ls)) ≡ whole → with_types new (set_by (drop (k + 1) ls)) ≡ whole
+lines_more types new ls k l whole within at put so_far =
+    let rest = drop (k + 1) ls in
+    ap (λ (t : Types). with_types t (set_by rest)) put
+    ∙ sym (types_joined types (set_by (l ∷ [])) (set_by rest))
+    ∙ ap (with_types types) (sym (set_more l rest))
+    ∙ ap (λ (is : List Instr). with_types types (set_by is)) (sym (drop_more ls k l within ∙ ap (λ (i : Instr). i ∷ rest) (sym at)))
     ∙ so_far
 
 -- the first of that name

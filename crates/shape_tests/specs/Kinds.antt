@@ -116,7 +116,7 @@ abbrev pub select_fits : {R : Type 0} → Select R → Bool
 select_fits s = same_ty s.condition.ty (ty.Int 1) && same_ty s.left.ty s.right.ty
 
 -- A binary operator and `icmp` take integers, a conversion leads from its operand's type to the one behind `to`, and `select` takes
--- an i1 and two arms of one type. No text has a line of one operand alone. `zext i32 %x to i8` has a `cast width`, and
+-- an i1 and two arms of one type. No text has a line of one operand alone, nor an element or a load yet. `zext i32 %x to i8` has a `cast width`, and
 -- `select i8 %c, i32 %x, i32 %y` an `operand type`.
 abbrev pub right_kind : {R : Type 0} → Expr R → Option ShapeKind
 right_kind (expr.Plain o) = Some kind.OperandType
@@ -124,6 +124,8 @@ right_kind (expr.Binary b) = fault_unless (is_integer b.ty) kind.OperandType
 right_kind (expr.Icmp c) = fault_unless (is_integer c.ty) kind.OperandType
 right_kind (expr.Cast c) = fault_unless (cast_fits c) kind.CastWidth
 right_kind (expr.Select s) = fault_unless (select_fits s) kind.OperandType
+right_kind (expr.Element e) = Some kind.OperandType
+right_kind (expr.Load l) = Some kind.OperandType
 
 -- the first that is wrong of two
 abbrev pub first_kind : Option ShapeKind → Option ShapeKind → Option ShapeKind
@@ -163,8 +165,10 @@ set_kind types taken right =
     first_kind (fault_unless (not taken && are_known types (operands_in right)) kind.Name)
     (first_kind (fault_unless (is_integer (type_of right) && are_typed types (operands_in right)) kind.OperandType) (right_kind right))
 
+-- no text has an alloca, a store or a call yet
 abbrev pub line_kind : Types → Bool → Instr → Option ShapeKind
 line_kind types taken (instr.Calm c) = set_kind types taken c.right
+line_kind types taken line = Some kind.OperandType
 
 -- it leads to the block of that name
 abbrev pub leads_to : Name → Term → Bool

@@ -61,6 +61,7 @@ pub fn right_kind(right: &Expr<Name>) -> Option<ShapeKind>
         Expr::Icmp(icmp) => fault_unless(is_integer(&icmp.ty), ShapeKind::OperandType),
         Expr::Cast(cast) => fault_unless(cast_fits(cast), ShapeKind::CastWidth),
         Expr::Select(select) => fault_unless(select_fits(select.get()), ShapeKind::OperandType),
+        Expr::Element(_) | Expr::Load(_) => Some(ShapeKind::OperandType),
     }
 }
 

@@ -2,7 +2,7 @@
 use Rattle.std.proofs.Common.{ℕ, List, [], ◌∷◌, subst, sym}
 use Rattle.std.specs.List.{AllByRecursion, AllZip}
 use Rattle.ir_core.specs.declared.functions.Function.{Function}
-use Rattle.ir_core.specs.declared.functions.Module.{Module}
+use Rattle.ir_core.specs.declared.modules.Module.{Module}
 use Rattle.ir_core.specs.Functions.{names_of}
 use Rattle.ir_core.specs.Order.{AreInOrder, IsInOrder}
 use Rattle.ir_core.specs.Ranges.{AreBytes, IsFunctionInRange, IsInRange, IsNamedTypeInRange}
@@ -45,5 +45,7 @@ short bytes m s = functions_short s.tree.definitions m.functions s.names.functio
 pub in_range : (bytes : List ℕ) (m : Module) → AreBytes bytes → Spells bytes m → IsInRange m
 in_range bytes m small s = record {
   types = subst (AllByRecursion IsNamedTypeInRange) (sym s.names.types) tt;
+  globals = s.names.globals;
+  declarations = s.names.declarations;
   functions = functions_ranged s.tree.definitions m.functions (spelled_range bytes s.tree small s.symbols) s.names.functions;
 }

@@ -1,5 +1,5 @@
 -- A function that a definition names is in range where the written names and types are.
-use Rattle.std.proofs.Common.{◌≡◌, ℕ, ◌-◌, ◌%◌, ◌^◌, ◌<◌, Bool, true, false, cond, List, [], ◌∷◌, Option, Some, None, ⊎_elim, refl, ap, sym, ◌∙◌, subst, ltb-true, lt-ltb, lit<}
+use Rattle.std.proofs.Common.{◌≡◌, ℕ, ◌-◌, ◌%◌, ◌^◌, ◌<◌, Bool, true, false, cond, List, [], ◌∷◌, Option, Some, None, ⊎_elim, refl, ap, sym, ◌∙◌, subst, ltb-true, lt-ltb, lit<, map}
 use Rattle.std.specs.Prelude.{◌==◌, ◌&&◌, ◌||◌, not, nat_le, nat_lt}
 use Rattle.std.specs.List.{AllByRecursion, AllZip, flat_map}
 use Rattle.std.proofs.lemmas.Bool.{eqb-true}
@@ -54,6 +54,8 @@ use Rattle.spelling_laws.proofs.Tools.{chosen, guard_ok}
 use Rattle.spelling_laws.proofs.Trees.{BlockHas, CaseHas, LineHas, ParamHas, PhiHas, TermHas}
 use Rattle.spelling_laws.proofs.Walked.{operands_walked, registers_typed, term_cases}
 use Rattle.spelling_laws.proofs.WrittenRanges.{AreWrittenInRange, IsSymbolInRange}
+use Rattle.ir_core.specs.Modules.{not_extended}
+use Rattle.ir_core.specs.declared.functions.Extensions.{Extensions}
 
 -- ---- names
 
@@ -86,12 +88,19 @@ params_in_range (w ∷ ws) [] range zip = absurd zip
 params_in_range (w ∷ ws) (p ∷ ps) range zip =
     (named_in_range w.name p.name (local_range w.name range.0.1) zip.0.0, params_in_range ws ps range.1 zip.1)
 
+params_not_extended : (ws : List ParamText) (ps : List Param) → AllZip IsParam ws ps → AllByRecursion (λ (e : Extensions). e ≡ not_extended) (map (λ (p : Param). p.extensions) ps)
+params_not_extended [] [] zip = tt
+params_not_extended [] (p ∷ ps) zip = absurd zip
+params_not_extended (w ∷ ws) [] zip = absurd zip
+params_not_extended (w ∷ ws) (p ∷ ps) zip = (zip.0.2, params_not_extended ws ps zip.1)
+
 lines_in_range : (registers : List (Name × Ty)) (ws : List LineText) (ls : List Instr) → AllByRecursion (LineHas IsSymbolInRange) ws → AllZip (IsLine registers) ws ls → AllByRecursion IsNameInRange (line_names ls)
 lines_in_range registers [] [] range zip = tt
 lines_in_range registers [] (l ∷ ls) range zip = absurd zip
 lines_in_range registers (w ∷ ws) [] range zip = absurd zip
 lines_in_range registers (w ∷ ws) (instr.Calm c ∷ ls) range zip =
     (named_in_range w.register c.name (register_range w.register range.0.0) zip.0.0, lines_in_range registers ws ls range.1 zip.1)
+lines_in_range registers (w ∷ ws) (l ∷ ls) range zip = absurd zip.0
 
 phis_in_range : (registers : List (Name × Ty)) (labels : List Name) (ws : List PhiText) (ps : List Phi) → AllByRecursion (PhiHas IsSymbolInRange) ws → AllZip (IsPhi registers labels) ws ps → AllByRecursion IsNameInRange (phi_names ps)
 phis_in_range registers labels [] [] range zip = tt
@@ -225,6 +234,7 @@ lines_flagged registers [] (l ∷ ls) zip = absurd zip
 lines_flagged registers (w ∷ ws) [] zip = absurd zip
 lines_flagged registers (w ∷ ws) (instr.Calm c ∷ ls) zip =
     (operation_flagged registers w.operation c.right zip.0.1, lines_flagged registers ws ls zip.1)
+lines_flagged registers (w ∷ ws) (l ∷ ls) zip = absurd zip.0
 
 blocks_flagged : (registers : List (Name × Ty)) (labels : List Name) (ws : List BlockText) (bs : List Block) → AllZip (NamesBlock registers labels) ws bs → AllByRecursion IsLineInRange (flat_map (λ (b : Block). b.body) bs)
 blocks_flagged registers labels [] [] zip = tt
@@ -249,4 +259,6 @@ ranged d f range n = record {
   flags = blocks_flagged (typed_of f) (labels_of f) (blocks_in d) f.blocks n.blocks;
   cases = all_cases (typed_of f) (labels_of f) (blocks_in d) f.blocks range.blocks n.blocks;
   lines = n.few;
+  linkage = n.linkage;
+  extensions = (n.extensions, params_not_extended d.params f.params n.params);
 }

@@ -76,6 +76,7 @@ module _ (P : Symbol → Type 0) (T : Ty → Type 0) (of_width : (w : Placed ℕ
   lines_are registers (w ∷ ws) [] has all = absurd all
   lines_are registers (w ∷ ws) (instr.Calm c ∷ ls) has all =
       (operation_typed registers w.operation c.right all.0.1 has.0.1, lines_are registers ws ls has.1 all.1)
+  lines_are registers (w ∷ ws) (l ∷ ls) has all = absurd all.0
 
   phis_are : (registers : List (Name × Ty)) (labels : List Name) (ws : List PhiText) (ps : List Phi) → AllByRecursion (PhiHas P) ws → AllZip (IsPhi registers labels) ws ps → AllByRecursion IsTyped (phi_registers ps)
   phis_are registers labels [] [] has all = tt
@@ -173,6 +174,7 @@ module _ (P : Symbol → Type 0) (registers : List (Name × Ty)) (labels : List 
   of_lines (w ∷ ws) [] has all = absurd all
   of_lines (w ∷ ws) (instr.Calm c ∷ ls) has all =
       all_append O (operands_in c.right) (flat_map operands_of ls) (of_right w.operation c.right all.0.1 has.0.1) (of_lines ws ls has.1 all.1)
+  of_lines (w ∷ ws) (l ∷ ls) has all = absurd all.0
 
   of_entries : (w : Placed ℕ) (t : Ty) (ws : List EntryText) (es : List Entry) → P (symbols.Width w) → t ≡ type_at w → AllZip (IsEntry registers labels w.what) ws es → AllByRecursion O (map (λ (e : Entry). record { ty = t; atom = e.value }) es)
   of_entries w t [] [] has typed all = tt

@@ -1,7 +1,7 @@
 -- What a text spells is one thing, in order, of shape and in range; and each text either spells something or has a first fault.
 use Rattle.std.specs.Prelude.{◌≡◌, ◌⊎◌, ◌≤◌, ℕ, List, length, None}
 use Rattle.std.specs.List.{AllByRecursion}
-use Rattle.ir_core.specs.declared.functions.Module.{Module}
+use Rattle.ir_core.specs.declared.modules.Module.{Module}
 use Rattle.ir_types.specs.declared.names.Sigil.{Sigil}
 use Rattle.ir_core.specs.Limits.{text_limit}
 use Rattle.ir_core.specs.Order.{IsInOrder}

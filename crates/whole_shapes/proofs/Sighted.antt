@@ -10,7 +10,8 @@ use Rattle.ir_core.specs.declared.functions.Instr.TheVariants as instr
 use Rattle.ir_types.specs.declared.names.Name.{Name}
 use Rattle.ir_types.specs.declared.ty.Ty.{Ty}
 use Rattle.ir_core.specs.Expressions.{type_of}
-use Rattle.ir_core.specs.Functions.{block_names, registers_of, set_by}
+use Rattle.ir_core.specs.Functions.{block_names, names_in, registers_of, set_by}
+use Rattle.ir_core.proofs.Lines.{names_more, set_more}
 use Rattle.ir_types.specs.NameLaws.{same_name_true}
 use Rattle.ir_types.specs.Same.{same_name, same_ty}
 use Rattle.ir_types.proofs.SameLaws.{same_ty_true}
@@ -45,6 +46,28 @@ module _ (bs : List Block) (k : ℕ) (b : Block) (within : k < length bs) (is : 
   block_put taken next grown =
       ap (with_names taken) left ∙ names_joined taken (block_names b) rest ∙ ap (λ (ns : List Name). with_names ns rest) (sym grown)
 
+-- the same of lines
+module _ (ls : List Instr) (k : ℕ) (l : Instr) (within : k < length ls) (is : l ≡ get_or ls k l) where
+  abbrev own : List Name
+  own = names_in (set_by (l ∷ []))
+
+  abbrev others : List Name
+  others = names_in (set_by (drop (k + 1) ls))
+
+  parted : names_in (set_by (drop k ls)) ≡ own ++ others
+  parted = ap (λ (is : List Instr). names_in (set_by is)) (drop_more ls k l within ∙ ap (λ (i : Instr). i ∷ drop (k + 1) ls) (sym is)) ∙ names_more l (drop (k + 1) ls)
+
+  pub line_new : (taken next : List Name) → are_new taken own ≡ true → next ≡ with_names taken own → are_new taken (names_in (set_by (drop k ls))) ≡ are_new next others
+  line_new taken next new grown =
+      ap (are_new taken) parted ∙ new_joined taken own others ∙ ap (λ v. v && are_new (with_names taken own) others) new
+      ∙ ap (λ (ns : List Name). are_new ns others) (sym grown)
+
+  pub line_old : (taken : List Name) → are_new taken own ≡ false → are_new taken (names_in (set_by (drop k ls))) ≡ false
+  line_old taken old = ap (are_new taken) parted ∙ new_joined taken own others ∙ ap (λ v. v && are_new (with_names taken own) others) old
+
+  pub line_put : (taken next : List Name) → next ≡ with_names taken own → with_names taken (names_in (set_by (drop k ls))) ≡ with_names next others
+  line_put taken next grown = ap (with_names taken) parted ∙ names_joined taken own others ∙ ap (λ (ns : List Name). with_names ns others) (sym grown)
+
 -- ---- where names stand
 
 length-map : {A B : Type 0} (f : A → B) (xs : List A) → length (map f xs) ≡ length xs
@@ -65,20 +88,15 @@ typed_there g xs k x name t within is same also =
     let b = same_ty_true t (g x).1 also in
     there g xs k x (name, t) within is (λ i. (sym a i, sym b i))
 
-one_of_one : {A : Type 0} (x y : A) (xs : List A) → Contains (x ∷ []) y → Contains (x ∷ xs) y
-one_of_one x y xs (zero, within, is) = (zero, omega arith, is)
-one_of_one x y xs (suc k, within, is) = absurd (omega arith)
-
-behind : {A : Type 0} (x : A) (xs : List A) (y : A) → Contains xs y → Contains (x ∷ xs) y
-behind x xs y more = (suc more.0, omega (arith, more.1), more.2)
-
 pub line_typed : (body : List Instr) (k : ℕ) (line : Instr) (r : Name × Ty) → k < length body → line ≡ get_or body k line → Contains (set_by (line ∷ [])) r
     → Contains (set_by body) r
 line_typed [] k line r within is sets = absurd (omega arith)
-line_typed (instr.Calm c ∷ body) zero line r within is sets =
-    one_of_one (c.name, type_of c.right) r (set_by body) (subst (λ (l : Instr). Contains (set_by (l ∷ [])) r) is sets)
-line_typed (instr.Calm c ∷ body) (suc k) line r within is sets =
-    behind (c.name, type_of c.right) (set_by body) r (line_typed body k line r (omega arith) is sets)
+line_typed (l ∷ body) zero line r within is sets =
+    subst (λ (rs : List (Name × Ty)). Contains rs r) (sym (set_more l body))
+    (Contains-append_left (set_by (l ∷ [])) (set_by body) r (subst (λ (i : Instr). Contains (set_by (i ∷ [])) r) is sets))
+line_typed (l ∷ body) (suc k) line r within is sets =
+    subst (λ (rs : List (Name × Ty)). Contains rs r) (sym (set_more l body))
+    (Contains-append_right (set_by (l ∷ [])) (set_by body) r (line_typed body k line r (omega arith) is sets))
 
 pub block_typed : (bs : List Block) (k : ℕ) (b : Block) (r : Name × Ty) → k < length bs → b ≡ get_or bs k b → Contains (registers_of b) r
     → Contains (flat_map registers_of bs) r

@@ -30,14 +30,17 @@ phi_operands f b (p ∷ ps) all = all_joined _ (operands_of_phi p) (flat_map ope
 line_values : (rs : List (Name × Ty)) (ls : List Instr) → AllByRecursion (IsLineWhole rs) ls → AllByRecursion IsValue (set_by ls)
 line_values rs [] all = tt
 line_values rs (instr.Calm c ∷ ls) all = (all.0.0, line_values rs ls all.1)
+line_values rs (l ∷ ls) all = absurd all.0
 
 line_operands : (rs : List (Name × Ty)) (ls : List Instr) → AllByRecursion (IsLineWhole rs) ls → AreTyped rs (flat_map operands_of ls)
 line_operands rs [] all = tt
 line_operands rs (instr.Calm c ∷ ls) all = all_joined _ (operands_in c.right) (flat_map operands_of ls) all.0.1 (line_operands rs ls all.1)
+line_operands rs (l ∷ ls) all = absurd all.0
 
 line_operators : (rs : List (Name × Ty)) (ls : List Instr) → AllByRecursion (IsLineWhole rs) ls → AllByRecursion SetsByOperator ls
 line_operators rs [] all = tt
 line_operators rs (instr.Calm c ∷ ls) all = (all.0.2, line_operators rs ls all.1)
+line_operators rs (l ∷ ls) all = absurd all.0
 
 block_fits : (f : Function) (entry : Name) (b : Block) → LeadsToLabels f.blocks b → IsBlockWhole f entry b → BlockFits f entry b
 block_fits f entry b labels (phis, lines, end) = record {

@@ -31,6 +31,7 @@ AreTyped rs = AllByRecursion (λ (o : Operand Name). HasType rs o.ty o.atom)
 
 abbrev pub IsLineWhole : List (Name × Ty) → Instr → Type 0
 IsLineWhole rs (instr.Calm c) = IsFirstClass (type_of c.right) × AreTyped rs (operands_in c.right) × IsOperator c.right
+IsLineWhole rs line = ⊥
 
 abbrev pub IsPhiWhole : Function → Block → Phi → Type 0
 IsPhiWhole f b p = IsFirstClass p.ty × AreTyped (typed_of f) (operands_of_phi p) × FitsEdges f b p

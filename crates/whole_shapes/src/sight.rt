@@ -75,6 +75,18 @@ fn put_phis<'a>(sight: &mut Sight<'a>, block: usize, phis: &'a [Phi]) -> Result<
     Ok(true)
 }
 
+/// Puts the name of the register that a line sets, if it sets one, and says whether it is new.
+#[tactic(auto, using(ir_core::proofs::Lines::names_one, ir_core::proofs::Lines::names_none))]
+fn put_line<'a>(sight: &mut Sight<'a>, line: &'a Instr, home: Home) -> Result<bool, AllocError>
+    ensures new { IfOk result (λ new. new ≡ are_new sight.old.names (names_in (set_by (line.now ∷ [])))) }
+    ensures names { OnOk result (sight.new.names ≡ with_names sight.old.names (names_in (set_by (line.now ∷ [])))) }
+{
+    match line.name() {
+        Some(name) => put(sight, name, home),
+        None => Ok(true),
+    }
+}
+
 fn put_lines<'a>(
     sight: &mut Sight<'a>,
     block: usize,
@@ -86,8 +98,7 @@ fn put_lines<'a>(
 {
     let mut line = first;
     for instr in lines {
-        let Instr::Calm(calm) = instr;
-        if !put(sight, &calm.name, Home::Line { block, line })? {
+        if !put_line(sight, instr, Home::Line { block, line })? {
             return Ok(false);
         }
         line = line.saturating_add(1);
@@ -224,6 +235,7 @@ fn sets(line: &Instr, name: &Name, ty: &Ty) -> bool
 {
     match line {
         Instr::Calm(calm) => calm_sets(calm, name, ty),
+        Instr::Alloca(_) | Instr::Store(_) | Instr::Call(_) => false,
     }
 }
 

@@ -10,7 +10,7 @@ returns-then-place-lines-clause-made g c = if_ok_first _ _ c.do_line.result
     c.in-Some-get.function.now c.in-Some-get-2.block.now c.in-Some.is (sym c.in-Some-get.ensures) (sym c.in-Some-get-2.ensures)
     c.index-lines-place.result (rw c.as_slice-lines.ensures at c.if-place-lines.true) (rw c.as_slice-lines.ensures at c.index-lines-place.is)
     c.do_line.result c.do_line.new.state.place (registers_in c.do_line.new.state.registers) (g.C.Chooser.script c.args.chooser.now)
-    (λ l e. rw e at c.do_line.ensures.gives) (λ l e. rw e at c.do_line.ensures.traps))
+    c.do_line.ensures.gives c.do_line.ensures.traps)
 
 pub returns-then-place-lines-clause-progress : goal.returns-then-place-lines-clause-progress
 returns-then-place-lines-clause-progress g c = if_ok_second _ _ c.do_line.result
@@ -18,7 +18,7 @@ returns-then-place-lines-clause-progress g c = if_ok_second _ _ c.do_line.result
     c.in-Some-get.function.now c.in-Some-get-2.block.now c.in-Some.is (sym c.in-Some-get.ensures) (sym c.in-Some-get-2.ensures)
     c.index-lines-place.result (rw c.as_slice-lines.ensures at c.if-place-lines.true) (rw c.as_slice-lines.ensures at c.index-lines-place.is)
     c.do_line.result c.do_line.new.state.place (registers_in c.do_line.new.state.registers) (g.C.Chooser.script c.args.chooser.now)
-    (λ l e. rw e at c.do_line.ensures.gives) (λ l e. rw e at c.do_line.ensures.traps))
+    c.do_line.ensures.gives c.do_line.ensures.traps)
 
 pub returns-then-place-lines-clause-goes_on : goal.returns-then-place-lines-clause-goes_on
 returns-then-place-lines-clause-goes_on g c = goes_on_from c.do_line.result _ (returns-then-place-lines-clause-progress g c)
