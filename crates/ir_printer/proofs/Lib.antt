@@ -1,2 +1,5 @@
+pub mod Behind
 pub mod Examples
+pub mod GlobalExamples
+pub mod Inits
 pub mod MemoryExamples

@@ -1,5 +1,5 @@
 -- How modules are printed (LangRef 3.7, Module Structure, Structure Types, Functions, phi and Terminator Instructions).
-use Rattle.std.specs.Prelude.{ℕ, Bool, if◌then◌else◌, List, [], ◌∷◌, ◌++◌, codes, map, Option, None, Some}
+use Rattle.std.specs.Prelude.{ℕ, ◌+◌, Bool, cond, nat_le, if◌then◌else◌, List, [], ◌∷◌, ◌++◌, codes, map, Option, None, Some}
 use Rattle.std.specs.List.{flat_map}
 use Rattle.std.specs.Fmt.{decimal}
 use Rattle.ir_types.specs.declared.names.Name.{Name}
@@ -25,11 +25,12 @@ use Rattle.ir_core.specs.declared.functions.Term.TheVariants as term
 use Rattle.ir_core.specs.declared.functions.Block.{Block}
 use Rattle.ir_core.specs.declared.functions.Param.{Param}
 use Rattle.ir_core.specs.declared.functions.Function.{Function}
-use Rattle.ir_core.specs.declared.modules.Linkage.{Linkage}
-use Rattle.ir_core.specs.declared.modules.Linkage.TheVariants as linkage
+use Rattle.ir_core.specs.declared.modules.Declaration.{Declaration}
+use Rattle.ir_core.specs.declared.modules.DeclaredParam.{DeclaredParam}
 use Rattle.ir_core.specs.declared.modules.Module.{Module}
-use Rattle.ir_core.specs.Words.{linkage_word, signext_word, zeroext_word}
-use Rattle.expression_printer.specs.Printed.{name_text, printed_name, printed_local, printed_type, number_text, listed, struct_text, printed_align, printed_flag, printed_value, spaced, printed_operand, printed_expr}
+use Rattle.ir_core.specs.Words.{signext_word, zeroext_word}
+use Rattle.expression_printer.specs.Printed.{name_text, printed_name, printed_local, printed_type, number_text, listed, struct_text, printed_align, printed_flag, printed_value, printed_operand, printed_expr}
+use Rattle.ir_printer.specs.Globals.{global_text, linkage_text}
 
 -- ---- lines
 
@@ -175,11 +176,6 @@ extended_text e = behind_space e.signed signext_word ++ behind_space e.zero zero
 abbrev pub param_text : Param → List ℕ
 param_text p = printed_type p.ty ++ (extended_text p.extensions ++ param_name p.name)
 
--- `private `, and nothing for the linkage without a word
-abbrev pub linkage_text : Linkage → List ℕ
-linkage_text linkage.External = []
-linkage_text l = spaced (linkage_word l)
-
 -- `@f(i32 %x, i8) {`
 abbrev pub signature_text : Function → List ℕ
 signature_text f = printed_name Global f.name ++ (40 ∷ (listed [] (map param_text f.params) ++ (codes ") {" ++ 10 ∷ [])))
@@ -192,13 +188,40 @@ head_text f =
 abbrev pub function_text : Function → List ℕ
 function_text f = head_text f ++ (blocks_text f.blocks ++ (125 ∷ 10 ∷ []))
 
--- a blank line stands before each function behind the first
-abbrev pub later_function : Function → List ℕ
-later_function f = 10 ∷ function_text f
+-- ---- declarations
 
-abbrev pub functions_text : List Function → List ℕ
-functions_text [] = []
-functions_text (f ∷ fs) = function_text f ++ flat_map later_function fs
+-- `i8* signext`
+abbrev pub declared_param_text : DeclaredParam → List ℕ
+declared_param_text p = printed_type p.ty ++ extended_text p.extensions
+
+-- `...` stands last, where further arguments may follow
+abbrev pub dots : Bool → List (List ℕ)
+dots variadic = if variadic then codes "..." ∷ [] else []
+
+-- `@f(i8* signext, ...)`
+abbrev pub declared_signature : Declaration → List ℕ
+declared_signature d = printed_name Global d.name ++ (40 ∷ (listed [] (map declared_param_text d.params ++ dots d.variadic) ++ (41 ∷ 10 ∷ [])))
+
+-- `declare signext i8 @f(i8* signext, ...)` on a line of its own
+abbrev pub declaration_text : Declaration → List ℕ
+declaration_text d = codes "declare " ++ (extensions_text d.result_extensions ++ (printed_type d.result ++ (32 ∷ declared_signature d)))
+
+-- the first ones, which stand before so many definitions and one more
+abbrev pub those_before : ℕ → List Declaration → List Declaration
+those_before count [] = []
+those_before count (d ∷ ds) = cond (nat_le d.before count) (d ∷ those_before count ds) []
+
+-- and those behind them
+abbrev pub those_behind : ℕ → List Declaration → List Declaration
+those_behind count [] = []
+those_behind count (d ∷ ds) = cond (nat_le d.before count) (those_behind count ds) (d ∷ ds)
+
+-- Definitions and declarations in the order of the file, from the definition of that number on: each declaration that stands before it, and
+-- then the definition itself.
+abbrev pub function_texts : ℕ → List Declaration → List Function → List (List ℕ)
+function_texts count ds [] = map declaration_text ds
+function_texts count ds (f ∷ fs) =
+    map declaration_text (those_before count ds) ++ (function_text f ∷ function_texts (count + 1) (those_behind count ds) fs)
 
 -- ---- modules
 
@@ -211,12 +234,21 @@ body_text (Some fields) = struct_text (map printed_type fields)
 abbrev pub named_type_text : NamedTy → List ℕ
 named_type_text t = printed_local t.name ++ (codes " = type " ++ (body_text t.fields ++ 10 ∷ []))
 
--- a blank line, where there is something before it and something behind it
-abbrev pub blank_between : {A B : Type 0} → List A → List B → List ℕ
-blank_between [] further = []
-blank_between (a ∷ first) [] = []
-blank_between (a ∷ first) (b ∷ further) = 10 ∷ []
+-- a text and a blank line behind it, and nothing behind nothing
+abbrev pub blanked : List ℕ → List ℕ
+blanked [] = []
+blanked (byte ∷ bytes) = (byte ∷ bytes) ++ 10 ∷ []
 
--- the named types, and then the functions
+-- texts behind that one, with a blank line between any two
+abbrev pub all_behind : List ℕ → List (List ℕ) → List ℕ
+all_behind text [] = text
+all_behind text (next ∷ more) = all_behind (blanked text ++ next) more
+
+-- the text of a group, if there is one
+abbrev pub group : {A : Type 0} → (A → List ℕ) → List A → List (List ℕ)
+group text_of [] = []
+group text_of (x ∷ xs) = flat_map text_of (x ∷ xs) ∷ []
+
+-- the named types, the globals, and then each definition and declaration
 abbrev pub printed_module : Module → List ℕ
-printed_module m = flat_map named_type_text m.types ++ (blank_between m.types m.functions ++ functions_text m.functions)
+printed_module m = all_behind [] (group named_type_text m.types ++ (group global_text m.globals ++ function_texts 0 m.declarations m.functions))

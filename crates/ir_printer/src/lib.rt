@@ -5,6 +5,7 @@
 #![tactic(auto)]
 
 mod blocks;
+mod globals;
 mod laws;
 mod lines;
 mod modules;
@@ -12,5 +13,7 @@ mod named_types;
 mod terms;
 
 pub use expression_printer::{print_expr, print_name, print_type};
-pub use laws::{examples_of_printed_lines, examples_of_printed_modules};
+pub use laws::{
+    examples_of_printed_globals, examples_of_printed_lines, examples_of_printed_modules,
+};
 pub use modules::print_module;

@@ -1,62 +1,147 @@
 ghost use Rattle.std.specs.Prelude.{◌≡◌, ◌++◌, [], map, OnOk, IfOk};
-ghost use Rattle.std.specs.List.{flat_map};
 ghost use Rattle.expression_printer.specs.Printed.{listed};
-ghost use Rattle.ir_printer.specs.Printed.{blank_between, extended_text, linkage_text, param_name, param_text, signature_text, head_text, function_text, later_function, functions_text, printed_module};
+ghost use Rattle.ir_printer.specs.Globals.{global_text};
+ghost use Rattle.ir_printer.specs.Printed.{all_behind, blanked, declaration_text, declared_param_text, declared_signature, dots, extended_text, function_text, function_texts, group, head_text, param_name, param_text, printed_module, signature_text, those_before, those_behind};
 
 use crate::blocks::push_blocks;
+use crate::globals::{linkage_text, push_globals};
 use crate::lines::push_extensions;
 use crate::named_types::push_types;
 use expression_printer::{push_name, push_type};
-use ir_core::{Extensions, Function, Linkage, Module, Name, NamedTy, Param, Sigil};
+use ir_core::{
+    Declaration, DeclaredParam, Extensions, Function, GlobalVar, Linkage, Module, Name, Param,
+    Sigil,
+};
 use std::alloc::{AllocError, Global};
 
-/// The module as text: its named types and then its functions, each in the order of the file, with a blank line between both and between any
-/// two functions.
+/// The module as text: its named types, its globals, and its definitions and declarations, each in the order of the file, with a blank line
+/// between these groups and between any two functions. The function types of calls aren't printed.
 pub fn print_module(alloc: Global, module: &Module) -> Result<Vec<u8>, AllocError>
     ensures { IfOk result (λ text. text.items ≡ printed_module «module».now) }
 {
     let mut text = Vec::new(alloc);
-    let types = module.types.as_slice();
-    let functions = module.functions.as_slice();
-    push_types(&mut text, types)?;
-    push_blank_between(&mut text, types, functions)?;
-    push_functions(&mut text, functions)?;
+    push_types(&mut text, module.types.as_slice())?;
+    push_group(alloc, &mut text, module.globals.as_slice())?;
+    push_functions(
+        &mut text,
+        module.declarations.as_slice(),
+        module.functions.as_slice(),
+    )?;
     Ok(text)
 }
 
-fn push_blank_between(
+/// A blank line behind the text, unless it is empty.
+fn push_blank(text: &mut Vec<u8>) -> Result<(), AllocError>
+    ensures { OnOk result (text.new.items ≡ blanked text.old.items) }
+{
+    if !text.is_empty() {
+        text.push(b'\n')?;
+    }
+    Ok(())
+}
+
+/// The globals, if there are any, behind a blank line.
+fn push_group(alloc: Global, text: &mut Vec<u8>, globals: &[GlobalVar]) -> Result<(), AllocError>
+    ensures { OnOk result (text.new.items ≡ all_behind text.old.items (group global_text globals.now)) }
+{
+    if globals.is_empty() {
+        return Ok(());
+    }
+    push_blank(text)?;
+    push_globals(alloc, text, globals)
+}
+
+/// In the order of the file, each behind a blank line.
+fn push_functions(
     text: &mut Vec<u8>,
-    types: &[NamedTy],
+    declarations: &[Declaration],
     functions: &[Function],
 ) -> Result<(), AllocError>
-    ensures { OnOk result (text.new.items ≡ text.old.items ++ blank_between types.now functions.now) }
+    ensures { OnOk result (text.new.items ≡ all_behind text.old.items (function_texts 0 declarations.now functions.now)) }
 {
-    if types.is_empty() || functions.is_empty() {
-        return Ok(());
+    let mut rest = declarations;
+    for i in 0..functions.len() {
+        rest = push_before(text, i, rest)?;
+        push_blank(text)?;
+        push_function(text, &functions[i])?;
     }
-    text.push(b'\n')?;
+    push_declarations(text, rest)
+}
+
+/// The first ones, which stand before so many definitions and one more. Gives those behind them.
+fn push_before<'a>(
+    text: &mut Vec<u8>,
+    count: usize,
+    declarations: &'a [Declaration],
+) -> Result<&'a [Declaration], AllocError>
+    ensures text { OnOk result
+        (text.new.items ≡ all_behind text.old.items (map declaration_text (those_before count declarations.now))) }
+    ensures rest { IfOk result (λ rest. rest.now ≡ those_behind count declarations.now) }
+{
+    for i in 0..declarations.len() {
+        if declarations[i].before > count {
+            return Ok(&declarations[i..]);
+        }
+        push_blank(text)?;
+        push_declaration(text, &declarations[i])?;
+    }
+    Ok(&[])
+}
+
+fn push_declarations(text: &mut Vec<u8>, declarations: &[Declaration]) -> Result<(), AllocError>
+    ensures { OnOk result (text.new.items ≡ all_behind text.old.items (map declaration_text declarations.now)) }
+{
+    for declaration in declarations {
+        push_blank(text)?;
+        push_declaration(text, declaration)?;
+    }
     Ok(())
 }
 
-fn push_functions(text: &mut Vec<u8>, functions: &[Function]) -> Result<(), AllocError>
-    ensures { OnOk result (text.new.items ≡ text.old.items ++ functions_text functions.now) }
+fn push_declaration(text: &mut Vec<u8>, declaration: &Declaration) -> Result<(), AllocError>
+    ensures { OnOk result (text.new.items ≡ text.old.items ++ declaration_text declaration.now) }
 {
-    let Some((first, later)) = functions.split_first() else {
-        return Ok(());
-    };
-    push_function(text, first)?;
-    push_later_functions(text, later)
+    text.extend_from_slice(b"declare ")?;
+    push_extensions(text, declaration.result_extensions)?;
+    push_type(text, &declaration.result)?;
+    text.push(b' ')?;
+    push_declared_signature(text, declaration)
 }
 
-/// Each behind a blank line.
-fn push_later_functions(text: &mut Vec<u8>, functions: &[Function]) -> Result<(), AllocError>
-    ensures { OnOk result (text.new.items ≡ text.old.items ++ flat_map later_function functions.now) }
+fn push_declared_signature(text: &mut Vec<u8>, declaration: &Declaration) -> Result<(), AllocError>
+    ensures { OnOk result (text.new.items ≡ text.old.items ++ declared_signature declaration.now) }
 {
-    for function in functions {
-        text.push(b'\n')?;
-        push_function(text, function)?;
+    push_name(text, Sigil::Global, &declaration.name)?;
+    text.push(b'(')?;
+    push_declared_params(text, declaration.params.as_slice(), declaration.variadic)?;
+    text.extend_from_slice(b")\n")
+}
+
+fn push_declared_params(
+    text: &mut Vec<u8>,
+    params: &[DeclaredParam],
+    variadic: bool,
+) -> Result<(), AllocError>
+    ensures { OnOk result (text.new.items ≡ text.old.items ++ listed [] (map declared_param_text params.now ++ dots variadic)) }
+{
+    let mut before: &[u8] = b"";
+    for i in 0..params.len() {
+        text.extend_from_slice(before)?;
+        push_declared_param(text, &params[i])?;
+        before = b", ";
+    }
+    if variadic {
+        text.extend_from_slice(before)?;
+        text.extend_from_slice(b"...")?;
     }
     Ok(())
+}
+
+fn push_declared_param(text: &mut Vec<u8>, param: &DeclaredParam) -> Result<(), AllocError>
+    ensures { OnOk result (text.new.items ≡ text.old.items ++ declared_param_text param.now) }
+{
+    push_type(text, &param.ty)?;
+    push_extended(text, param.extensions)
 }
 
 fn push_function(text: &mut Vec<u8>, function: &Function) -> Result<(), AllocError>
@@ -119,21 +204,6 @@ fn push_extended(text: &mut Vec<u8>, extensions: Extensions) -> Result<(), Alloc
         text.extend_from_slice(b" zeroext")?;
     }
     Ok(())
-}
-
-/// The word of a linkage and a space, and nothing for the linkage without a word.
-fn linkage_text(linkage: Linkage) -> &'static [u8]
-    ensures { result.now ≡ linkage_text linkage }
-{
-    match linkage {
-        Linkage::External => b"",
-        Linkage::Private => b"private ",
-        Linkage::Internal => b"internal ",
-        Linkage::Common => b"common ",
-        Linkage::AvailableExternally => b"available_externally ",
-        Linkage::LinkonceOdr => b"linkonce_odr ",
-        Linkage::WeakOdr => b"weak_odr ",
-    }
 }
 
 fn push_param_name(text: &mut Vec<u8>, name: &Name) -> Result<(), AllocError>

@@ -24,9 +24,11 @@ use Rattle.ir_naming.specs.Spells.{IsNamed, IsParam, IsResult, NamesFunction, Na
 use Rattle.ir_naming_laws.proofs.Named.{module_right}
 use Rattle.ir_spelling.specs.Spells.{Spells}
 use Rattle.expression_printer.specs.Printed.{listed, printed_type}
-use Rattle.ir_printer.specs.Printed.{extended_text, extensions_text, function_text, functions_text, head_text, linkage_text, later_function, param_name, param_text, printed_module, signature_text}
+use Rattle.ir_printer.specs.Globals.{linkage_text}
+use Rattle.ir_printer.specs.Printed.{extended_text, extensions_text, function_text, head_text, param_name, param_text, printed_module, signature_text}
 use Rattle.printer_laws.proofs.Blocks.{blocks, blocks_written}
 use Rattle.printer_laws.proofs.Fit.{FitsFunction, FitsModule, FitsParam}
+use Rattle.printer_laws.proofs.FunctionTexts.{functions_alone, functions_text, later_function}
 use Rattle.printer_laws.proofs.Marks.{close_brace, close_paren, global, key_alone, line_end, local, open_brace, open_paren, some, space}
 use Rattle.printer_laws.proofs.Marks as marks
 use Rattle.printer_laws.proofs.Operations.{typed}
@@ -152,10 +154,6 @@ functions (f ∷ fs) all =
 
 -- ---- modules
 
--- without types the functions are all that is printed
-functions_alone : (m : Module) → m.types ≡ [] → functions_text m.functions ≡ printed_module m
-functions_alone m none = sym (ap (λ types. printed_module (record m { types = types })) none)
-
 pub module_spelled : (m : Module) → FitsModule m → Spells (printed_module m) m
 module_spelled m fits =
     let p = functions m.functions fits.functions in
@@ -164,5 +162,5 @@ module_spelled m fits =
     let w = p.is ss at in
     let tree : ModuleText = record { definitions = w.tree } in
     let named : NamesModule tree m = record { types = fits.types; globals = fits.globals; functions = w.names; declarations = fits.declarations; order = fits.order } in
-    subst (λ text. Spells text m) (functions_alone m fits.types)
+    subst (λ text. Spells text m) (functions_alone m fits.types fits.globals fits.declarations)
     (record { tree = tree; symbols = is ∙ ap Some w.are; no_fault = (module_right tree m named).0; names = named })

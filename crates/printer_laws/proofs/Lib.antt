@@ -2,6 +2,7 @@ pub mod Blocks
 pub mod Decimals
 pub mod Fit
 pub mod Formed
+pub mod FunctionTexts
 pub mod Functions
 pub mod Labels
 pub mod Lexed
