@@ -1,5 +1,5 @@
 -- Blocks whose lines agree one by one where nothing is known, so that they are valid whatever is known of their registers.
-use Rattle.std.specs.Prelude.{ℕ, ◌+◌, ◌*◌, Bool, true, false, ◌&&◌, not, nat_lt, is_none, List, [], ◌∷◌, length, Option, None, Some}
+use Rattle.std.specs.Prelude.{ℕ, ◌+◌, ◌*◌, Bool, true, false, ◌&&◌, not, nat_lt, is_none, List, [], ◌∷◌, length, Option, Some}
 use Rattle.ir_core.specs.Limits.{fact_limit}
 use Rattle.ir_types.specs.Same.{same_list, same_name}
 use Rattle.ir_types.specs.declared.names.Name.{Name}

@@ -5,6 +5,7 @@ use Rattle.std.proofs.lemmas.List.Elements.{Contains-append_left, Contains-push,
 use Rattle.std.specs.List.{AllByRecursion, Contains, flat_map}
 use Rattle.ir_core.specs.declared.functions.Block.{Block}
 use Rattle.ir_core.specs.declared.functions.Function.{Function}
+use Rattle.ir_core.specs.declared.modules.Module.{Module}
 use Rattle.ir_types.specs.declared.names.Name.{Name}
 use Rattle.ir_core.specs.Functions.{block_names, names_in, params_of, registers_of, successors_of}
 use Rattle.ir_core.specs.Order.{AreNew}
@@ -33,14 +34,14 @@ new_blocks (b ∷ bs) taken fewer among new = (
       (new_behind (names_in (registers_of b)) (flat_map block_names bs) (taken ++ b.name ∷ []) new.1),
 )
 
-labels_of_blocks : (f : Function) (bs : List Block) → AllByRecursion (HasBlockShape f) bs
+labels_of_blocks : (m : Module) (f : Function) (bs : List Block) → AllByRecursion (HasBlockShape m f) bs
     → AllByRecursion (λ (b : Block). AllByRecursion (Contains (map (λ (c : Block). c.name) f.blocks)) (successors_of b.term)) bs
-labels_of_blocks f [] all = tt
-labels_of_blocks f (b ∷ bs) all = (all.0.labels, labels_of_blocks f bs all.1)
+labels_of_blocks m f [] all = tt
+labels_of_blocks m f (b ∷ bs) all = (all.0.labels, labels_of_blocks m f bs all.1)
 
-pub shape_knows_labels : (f : Function) → HasFunctionShape f → AreLabelsKnown f
-shape_knows_labels f shape = record {
+pub shape_knows_labels : (m : Module) (f : Function) → HasFunctionShape m f → AreLabelsKnown f
+shape_knows_labels m f shape = record {
   unique = new_blocks f.blocks ([] ++ names_in (params_of f)) [] (λ n there. Contains-append_left [] (names_in (params_of f)) n there)
       (new_behind (names_in (params_of f)) (flat_map block_names f.blocks) [] shape.names);
-  known = labels_of_blocks f f.blocks shape.each;
+  known = labels_of_blocks m f f.blocks shape.each;
 }

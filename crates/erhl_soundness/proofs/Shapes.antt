@@ -8,6 +8,7 @@ use Rattle.ir_types.specs.declared.ty.Ty.{Ty}
 use Rattle.ir_core.specs.declared.functions.Phi.{Phi}
 use Rattle.ir_core.specs.declared.functions.Block.{Block}
 use Rattle.ir_core.specs.declared.functions.Function.{Function}
+use Rattle.ir_core.specs.declared.modules.Module.{Module}
 use Rattle.ir_core.specs.Functions.{set_by, phi_registers, params_of, names_in, block_names}
 use Rattle.ir_core.specs.Order.{AreNew}
 use Rattle.ir_core.specs.WellFormed.{HasFunctionShape}
@@ -57,13 +58,13 @@ blocks_apart taken (b ∷ bs) new = (
   blocks_apart (taken ++ block_names b) bs (new_behind (block_names b) (flat_map block_names bs) taken new),
 )
 
-function_apart : (f : Function) → HasFunctionShape f → ArePhisApart f
-function_apart f shape =
+function_apart : (m : Module) (f : Function) → HasFunctionShape m f → ArePhisApart f
+function_apart m f shape =
     blocks_apart (names_in (params_of f)) f.blocks (new_behind (names_in (params_of f)) (flat_map block_names f.blocks) [] shape.names)
 
-functions_apart : (fs : List Function) → AllByRecursion HasFunctionShape fs → AllByRecursion ArePhisApart fs
-functions_apart [] shapes = tt
-functions_apart (f ∷ fs) shapes = (function_apart f shapes.0, functions_apart fs shapes.1)
+functions_apart : (m : Module) (fs : List Function) → AllByRecursion (HasFunctionShape m) fs → AllByRecursion ArePhisApart fs
+functions_apart m [] shapes = tt
+functions_apart m (f ∷ fs) shapes = (function_apart m f shapes.0, functions_apart m fs shapes.1)
 
 pub shapes_keep_apart : ShapesKeepPhisApart
-shapes_keep_apart m shape = functions_apart m.functions shape.functions
+shapes_keep_apart m shape = functions_apart m m.functions shape.functions

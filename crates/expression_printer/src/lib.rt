@@ -14,7 +14,7 @@ pub use expressions::{
     print_expr, print_right, print_value, push_align, push_right, push_typed_value, push_value,
 };
 pub use laws::{examples_of_printed_expressions, examples_of_printed_types};
-pub use names::{print_name, push_name, push_name_text};
+pub use names::{print_name, push_name, push_name_text, push_quoted};
 pub use registers::print_register;
 pub use types::{print_type, push_type};
-pub use values::push_number;
+pub use values::{push_constant, push_number};

@@ -84,7 +84,8 @@ fn may_all_be_in_name(bytes: &[u8]) -> bool
     bytes.iter().all(|byte| may_be_in_name(*byte))
 }
 
-fn push_quoted(text: &mut Vec<u8>, bytes: &[u8]) -> Result<(), AllocError>
+/// Puts the bytes between quotes at the end of the text.
+pub fn push_quoted(text: &mut Vec<u8>, bytes: &[u8]) -> Result<(), AllocError>
     ensures { OnOk result (text.new.items ≡ text.old.items ++ quoted bytes.now) }
 {
     text.push(b'"')?;

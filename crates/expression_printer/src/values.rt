@@ -6,8 +6,9 @@ use crate::types::push_type;
 use ir_core::{Const, Sigil, Ty};
 use std::alloc::{AllocError, Global};
 
+/// Puts a constant of that type at the end of the text.
 #[tactic(auto, using(crate::proofs::ConstantTexts::constants_by_parts))]
-pub(crate) fn push_constant(text: &mut Vec<u8>, ty: &Ty, constant: &Const) -> Result<(), AllocError>
+pub fn push_constant(text: &mut Vec<u8>, ty: &Ty, constant: &Const) -> Result<(), AllocError>
     ensures { OnOk result (text.new.items ≡ text.old.items ++ printed_constant ty.now constant.now) }
 {
     push_constant_parts(text, constant, ty)

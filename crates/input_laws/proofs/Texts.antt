@@ -18,7 +18,7 @@ use Rattle.spelling_laws.specs.Laws.{EachIsJudged, ModulesAreInRange, ModulesHav
 use Rattle.module_input.specs.declared.fault.ModuleFault.{ModuleFault}
 use Rattle.module_input.specs.declared.fault.ModuleFault.TheVariants as fault
 use Rattle.module_input.specs.Faults.{FirstWithout}
-use Rattle.input_laws.specs.Judged.{FunctionsAreJudged, IsAtFault, IsFitting, TextsAreJudged}
+use Rattle.input_laws.specs.Judged.{FunctionsAreJudged, IsAtFault, IsFitting}
 
 -- the first of the functions that isn't defined, with its first use that isn't
 abbrev HasFirstUndefined : List Function → Type 0
@@ -42,13 +42,13 @@ first_later g fs such (f, u, first, is) = (
 )
 
 module _ (knows : ShapeKnowsLabels) (faults : UndefinedUsesAreFaults) (judged : FunctionsAreJudged) where
-  of_functions : (fs : List Function) → AllByRecursion HasFunctionShape fs → AllByRecursion IsFunctionDefined fs ⊎ HasFirstUndefined fs
-  of_functions [] shape = inl tt
-  of_functions (f ∷ fs) shape =
+  of_functions : (m : Module) (fs : List Function) → AllByRecursion (HasFunctionShape m) fs → AllByRecursion IsFunctionDefined fs ⊎ HasFirstUndefined fs
+  of_functions m [] shape = inl tt
+  of_functions m (f ∷ fs) shape =
       ⊎_elim (λ (defined : IsFunctionDefined f).
-      ⊎_elim (λ (all : AllByRecursion IsFunctionDefined fs). inl (defined, all)) (λ first. inr (first_later f fs defined first)) (of_functions fs shape.1))
-      (λ undefined. inr (f, undefined.0, first_here f fs (λ defined. faults f undefined.0 shape.0 undefined.1 defined), undefined.1))
-      (judged f (knows f shape.0))
+      ⊎_elim (λ (all : AllByRecursion IsFunctionDefined fs). inl (defined, all)) (λ first. inr (first_later f fs defined first)) (of_functions m fs shape.1))
+      (λ undefined. inr (f, undefined.0, first_here f fs (λ defined. faults m f undefined.0 shape.0 undefined.1 defined), undefined.1))
+      (judged f (knows m f shape.0))
 
   module _ (has_shape : ModulesHaveShape) (in_range : ModulesAreInRange) (each : EachIsJudged module_form NamesModule) (bytes : List ℕ) (are_bytes : AreBytes bytes) where
     abbrev Judged : Type 0
@@ -62,7 +62,7 @@ module _ (knows : ShapeKnowsLabels) (faults : UndefinedUsesAreFaults) (judged : 
         inl (m, (short, (spells, record { shape = shape; defined = all; range = in_range bytes m are_bytes spells }))))
         (λ (first : HasFirstUndefined m.functions).
         inr (fault.Undefined first.0.name first.1, ((m, spells, is, (first.0, first.2, first.3, refl)), λ e. cc)))
-        (of_functions m.functions shape.functions)
+        (of_functions m m.functions shape.functions)
 
     pub of_text : Judged
     of_text =

@@ -1,7 +1,7 @@
 -- What a search would answer of each use, and so of a function.
-use Rattle.std.proofs.Common.{◌≡◌, ◌⊎◌, ⊎_elim, inl, inr, ℕ, suc, zero, ◌<◌, ◌&&◌, Bool, true, false, is_some, List, [], ◌∷◌, length, get_or, Option, None, Some, refl, subst, arith}
+use Rattle.std.proofs.Common.{◌≡◌, ◌⊎◌, ⊎_elim, inl, inr, ℕ, suc, ◌<◌, ◌&&◌, Bool, true, false, is_some, List, [], ◌∷◌, length, get_or, Option, None, Some, refl, subst, arith}
 use Rattle.std.proofs.lemmas.List.{get_or_default}
-use Rattle.std.specs.List.{AllByRecursion, flat_map}
+use Rattle.std.specs.List.{flat_map}
 use Rattle.ir_core.specs.declared.functions.Block.{Block}
 use Rattle.ir_core.specs.declared.functions.Function.{Function}
 use Rattle.ir_types.specs.declared.names.Name.{Name}
@@ -13,7 +13,7 @@ use Rattle.definedness.specs.declared.paths.Undefined.{Undefined}
 use Rattle.definedness.specs.Along.{left_in_block, with_names}
 use Rattle.definedness.specs.Flow.{Answers, AnswersAll, AnswersAt, AnswersTo, IsWayTo, closed_for, names_at, stand_of}
 use Rattle.definedness.specs.Graph.{graph_in, labels_in}
-use Rattle.definedness.specs.Undefined.{AreLabelsKnown, IsFirstUndefined, Use}
+use Rattle.definedness.specs.Undefined.{IsFirstUndefined, Use}
 use Rattle.definedness.proofs.Judged.{fine_all, found_first}
 use Rattle.input_laws.specs.Judged.{FunctionsAreJudged}
 use Rattle.input_laws.proofs.FirstWays.{ways_have_a_first}

@@ -1,5 +1,5 @@
 -- What holds of each constant where it holds of the constants in it, and a fold at each kind of constant.
-use Rattle.std.proofs.Common.{◌≡◌, ◌∙◌, ℕ, Bool, List, [], ◌∷◌, map, refl, sym, ap, subst}
+use Rattle.std.proofs.Common.{◌≡◌, ◌∙◌, ℕ, Bool, List, [], ◌∷◌, map, sym, ap, subst}
 use Rattle.std.specs.List.{AllByRecursion}
 use Rattle.ir_types.specs.declared.names.Name.{Name}
 use Rattle.ir_types.specs.declared.ty.Ty.{Ty}

@@ -9,6 +9,7 @@ use Rattle.ir_core.specs.declared.functions.Entry.{Entry}
 use Rattle.ir_core.specs.declared.functions.Function.{Function}
 use Rattle.ir_core.specs.declared.functions.Term.{Term}
 use Rattle.ir_core.specs.declared.functions.Term.TheVariants.{Ret, RetVoid, Br, Unreachable}
+use Rattle.ir_core.specs.declared.modules.Module.{Module}
 use Rattle.ir_types.specs.declared.names.Name.{Name}
 use Rattle.ir_core.specs.declared.operands.Atom.{Atom}
 use Rattle.ir_core.specs.declared.operands.Atom.TheVariants.{Constant, Register}
@@ -16,13 +17,17 @@ use Rattle.ir_core.specs.declared.operands.Const.TheVariants as constant
 use Rattle.ir_core.specs.declared.operands.Operand.{Operand}
 use Rattle.ir_types.specs.declared.ty.Ty.TheVariants.{Int, Void}
 use Rattle.ir_core.specs.Examples.{alone, f, held, number, x, y}
-use Rattle.ir_core.specs.FlowExamples.{before_return, behind_phi, branching, choosing, ending, from_f, joining, looping, of_end, switching, z}
+use Rattle.ir_core.specs.FlowExamples.{before_return, behind_phi, branching, choosing, ending, from_f, joining, looping, of_end, one_arm, switching, to_x, z}
 use Rattle.ir_core.specs.FlowLaws.{CasesAreApart, JumpsGoToBlocks, PathsDefine, PhisFollowEdges}
 use Rattle.ir_core.specs.Functions.{cases_of, edges_into, names_in, operands_at_end, operands_in_block, params_of, registers_of, successors_of, typed_of}
+use Rattle.ir_core.specs.StatedTypes.{types_in}
+use Rattle.ir_core.specs.TypeNames.{names_in_type}
 use Rattle.ir_core.specs.Ranges.{IsCaseInRange, IsInRange, IsNameInRange, IsOperandInRange}
 use Rattle.ir_types.specs.Same.{same_name}
 use Rattle.ir_core.specs.WellFormed.{AllUseDefined, BlockUsesDefined, BranchesOn, HasCases, HasShape, HasType, IsDefined, IsFunctionDefined, IsPath, PathUsesDefined, PhisUseDefined, Returns}
 use Rattle.ir_core.proofs.Operations.{other_type}
+use Rattle.ir_core.proofs.TypeNames.{at_int, at_void}
+use Rattle.ir_core.proofs.Typing.{in_number, nameless, number_is}
 use Rattle.ir_core.proofs.WellFormed.{in_none, in_one, in_two, name_f, name_x, name_y}
 
 pub name_z : IsNameInRange z
@@ -68,11 +73,13 @@ each_path g lines edges first further path are goes =
 
 -- ---- a block before one that returns
 
-before_shape : (t : Term) → edges_into (before_return t) f ≡ [] → AllByRecursion (λ (o : Operand Name). HasType (typed_of (before_return t)) o.ty o.atom) (flat_map operands_in_block (before_return t).blocks)
+before_shape : (t : Term) → edges_into (before_return t) f ≡ [] → flat_map names_in_type (types_in (before_return t)) ≡ []
+    → AllByRecursion (λ (o : Operand Name). HasType (alone (before_return t)) (typed_of (before_return t)) o.ty o.atom) (flat_map operands_in_block (before_return t).blocks)
     → AllByRecursion (Contains (f ∷ x ∷ [])) (successors_of t) → BranchesOn t → Returns Void t → HasCases t → HasShape (alone (before_return t))
-before_shape t not_entered operands labels branches returns cases = record {
+before_shape t not_entered names operands labels branches returns cases = record {
   types_apart = tt;
   types = tt;
+  globals = tt;
   functions = (
     record {
       first = _;
@@ -81,15 +88,18 @@ before_shape t not_entered operands labels branches returns cases = record {
       not_entered = not_entered;
       name = refl;
       names = (in_none f, (in_one f x refl refl, tt));
+      types = nameless (before_return t) names;
+      result = tt;
       registers = tt;
       operands = operands;
       each = (
-        record { phis = tt; operators = tt; labels = labels; branches = branches; returns = returns; cases = cases },
-        (record { phis = tt; operators = tt; labels = tt; branches = tt; returns = refl; cases = tt }, tt),
+        record { phis = tt; lines = tt; labels = labels; branches = branches; returns = returns; cases = cases },
+        (record { phis = tt; lines = tt; labels = tt; branches = tt; returns = refl; cases = tt }, tt),
       );
     },
     tt,
   );
+  declarations = tt;
   names = (in_none f, tt);
 }
 
@@ -167,7 +177,7 @@ entered_first first further are none =
 pub jumps_go_to_blocks : JumpsGoToBlocks
 jumps_go_to_blocks = record {
   known = record {
-    shape = before_shape (Br x) refl tt (to_known, tt) tt tt tt;
+    shape = before_shape (Br x) refl (simp (at_void) refl) tt (to_known, tt) tt tt tt;
     defined = before_defined (Br x) (λ taken. tt);
     range = before_range (Br x) tt tt;
   };
@@ -185,6 +195,7 @@ jumps_go_to_blocks = record {
     shape = record {
       types_apart = tt;
       types = tt;
+      globals = tt;
       functions = (
         record {
           first = _;
@@ -193,19 +204,22 @@ jumps_go_to_blocks = record {
           not_entered = refl;
           name = refl;
           names = (in_none f, tt);
+          types = nameless (of_end Unreachable) (simp (at_void) refl);
+          result = tt;
           registers = tt;
           operands = tt;
-          each = (record { phis = tt; operators = tt; labels = tt; branches = tt; returns = tt; cases = tt }, tt);
+          each = (record { phis = tt; lines = tt; labels = tt; branches = tt; returns = tt; cases = tt }, tt);
         },
         tt,
       );
+      declarations = tt;
       names = (in_none f, tt);
     };
     defined = of_end_defined Unreachable refl;
     range = of_end_range Unreachable refl refl;
   };
   condition = record {
-    shape = before_shape (branching (Int 1) x x) refl (tt, tt) (to_known, (to_known, tt)) refl tt tt;
+    shape = before_shape (branching (Int 1) x x) refl (simp (in_number, at_int, at_void) refl) (number_is (alone (before_return (branching (Int 1) x x))) (Int 1) 1, tt) (to_known, (to_known, tt)) refl tt tt;
     defined = before_defined (branching (Int 1) x x) (λ taken. (tt, tt));
     range = condition_range 1 (refl, refl);
   };
@@ -267,12 +281,16 @@ other_number : (m n : ℕ) → nat_eq m m ≡ true → nat_eq m n ≡ false → 
 other_number m n same other is =
     let both : nat_eq m m ≡ nat_eq m n = ap (λ (e : Entry). nat_eq m (number_in e.value)) is in cc
 
+abbrev twice_alike : Module
+twice_alike = alone (joining (from_f 0 ∷ from_f 0 ∷ []))
+
 pub phis_follow_edges : PhisFollowEdges
 phis_follow_edges = record {
   alike = record {
     shape = record {
       types_apart = tt;
       types = tt;
+      globals = tt;
       functions = (
         record {
           first = _;
@@ -281,14 +299,16 @@ phis_follow_edges = record {
           not_entered = refl;
           name = refl;
           names = (in_none f, (in_one f x refl refl, (in_two f x y refl refl refl refl, tt)));
-          registers = (tt, tt);
-          operands = (tt, (tt, (tt, tt)));
+          types = nameless (joining (from_f 0 ∷ from_f 0 ∷ [])) (simp (in_number, at_int, at_void) refl);
+          result = tt;
+          registers = (refl, tt);
+          operands = (number_is twice_alike (Int 1) 1, (number_is twice_alike (Int 32) 0, (number_is twice_alike (Int 32) 0, tt)));
           each = (
-            record { phis = tt; operators = tt; labels = (to_known, (to_known, tt)); branches = refl; returns = tt; cases = tt },
+            record { phis = tt; lines = tt; labels = (to_known, (to_known, tt)); branches = refl; returns = tt; cases = tt },
             (
               record {
                 phis = (record { some = omega arith; edges = IsPermutation-refl (f ∷ f ∷ []); alike = both_alike }, tt);
-                operators = tt;
+                lines = tt;
                 labels = tt;
                 branches = tt;
                 returns = refl;
@@ -300,6 +320,7 @@ phis_follow_edges = record {
         },
         tt,
       );
+      declarations = tt;
       names = (in_none f, tt);
     };
     defined = joining_defined (from_f 0 ∷ from_f 0 ∷ []) (λ taken from. ((λ same. tt, (λ same. tt, tt)), tt));
@@ -331,8 +352,9 @@ phis_follow_edges = record {
 switch_defined : (cases : List Case) → IsDefined (alone (switching cases))
 switch_defined cases = before_defined (choosing x cases) (λ taken. (tt, tt))
 
-switch_shape : (cases : List Case) → edges_into (switching cases) f ≡ [] → AllByRecursion (Contains (f ∷ x ∷ [])) (successors_of (choosing x cases)) → HasCases (choosing x cases) → HasShape (alone (switching cases))
-switch_shape cases not_entered labels apart = before_shape (choosing x cases) not_entered (tt, tt) labels tt tt apart
+switch_shape : (cases : List Case) → edges_into (switching cases) f ≡ [] → flat_map names_in_type (types_in (switching cases)) ≡ [] → AllByRecursion (Contains (f ∷ x ∷ [])) (successors_of (choosing x cases)) → HasCases (choosing x cases) → HasShape (alone (switching cases))
+switch_shape cases not_entered names labels apart =
+    before_shape (choosing x cases) not_entered names (number_is (alone (switching cases)) (Int 8) 1, tt) labels refl tt apart
 
 switch_range : (cases : List Case) → AllByRecursion IsCaseInRange (cases ++ []) → IsInRange (alone (switching cases))
 switch_range cases fit = before_range (choosing x cases) ((refl, refl), tt) fit
@@ -340,12 +362,12 @@ switch_range cases fit = before_range (choosing x cases) ((refl, refl), tt) fit
 pub cases_are_apart : CasesAreApart
 cases_are_apart = record {
   none = record {
-    shape = switch_shape [] refl (to_known, tt) (record { typed = tt; apart = tt });
+    shape = switch_shape [] refl (simp (in_number, at_int, at_void) refl) (to_known, tt) (record { typed = tt; apart = tt });
     defined = switch_defined [];
     range = switch_range [] tt;
   };
   apart = record {
-    shape = switch_shape _ refl (to_known, (to_known, (to_known, tt))) (record { typed = (refl, (refl, tt)); apart = (number_in_none 255, (number_in_one 255 0 refl refl, tt)) });
+    shape = switch_shape (to_x (Int 8) 255 ∷ to_x (Int 8) 0 ∷ []) refl (simp (in_number, at_int, at_void) refl) (to_known, (to_known, (to_known, tt))) (record { typed = (refl, (refl, tt)); apart = (number_in_none 255, (number_in_one 255 0 refl refl, tt)) });
     defined = switch_defined _;
     range = switch_range _ ((refl, refl), ((refl, refl), tt));
   };
@@ -361,7 +383,7 @@ cases_are_apart = record {
   );
   modulo = λ shape. shape.functions.0.each.0.cases.apart.1.0 (zero, omega arith, refl);
   out_of_range = (
-    switch_shape _ refl (to_known, (to_known, tt)) (record { typed = (refl, tt); apart = (number_in_none 0, tt) }),
+    switch_shape (to_x (Int 8) 256 ∷ []) refl (simp (in_number, at_int, at_void) refl) (to_known, (to_known, tt)) (record { typed = (refl, tt); apart = (number_in_none 0, tt) }),
     switch_defined _,
     λ range. let wide = range.functions.0.cases.0.1 in cc,
   );
@@ -369,7 +391,7 @@ cases_are_apart = record {
 
 -- ---- paths
 
-in_three : (a b c d : Name) → same_name a d ≡ false → same_name a a ≡ true → same_name b d ≡ false → same_name b b ≡ true → same_name c d ≡ false → same_name c c ≡ true → Contains (a ∷ b ∷ c ∷ []) d → ⊥
+pub in_three : (a b c d : Name) → same_name a d ≡ false → same_name a a ≡ true → same_name b d ≡ false → same_name b b ≡ true → same_name c d ≡ false → same_name c c ≡ true → Contains (a ∷ b ∷ c ∷ []) d → ⊥
 in_three a b c d other same further also last too (zero, inside, is) =
     let both : same_name a a ≡ same_name a d = ap (same_name a) is in cc
 in_three a b c d other same further also last too (suc k, inside, is) = in_two b c d further also last too (k, omega (arith, inside), is)
@@ -403,6 +425,7 @@ paths_define = record {
     record {
       types_apart = tt;
       types = tt;
+      globals = tt;
       functions = (
         record {
           first = _;
@@ -411,18 +434,21 @@ paths_define = record {
           not_entered = refl;
           name = refl;
           names = (in_none f, (in_one f x refl refl, (in_two f x z refl refl refl refl, (in_three f x z y refl refl refl refl refl refl, tt))));
-          registers = (tt, tt);
-          operands = (tt, (tt, (tt, ((zero, omega arith, refl), tt))));
+          types = nameless one_arm (simp (in_number, at_int) refl);
+          result = refl;
+          registers = (refl, tt);
+          operands = (number_is (alone one_arm) (Int 1) 1, (number_is (alone one_arm) (Int 32) 1, (number_is (alone one_arm) (Int 32) 2, ((zero, omega arith, refl), tt))));
           each = (
-            record { phis = tt; operators = tt; labels = ((1, omega arith, refl), ((2, omega arith, refl), tt)); branches = refl; returns = tt; cases = tt },
+            record { phis = tt; lines = tt; labels = ((1, omega arith, refl), ((2, omega arith, refl), tt)); branches = refl; returns = tt; cases = tt },
             (
-              record { phis = tt; operators = (tt, tt); labels = ((2, omega arith, refl), tt); branches = tt; returns = tt; cases = tt },
-              (record { phis = tt; operators = tt; labels = tt; branches = tt; returns = refl; cases = tt }, tt),
+              record { phis = tt; lines = (refl, tt); labels = ((2, omega arith, refl), tt); branches = tt; returns = tt; cases = tt },
+              (record { phis = tt; lines = tt; labels = tt; branches = tt; returns = refl; cases = tt }, tt),
             ),
           );
         },
         tt,
       );
+      declarations = tt;
       names = (in_none f, tt);
     },
     λ defined.
@@ -453,6 +479,7 @@ paths_define = record {
     shape = record {
       types_apart = tt;
       types = tt;
+      globals = tt;
       functions = (
         record {
           first = _;
@@ -461,14 +488,16 @@ paths_define = record {
           not_entered = refl;
           name = refl;
           names = (in_none f, (in_one f x refl refl, (in_two f x y refl refl refl refl, tt)));
-          registers = (tt, tt);
-          operands = (tt, ((zero, omega arith, refl), tt));
+          types = nameless looping (simp (in_number, at_int, at_void) refl);
+          result = tt;
+          registers = (refl, tt);
+          operands = (number_is (alone looping) (Int 32) 0, ((zero, omega arith, refl), tt));
           each = (
-            record { phis = tt; operators = tt; labels = (to_known, tt); branches = tt; returns = tt; cases = tt },
+            record { phis = tt; lines = tt; labels = (to_known, tt); branches = tt; returns = tt; cases = tt },
             (
               record {
                 phis = (record { some = omega arith; edges = IsPermutation-refl (f ∷ x ∷ []); alike = loop_alike }, tt);
-                operators = tt;
+                lines = tt;
                 labels = (to_known, tt);
                 branches = tt;
                 returns = tt;
@@ -480,6 +509,7 @@ paths_define = record {
         },
         tt,
       );
+      declarations = tt;
       names = (in_none f, tt);
     };
     defined = (each_path looping loop_lines loop_edges, tt);

@@ -2,8 +2,11 @@ pub mod Constants
 pub mod Lines
 pub mod SameConstants
 pub mod SameInits
+pub mod Inits
 pub mod SameLaws
 pub mod Widths
+pub mod TypeNames
+pub mod Typing
 pub mod WellFormed
 pub mod Shapes
 pub mod Operations
@@ -11,5 +14,5 @@ pub mod Mapped
 pub mod MemoryExamples
 pub mod Flow
 pub mod TypeExamples
-pub mod TypeNames
+pub mod TypingExamples
 pub mod NamedExamples

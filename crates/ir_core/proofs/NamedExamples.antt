@@ -25,7 +25,9 @@ named_types_are_known = record {
     shape = record {
       types_apart = (in_none x, (in_one x y refl refl, tt));
       types = (no_integer_names (x ∷ y ∷ []) x 32, (no_integer_names (x ∷ y ∷ []) y 8, tt));
+      globals = tt;
       functions = tt;
+      declarations = tt;
       names = tt;
     };
     defined = tt;
@@ -55,7 +57,9 @@ named_types_are_known = record {
         (tt, tt),
       ),
     );
+    globals = tt;
     functions = tt;
+    declarations = tt;
     names = tt;
   };
   unknown = λ shape.
@@ -65,13 +69,17 @@ named_types_are_known = record {
   behind_pointer = record {
     types_apart = (in_none x, tt);
     types = (naming (x ∷ []) (x ∷ []) (struct x (Int 32 ∷ Ptr (Named x) ∷ [])) (simp (at_int, at_ptr, at_named) refl) ((zero, omega arith, refl), tt), tt);
+    globals = tt;
     functions = tt;
+    declarations = tt;
     names = tt;
   };
   in_itself = record {
     types_apart = (in_none x, tt);
     types = (naming (x ∷ []) (x ∷ []) (struct x (Array 2 (Named x) ∷ [])) (simp (at_array, at_named) refl) ((zero, omega arith, refl), tt), tt);
+    globals = tt;
     functions = tt;
+    declarations = tt;
     names = tt;
   };
 }
@@ -79,12 +87,12 @@ named_types_are_known = record {
 pub named_types_are_in_range : NamedTypesAreInRange
 named_types_are_in_range = (
   (
-    record { types_apart = (in_none x, tt); types = (no_integer_names (x ∷ []) x 65, tt); functions = tt; names = tt },
+    record { types_apart = (in_none x, tt); types = (no_integer_names (x ∷ []) x 65, tt); globals = tt; functions = tt; declarations = tt; names = tt },
     tt,
     λ range. let wide = range.types.0.fields.0 in cc,
   ),
   (
-    record { types_apart = (in_none (Text []), tt); types = (no_integer_names (Text [] ∷ []) (Text []) 32, tt); functions = tt; names = tt },
+    record { types_apart = (in_none (Text []), tt); types = (no_integer_names (Text [] ∷ []) (Text []) 32, tt); globals = tt; functions = tt; declarations = tt; names = tt },
     tt,
     λ range. absurd (omega (arith, range.types.0.name.0)),
   ),

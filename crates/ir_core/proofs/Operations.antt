@@ -1,5 +1,6 @@
 -- Functions of one line: which conversions, selections, comparisons and flags are well-formed.
 use Rattle.std.proofs.Common.{◌≡◌, ℕ, zero, true, false, [], refl, ap, arith}
+use Rattle.ir_core.specs.declared.modules.Module.{Module}
 use Rattle.ir_core.specs.declared.operands.BinOp.{BinOp}
 use Rattle.ir_core.specs.declared.operands.BinOp.TheVariants.{Add, UDiv, And}
 use Rattle.ir_core.specs.declared.operands.CastOp.{CastOp}
@@ -9,10 +10,12 @@ use Rattle.ir_types.specs.declared.ty.Ty.{Ty}
 use Rattle.ir_types.specs.declared.ty.Ty.TheVariants.{Int, Void}
 use Rattle.ir_core.specs.Examples.{alone, compared, f, of_cast, of_flags, of_select, returning_nothing, x}
 use Rattle.ir_core.specs.Laws.{ComparisonsGiveBits, ConversionsChangeWidths, FlagsHaveOperators, LacksShapeAlone, SelectionsHaveOneType, VoidReturns}
-use Rattle.ir_core.specs.Ranges.{IsInRange, IsTypeInRange, may_have}
+use Rattle.ir_core.specs.Ranges.{IsInRange, IsResultInRange, may_have}
 use Rattle.ir_types.specs.Same.{same_ty}
 use Rattle.ir_core.specs.Types.{converts, fits, is_width}
 use Rattle.ir_core.specs.WellFormed.{HasShape, IsDefined, IsWellFormed}
+use Rattle.ir_core.proofs.TypeNames.{at_int, at_void}
+use Rattle.ir_core.proofs.Typing.{in_number, nameless, number_is}
 use Rattle.ir_core.proofs.WellFormed.{defined, in_none, in_one, name_f, name_x}
 
 pub other_type : (v w : Ty) → same_ty v v ≡ true → same_ty v w ≡ false → v ≡ w → ⊥
@@ -25,6 +28,7 @@ cast_shape : (op : CastOp) (v w : ℕ) → converts op (Int v) (Int w) ≡ true 
 cast_shape op v w h = record {
   types_apart = tt;
   types = tt;
+  globals = tt;
   functions = (
     record {
       first = _;
@@ -33,12 +37,15 @@ cast_shape op v w h = record {
       not_entered = refl;
       name = refl;
       names = (in_none f, (in_one f x refl refl, tt));
-      registers = (tt, tt);
-      operands = (tt, (tt, tt));
-      each = (record { phis = tt; operators = (h, tt); labels = tt; branches = tt; returns = refl; cases = tt }, tt);
+      types = nameless (of_cast op (Int v) (Int w)) (simp (in_number, at_int) refl);
+      result = refl;
+      registers = (refl, tt);
+      operands = (number_is (alone (of_cast op (Int v) (Int w))) (Int v) 1, (number_is (alone (of_cast op (Int v) (Int w))) (Int 32) 0, tt));
+      each = (record { phis = tt; lines = (h, tt); labels = tt; branches = tt; returns = refl; cases = tt }, tt);
     },
     tt,
   );
+  declarations = tt;
   names = (in_none f, tt);
 }
 
@@ -76,7 +83,7 @@ no_conversion op v w not is = cc
 
 cast_lacks : (op : CastOp) (v w : ℕ) → converts op (Int v) (Int w) ≡ false → is_width v ≡ true → fits 1 v ≡ true → is_width w ≡ true
     → LacksShapeAlone (alone (of_cast op (Int v) (Int w)))
-cast_lacks op v w not width one to = (λ shape. no_conversion op v w not shape.functions.0.each.0.operators.0, cast_defined op v w, cast_range op v w width one to)
+cast_lacks op v w not width one to = (λ shape. no_conversion op v w not shape.functions.0.each.0.lines.0, cast_defined op v w, cast_range op v w width one to)
 
 pub conversions_change_widths : ConversionsChangeWidths
 conversions_change_widths = record {
@@ -121,12 +128,16 @@ select_range c l r c_width c_fits l_width l_fits r_width r_fits = record {
   declarations = refl;
 }
 
+abbrev selecting_one : Module
+selecting_one = alone (of_select (Int 1) (Int 8) (Int 8))
+
 pub selections_have_one_type : SelectionsHaveOneType
 selections_have_one_type = record {
   select = record {
     shape = record {
       types_apart = tt;
       types = tt;
+      globals = tt;
       functions = (
         record {
           first = _;
@@ -135,24 +146,27 @@ selections_have_one_type = record {
           not_entered = refl;
           name = refl;
           names = (in_none f, (in_one f x refl refl, tt));
-          registers = (tt, tt);
-          operands = (tt, (tt, (tt, (tt, tt))));
-          each = (record { phis = tt; operators = ((refl, refl), tt); labels = tt; branches = tt; returns = refl; cases = tt }, tt);
+          types = nameless (of_select (Int 1) (Int 8) (Int 8)) (simp (in_number, at_int) refl);
+          result = refl;
+          registers = (refl, tt);
+          operands = (number_is selecting_one (Int 1) 1, (number_is selecting_one (Int 8) 1, (number_is selecting_one (Int 8) 1, (number_is selecting_one (Int 32) 0, tt))));
+          each = (record { phis = tt; lines = ((refl, refl), tt); labels = tt; branches = tt; returns = refl; cases = tt }, tt);
         },
         tt,
       );
+      declarations = tt;
       names = (in_none f, tt);
     };
     defined = select_defined 1 8 8;
     range = select_range 1 8 8 refl refl refl refl refl refl;
   };
   wide_condition = (
-    λ shape. other_type (Int 8) (Int 1) refl refl shape.functions.0.each.0.operators.0.0,
+    λ shape. other_type (Int 8) (Int 1) refl refl shape.functions.0.each.0.lines.0.0,
     select_defined 8 8 8,
     select_range 8 8 8 refl refl refl refl refl refl,
   );
   two_types = (
-    λ shape. other_type (Int 8) (Int 16) refl refl shape.functions.0.each.0.operators.0.1,
+    λ shape. other_type (Int 8) (Int 16) refl refl shape.functions.0.each.0.lines.0.1,
     select_defined 1 8 16,
     select_range 1 8 16 refl refl refl refl refl refl,
   );
@@ -165,6 +179,7 @@ comparisons_give_bits = record {
   shape = record {
     types_apart = tt;
     types = tt;
+    globals = tt;
     functions = (
       record {
         first = _;
@@ -173,12 +188,15 @@ comparisons_give_bits = record {
         not_entered = refl;
         name = refl;
         names = (in_none f, (in_one f x refl refl, tt));
-        registers = (tt, tt);
-        operands = (tt, (tt, ((zero, omega arith, refl), tt)));
-        each = (record { phis = tt; operators = (tt, tt); labels = tt; branches = tt; returns = refl; cases = tt }, tt);
+        types = nameless compared (simp (in_number, at_int) refl);
+        result = refl;
+        registers = (refl, tt);
+        operands = (number_is (alone compared) (Int 8) 1, (number_is (alone compared) (Int 8) 1, ((zero, omega arith, refl), tt)));
+        each = (record { phis = tt; lines = (refl, tt); labels = tt; branches = tt; returns = refl; cases = tt }, tt);
       },
       tt,
     );
+    declarations = tt;
     names = (in_none f, tt);
   };
   defined = (defined compared _ [] refl refl ((tt, (tt, tt)), ((zero, omega arith, refl), tt)), tt);
@@ -210,6 +228,7 @@ flags_shape : (op : BinOp) (flags : Flags) → HasShape (alone (of_flags op flag
 flags_shape op flags = record {
   types_apart = tt;
   types = tt;
+  globals = tt;
   functions = (
     record {
       first = _;
@@ -218,12 +237,15 @@ flags_shape op flags = record {
       not_entered = refl;
       name = refl;
       names = (in_none f, (in_one f x refl refl, tt));
-      registers = (tt, tt);
-      operands = (tt, (tt, (tt, tt)));
-      each = (record { phis = tt; operators = (tt, tt); labels = tt; branches = tt; returns = refl; cases = tt }, tt);
+      types = nameless (of_flags op flags) (simp (in_number, at_int) refl);
+      result = refl;
+      registers = (refl, tt);
+      operands = (number_is (alone (of_flags op flags)) (Int 8) 1, (number_is (alone (of_flags op flags)) (Int 8) 1, (number_is (alone (of_flags op flags)) (Int 32) 0, tt)));
+      each = (record { phis = tt; lines = (refl, tt); labels = tt; branches = tt; returns = refl; cases = tt }, tt);
     },
     tt,
   );
+  declarations = tt;
   names = (in_none f, tt);
 }
 
@@ -275,7 +297,7 @@ flags_have_operators = record {
 nothing_defined : (ty : Ty) → IsDefined (alone (returning_nothing ty))
 nothing_defined ty = (defined (returning_nothing ty) _ [] refl refl tt, tt)
 
-nothing_range : (ty : Ty) → IsTypeInRange ty → IsInRange (alone (returning_nothing ty))
+nothing_range : (ty : Ty) → IsResultInRange ty → IsInRange (alone (returning_nothing ty))
 nothing_range ty result = record {
   types = tt;
   globals = refl;
@@ -303,6 +325,7 @@ void_returns = record {
     shape = record {
       types_apart = tt;
       types = tt;
+      globals = tt;
       functions = (
         record {
           first = _;
@@ -311,12 +334,15 @@ void_returns = record {
           not_entered = refl;
           name = refl;
           names = (in_none f, tt);
+          types = nameless (returning_nothing Void) (simp (at_void) refl);
+          result = tt;
           registers = tt;
           operands = tt;
-          each = (record { phis = tt; operators = tt; labels = tt; branches = tt; returns = refl; cases = tt }, tt);
+          each = (record { phis = tt; lines = tt; labels = tt; branches = tt; returns = refl; cases = tt }, tt);
         },
         tt,
       );
+      declarations = tt;
       names = (in_none f, tt);
     };
     defined = nothing_defined Void;

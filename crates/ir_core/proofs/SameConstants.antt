@@ -1,11 +1,10 @@
 -- The test of constants is true exactly of equal ones.
 use Rattle.std.proofs.Common.{◌≡◌, ◌≤◌, ◌∙◌, ℕ, Bool, true, false, ◌&&◌, List, [], ◌∷◌, length, map, take, refl, sym, ap, arith}
 use Rattle.std.proofs.lemmas.List.{take_all}
-use Rattle.std.specs.Prelude.{nat_eq}
 use Rattle.ir_types.specs.declared.names.Name.{Name}
 use Rattle.ir_types.specs.declared.ty.Ty.{Ty}
 use Rattle.ir_types.specs.NameLaws.{left_true, right_true, all_true, same_nat_true, same_nat_refl, same_name_true, same_name_refl}
-use Rattle.ir_types.specs.Same.{same_name, same_ty}
+use Rattle.ir_types.specs.Same.{same_ty}
 use Rattle.ir_types.proofs.SameLaws.{same_ty_true, same_ty_refl}
 use Rattle.ir_core.specs.declared.operands.Const.{Const, Number, Undef, Null, Global, Element, Cast, out-Const, roll-Const, roll-out-Const}
 use Rattle.ir_core.specs.declared.operands.Const.TheOpen.{Const-F}

@@ -1,7 +1,6 @@
 -- The tests of specs/Same are true exactly of equal things: two laws for each. Where a test takes the test of its elements
 -- or registers, its laws take theirs.
-use Rattle.std.proofs.Common.{◌≡◌, ◌∙◌, ℕ, zero, suc, Bool, true, false, ◌&&◌, List, Option, None, Some, refl, sym, ap}
-use Rattle.std.specs.Prelude.{nat_eq}
+use Rattle.std.proofs.Common.{◌≡◌, ◌∙◌, ℕ, zero, suc, Bool, true, ◌&&◌, List, Option, None, Some, refl, sym, ap}
 use Rattle.ir_types.specs.declared.names.Name.{Name}
 use Rattle.ir_types.specs.declared.ty.Ty.{Ty}
 use Rattle.ir_core.specs.declared.operands.Atom.{Atom}
@@ -28,7 +27,7 @@ use Rattle.ir_types.specs.NameLaws.{left_true, right_true, all_true, same_list_t
 use Rattle.ir_types.specs.Same.{same_list, same_name, same_ty}
 use Rattle.ir_types.proofs.SameLaws.{same_ty_true, same_ty_refl}
 pub use Rattle.ir_core.proofs.SameConstants.{same_bool_true, same_bool_refl, same_const_true, same_const_refl}
-use Rattle.ir_core.specs.Same.{same_bool, same_const, same_atom, same_operand, op_code, same_op, cast_code, same_cast, pred_code, same_pred, same_flags, same_reg, same_binary, same_icmp, same_conversion, same_select, same_align, same_element, same_load, same_expr}
+use Rattle.ir_core.specs.Same.{same_bool, same_atom, same_operand, op_code, same_op, cast_code, same_cast, pred_code, same_pred, same_flags, same_reg, same_binary, same_icmp, same_conversion, same_select, same_align, same_element, same_load, same_expr}
 
 pub same_atom_true : {R : Type 0} (same : R → R → Bool) → ((a b : R) → same a b ≡ true → a ≡ b) → (a b : Atom R) → same_atom same a b ≡ true → a ≡ b
 same_atom_true same law (atom.Constant c) (atom.Constant d) h = ap atom.Constant (same_const_true c d h)

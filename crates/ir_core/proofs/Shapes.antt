@@ -7,11 +7,12 @@ use Rattle.ir_types.specs.declared.names.Name.TheVariants.{Text}
 use Rattle.ir_core.specs.declared.operands.Atom.TheVariants.{Register}
 use Rattle.ir_types.specs.declared.ty.Ty.{Ty}
 use Rattle.ir_types.specs.declared.ty.Ty.TheVariants.{Int, Void}
-use Rattle.ir_core.specs.Examples.{block, f, name_set_twice, no_operator, number, other_result, other_width, phi_of_no_edge, phi_of_nothing, returning, void_number, void_parameter, x, y}
+use Rattle.ir_core.specs.Examples.{alone, block, f, name_set_twice, no_operator, number, other_result, other_width, phi_of_no_edge, phi_of_nothing, returning, void_number, void_parameter, x, y}
 use Rattle.ir_core.specs.Laws.{DebugNamesAreNot, FunctionsOfOneNameAreNot, FunctionsWithoutBlocksAreNot, LinesWithoutOperatorsAreNot, NamesSetTwiceAreNot, OtherResultsAreNot, OtherWidthsAreNot, PhisOfNoEdgeAreNot, PhisOfNothingAreNot, VoidNumbersAreNot, VoidParametersAreNot}
 use Rattle.ir_core.specs.Ranges.{IsFunctionInRange, IsNameInRange}
 use Rattle.ir_types.specs.Same.{same_ty}
 use Rattle.ir_core.specs.WellFormed.{IsFunctionDefined}
+use Rattle.ir_core.proofs.Typing.{at_void, is_no_number, no_values}
 use Rattle.ir_core.proofs.WellFormed.{defined, name_f, name_x, name_y}
 
 -- a register is not of another width than the only one that there is
@@ -79,33 +80,14 @@ other_results_are_not = (
 
 pub void_parameters_are_not : VoidParametersAreNot
 void_parameters_are_not = (
-  λ shape. shape.functions.0.registers.0,
+  λ shape. no_values Void at_void shape.functions.0.registers.0,
   (defined void_parameter (block y [] (Int 32) (number 0)) [] refl refl (tt, tt), tt),
-  record {
-    types = tt;
-    globals = refl;
-    functions = (
-      record {
-        name = name_f;
-        names = (name_x, (name_y, tt));
-        result = refl;
-        registers = (tt, tt);
-        operands = ((refl, refl), tt);
-        flags = tt;
-        cases = tt;
-        lines = omega arith;
-        linkage = refl;
-        extensions = (refl, (refl, tt));
-      },
-      tt,
-    );
-    declarations = refl;
-  },
+  λ range. range.functions.0.registers.0,
 )
 
 pub void_numbers_are_not : VoidNumbersAreNot
 void_numbers_are_not = (
-  λ shape. shape.functions.0.operands.0,
+  λ shape. is_no_number (alone void_number) Void 0 refl shape.functions.0.operands.0,
   (defined void_number (block y [] Void (number 0)) [] refl refl (tt, tt), tt),
 )
 
@@ -113,7 +95,7 @@ void_numbers_are_not = (
 
 pub lines_without_operators_are_not : LinesWithoutOperatorsAreNot
 lines_without_operators_are_not = (
-  λ shape. shape.functions.0.each.0.operators.0,
+  λ shape. shape.functions.0.each.0.lines.0,
   (defined no_operator _ [] refl refl ((tt, tt), ((zero, omega arith, refl), tt)), tt),
   record {
     types = tt;

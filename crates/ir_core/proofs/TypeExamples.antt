@@ -1,6 +1,14 @@
 -- Which types have values.
-use Rattle.std.proofs.Common.{refl}
-use Rattle.ir_core.specs.TypeLaws.{IntegersHaveKinds, OtherTypesAreNot}
+use Rattle.std.proofs.Common.{[], ◌∷◌, refl}
+use Rattle.ir_types.specs.declared.ty.Ty.{Ty, Int, Ptr, Array, Struct, Named}
+use Rattle.ir_core.specs.declared.functions.Function.{Function}
+use Rattle.ir_core.specs.Examples.{alone, f, number, passing, x, y}
+use Rattle.ir_core.specs.TypeLaws.{IntegersHaveKinds, OtherTypesAreNot, beside_type, never_returning}
+use Rattle.ir_core.specs.WellFormed.{HasShape}
+use Rattle.ir_core.proofs.TypeNames.{at_int, at_ptr}
+use Rattle.ir_core.proofs.Typing as typing
+use Rattle.ir_core.proofs.Typing.{in_number, is_no_number, nameless, no_values, number_is}
+use Rattle.ir_core.proofs.WellFormed.{defined, in_none, in_one}
 
 pub integers_have_kinds : IntegersHaveKinds
 integers_have_kinds = record {
@@ -15,10 +23,77 @@ integers_have_kinds = record {
   named = refl;
 }
 
+abbrev taking : Ty → Function
+taking t = passing (Int 32) t (Int 32) (number 0)
+
+pointer_shape : HasShape (alone (taking (Ptr (Int 8))))
+pointer_shape = record {
+  types_apart = tt;
+  types = tt;
+  globals = tt;
+  functions = (
+    record {
+      first = _;
+      further = [];
+      blocks = refl;
+      not_entered = refl;
+      name = refl;
+      names = (in_none x, (in_one x y refl refl, tt));
+      types = nameless (taking (Ptr (Int 8))) (simp (in_number, at_int, at_ptr) refl);
+      result = refl;
+      registers = (typing.at_ptr (Int 8), tt);
+      operands = (number_is (alone (taking (Ptr (Int 8)))) (Int 32) 0, tt);
+      each = (record { phis = tt; lines = tt; labels = tt; branches = tt; returns = refl; cases = tt }, tt);
+    },
+    tt,
+  );
+  declarations = tt;
+  names = (in_none f, tt);
+}
+
+result_shape : HasShape (alone (never_returning (Ptr (Int 8))))
+result_shape = record {
+  types_apart = tt;
+  types = tt;
+  globals = tt;
+  functions = (
+    record {
+      first = _;
+      further = [];
+      blocks = refl;
+      not_entered = refl;
+      name = refl;
+      names = (in_none f, tt);
+      types = nameless (never_returning (Ptr (Int 8))) (simp (at_int, at_ptr) refl);
+      result = typing.at_ptr (Int 8);
+      registers = tt;
+      operands = tt;
+      each = (record { phis = tt; lines = tt; labels = tt; branches = tt; returns = tt; cases = tt }, tt);
+    },
+    tt,
+  );
+  declarations = tt;
+  names = (in_none f, tt);
+}
+
 pub other_types_are_not : OtherTypesAreNot
 other_types_are_not = record {
-  pointer = λ shape. shape.functions.0.registers.0;
-  array = λ shape. shape.functions.0.registers.0;
-  named = λ shape. shape.functions.0.operands.0;
-  result = λ range. range.functions.0.result;
+  pointer = (
+    pointer_shape,
+    (defined (taking (Ptr (Int 8))) _ [] refl refl (tt, tt), tt),
+    λ range. range.functions.0.registers.0,
+  );
+  array = λ shape. no_values (Array 4 (Int 8)) (typing.at_array 4 (Int 8)) shape.functions.0.registers.0;
+  struct = λ shape. no_values (Struct (Int 8 ∷ [])) (typing.at_struct (Int 8 ∷ [])) shape.functions.0.registers.0;
+  named_parameter = λ shape. no_values (Named x) (typing.at_named x) shape.functions.0.registers.0;
+  named = λ shape. is_no_number (beside_type (passing (Named x) (Int 32) (Named x) (number 0))) (Named x) 0 refl shape.functions.0.operands.0;
+  result = (
+    result_shape,
+    (defined (never_returning (Ptr (Int 8))) _ [] refl refl tt, tt),
+    λ range. range.functions.0.result,
+  );
+  array_result = λ shape. no_values (Array 4 (Int 8)) (typing.at_array 4 (Int 8)) shape.functions.0.result;
+  struct_result = λ shape. no_values (Struct (Int 8 ∷ [])) (typing.at_struct (Int 8 ∷ [])) shape.functions.0.result;
+  named_result = λ shape. no_values (Named x) (typing.at_named x) shape.functions.0.result;
+  void_field = λ range. range.types.0.fields.0;
 }

@@ -7,12 +7,14 @@ use Rattle.ir_types.specs.declared.names.Name.{Name}
 use Rattle.ir_types.specs.declared.names.Name.TheVariants.{Text}
 use Rattle.ir_core.specs.declared.operands.Atom.TheVariants.{Register}
 use Rattle.ir_types.specs.declared.ty.Ty.TheVariants.{Int}
-use Rattle.ir_core.specs.Examples.{add, block, f, function, number, x, y}
+use Rattle.ir_core.specs.Examples.{add, block, early_use, empty_name, f, function, number, two_blocks, wide_number, x, y}
 use Rattle.ir_core.specs.Functions.{names_in, params_of, successors_of}
 use Rattle.ir_core.specs.Laws.{EarlyUsesAreNot, EmptyNamesAreNot, TwoBlocksAreWellFormed, WideNumbersAreNot}
 use Rattle.ir_core.specs.Ranges.{IsNameInRange}
 use Rattle.ir_types.specs.Same.{same_name}
 use Rattle.ir_core.specs.WellFormed.{BlockUsesDefined, IsFunctionDefined}
+use Rattle.ir_core.proofs.TypeNames.{at_int}
+use Rattle.ir_core.proofs.Typing.{in_number, nameless, number_is}
 
 pub in_none : (name : Name) → Contains [] name → ⊥
 in_none name there = absurd (omega (arith, there.1))
@@ -52,6 +54,7 @@ two_blocks_are_well_formed = record {
   shape = record {
     types_apart = tt;
     types = tt;
+    globals = tt;
     functions = (
       record {
         first = block x [] (Int 32) (number 0);
@@ -60,12 +63,15 @@ two_blocks_are_well_formed = record {
         not_entered = refl;
         name = refl;
         names = (in_none x, (in_one x y refl refl, tt));
+        types = nameless (function (Int 32) f (block x [] (Int 32) (number 0) ∷ block y [] (Int 32) (number 0) ∷ [])) (simp (in_number, at_int) refl);
+        result = refl;
         registers = tt;
-        operands = (tt, (tt, tt));
-        each = (record { phis = tt; operators = tt; labels = tt; branches = tt; returns = refl; cases = tt }, (record { phis = tt; operators = tt; labels = tt; branches = tt; returns = refl; cases = tt }, tt));
+        operands = (number_is two_blocks (Int 32) 0, (number_is two_blocks (Int 32) 0, tt));
+        each = (record { phis = tt; lines = tt; labels = tt; branches = tt; returns = refl; cases = tt }, (record { phis = tt; lines = tt; labels = tt; branches = tt; returns = refl; cases = tt }, tt));
       },
       tt,
     );
+    declarations = tt;
     names = (in_none f, tt);
   };
   defined = (defined (function (Int 32) f (block x [] (Int 32) (number 0) ∷ block y [] (Int 32) (number 0) ∷ [])) (block x [] (Int 32) (number 0)) (block y [] (Int 32) (number 0) ∷ []) refl refl (tt, tt), tt);
@@ -96,6 +102,7 @@ empty_names_are_not = (
   record {
     types_apart = tt;
     types = tt;
+    globals = tt;
     functions = (
       record {
         first = block x [] (Int 32) (number 0);
@@ -104,12 +111,15 @@ empty_names_are_not = (
         not_entered = refl;
         name = refl;
         names = (in_none x, tt);
+        types = nameless (function (Int 32) (Text []) (block x [] (Int 32) (number 0) ∷ [])) (simp (in_number, at_int) refl);
+        result = refl;
         registers = tt;
-        operands = (tt, tt);
-        each = (record { phis = tt; operators = tt; labels = tt; branches = tt; returns = refl; cases = tt }, tt);
+        operands = (number_is empty_name (Int 32) 0, tt);
+        each = (record { phis = tt; lines = tt; labels = tt; branches = tt; returns = refl; cases = tt }, tt);
       },
       tt,
     );
+    declarations = tt;
     names = (in_none _, tt);
   },
   (defined (function (Int 32) (Text []) (block x [] (Int 32) (number 0) ∷ [])) (block x [] (Int 32) (number 0)) [] refl refl (tt, tt), tt),
@@ -121,6 +131,7 @@ early_uses_are_not = (
   record {
     types_apart = tt;
     types = tt;
+    globals = tt;
     functions = (
       record {
         first = block f (add x (Register y) (number 0) ∷ add y (number 1) (number 2) ∷ []) (Int 32) (Register x);
@@ -129,12 +140,15 @@ early_uses_are_not = (
         not_entered = refl;
         name = refl;
         names = (in_none f, (in_one f x refl refl, (in_two f x y refl refl refl refl, tt)));
-        registers = (tt, (tt, tt));
-        operands = ((1, omega arith, refl), (tt, (tt, (tt, ((0, omega arith, refl), tt)))));
-        each = (record { phis = tt; operators = (tt, (tt, tt)); labels = tt; branches = tt; returns = refl; cases = tt }, tt);
+        types = nameless (function (Int 32) f (block f (add x (Register y) (number 0) ∷ add y (number 1) (number 2) ∷ []) (Int 32) (Register x) ∷ [])) (simp (in_number, at_int) refl);
+        result = refl;
+        registers = (refl, (refl, tt));
+        operands = ((1, omega arith, refl), (number_is early_use (Int 32) 0, (number_is early_use (Int 32) 1, (number_is early_use (Int 32) 2, ((0, omega arith, refl), tt)))));
+        each = (record { phis = tt; lines = (refl, (refl, tt)); labels = tt; branches = tt; returns = refl; cases = tt }, tt);
       },
       tt,
     );
+    declarations = tt;
     names = (in_none f, tt);
   },
   λ defined.
@@ -167,6 +181,7 @@ wide_numbers_are_not = (
   record {
     types_apart = tt;
     types = tt;
+    globals = tt;
     functions = (
       record {
         first = block x [] (Int 8) (number 256);
@@ -175,12 +190,15 @@ wide_numbers_are_not = (
         not_entered = refl;
         name = refl;
         names = (in_none x, tt);
+        types = nameless (function (Int 8) f (block x [] (Int 8) (number 256) ∷ [])) (simp (in_number, at_int) refl);
+        result = refl;
         registers = tt;
-        operands = (tt, tt);
-        each = (record { phis = tt; operators = tt; labels = tt; branches = tt; returns = refl; cases = tt }, tt);
+        operands = (number_is wide_number (Int 8) 256, tt);
+        each = (record { phis = tt; lines = tt; labels = tt; branches = tt; returns = refl; cases = tt }, tt);
       },
       tt,
     );
+    declarations = tt;
     names = (in_none f, tt);
   },
   (defined (function (Int 8) f (block x [] (Int 8) (number 256) ∷ [])) (block x [] (Int 8) (number 256)) [] refl refl (tt, tt), tt),

@@ -41,9 +41,9 @@ abbrev pub OtherResultsAreNot : Type 0
 OtherResultsAreNot = LacksShapeAlone (alone other_result)
 
 abbrev pub VoidParametersAreNot : Type 0
-VoidParametersAreNot = LacksShapeAlone (alone void_parameter)
+VoidParametersAreNot = (HasShape (alone void_parameter) → ⊥) × IsDefined (alone void_parameter) × (IsInRange (alone void_parameter) → ⊥)
 
--- a number of void lacks shape, and is out of range too
+-- a number of void, as a parameter of it, lacks shape, and is out of range too
 abbrev pub VoidNumbersAreNot : Type 0
 VoidNumbersAreNot = (HasShape (alone void_number) → ⊥) × IsDefined (alone void_number)
 

@@ -7,6 +7,10 @@ pub mod Words
 pub mod Modules
 pub mod Functions
 pub mod TypeNames
+pub mod Typing
+pub mod StatedTypes
+pub mod Depths
+pub mod Sizes
 pub mod Order
 pub mod Ranges
 pub mod WellFormed
@@ -16,3 +20,4 @@ pub mod FlowExamples
 pub mod FlowLaws
 pub mod TypeLaws
 pub mod MemoryLaws
+pub mod TypingLaws

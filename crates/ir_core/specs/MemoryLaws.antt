@@ -1,5 +1,5 @@
 -- Of lines and constants of memory: how they are read, and that no text writes them yet.
-use Rattle.std.specs.Prelude.{◌≡◌, Bool, false, true, List, [], ◌∷◌, Option, None, Some}
+use Rattle.std.specs.Prelude.{◌≡◌, false, true, [], ◌∷◌, Option, None, Some}
 use Rattle.ir_types.specs.declared.names.Name.{Name}
 use Rattle.ir_types.specs.declared.ty.Ty.{Ty, Int, Ptr, Void}
 use Rattle.ir_types.specs.Same.{same_name}
@@ -8,7 +8,6 @@ use Rattle.ir_core.specs.declared.expressions.Expr.{Expr}
 use Rattle.ir_core.specs.declared.expressions.Expr.TheVariants as expr
 use Rattle.ir_core.specs.declared.expressions.Load.{Load}
 use Rattle.ir_core.specs.declared.functions.Alloca.{Alloca}
-use Rattle.ir_core.specs.declared.functions.Argument.{Argument}
 use Rattle.ir_core.specs.declared.functions.Call.{Call}
 use Rattle.ir_core.specs.declared.functions.Extensions.{Extensions}
 use Rattle.ir_core.specs.declared.functions.Function.{Function}

@@ -1,5 +1,5 @@
 -- What is read of a module as a whole.
-use Rattle.std.specs.Prelude.{ℕ, false, List, [], ◌∷◌, map}
+use Rattle.std.specs.Prelude.{ℕ, cond, false, nat_le, List, [], ◌∷◌, map}
 use Rattle.ir_core.specs.declared.functions.Block.{Block}
 use Rattle.ir_core.specs.declared.functions.Extensions.{Extensions}
 use Rattle.ir_core.specs.declared.functions.Function.{Function}
@@ -32,6 +32,20 @@ definitions_of m = m.functions
 
 abbrev pub declarations_of : Module → List Declaration
 declarations_of m = m.declarations
+
+-- ---- the order of the file
+
+-- the first declarations, which stand before so many definitions and one more
+abbrev pub those_before : ℕ → List Declaration → List Declaration
+those_before count [] = []
+those_before count (d ∷ ds) = cond (nat_le d.before count) (d ∷ those_before count ds) []
+
+-- and those behind them
+abbrev pub those_behind : ℕ → List Declaration → List Declaration
+those_behind count [] = []
+those_behind count (d ∷ ds) = cond (nat_le d.before count) (those_behind count ds) (d ∷ ds)
+
+-- ---- linkage
 
 -- a number for each linkage, in the order of their declaration
 abbrev pub linkage_code : Linkage → ℕ

@@ -37,11 +37,15 @@ abbrev pub IsNameInRange : Name → Type 0
 IsNameInRange (Text bytes) = (0 < length bytes) × AreBytes bytes
 IsNameInRange (Number n) = n < 2 ^ 32
 
--- an integer has 1 to 64 bits; no text writes a type yet that is none, nor `void`
+-- an integer has 1 to 64 bits; no text writes another type yet
 abbrev pub IsTypeInRange : Ty → Type 0
 IsTypeInRange (ty.Int width) = is_width width ≡ true
-IsTypeInRange ty.Void = Unit {0}
 IsTypeInRange t = ⊥
+
+-- a result may be `void` besides, which stands in no other place and in no type
+abbrev pub IsResultInRange : Ty → Type 0
+IsResultInRange ty.Void = Unit {0}
+IsResultInRange t = IsTypeInRange t
 
 -- A number has no more bits than its type: 255 is one of `i8`, 256 is none. No text writes a constant yet that is neither a number nor undef.
 abbrev pub IsAtomInRange : {R : Type 0} → Ty → Atom R → Type 0
@@ -91,7 +95,7 @@ IsCaseInRange c = IsTypeInRange c.ty × (constant_fits c.ty (constant.Number c.n
 pub record IsFunctionInRange (f : Function) : Type 0 where
   pub name : IsNameInRange f.name
   pub names : AllByRecursion IsNameInRange (names_of f)
-  pub result : IsTypeInRange f.result
+  pub result : IsResultInRange f.result
   pub registers : AllByRecursion (λ register. IsTypeInRange register.1) (typed_of f)
   pub operands : AllByRecursion IsOperandInRange (flat_map operands_in_block f.blocks)
   pub flags : AllByRecursion IsLineInRange (flat_map (λ (b : Block). b.body) f.blocks)

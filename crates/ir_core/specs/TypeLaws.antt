@@ -3,12 +3,13 @@ use Rattle.std.specs.Prelude.{◌≡◌, [], ◌∷◌, None, Some}
 use Rattle.ir_types.specs.declared.ty.Ty.{Ty, Int, Ptr, Array, Struct, Named, Void}
 use Rattle.ir_core.specs.declared.functions.Function.{Function}
 use Rattle.ir_core.specs.declared.functions.Term.TheVariants.{Unreachable}
+use Rattle.ir_core.specs.declared.modules.Module.{Module}
 use Rattle.ir_core.specs.declared.values.Kind.TheVariants as kind
-use Rattle.ir_core.specs.Examples.{alone, f, linked_type, nameless_type, passing, number, three_types, two_types, type_in_itself, types_of_one_name, unknown_type, wide_field, x}
-use Rattle.ir_core.specs.Modules.{plain_function}
+use Rattle.ir_core.specs.Examples.{f, linked_type, nameless_type, passing, number, struct, three_types, two_types, type_in_itself, types_of_one_name, unknown_type, wide_field, x}
+use Rattle.ir_core.specs.Modules.{plain_function, plain_module}
 use Rattle.ir_core.specs.Ranges.{IsInRange}
 use Rattle.ir_core.specs.Types.{kind_of}
-use Rattle.ir_core.specs.Laws.{LacksShapeAlone}
+use Rattle.ir_core.specs.Laws.{IsOutOfRangeAlone, LacksShapeAlone}
 use Rattle.ir_core.specs.WellFormed.{HasShape, IsDefined, IsWellFormed}
 
 -- an integer of 1 to 64 bits has a kind, and no other type has one
@@ -27,12 +28,30 @@ pub record IntegersHaveKinds : Type 0 where
 abbrev pub never_returning : Ty → Function
 never_returning ty = plain_function ty f [] (record { name = f; phis = []; body = []; term = Unreachable } ∷ [])
 
--- no parameter is a pointer or an array, nothing of a named type is returned, and no function has a pointer for its result
+-- %x = type { i8 }, and that function
+abbrev pub beside_type : Function → Module
+beside_type g = plain_module (struct x (Int 8 ∷ []) ∷ []) (g ∷ [])
+
+abbrev pub LacksShape : Function → Type 0
+LacksShape g = HasShape (beside_type g) → ⊥
+
+-- %x = type { void }
+abbrev pub void_inside : Module
+void_inside = plain_module (struct x (Void ∷ []) ∷ []) []
+
+-- Parameters and results may be pointers, which no text writes yet. No parameter is an array, a struct or of a named type, and no function
+-- has one for its result, or returns a number of a named type.
 pub record OtherTypesAreNot : Type 0 where
-  pub pointer : HasShape (alone (passing (Int 32) (Ptr (Int 8)) (Int 32) (number 0))) → ⊥
-  pub array : HasShape (alone (passing (Int 32) (Array 4 (Int 8)) (Int 32) (number 0))) → ⊥
-  pub named : HasShape (alone (passing (Named x) (Int 32) (Named x) (number 0))) → ⊥
-  pub result : IsInRange (alone (never_returning (Ptr (Int 8)))) → ⊥
+  pub pointer : IsOutOfRangeAlone (passing (Int 32) (Ptr (Int 8)) (Int 32) (number 0))
+  pub array : LacksShape (passing (Int 32) (Array 4 (Int 8)) (Int 32) (number 0))
+  pub struct : LacksShape (passing (Int 32) (Struct (Int 8 ∷ [])) (Int 32) (number 0))
+  pub named_parameter : LacksShape (passing (Int 32) (Named x) (Int 32) (number 0))
+  pub named : LacksShape (passing (Named x) (Int 32) (Named x) (number 0))
+  pub result : IsOutOfRangeAlone (never_returning (Ptr (Int 8)))
+  pub array_result : LacksShape (never_returning (Array 4 (Int 8)))
+  pub struct_result : LacksShape (never_returning (Struct (Int 8 ∷ [])))
+  pub named_result : LacksShape (never_returning (Named x))
+  pub void_field : IsInRange void_inside → ⊥
 
 -- Named types have different names, and what one names, also behind a pointer, is a type that the module names, before it or behind it.
 -- One may hold itself, behind a pointer or not: it lacks a size alone.

@@ -1,14 +1,15 @@
 -- Which types there are, which have values, and between which there are conversions (LangRef 3.7, Type System, Conversion Operations).
-use Rattle.std.specs.Prelude.{ℕ, ◌&&◌, ◌%◌, ◌^◌, Bool, false, true, cond, nat_le, nat_lt, Option, None, Some}
+use Rattle.std.specs.Prelude.{ℕ, ◌&&◌, ◌%◌, ◌^◌, Bool, false, true, cond, nat_eq, nat_le, nat_lt, Option, None, Some}
 use Rattle.ir_core.specs.declared.operands.CastOp.{CastOp}
 use Rattle.ir_core.specs.declared.operands.CastOp.TheVariants as conversion
 use Rattle.ir_core.specs.declared.operands.Const.{Const}
 use Rattle.ir_core.specs.declared.operands.Const.TheVariants as constant
-use Rattle.ir_types.specs.declared.ty.Ty.{Ty}
+use Rattle.ir_types.specs.declared.ty.Ty.{Ty, out-Ty}
+use Rattle.ir_types.specs.declared.ty.Ty.TheOpen.{Ty-F}
+use Rattle.ir_types.specs.declared.ty.Ty.TheOpen as level
 use Rattle.ir_types.specs.declared.ty.Ty.TheVariants as ty
 use Rattle.ir_core.specs.declared.values.Kind.{Kind}
 use Rattle.ir_core.specs.declared.values.Kind.TheVariants as kind
-use Rattle.ir_types.specs.Same.{same_ty}
 
 -- an integer has 1 to 64 bits
 abbrev pub is_width : ℕ → Bool
@@ -34,6 +35,24 @@ abbrev pub kind_of : Ty → Option Kind
 kind_of (ty.Int width) = cond (is_width width) (Some (kind.Int width)) None
 kind_of t = None
 
+-- ---- classes of types
+
+abbrev pub is_integer : Ty → Bool
+is_integer (ty.Int width) = true
+is_integer t = false
+
+abbrev pub is_pointer_at_level : Ty-F Ty → Bool
+is_pointer_at_level (level.Ptr t) = true
+is_pointer_at_level other = false
+
+abbrev pub is_pointer : Ty → Bool
+is_pointer t = is_pointer_at_level (out-Ty t)
+
+-- a type of values: an integer or a pointer
+abbrev pub is_first_class : Ty → Bool
+is_first_class (ty.Int width) = true
+is_first_class t = is_pointer t
+
 -- ---- conversions
 
 -- an integer type of fewer bits than another
@@ -41,9 +60,15 @@ abbrev pub is_narrower : Ty → Ty → Bool
 is_narrower (ty.Int few) (ty.Int many) = nat_lt few many
 is_narrower from to = false
 
--- A conversion leads from one type to another: `zext` and `sext` to a wider one, `trunc` to a narrower one, `bitcast` to the same.
+-- the same integer type, or a pointer to whatever it points to
+abbrev pub is_recast : Ty → Ty → Bool
+is_recast (ty.Int width) (ty.Int same) = nat_eq width same
+is_recast from to = is_pointer from && is_pointer to
+
+-- A conversion leads from one type to another: `zext` and `sext` to a wider one, `trunc` to a narrower one, `bitcast` from an integer to the
+-- same and from a pointer to any.
 abbrev pub converts : CastOp → Ty → Ty → Bool
 converts conversion.ZExt from to = is_narrower from to
 converts conversion.SExt from to = is_narrower from to
 converts conversion.Trunc from to = is_narrower to from
-converts conversion.BitCast from to = same_ty from to
+converts conversion.BitCast from to = is_recast from to

@@ -6,6 +6,8 @@ ghost use Rattle.ir_core.specs.Laws.{ConversionsChangeWidths, SelectionsHaveOneT
 ghost use Rattle.ir_core.specs.TypeLaws.{IntegersHaveKinds, NamedTypesAreInRange, NamedTypesAreKnown, OtherTypesAreNot};
 ghost use Rattle.ir_core.specs.MemoryLaws.{AddressesAreRead, MemoryIsOutOfRange, MemoryLinesAreRead};
 ghost use Rattle.ir_core.specs.FlowLaws.{JumpsGoToBlocks, PhisFollowEdges, CasesAreApart, PathsDefine, SuccessorsInOrder};
+ghost use Rattle.ir_core.specs.TypingLaws.{AllocasAreTyped, AccessesAreTyped, ElementsAreTyped, IndicesLead, MemoryHasShape};
+ghost use Rattle.ir_core.specs.TypingLaws.{ArgumentsAreTyped, CallsAreTyped, ConstantsAreTyped, GlobalsAreTyped, InitialisersAreTyped};
 
 /// Empty on purpose: its contract is the law.
 ///
@@ -31,8 +33,8 @@ pub fn examples_of_types()
 
 /// Empty on purpose: its contract is the law.
 ///
-/// `i1` and `i64` have a kind; `i0`, `i65`, `void`, a pointer, an array, a struct and a named type have none. Some modules have no shape in
-/// which a parameter or what is returned is of such a type, and one is out of range that has a function of one for its result.
+/// `i1` and `i64` have a kind; `i0`, `i65`, `void`, a pointer, an array, a struct and a named type have none. No module has shape in which
+/// a parameter or a result is an array, a struct or of a named type. With a pointer for one a module has shape and is out of range.
 #[tactic(auto, using(crate::proofs::TypeExamples::integers_have_kinds, crate::proofs::TypeExamples::other_types_are_not))]
 pub fn examples_of_kinds()
     ensures kinds { IntegersHaveKinds }
@@ -113,4 +115,31 @@ pub fn examples_of_memory()
     ensures expressions { AddressesAreRead }
     ensures lines { MemoryLinesAreRead }
     ensures range { MemoryIsOutOfRange }
+{}
+
+/// Empty on purpose: its contract is the law.
+///
+/// Indices lead into arrays and to the fields of structs, also of named ones, and to nothing in an opaque type. What is allocated has a
+/// size, and what is loaded or stored is a value behind a pointer to its type.
+#[tactic(auto, using(crate::proofs::TypingExamples::indices_lead, crate::proofs::TypingExamples::elements_are_typed, crate::proofs::TypingExamples::allocas_are_typed, crate::proofs::TypingExamples::accesses_are_typed, crate::proofs::TypingExamples::memory_has_shape))]
+pub fn examples_of_addresses()
+    ensures indices { IndicesLead }
+    ensures elements { ElementsAreTyped }
+    ensures allocas { AllocasAreTyped }
+    ensures accesses { AccessesAreTyped }
+    ensures shape { MemoryHasShape }
+{}
+
+/// Empty on purpose: its contract is the law.
+///
+/// `null` is of pointer types, and a global's address of the type of pointers to its contents. Arguments are as many as parameters, but
+/// for `...`, and a result has a name unless it is `void`. Initialisers have as many parts as their types. A global has its own name, and
+/// contents of a type that the module knows.
+#[tactic(auto, using(crate::proofs::TypingExamples::constants_are_typed, crate::proofs::TypingExamples::arguments_are_typed, crate::proofs::TypingExamples::calls_are_typed, crate::proofs::TypingExamples::initialisers_are_typed, crate::proofs::TypingExamples::globals_are_typed))]
+pub fn examples_of_typing()
+    ensures constants { ConstantsAreTyped }
+    ensures arguments { ArgumentsAreTyped }
+    ensures calls { CallsAreTyped }
+    ensures initialisers { InitialisersAreTyped }
+    ensures globals { GlobalsAreTyped }
 {}

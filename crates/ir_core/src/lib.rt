@@ -27,9 +27,9 @@ pub use functions::{
 };
 pub use ir_types::{Name, NamedTy, NamedTypes, Shared, Sigil, SizeFault, Ty, same_name, same_ty};
 pub use laws::{
-    examples_of_control_flow, examples_of_expressions, examples_of_kinds, examples_of_lines,
-    examples_of_memory, examples_of_named_types, examples_of_names_and_blocks,
-    examples_of_operations, examples_of_types, examples_of_well_formedness,
+    examples_of_addresses, examples_of_control_flow, examples_of_expressions, examples_of_kinds,
+    examples_of_lines, examples_of_memory, examples_of_named_types, examples_of_names_and_blocks,
+    examples_of_operations, examples_of_types, examples_of_typing, examples_of_well_formedness,
 };
 pub use layout::{align_of, field_offset, fits_block, size_of};
 pub use limits::Limit;
@@ -41,6 +41,6 @@ pub use same::{
     same_cast, same_const, same_expr, same_flags, same_name_atom, same_name_operand, same_op,
     same_pred, same_reg, same_reg_atom, same_reg_operand, tests_are_equality,
 };
-pub use types::{converts, fits, is_width, kind_of};
+pub use types::{converts, fits, is_first_class, is_integer, is_pointer, is_width, kind_of};
 pub use values::{Kind, Value};
 pub use words::{cast_word, op_word, pred_word};

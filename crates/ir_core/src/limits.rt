@@ -8,8 +8,12 @@ pub enum Limit {
     Text,
     /// The bytes of a JSON file.
     Json,
+    /// Types or constants one inside the other.
+    Depth,
     /// The lines of a function, `ret` among them.
     Lines,
+    /// The bytes of a global, of an alloca with its count, or of a type over which indices step.
+    Block,
     /// The facts that are known at a place, of both sides together.
     Facts,
 }
@@ -21,7 +25,9 @@ impl Limit {
         match self {
             Limit::Text => "text",
             Limit::Json => "json",
+            Limit::Depth => "depth",
             Limit::Lines => "lines",
+            Limit::Block => "block",
             Limit::Facts => "facts",
         }
     }
@@ -32,7 +38,9 @@ impl Limit {
         match self {
             Limit::Text => 16_777_216,
             Limit::Json => 67_108_864,
+            Limit::Depth => 64,
             Limit::Lines => 1_048_576,
+            Limit::Block => 2_147_483_648,
             Limit::Facts => 65_536,
         }
     }

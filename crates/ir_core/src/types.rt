@@ -2,7 +2,7 @@
 ghost use Rattle.std.specs.Prelude.{◌≡◌};
 ghost use Rattle.ir_core.specs.Types as meaning;
 
-use crate::{CastOp, Kind, Ty, same_ty};
+use crate::{CastOp, Kind, Ty};
 
 /// Whether an integer may have that many bits.
 pub fn is_width(width: u32) -> bool
@@ -35,12 +35,47 @@ pub fn kind_of(ty: &Ty) -> Option<Kind>
     }
 }
 
+pub fn is_integer(ty: &Ty) -> bool
+    ensures { result ≡ meaning.is_integer ty.now }
+{
+    match ty {
+        Ty::Int(_) => true,
+        _ => false,
+    }
+}
+
+pub fn is_pointer(ty: &Ty) -> bool
+    ensures { result ≡ meaning.is_pointer ty.now }
+{
+    match ty {
+        Ty::Ptr(_) => true,
+        _ => false,
+    }
+}
+
+/// Whether it is a type of values: an integer or a pointer.
+pub fn is_first_class(ty: &Ty) -> bool
+    ensures { result ≡ meaning.is_first_class ty.now }
+{
+    is_integer(ty) || is_pointer(ty)
+}
+
 fn is_narrower(from: &Ty, to: &Ty) -> bool
     ensures { result ≡ meaning.is_narrower from.now to.now }
 {
     match (from, to) {
         (Ty::Int(few), Ty::Int(many)) => *few < *many,
         _ => false,
+    }
+}
+
+/// Whether it is the same integer type, or both are pointers.
+fn is_recast(from: &Ty, to: &Ty) -> bool
+    ensures { result ≡ meaning.is_recast from.now to.now }
+{
+    match (from, to) {
+        (Ty::Int(width), Ty::Int(same)) => *width == *same,
+        _ => is_pointer(from) && is_pointer(to),
     }
 }
 
@@ -52,6 +87,6 @@ pub fn converts(op: CastOp, from: &Ty, to: &Ty) -> bool
         CastOp::ZExt => is_narrower(from, to),
         CastOp::SExt => is_narrower(from, to),
         CastOp::Trunc => is_narrower(to, from),
-        CastOp::BitCast => same_ty(from, to),
+        CastOp::BitCast => is_recast(from, to),
     }
 }

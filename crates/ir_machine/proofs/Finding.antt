@@ -194,12 +194,12 @@ start_stands m x input s (Some f) named is =
 abbrev FoundFrom : Frame → Type 0
 FoundFrom frame = AllByRecursion (IsFound frame) (successors_of frame.term)
 
-finds_label : (frame : Frame) (b : Block) → HasFunctionShape frame.function → Contains frame.function.blocks b → frame.block ≡ b.name → (x : Name) → Contains (successors_of b.term) x
+finds_label : (m : Module) (frame : Frame) (b : Block) → HasFunctionShape m frame.function → Contains frame.function.blocks b → frame.block ≡ b.name → (x : Name) → Contains (successors_of b.term) x
     → Contains (map (λ (c : Block). c.name) frame.function.blocks) x → IsFound frame x
-finds_label frame b shape inside at x leads known =
+finds_label m frame b shape inside at x leads known =
     let found = is_found (λ (c : Block). c.name) frame.function.blocks x known in
     let c = found.first in
-    let fits : HasBlockShape frame.function c = all_at (HasBlockShape frame.function) frame.function.blocks c shape.each found.inside in
+    let fits : HasBlockShape m frame.function c = all_at (HasBlockShape m frame.function) frame.function.blocks c shape.each found.inside in
     let edge : Contains (filter (same_name c.name) (successors_of b.term)) x =
     is_in_filter (same_name c.name) (successors_of b.term) x (subst (λ (n : Name). same_name n x ≡ true) (sym found.named) (same_name_refl x)) leads in
     let enters : Contains (edges_into frame.function c.name) b.name =
@@ -208,20 +208,20 @@ finds_label frame b shape inside at x leads known =
     let entries = have_entries frame.function c frame.block c.phis (subst (Contains (edges_into frame.function c.name)) (sym at) enters) fits.phis in
     record { block = c; named = found.found; entries = entries }
 
-finds_each : (frame : Frame) (b : Block) → HasFunctionShape frame.function → Contains frame.function.blocks b → frame.block ≡ b.name → (xs : List Name)
+finds_each : (m : Module) (frame : Frame) (b : Block) → HasFunctionShape m frame.function → Contains frame.function.blocks b → frame.block ≡ b.name → (xs : List Name)
     → ((x : Name) → Contains xs x → Contains (successors_of b.term) x) → AllByRecursion (Contains (map (λ (c : Block). c.name) frame.function.blocks)) xs → AllByRecursion (IsFound frame) xs
-finds_each frame b shape inside at [] among known = tt
-finds_each frame b shape inside at (x ∷ xs) among known = (
-  finds_label frame b shape inside at x (among x (zero, omega arith, refl)) known.0,
-  finds_each frame b shape inside at xs (λ y there. among y (suc there.0, omega (arith, there.1), there.2)) known.1,
+finds_each m frame b shape inside at [] among known = tt
+finds_each m frame b shape inside at (x ∷ xs) among known = (
+  finds_label m frame b shape inside at x (among x (zero, omega arith, refl)) known.0,
+  finds_each m frame b shape inside at xs (λ y there. among y (suc there.0, omega (arith, there.1), there.2)) known.1,
 )
 
 frame_finds : (m : Module) (frame : Frame) → HasShape m → FrameStands m frame → FoundFrom frame
 frame_finds m frame shape stands =
-    let fits : HasFunctionShape frame.function = all_at HasFunctionShape m.functions frame.function shape.functions stands.function in
-    let block : HasBlockShape frame.function stands.block = all_at (HasBlockShape frame.function) frame.function.blocks stands.block fits.each stands.inside in
+    let fits : HasFunctionShape m frame.function = all_at (HasFunctionShape m) m.functions frame.function shape.functions stands.function in
+    let block : HasBlockShape m frame.function stands.block = all_at (HasBlockShape m frame.function) frame.function.blocks stands.block fits.each stands.inside in
     subst (λ (t : Term). AllByRecursion (IsFound frame) (successors_of t)) (sym stands.term_is)
-    (finds_each frame stands.block fits stands.inside stands.name_is (successors_of stands.block.term) (λ x there. there) block.labels)
+    (finds_each m frame stands.block fits stands.inside stands.name_is (successors_of stands.block.term) (λ x there. there) block.labels)
 
 state_finds : (m : Module) (s : State) → HasShape m → Stands m s → FindsItsLabels s
 state_finds m (Running frame rest world) shape stands = frame_finds m frame shape stands.0

@@ -32,7 +32,7 @@ use Rattle.ir_core.specs.Functions.{edges_into, names_in, operands_at_end, opera
 use Rattle.ir_core.specs.Ranges.{IsFunctionInRange, IsTypeInRange}
 use Rattle.ir_types.specs.Same.{same_name}
 use Rattle.ir_core.specs.Types.{kind_of, number_at}
-use Rattle.ir_core.specs.WellFormed.{AllUseDefined, FitsEdges, HasBlockShape, HasFunctionShape, IsFirstClass, IsFunctionDefined, IsPath, IsWellFormed, LinesUseDefined, PathUsesDefined, UsesDefined}
+use Rattle.ir_core.specs.WellFormed.{AllUseDefined, FitsEdges, HasBlockShape, HasFunctionShape, IsFunctionDefined, IsPath, IsWellFormed, LinesUseDefined, PathUsesDefined, UsesDefined}
 use Rattle.ir_types.specs.NameLaws.{same_name_refl, same_name_true}
 use Rattle.ir_machine.specs.declared.items.Choice.{Choice}
 use Rattle.ir_machine.specs.declared.items.Choice.TheVariants.{Go, Pick}
@@ -82,9 +82,9 @@ all_of P f [] x all there = absurd (omega (arith, there.1))
 all_of P f (y ∷ ys) x all (zero, inside, is) = subst (λ z. AllByRecursion P (f z)) is (all_left P (f y) (flat_map f ys) all)
 all_of P f (y ∷ ys) x all (suc k, inside, is) = all_of P f ys x (all_right P (f y) (flat_map f ys) all) (k, omega (arith, inside), is)
 
-all_both : {A : Type 0} (P Q R : A → Type 0) → ((x : A) → P x → Q x → R x) → (xs : List A) → AllByRecursion P xs → AllByRecursion Q xs → AllByRecursion R xs
-all_both P Q R f [] p q = tt
-all_both P Q R f (x ∷ xs) p q = (f x p.0 q.0, all_both P Q R f xs p.1 q.1)
+all_so : {A : Type 0} (P Q : A → Type 0) → ((x : A) → P x → Q x) → (xs : List A) → AllByRecursion P xs → AllByRecursion Q xs
+all_so P Q f [] all = tt
+all_so P Q f (x ∷ xs) all = (f x all.0, all_so P Q f xs all.1)
 
 -- ---- registers that are set
 
@@ -127,13 +127,13 @@ phis_set old from (p ∷ ps) registers names kinds sets =
 
 -- ---- kinds
 
-kind_in_range : (t : Ty) → IsFirstClass t → IsTypeInRange t → (k : Kind) × (kind_of t ≡ Some k)
-kind_in_range (ty.Int width) first range = (Int width, rw range refl)
-kind_in_range t first range = absurd first
+kind_in_range : (t : Ty) → IsTypeInRange t → (k : Kind) × (kind_of t ≡ Some k)
+kind_in_range (ty.Int width) range = (Int width, rw range refl)
+kind_in_range t range = absurd range
 
-kinds_of : (f : Function) (b : Block) → HasFunctionShape f → IsFunctionInRange f → Contains f.blocks b → AllByRecursion HasKind (registers_of b)
-kinds_of f b shape range inside =
-    let all = all_both (λ (r : Name × Ty). IsFirstClass r.1) (λ (r : Name × Ty). IsTypeInRange r.1) HasKind (λ r first range. kind_in_range r.1 first range) (typed_of f) shape.registers range.registers in
+kinds_of : (f : Function) (b : Block) → IsFunctionInRange f → Contains f.blocks b → AllByRecursion HasKind (registers_of b)
+kinds_of f b range inside =
+    let all = all_so (λ (r : Name × Ty). IsTypeInRange r.1) HasKind (λ r within. kind_in_range r.1 within) (typed_of f) range.registers in
     all_of HasKind registers_of f.blocks b (all_right HasKind (params_of f) (flat_map registers_of f.blocks) all) inside
 
 -- ---- where a frame stands, and what is defined there
@@ -163,7 +163,6 @@ LeadsReady m items after = StateReady m after
 block_ready : (m : Module) → IsWellFormed m → (f : Function) (b : Block) (taken : List Name) (registers : Registers) → Contains m.functions f → Contains f.blocks b
     → ((path : List Block) → IsPath f b path → PathUsesDefined taken b path) → Sets registers (taken ++ names_in (phi_registers b.phis)) → Ready m b.body (at_block f b registers)
 block_ready m well f b taken registers function inside ahead sets =
-    let shape : HasFunctionShape f = all_at HasFunctionShape m.functions f well.shape.functions function in
     let range : IsFunctionInRange f = all_at IsFunctionInRange m.functions f well.range.functions function in
     record {
       function = function;
@@ -176,7 +175,7 @@ block_ready m well f b taken registers function inside ahead sets =
       known = taken ++ names_in (phi_registers b.phis);
       sets = sets;
       uses = ahead [] tt;
-      kinds = all_right HasKind (phi_registers b.phis) (set_by b.body) (kinds_of f b shape range inside);
+      kinds = all_right HasKind (phi_registers b.phis) (set_by b.body) (kinds_of f b range inside);
       in_all = append_assoc taken (names_in (phi_registers b.phis)) (names_in (set_by b.body)) ∙ ap (λ (l : List Name). taken ++ l) (sym (map-append (λ (r : Name × Ty). r.0) (phi_registers b.phis) (set_by b.body)));
     }
 
@@ -258,9 +257,8 @@ jump_ready m well frame world ready to leads = all_do_jump (LeadsReady m) frame 
     (λ b named.
     let edge = edge_to m frame ready b to leads named in
     let taken = ready.taken ++ names_in (registers_of ready.block) in
-    let shape : HasFunctionShape frame.function = all_at HasFunctionShape m.functions frame.function well.shape.functions ready.function in
     let range : IsFunctionInRange frame.function = all_at IsFunctionInRange m.functions frame.function well.range.functions ready.function in
-    let kinds = kinds_of frame.function b shape range edge.0 in
+    let kinds = kinds_of frame.function b range edge.0 in
     let before : Sets frame.registers taken = subst (Sets frame.registers) (at_its_end m frame ready) ready.sets in
     let registers = with_phis frame.registers frame.block b.phis frame.registers in
     let after : Sets registers (taken ++ names_in (phi_registers b.phis)) =
@@ -340,12 +338,12 @@ no_phis f b (p ∷ ps) none fit =
 first_ready : (m : Module) → IsWellFormed m → (f : Function) (b : Block) (bs : List Block) (args : List Shown) (registers : Registers) → Contains m.functions f → f.blocks ≡ b ∷ bs
     → entered f.params args no_registers ≡ Some registers → StateReady m (Running (at_block f b registers) [] no_world)
 first_ready m well f b bs args registers inside are enters =
-    let shape : HasFunctionShape f = all_at HasFunctionShape m.functions f well.shape.functions inside in
+    let shape : HasFunctionShape m f = all_at (HasFunctionShape m) m.functions f well.shape.functions inside in
     let defined : IsFunctionDefined f = all_at IsFunctionDefined m.functions f well.defined inside in
     let is_first : b ≡ shape.first = let both : b ∷ bs ≡ shape.first ∷ shape.further = sym are ∙ shape.blocks in cc in
     let there : Contains f.blocks b = subst (λ (l : List Block). Contains l b) (sym are) (here b bs) in
     let none : edges_into f b.name ≡ [] = subst (λ (c : Block). edges_into f c.name ≡ []) (sym is_first) shape.not_entered in
-    let fits : HasBlockShape f b = all_at (HasBlockShape f) f.blocks b shape.each there in
+    let fits : HasBlockShape m f b = all_at (HasBlockShape m f) f.blocks b shape.each there in
     let phis : b.phis ≡ [] = no_phis f b b.phis none fits.phis in
     let params : Sets registers (names_in (params_of f)) = entered_sets f.params args no_registers registers [] enters no_names in
     let sets : Sets registers (names_in (params_of f) ++ names_in (phi_registers b.phis)) =

@@ -3,7 +3,8 @@ use Rattle.std.proofs.Common.{◌≡◌, ◌∙◌, ◌++◌, ◌∷◌, [], ◌
 use Rattle.std.proofs.lemmas.List.{drop_more}
 use Rattle.ir_core.specs.declared.functions.Function.{Function}
 use Rattle.ir_core.specs.declared.modules.Declaration.{Declaration}
-use Rattle.ir_printer.specs.Printed.{all_behind, blanked, declaration_text, function_text, function_texts, those_before, those_behind}
+use Rattle.ir_printer.specs.Printed.{all_behind, blanked, declaration_text, function_text, function_texts}
+use Rattle.ir_core.specs.Modules.{those_before, those_behind}
 
 pub drop_at : {X : Type 0} (xs : List X) (i : ℕ) (x : X) → i < length xs → x ≡ get_or xs i x → drop i xs ≡ x ∷ drop (i + 1) xs
 drop_at xs i x within is = drop_more xs i x within ∙ ap (λ y. y ∷ drop (i + 1) xs) (sym is)

@@ -1,5 +1,5 @@
 -- How modules are printed (LangRef 3.7, Module Structure, Structure Types, Functions, phi and Terminator Instructions).
-use Rattle.std.specs.Prelude.{ℕ, ◌+◌, Bool, cond, nat_le, if◌then◌else◌, List, [], ◌∷◌, ◌++◌, codes, map, Option, None, Some}
+use Rattle.std.specs.Prelude.{ℕ, ◌+◌, Bool, if◌then◌else◌, List, [], ◌∷◌, ◌++◌, codes, map, Option, None, Some}
 use Rattle.std.specs.List.{flat_map}
 use Rattle.std.specs.Fmt.{decimal}
 use Rattle.ir_types.specs.declared.names.Name.{Name}
@@ -28,6 +28,7 @@ use Rattle.ir_core.specs.declared.functions.Function.{Function}
 use Rattle.ir_core.specs.declared.modules.Declaration.{Declaration}
 use Rattle.ir_core.specs.declared.modules.DeclaredParam.{DeclaredParam}
 use Rattle.ir_core.specs.declared.modules.Module.{Module}
+use Rattle.ir_core.specs.Modules.{those_before, those_behind}
 use Rattle.ir_core.specs.Words.{signext_word, zeroext_word}
 use Rattle.expression_printer.specs.Printed.{name_text, printed_name, printed_local, printed_type, number_text, listed, struct_text, printed_align, printed_flag, printed_value, printed_operand, printed_expr}
 use Rattle.ir_printer.specs.Globals.{global_text, linkage_text}
@@ -205,16 +206,6 @@ declared_signature d = printed_name Global d.name ++ (40 ∷ (listed [] (map dec
 -- `declare signext i8 @f(i8* signext, ...)` on a line of its own
 abbrev pub declaration_text : Declaration → List ℕ
 declaration_text d = codes "declare " ++ (extensions_text d.result_extensions ++ (printed_type d.result ++ (32 ∷ declared_signature d)))
-
--- the first ones, which stand before so many definitions and one more
-abbrev pub those_before : ℕ → List Declaration → List Declaration
-those_before count [] = []
-those_before count (d ∷ ds) = cond (nat_le d.before count) (d ∷ those_before count ds) []
-
--- and those behind them
-abbrev pub those_behind : ℕ → List Declaration → List Declaration
-those_behind count [] = []
-those_behind count (d ∷ ds) = cond (nat_le d.before count) (those_behind count ds) (d ∷ ds)
 
 -- Definitions and declarations in the order of the file, from the definition of that number on: each declaration that stands before it, and
 -- then the definition itself.

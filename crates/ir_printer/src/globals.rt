@@ -1,43 +1,37 @@
 //! Globals as text.
 ghost use Rattle.std.specs.Prelude.{◌≡◌, ◌++◌, OnOk};
 ghost use Rattle.std.specs.List.{flat_map};
-ghost use Rattle.expression_printer.specs.Printed.{escaped, hexadecimal_digit, printed_constant, quoted};
 ghost use Rattle.ir_printer.specs.Globals.{contents_text, global_linkage, global_text, global_word, held_text, linkage_text, printed_init, struct_end};
 
-use contents::Exact;
-use expression_printer::{push_align, push_name, push_type, push_value};
-use ir_core::{Atom, Const, GlobalVar, Init, Linkage, Sigil, Ty};
-use std::alloc::{AllocError, Global};
+use expression_printer::{push_align, push_constant, push_name, push_quoted, push_type};
+use ir_core::{GlobalVar, Init, Linkage, Sigil, Ty};
+use std::alloc::AllocError;
 
 /// Each on a line of its own.
-pub(crate) fn push_globals(
-    alloc: Global,
-    text: &mut Vec<u8>,
-    globals: &[GlobalVar],
-) -> Result<(), AllocError>
+pub(crate) fn push_globals(text: &mut Vec<u8>, globals: &[GlobalVar]) -> Result<(), AllocError>
     ensures { OnOk result (text.new.items ≡ text.old.items ++ flat_map global_text globals.now) }
 {
     for global in globals {
-        push_global(alloc, text, global)?;
+        push_global(text, global)?;
     }
     Ok(())
 }
 
-fn push_global(alloc: Global, text: &mut Vec<u8>, global: &GlobalVar) -> Result<(), AllocError>
+fn push_global(text: &mut Vec<u8>, global: &GlobalVar) -> Result<(), AllocError>
     ensures { OnOk result (text.new.items ≡ text.old.items ++ global_text global.now) }
 {
     push_name(text, Sigil::Global, &global.name)?;
     text.extend_from_slice(b" = ")?;
     text.extend_from_slice(linkage_of(global.linkage, &global.init))?;
     text.extend_from_slice(word_of(global.constant))?;
-    push_contents(alloc, text, global)
+    push_contents(text, global)
 }
 
-fn push_contents(alloc: Global, text: &mut Vec<u8>, global: &GlobalVar) -> Result<(), AllocError>
+fn push_contents(text: &mut Vec<u8>, global: &GlobalVar) -> Result<(), AllocError>
     ensures { OnOk result (text.new.items ≡ text.old.items ++ contents_text global.now) }
 {
     push_type(text, &global.ty)?;
-    push_held(alloc, text, &global.ty, &global.init)?;
+    push_held(text, &global.ty, &global.init)?;
     push_align(text, global.align)?;
     text.push(b'\n')?;
     Ok(())
@@ -74,29 +68,24 @@ fn word_of(constant: bool) -> &'static [u8]
     if constant { b"constant " } else { b"global " }
 }
 
-fn push_held(
-    alloc: Global,
-    text: &mut Vec<u8>,
-    ty: &Ty,
-    init: &Option<Init>,
-) -> Result<(), AllocError>
+fn push_held(text: &mut Vec<u8>, ty: &Ty, init: &Option<Init>) -> Result<(), AllocError>
     ensures { OnOk result (text.new.items ≡ text.old.items ++ held_text ty.now init.now) }
 {
     match init {
         Some(init) => {
             text.push(b' ')?;
-            push_init(alloc, text, init, ty)
+            push_init(text, init, ty)
         }
         None => Ok(()),
     }
 }
 
 /// Goes as deep as initialisers stand in one another.
-fn push_init(alloc: Global, text: &mut Vec<u8>, init: &Init, ty: &Ty) -> Result<(), AllocError>
+fn push_init(text: &mut Vec<u8>, init: &Init, ty: &Ty) -> Result<(), AllocError>
     ensures { OnOk result (text.new.items ≡ text.old.items ++ printed_init init.now ty.now) }
 {
     match init {
-        Init::Const(constant) => push_constant(alloc, text, ty, constant),
+        Init::Const(constant) => push_constant(text, ty, constant),
         Init::Zero => text.extend_from_slice(b"zeroinitializer"),
         Init::Bytes(bytes) => {
             text.push(b'c')?;
@@ -111,7 +100,7 @@ fn push_init(alloc: Global, text: &mut Vec<u8>, init: &Init, ty: &Ty) -> Result<
                 text.extend_from_slice(before)?;
                 push_type(text, &one.0)?;
                 text.push(b' ')?;
-                push_init(alloc, text, &one.1, &one.0)?;
+                push_init(text, &one.1, &one.0)?;
                 before = b", ";
             }
             text.push(b']')?;
@@ -125,7 +114,7 @@ fn push_init(alloc: Global, text: &mut Vec<u8>, init: &Init, ty: &Ty) -> Result<
                 text.extend_from_slice(before)?;
                 push_type(text, &one.0)?;
                 text.push(b' ')?;
-                push_init(alloc, text, &one.1, &one.0)?;
+                push_init(text, &one.1, &one.0)?;
                 before = b", ";
             }
             push_struct_end(text, fields.as_slice())
@@ -138,53 +127,4 @@ fn push_struct_end(text: &mut Vec<u8>, fields: &[(Ty, Init)]) -> Result<(), Allo
     ensures { OnOk result (text.new.items ≡ text.old.items ++ struct_end fields.now) }
 {
     text.extend_from_slice(if fields.is_empty() { b"{}" } else { b" }" })
-}
-
-/// A constant of that type.
-fn push_constant(
-    alloc: Global,
-    text: &mut Vec<u8>,
-    ty: &Ty,
-    constant: &Const,
-) -> Result<(), AllocError>
-    ensures { OnOk result (text.new.items ≡ text.old.items ++ printed_constant ty.now constant.now) }
-{
-    push_value(text, ty, &Atom::Constant(constant.copy(alloc)?))
-}
-
-/// The bytes between quotes.
-fn push_quoted(text: &mut Vec<u8>, bytes: &[u8]) -> Result<(), AllocError>
-    ensures { OnOk result (text.new.items ≡ text.old.items ++ quoted bytes.now) }
-{
-    text.push(b'"')?;
-    for byte in bytes {
-        push_escaped(text, *byte)?;
-    }
-    text.push(b'"')?;
-    Ok(())
-}
-
-fn push_escaped(text: &mut Vec<u8>, byte: u8) -> Result<(), AllocError>
-    ensures { OnOk result (text.new.items ≡ text.old.items ++ escaped byte) }
-{
-    if b' ' <= byte && byte <= b'~' && byte != b'"' && byte != b'\\' {
-        text.push(byte)?;
-    } else {
-        text.push(b'\\')?;
-        text.push(last_digit(byte / 16))?;
-        text.push(last_digit(byte))?;
-    }
-    Ok(())
-}
-
-/// The last hexadecimal digit of a number.
-fn last_digit(value: u8) -> u8
-    ensures { result ≡ hexadecimal_digit value }
-{
-    let digit = value % 16;
-    if digit < 10 {
-        b'0' + digit
-    } else {
-        b'A' - 10 + digit
-    }
 }

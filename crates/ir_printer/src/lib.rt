@@ -1,7 +1,7 @@
 //! Prints modules as text of LLVM IR (Language Reference 3.7), and what they are made of: names, types, expressions.
 //!
-//! Each call gives exactly the text that `specs/Printed.antt` says, here and in `expression_printer`, and can fail only for want of
-//! memory.
+//! Each call gives exactly the text that `specs/Printed.antt` and `specs/Globals.antt` say, and `specs/Printed.antt` of
+//! `expression_printer`, and can fail only for want of memory.
 #![tactic(auto)]
 
 mod blocks;

@@ -1,7 +1,8 @@
 ghost use Rattle.std.specs.Prelude.{◌≡◌, ◌++◌, [], map, OnOk, IfOk};
 ghost use Rattle.expression_printer.specs.Printed.{listed};
+ghost use Rattle.ir_core.specs.Modules.{those_before, those_behind};
 ghost use Rattle.ir_printer.specs.Globals.{global_text};
-ghost use Rattle.ir_printer.specs.Printed.{all_behind, blanked, declaration_text, declared_param_text, declared_signature, dots, extended_text, function_text, function_texts, group, head_text, param_name, param_text, printed_module, signature_text, those_before, those_behind};
+ghost use Rattle.ir_printer.specs.Printed.{all_behind, blanked, declaration_text, declared_param_text, declared_signature, dots, extended_text, function_text, function_texts, group, head_text, param_name, param_text, printed_module, signature_text};
 
 use crate::blocks::push_blocks;
 use crate::globals::{linkage_text, push_globals};
@@ -21,7 +22,7 @@ pub fn print_module(alloc: Global, module: &Module) -> Result<Vec<u8>, AllocErro
 {
     let mut text = Vec::new(alloc);
     push_types(&mut text, module.types.as_slice())?;
-    push_group(alloc, &mut text, module.globals.as_slice())?;
+    push_group(&mut text, module.globals.as_slice())?;
     push_functions(
         &mut text,
         module.declarations.as_slice(),
@@ -41,14 +42,14 @@ fn push_blank(text: &mut Vec<u8>) -> Result<(), AllocError>
 }
 
 /// The globals, if there are any, behind a blank line.
-fn push_group(alloc: Global, text: &mut Vec<u8>, globals: &[GlobalVar]) -> Result<(), AllocError>
+fn push_group(text: &mut Vec<u8>, globals: &[GlobalVar]) -> Result<(), AllocError>
     ensures { OnOk result (text.new.items ≡ all_behind text.old.items (group global_text globals.now)) }
 {
     if globals.is_empty() {
         return Ok(());
     }
     push_blank(text)?;
-    push_globals(alloc, text, globals)
+    push_globals(text, globals)
 }
 
 /// In the order of the file, each behind a blank line.

@@ -9,5 +9,7 @@ pub mod Numberings
 pub mod Namings
 pub mod Hands
 pub mod Shaped
+pub mod Stated
+pub mod Beside
 pub mod Shapes
 pub mod Defines

@@ -17,6 +17,7 @@ use Rattle.ir_core.specs.declared.functions.Param.{Param}
 use Rattle.ir_core.specs.declared.functions.Phi.{Phi}
 use Rattle.ir_core.specs.declared.functions.Term.{Term}
 use Rattle.ir_core.specs.declared.functions.Term.TheVariants as term
+use Rattle.ir_core.specs.declared.modules.Module.{Module}
 use Rattle.ir_core.specs.declared.operands.Atom.{Atom}
 use Rattle.ir_core.specs.declared.operands.Atom.TheVariants.{Constant, Register}
 use Rattle.ir_core.specs.declared.operands.Operand.{Operand}
@@ -24,7 +25,7 @@ use Rattle.ir_types.specs.declared.names.Name.{Name}
 use Rattle.ir_types.specs.declared.ty.Ty.{Ty}
 use Rattle.ir_types.specs.NameLaws.{same_name_refl}
 use Rattle.ir_types.specs.Same.{same_name}
-use Rattle.ir_core.specs.Expressions.{map_atom, map_expr, map_operand}
+use Rattle.ir_core.specs.Expressions.{map_atom, map_operand}
 use Rattle.ir_core.specs.Functions.{block_names, edges_into, names_in, names_of, operands_at_end, operands_in_block, operands_of, operands_of_phi, params_of, phi_registers, registers_of, set_by, successors_of, typed_of}
 use Rattle.ir_core.specs.WellFormed.{FitsEdges, HasBlockShape, HasFunctionShape, HasType}
 use Rattle.ir_rename.specs.Renamed.{IsInjectiveOn, rename_argument, rename_block, rename_case, rename_entry, rename_function, rename_line, rename_param, rename_phi, rename_term}
@@ -144,7 +145,7 @@ end_operands ρ (term.CondBr c) = refl
 end_operands ρ (term.Switch s) = refl
 end_operands ρ term.Unreachable = refl
 
-phi_operands : (ρ : Name → Name) (p : Phi) → operands_of_phi (rename_phi ρ p) ≡ map (map_operand ρ) (operands_of_phi p)
+pub phi_operands : (ρ : Name → Name) (p : Phi) → operands_of_phi (rename_phi ρ p) ≡ map (map_operand ρ) (operands_of_phi p)
 phi_operands ρ p = along p.entries
   where
     along : (es : List Entry) → map (λ (e : Entry). record { ty = p.ty; atom = e.value }) (map (rename_entry ρ) es) ≡ map (map_operand ρ) (map (λ (e : Entry). record { ty = p.ty; atom = e.value }) es)
@@ -166,9 +167,9 @@ block_operands ρ b =
 pub all_operands : (ρ : Name → Name) (f : Function) → flat_map operands_in_block (map (rename_block ρ) f.blocks) ≡ map (map_operand ρ) (flat_map operands_in_block f.blocks)
 all_operands ρ f = flat_under operands_in_block (rename_block ρ) (map_operand ρ) operands_in_block f.blocks (λ b there. block_operands ρ b)
 
-pub typed_operand : (ρ : Name → Name) (rs : List (Name × Ty)) (t : Ty) (a : Atom Name) → HasType rs t a → HasType (map (typed ρ) rs) t (map_atom ρ a)
-typed_operand ρ rs t (Constant c) has = has
-typed_operand ρ rs t (Register n) has = in_mapped (typed ρ) rs (n, t) has
+pub typed_operand : (m : Module) (ρ : Name → Name) (rs : List (Name × Ty)) (t : Ty) (a : Atom Name) → HasType m rs t a → HasType m (map (typed ρ) rs) t (map_atom ρ a)
+typed_operand m ρ rs t (Constant c) has = has
+typed_operand m ρ rs t (Register n) has = in_mapped (typed ρ) rs (n, t) has
 
 -- ---- edges
 
@@ -221,9 +222,9 @@ block_in f b there =
     Contains-append_right (names_in (params_of f)) (flat_map block_names f.blocks) b.name
     (in_flat block_names f.blocks b b.name there (here b.name (names_in (registers_of b))))
 
-pub knows_labels : (f : Function) → HasFunctionShape f → (b : Block) → Contains f.blocks b → Knows (names_of f) b
-knows_labels f shape b there s leads =
-    let label = all_to (Contains (map (λ (c : Block). c.name) f.blocks)) (successors_of b.term) (all_to (HasBlockShape f) f.blocks shape.each b there).labels s leads in
+pub knows_labels : (m : Module) (f : Function) → HasFunctionShape m f → (b : Block) → Contains f.blocks b → Knows (names_of f) b
+knows_labels m f shape b there s leads =
+    let label = all_to (Contains (map (λ (c : Block). c.name) f.blocks)) (successors_of b.term) (all_to (HasBlockShape m f) f.blocks shape.each b there).labels s leads in
     let found = from_mapped (λ (c : Block). c.name) f.blocks s label in subst (Contains (names_of f)) found.2 (block_in f found.0 found.1)
 
 edge_in : (f : Function) (n x : Name) → Contains (edges_into f n) x → Contains (names_of f) x

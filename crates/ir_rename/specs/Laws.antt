@@ -60,9 +60,11 @@ NumbersGetFreshNames = (f : Function) → AllByRecursion IsNameInRange (names_of
 
 -- ---- under whatever other names
 
+-- beside a module, and so beside what it becomes where its functions are renamed too
 abbrev pub RenamedHaveShape : Type 0
-RenamedHaveShape = (ρ : Name → Name) (f g : Function) → IsRenamed ρ f g → HasFunctionShape f → HasFunctionShape g
+RenamedHaveShape =
+    (m n : Module) (ρ : Name → Name) (f g : Function) → AreRenamed m n → IsRenamed ρ f g → HasFunctionShape m f → HasFunctionShape n g
 
 abbrev pub RenamedAreDefined : Type 0
 RenamedAreDefined =
-    (ρ : Name → Name) (f g : Function) → IsRenamed ρ f g → HasFunctionShape f → IsFunctionDefined f → IsFunctionDefined g
+    (m : Module) (ρ : Name → Name) (f g : Function) → IsRenamed ρ f g → HasFunctionShape m f → IsFunctionDefined f → IsFunctionDefined g

@@ -23,7 +23,8 @@ pub fn named_functions_are_renamed()
 
 /// Empty on purpose: its contract is the law.
 ///
-/// Under whatever other names, a function that has shape goes on to have it, and what it uses goes on to be defined.
+/// Under whatever other names, a function that has shape beside a module goes on to have it, also where the module's other functions are
+/// renamed, and what it uses goes on to be defined.
 pub fn renamed_functions_keep_their_shape()
     ensures shape { RenamedHaveShape }
     ensures defined { RenamedAreDefined }

@@ -1,5 +1,5 @@
 -- Modules in which something is amiss.
-use Rattle.std.specs.Prelude.{ℕ, false, List, [], ◌∷◌, codes, None, Some}
+use Rattle.std.specs.Prelude.{ℕ, false, List, [], ◌∷◌, codes, map, Option, None, Some}
 use Rattle.ir_core.specs.declared.expressions.Expr.{Expr}
 use Rattle.ir_core.specs.declared.expressions.Expr.TheVariants as expr
 use Rattle.ir_core.specs.declared.functions.Block.{Block}
@@ -8,6 +8,10 @@ use Rattle.ir_core.specs.declared.functions.Entry.{Entry}
 use Rattle.ir_core.specs.declared.functions.Function.{Function}
 use Rattle.ir_core.specs.declared.functions.Instr.{Instr}
 use Rattle.ir_core.specs.declared.functions.Instr.TheVariants as line
+use Rattle.ir_core.specs.declared.modules.Declaration.{Declaration}
+use Rattle.ir_core.specs.declared.modules.GlobalVar.{GlobalVar}
+use Rattle.ir_core.specs.declared.modules.Init.{Init}
+use Rattle.ir_core.specs.declared.modules.Linkage.TheVariants as linkage
 use Rattle.ir_core.specs.declared.modules.Module.{Module}
 use Rattle.ir_core.specs.declared.functions.Param.{Param}
 use Rattle.ir_core.specs.declared.functions.Phi.{Phi}
@@ -23,11 +27,11 @@ use Rattle.ir_core.specs.declared.operands.CastOp.{CastOp}
 use Rattle.ir_core.specs.declared.operands.Const.TheVariants as constant
 use Rattle.ir_core.specs.declared.operands.Operand.{Operand}
 use Rattle.ir_core.specs.declared.operands.Pred.TheVariants.{Eq}
-use Rattle.ir_types.specs.declared.ty.Ty.{Ty}
+use Rattle.ir_types.specs.declared.ty.Ty.{Ty, Ptr, Array, Named}
 use Rattle.ir_types.specs.declared.ty.Ty.TheVariants.{Int}
 use Rattle.ir_shape.specs.declared.fault.ShapeFault.{ShapeFault}
-use Rattle.shape_tests.specs.declared.kind.ShapeKind.{ShapeKind}
-use Rattle.ir_core.specs.Modules.{plain_function, plain_module, plain_param}
+use Rattle.shape_kinds.specs.declared.kind.ShapeKind.{ShapeKind}
+use Rattle.ir_core.specs.Modules.{not_extended, plain_function, plain_module, plain_param}
 
 abbrev pub f : Name
 f = Text (codes "f")
@@ -162,3 +166,74 @@ entering phis = alone (of_blocks f (block x [] [] (branching (Int 1) y y) ∷ bl
 -- that fault in that line of the block %y of @f
 abbrev pub in_y : ℕ → ShapeKind → ShapeFault
 in_y line kind = record { sigil = Global; function = f; place = Some (record { block = y; line = line }); kind = kind }
+
+-- ---- globals, declarations, and lines of memory
+
+-- @name = global ty init
+abbrev pub held : Name → Ty → Option Init → GlobalVar
+held name ty init = record { name = name; linkage = linkage.External; constant = false; ty = ty; init = init; align = None }
+
+-- %x = type { i32, [4 x i8] }  %y = type opaque
+abbrev pub two_types : List NamedTy
+two_types = struct x (Int 32 ∷ Array 4 (Int 8) ∷ []) ∷ record { name = y; fields = None } ∷ []
+
+-- those types and globals
+abbrev pub of_globals : List GlobalVar → Module
+of_globals globals = record { types = two_types; globals = globals; functions = []; declarations = [] }
+
+-- declare result @name(param), with so many definitions before it
+abbrev pub declared : ℕ → Ty → Name → Ty → Declaration
+declared before result name param = record {
+  result_extensions = not_extended;
+  result = result;
+  name = name;
+  params = record { ty = param; extensions = not_extended } ∷ [];
+  variadic = false;
+  before = before;
+}
+
+abbrev pub declaring : List Declaration → List Function → Module
+declaring declarations functions = record { types = two_types; globals = []; functions = functions; declarations = declarations }
+
+-- The function @f of these lines, which gets an i32 %32 and a %x* %64 and returns the former, with those types and `declare i32 @y(i32)`.
+abbrev pub of_memory : List Instr → Module
+of_memory lines =
+    declaring (declared 0 (Int 32) y (Int 32) ∷ [])
+    (plain_function (Int 32) f (plain_param (Int 32) (Number 32) ∷ plain_param (Ptr (Named x)) (Number 64) ∷ []) (block (Number 0) [] lines returning ∷ []) ∷ [])
+
+-- the parameter that is a pointer
+abbrev pub pointer : Operand Name
+pointer = record { ty = Ptr (Named x); atom = Register (Number 64) }
+
+-- a number of so many bits
+abbrev pub number_of : ℕ → ℕ → Operand Name
+number_of width n = record { ty = Int width; atom = Constant (constant.Number n) }
+
+abbrev pub index : ℕ → ℕ → Operand Name
+index = number_of
+
+-- %name = alloca of, count
+abbrev pub alloca : ℕ → Ty → Option (Ty × ℕ) → Instr
+alloca name of count = line.Alloca (record { name = Number name; of = of; to = Ptr of; count = count; align = None })
+
+-- %name = load of, of that pointer
+abbrev pub load : ℕ → Ty → Instr
+load name of = setting name (expr.Load (record { of = of; pointer = pointer; align = None }))
+
+-- store ty 0, through that pointer
+abbrev pub store : Ty → Instr
+store ty = line.Store (record { value = record { ty = ty; atom = Constant (constant.Number 0) }; pointer = pointer; align = None })
+
+-- %name = getelementptr of, of that pointer and these indices, kept as of that type
+abbrev pub element : ℕ → Ty → List (Operand Name) → Ty → Instr
+element name of indices to = setting name (expr.Element (record { inbounds = false; of = of; base = pointer; indices = indices; to = to }))
+
+-- %name = call i32 @callee(arguments)
+abbrev pub call : ℕ → Name → List (Operand Name) → Instr
+call name callee arguments = line.Call (record {
+  name = Some (Number name);
+  result = Int 32;
+  result_extensions = not_extended;
+  callee = callee;
+  arguments = map (λ (o : Operand Name). record { operand = o; extensions = not_extended }) arguments;
+})

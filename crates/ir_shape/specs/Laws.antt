@@ -1,5 +1,5 @@
 -- What it says of a module to have no fault, and what its first fault is, by examples.
-use Rattle.std.specs.Prelude.{◌≡◌, false, [], ◌∷◌, None, Some}
+use Rattle.std.specs.Prelude.{◌≡◌, false, [], ◌∷◌, map, None, Some}
 use Rattle.ir_core.specs.declared.expressions.Expr.TheVariants.{Plain}
 use Rattle.ir_core.specs.declared.functions.Function.{Function}
 use Rattle.ir_core.specs.declared.modules.Module.{Module}
@@ -8,11 +8,16 @@ use Rattle.ir_types.specs.declared.names.Name.TheVariants.{Number}
 use Rattle.ir_types.specs.declared.names.Sigil.TheVariants.{Global}
 use Rattle.ir_core.specs.declared.operands.Atom.TheVariants.{Register}
 use Rattle.ir_core.specs.declared.operands.CastOp.TheVariants.{ZExt, SExt, Trunc, BitCast}
-use Rattle.ir_types.specs.declared.ty.Ty.TheVariants.{Int, Ptr, Array, Struct, Named, Void}
+use Rattle.ir_types.specs.declared.ty.Ty.{Int, Ptr, Array, Struct, Named, Void}
 use Rattle.ir_core.specs.WellFormed.{HasFunctionShape, HasShape}
-use Rattle.shape_tests.specs.declared.kind.ShapeKind.TheVariants as kind
-use Rattle.ir_shape.specs.Examples.{add, alone, block, branching, cast, cast_of, debug, entering, entry, f, fitting, function, icmp, in_f, in_header, in_named, in_y, jumping, last, naming, of_blocks, of_lines, params, phi, returning, select, setting, struct, switching, given, x, y}
-use Rattle.ir_shape.specs.Shape.{first_fault, in_function}
+use Rattle.shape_kinds.specs.declared.kind.ShapeKind.TheVariants as kind
+use Rattle.ir_core.specs.declared.modules.Init as init
+use Rattle.ir_core.specs.declared.operands.Const as constant
+use Rattle.ir_core.specs.Order.{AreNew}
+use Rattle.ir_core.specs.Typing.{Signature, signatures_of}
+use Rattle.ir_types.specs.declared.names.Name.{Name}
+use Rattle.ir_shape.specs.Examples.{add, alloca, alone, block, branching, call, cast, cast_of, debug, declared, declaring, element, entering, entry, f, fitting, function, held, icmp, in_f, in_header, in_named, in_y, index, jumping, last, load, naming, number_of, of_blocks, of_globals, of_lines, of_memory, params, phi, returning, select, setting, store, struct, switching, given, x, y}
+use Rattle.ir_shape.specs.Shape.{first_fault, first_of, in_function}
 use Rattle.ir_core.specs.Modules.{plain_function, plain_module, plain_param}
 
 -- A module has no fault exactly where it has shape.
@@ -22,12 +27,13 @@ FaultlessModulesHaveShape = (m : Module) → first_fault m ≡ None → HasShape
 abbrev pub ShapelyModulesAreFaultless : Type 0
 ShapelyModulesAreFaultless = (m : Module) → HasShape m → first_fault m ≡ None
 
--- a function of a name that no other has, alike
+-- a function of a name that no other has, beside a module whose functions have different names, alike
 abbrev pub FaultlessFunctionsHaveShape : Type 0
-FaultlessFunctionsHaveShape = (f : Function) → in_function false f ≡ [] → HasFunctionShape f
+FaultlessFunctionsHaveShape = (m : Module) (f : Function) → in_function m false f ≡ [] → HasFunctionShape m f
 
 abbrev pub ShapelyFunctionsAreFaultless : Type 0
-ShapelyFunctionsAreFaultless = (f : Function) → HasFunctionShape f → in_function false f ≡ []
+ShapelyFunctionsAreFaultless =
+    (m : Module) → AreNew [] (map (λ (s : Name × Signature). s.0) (signatures_of m)) → (f : Function) → HasFunctionShape m f → in_function m false f ≡ []
 
 -- ---- examples
 
@@ -132,14 +138,15 @@ Operands =
     (first_fault (of_lines (cast_of 101 ZExt (record { ty = Int 8; atom = Register (Number 32) }) (Int 64) ∷ [])) ≡ Some (in_f 0 kind.OperandType))
     × (first_fault (alone (function f [] [] (Ret (record { ty = Int 32; atom = Register (Number 8) })))) ≡ Some (in_f 0 kind.OperandType))
 
--- `%101 = bitcast void %101 to void`, and a parameter of type void, or of `i8*`
+-- `%101 = bitcast void %101 to void`, a parameter of type void, or of `[4 x i8]`, and one of `i8*`, which is none
 abbrev pub Registers : Type 0
 Registers =
     (first_fault (of_lines (cast_of 101 BitCast (record { ty = Void; atom = Register (Number 101) }) Void ∷ [])) ≡ Some (in_f 0 kind.OperandType))
     × (first_fault (alone (plain_function (Int 32) f (plain_param Void x ∷ params) (last ∷ [])))
     ≡ Some (in_header f kind.OperandType))
-    × (first_fault (alone (plain_function (Int 32) f (plain_param (Ptr (Int 8)) x ∷ params) (last ∷ [])))
+    × (first_fault (alone (plain_function (Int 32) f (plain_param (Array 4 (Int 8)) x ∷ params) (last ∷ [])))
     ≡ Some (in_header f kind.OperandType))
+    × (first_fault (alone (plain_function (Int 32) f (plain_param (Ptr (Int 8)) x ∷ params) (last ∷ []))) ≡ None)
 
 -- the first place decides: a line before a terminator, a name before the lines, a function before the next one's name
 abbrev pub LinesComeBeforeEnds : Type 0
@@ -148,6 +155,81 @@ LinesComeBeforeEnds =
 
 abbrev pub NamesComeBeforeLines : Type 0
 NamesComeBeforeLines = first_fault (alone (function debug [] (add 101 Void ∷ []) RetVoid)) ≡ Some (in_header debug kind.Name)
+
+-- ---- globals and declarations
+
+-- Of a global: a named type that isn't there, behind a pointer; what it holds is of another type; an opaque type; and an unknown name in what
+-- it holds, which is told before the type of that. None of `@x = global i32* @y` beside `@y`.
+abbrev pub Globals : Type 0
+Globals =
+    (first_fault (of_globals (held x (Ptr (Named f)) None ∷ [])) ≡ Some (in_header x kind.Name))
+    × (first_fault (of_globals (held x (Int 8) (Some (init.Const constant.Null)) ∷ [])) ≡ Some (in_header x kind.OperandType))
+    × (first_fault (of_globals (held x (Named y) (Some init.Zero) ∷ [])) ≡ Some (in_header x kind.Unsized))
+    × (first_fault (of_globals (held x (Int 8) (Some (init.Const (constant.Global f))) ∷ [])) ≡ Some (in_header x kind.Name))
+    × (first_fault (of_globals (held x (Ptr (Int 32)) (Some (init.Const (constant.Global y))) ∷ held y (Int 32) None ∷ [])) ≡ None)
+
+-- Of a declaration: a name for debug information, a parameter of type void, a named type that isn't there, and a name that a global has.
+abbrev pub Declarations : Type 0
+Declarations =
+    (first_fault (declaring (declared 0 (Int 32) debug (Int 32) ∷ []) []) ≡ Some (in_header debug kind.Name))
+    × (first_fault (declaring (declared 0 (Int 32) x Void ∷ []) []) ≡ Some (in_header x kind.OperandType))
+    × (first_fault (declaring (declared 0 (Ptr (Named f)) x (Int 32) ∷ []) []) ≡ Some (in_header x kind.Name))
+    × (first_fault (declaring (declared 0 Void x (Ptr (Int 8)) ∷ []) []) ≡ None)
+    × (first_fault (record { types = []; globals = held x (Int 8) None ∷ []; functions = []; declarations = declared 0 Void x (Int 8) ∷ [] })
+    ≡ Some (in_header x kind.Name))
+
+-- Globals come before functions, and a declaration stands where the file has it: between two definitions it is told before the second one.
+abbrev pub DeclarationsComeInOrder : Type 0
+DeclarationsComeInOrder =
+    (first_fault (declaring (declared 1 (Int 32) debug (Int 32) ∷ []) (function f [] [] returning ∷ function y [] [] RetVoid ∷ []))
+    ≡ Some (in_header debug kind.Name))
+    × (first_fault (declaring (declared 1 Void x Void ∷ []) (function f [] [] RetVoid ∷ [])) ≡ Some (in_f 0 kind.ReturnType))
+    × (first_fault (declaring (declared 1 Void x Void ∷ []) (function f [] [] returning ∷ function y [] [] RetVoid ∷ [])) ≡ Some (in_header x kind.OperandType))
+    × (first_fault (record { types = []; globals = held x (Named f) None ∷ []; functions = function debug [] [] returning ∷ []; declarations = [] })
+    ≡ Some (in_header x kind.Name))
+
+-- ---- lines of memory and calls, in a function whose parameter `%32` is an `i32` and `%64` a pointer to `%x = type { i32, [4 x i8] }`
+
+-- An alloca of an opaque type, or with a pointer for its count; what is loaded is no value, or of another type than what is pointed to; a store
+-- through a pointer to another type; and those that fit.
+abbrev pub Accesses : Type 0
+Accesses =
+    (first_fault (of_memory (alloca 101 (Named y) None ∷ [])) ≡ Some (in_f 0 kind.Unsized))
+    × (first_fault (of_memory (alloca 101 (Int 8) (Some (Ptr (Int 8), 2)) ∷ [])) ≡ Some (in_f 0 kind.OperandType))
+    × (first_fault (of_memory (load 101 (Named x) ∷ [])) ≡ Some (in_f 0 kind.OperandType))
+    × (first_fault (of_memory (load 101 (Int 32) ∷ [])) ≡ Some (in_f 0 kind.OperandType))
+    × (first_fault (of_memory (store (Int 32) ∷ [])) ≡ Some (in_f 0 kind.OperandType))
+    × (first_fault (of_memory (alloca 101 (Named x) (Some (Int 64, 2)) ∷ [])) ≡ None)
+
+-- Of a getelementptr of `%x`: an index of `i64` into its fields, one past them, one behind an `i32`; another first type than what is pointed
+-- to; an opaque one; and one that fits.
+abbrev pub Addresses : Type 0
+Addresses =
+    (first_fault (of_memory (element 101 (Named x) (index 64 0 ∷ index 64 1 ∷ []) (Ptr (Int 32)) ∷ [])) ≡ Some (in_f 0 kind.GepIndex))
+    × (first_fault (of_memory (element 101 (Named x) (index 64 0 ∷ index 32 2 ∷ []) (Ptr (Int 32)) ∷ [])) ≡ Some (in_f 0 kind.GepIndex))
+    × (first_fault (of_memory (element 101 (Named x) (index 64 0 ∷ index 32 0 ∷ index 32 0 ∷ []) (Ptr (Int 32)) ∷ [])) ≡ Some (in_f 0 kind.GepIndex))
+    × (first_fault (of_memory (element 101 (Int 8) (index 64 0 ∷ []) (Ptr (Int 8)) ∷ [])) ≡ Some (in_f 0 kind.OperandType))
+    × (first_fault (of_memory (element 101 (Named x) (index 64 0 ∷ index 32 1 ∷ index 64 2 ∷ []) (Ptr (Int 8)) ∷ [])) ≡ None)
+
+-- A call of what isn't there; with an argument that is missing; with one that is of another type than its register, which is told before its
+-- being of another type than the parameter; and one that fits. It calls `declare i32 @y(i32)`.
+abbrev pub Calls : Type 0
+Calls =
+    (first_fault (of_memory (call 101 x (given (Int 32) ∷ []) ∷ [])) ≡ Some (in_f 0 kind.Name))
+    × (first_fault (of_memory (call 101 y [] ∷ [])) ≡ Some (in_f 0 kind.CallType))
+    × (first_fault (of_memory (call 101 y (record { ty = Int 8; atom = Register (Number 32) } ∷ []) ∷ [])) ≡ Some (in_f 0 kind.OperandType))
+    × (first_fault (of_memory (call 101 y (given (Int 32) ∷ []) ∷ [])) ≡ None)
+
+-- A call of a function of the name that is judged goes by what the module has of the name: here the module's takes an `i32`, this one nothing.
+abbrev pub RecursiveCalls : Type 0
+RecursiveCalls =
+    (in_function (alone (plain_function (Int 32) f (plain_param (Int 32) (Number 32) ∷ []) (last ∷ []))) false
+    (plain_function (Int 32) f [] (block (Number 0) [] (call 101 f (number_of 32 0 ∷ []) ∷ []) (Ret (record { ty = Int 32; atom = Register (Number 101) })) ∷ []))
+    ≡ [])
+    × (first_of
+    (in_function (alone (plain_function (Int 32) f (plain_param (Int 32) (Number 32) ∷ []) (last ∷ []))) false
+    (plain_function (Int 32) f [] (block (Number 0) [] (call 101 f [] ∷ []) (Ret (record { ty = Int 32; atom = Register (Number 101) })) ∷ [])))
+    ≡ Some (in_f 0 kind.CallType))
 
 -- a named type before a function
 abbrev pub TypesComeFirst : Type 0

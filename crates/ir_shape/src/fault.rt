@@ -1,7 +1,7 @@
 ghost use Rattle.std.specs.Prelude.{◌≡◌};
 
 use ir_core::{Limit, Name, Sigil};
-use shape_tests::ShapeKind;
+use shape_kinds::ShapeKind;
 use std::alloc::AllocError;
 
 /// A line of a function: its block, and its number among the block's phis, body lines and terminator, counted from 0.
@@ -11,8 +11,8 @@ pub struct LinePlace {
     pub line: usize,
 }
 
-/// What is wrong with a module, and where: in a line of the function of that name, or, where there is no line, in the
-/// function's own name or its parameters. A local name is that of a named type, which has no lines.
+/// What is wrong with a module, and where: in a line of the function of that name, or, where there is no line, in the own name or the
+/// header of the function, the declaration or the global of that name. A local name is that of a named type.
 #[derive(Drop)]
 pub struct ShapeFault {
     pub sigil: Sigil,

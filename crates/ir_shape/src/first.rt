@@ -1,37 +1,40 @@
-ghost use Rattle.std.specs.Prelude.{◌≡◌, ◌++◌, [], ◌∷◌, false, None, Some, IfOk, IfErr, OnOk};
+ghost use Rattle.std.specs.Prelude.{◌≡◌, ◌++◌, [], ◌∷◌, None, Some, IfOk, IfErr, OnOk};
 ghost use Rattle.std.specs.List.{AllByRecursion};
 ghost use Rattle.std.specs.Option.{option_copied};
 ghost use Rattle.ir_core.specs.Functions as functions;
+ghost use Rattle.shape_kinds.specs.Kept.{type_in};
+ghost use Rattle.shape_kinds.specs.Names.{are_new, with_names};
 ghost use Rattle.shape_tests.specs.Edges.{HasEdges, named, row_kept, rows_of};
-ghost use Rattle.ir_shape.specs.Shape as meaning;
 ghost use Rattle.shape_tests.specs.Kinds as fitting;
-ghost use Rattle.ir_shape.specs.Shape.{IsEndOf, IsFirstOf};
-ghost use Rattle.ir_shape.specs.Typed.{type_in};
+ghost use Rattle.ir_shape.specs.Shape as meaning;
+ghost use Rattle.ir_shape.specs.Shape.{IsFirstOf};
+ghost use Rattle.ir_shape.specs.Told as told;
 
-use crate::lines::{are_short, is_short};
-use crate::named::types_fit;
-use crate::told::{end_kind, line_kind, phi_kind};
-use crate::types::{Types, types_of};
+use crate::told::{end_kind, header_kind, line_kind, phi_kind};
+use crate::types::types_of;
 use crate::{LinePlace, ShapeEnd, ShapeFault};
 use contents::Exact;
-use ir_core::{BitType, Block, Function, Instr, Limit, Module, Name, Phi, Sigil};
+use ir_core::{BitType, Block, Function, Instr, Name, Phi, Sigil};
+use operand_tests::Beside;
+use shape_kinds::{LentNames, LentTypes, ShapeKind, least};
 use shape_tests::{
-    LentNames, Row, ShapeKind, block_kind, counts_of, edges_of, header_kind, labels_of, least,
-    name_kind, row_of, take_params,
+    Row, block_kind, counts_of, edges_of, labels_of, name_kind, row_of, take_params,
 };
 use std::alloc::{AllocError, Global};
 
-/// What is known of a function before its blocks are read: their names, the types of its registers, and the edges that enter the blocks
-/// that have phis, at the places of their names.
+/// What is known of a function before its blocks are read: the module beside it, the names of its blocks, the types of its registers, and
+/// the edges that enter the blocks that have phis, at the places of their names.
 pub(crate) struct Scope<'a> {
+    pub(crate) beside: &'a Beside<'a>,
     pub(crate) labels: LentNames<'a>,
-    pub(crate) types: Types<'a>,
+    pub(crate) types: LentTypes<'a>,
     pub(crate) edges: Vec<Row<'a>>,
 }
 
 impl<'a> Drop for Scope<'a> {
     fn drop(self) {
         let Scope {
+            beside: _,
             labels: _,
             types: _,
             edges: _,
@@ -78,7 +81,11 @@ fn line_fits(
 }
 
 /// Whether a function's name and parameters have no fault.
-fn header_fits(alloc: Global, function: &Name, found: Option<ShapeKind>) -> Result<(), ShapeEnd>
+pub(crate) fn header_fits(
+    alloc: Global,
+    function: &Name,
+    found: Option<ShapeKind>,
+) -> Result<(), ShapeEnd>
     ensures fits { IfOk result (λ _. meaning.fault_at function.now None found ≡ []) }
     ensures fault { IfErr result (IsFirstOf (meaning.fault_at function.now None found)) }
 {
@@ -127,13 +134,13 @@ fn push_phis<'a>(
 ) -> Result<(), AllocError>
     ensures kinds { OnOk result
         (kinds.new.items
-        ≡ kinds.old.items ++ meaning.phi_kinds scope.now.labels (type_in scope.now.types) (named edges.now) names.old phis.now) }
+        ≡ kinds.old.items ++ meaning.phi_kinds scope.now.beside.now scope.now.labels (type_in scope.now.types) (named edges.now) names.old phis.now) }
     ensures names { OnOk result (names.new ≡ meaning.with_phis names.old phis.now) }
 {
     let counts = counts_of(alloc, edges)?;
     for phi in phis {
         let taken = names.take(&phi.name)?;
-        kinds.push(phi_kind(alloc, scope, edges, &counts, taken, phi)?)?;
+        kinds.push(phi_kind(alloc, scope, edges, &counts, !taken, phi)?)?;
     }
     Ok(())
 }
@@ -150,7 +157,7 @@ fn push_with<'a>(
     ensures kinds { OnOk result
         (kinds.new.items
         ≡ kinds.old.items
-        ++ meaning.phi_kinds scope.now.labels (type_in scope.now.types) (row_kept (option_copied row.entry)) names.old phis.now) }
+        ++ meaning.phi_kinds scope.now.beside.now scope.now.labels (type_in scope.now.types) (row_kept (option_copied row.entry)) names.old phis.now) }
     ensures names { OnOk result (names.new ≡ meaning.with_phis names.old phis.now) }
 {
     match row {
@@ -172,7 +179,7 @@ fn push_block_phis<'a>(
     ensures kinds { OnOk result
         (kinds.new.items
         ≡ kinds.old.items
-        ++ meaning.phi_kinds scope.now.labels (type_in scope.now.types) (functions.edges_into _function.now block.now.name) names.old block.now.phis) }
+        ++ meaning.phi_kinds scope.now.beside.now scope.now.labels (type_in scope.now.types) (functions.edges_into _function.now block.now.name) names.old block.now.phis) }
     ensures names { OnOk result (names.new ≡ meaning.with_phis names.old block.now.phis) }
 {
     if block.phis.is_empty() {
@@ -204,12 +211,12 @@ fn push_lines<'a>(
     kinds: &mut Vec<Option<ShapeKind>>,
 ) -> Result<(), AllocError>
     ensures kinds { OnOk result
-        (kinds.new.items ≡ kinds.old.items ++ meaning.line_kinds (type_in scope.now.types) names.old lines.now) }
+        (kinds.new.items ≡ kinds.old.items ++ meaning.line_kinds scope.now.beside.now (type_in scope.now.types) names.old lines.now) }
     ensures names { OnOk result (names.new ≡ meaning.with_lines names.old lines.now) }
 {
     for line in lines {
         let taken = take_line(names, line)?;
-        kinds.push(line_kind(&scope.types, taken, line))?;
+        kinds.push(line_kind(scope.beside, &scope.types, !taken, line))?;
     }
     Ok(())
 }
@@ -226,25 +233,18 @@ fn block_fits<'a>(
 ) -> Result<(), ShapeEnd>
     requires edges { HasEdges scope.now.labels (rows_of scope.now.edges.items) «function».now.blocks block.now }
     ensures fits { IfOk result
-        (λ _. meaning.in_block «function».now scope.now.labels (type_in scope.now.types) entry.now earlier.old names.old block.now ≡ []) }
+        (λ _. meaning.in_block scope.now.beside.now «function».now scope.now.labels (type_in scope.now.types) entry.now earlier.old names.old block.now ≡ []) }
     ensures earlier { IfOk result (λ _. earlier.new ≡ fitting.with_name earlier.old block.now.name) }
     ensures names { IfOk result (λ _. names.new ≡ meaning.with_block names.old block.now) }
     ensures fault { IfErr result
-        (IsFirstOf (meaning.in_block «function».now scope.now.labels (type_in scope.now.types) entry.now earlier.old names.old block.now)) }
+        (IsFirstOf (meaning.in_block scope.now.beside.now «function».now scope.now.labels (type_in scope.now.types) entry.now earlier.old names.old block.now)) }
 {
     let doubled = earlier.take(&block.name)?;
     let own = block_kind(doubled, names.take(&block.name)?);
     let mut kinds = Vec::new(alloc);
     push_block_phis(alloc, function, scope, names, block, &mut kinds)?;
     push_lines(alloc, scope, names, block.body.as_slice(), &mut kinds)?;
-    let end = end_kind(
-        alloc,
-        &scope.labels,
-        &scope.types,
-        entry,
-        &function.result,
-        &block.term,
-    )?;
+    let end = end_kind(alloc, scope, entry, &function.result, &block.term)?;
     kinds_fit(alloc, &function.name, &block.name, own, &kinds, end)
 }
 
@@ -258,9 +258,9 @@ fn blocks_fit<'a>(
 ) -> Result<(), ShapeEnd>
     requires edges { AllByRecursion (HasEdges scope.now.labels (rows_of scope.now.edges.items) «function».now.blocks) blocks.now }
     ensures fits { IfOk result
-        (λ _. meaning.in_blocks «function».now scope.now.labels (type_in scope.now.types) entry.now [] params.entry blocks.now ≡ []) }
+        (λ _. meaning.in_blocks scope.now.beside.now «function».now scope.now.labels (type_in scope.now.types) entry.now [] params.entry blocks.now ≡ []) }
     ensures fault { IfErr result
-        (IsFirstOf (meaning.in_blocks «function».now scope.now.labels (type_in scope.now.types) entry.now [] params.entry blocks.now)) }
+        (IsFirstOf (meaning.in_blocks scope.now.beside.now «function».now scope.now.labels (type_in scope.now.types) entry.now [] params.entry blocks.now)) }
 {
     let mut names = params;
     let mut earlier = LentNames::new(alloc);
@@ -287,9 +287,9 @@ fn body_fits<'a>(
 ) -> Result<(), ShapeEnd>
     requires edges { AllByRecursion (HasEdges scope.now.labels (rows_of scope.now.edges.items) «function».now.blocks) blocks.now }
     ensures fits { IfOk result
-        (λ _. meaning.in_body «function».now scope.now.labels (type_in scope.now.types) params.entry blocks.now ≡ []) }
+        (λ _. meaning.in_body scope.now.beside.now «function».now scope.now.labels (type_in scope.now.types) params.entry blocks.now ≡ []) }
     ensures fault { IfErr result
-        (IsFirstOf (meaning.in_body «function».now scope.now.labels (type_in scope.now.types) params.entry blocks.now)) }
+        (IsFirstOf (meaning.in_body scope.now.beside.now «function».now scope.now.labels (type_in scope.now.types) params.entry blocks.now)) }
 {
     match blocks {
         [] => Ok(()),
@@ -297,31 +297,37 @@ fn body_fits<'a>(
     }
 }
 
-/// Whether a function's parameters have no fault, and it has a block; gives the parameters' names.
-#[tactic(auto, using(crate::proofs::Faults::new_where_fits))]
-fn params_fit<'a>(alloc: Global, function: &'a Function) -> Result<LentNames<'a>, ShapeEnd>
+/// Whether a function's header has no fault, and it has a block; gives its parameters' names.
+#[tactic(auto, using(crate::proofs::Found::new_where_fits))]
+fn params_fit<'a>(
+    alloc: Global,
+    beside: &Beside,
+    function: &'a Function,
+) -> Result<LentNames<'a>, ShapeEnd>
     ensures names { IfOk result
-        (λ names. names ≡ fitting.with_names [] (functions.names_in (functions.params_of «function».now))) }
+        (λ names. names ≡ with_names [] (functions.names_in (functions.params_of «function».now))) }
     ensures fits { IfOk result
         (λ _. meaning.fault_at «function».now.name None
-        (fitting.header_kind (fitting.are_new [] (functions.names_in (functions.params_of «function».now))) «function».now)
+        (told.header_kind beside.now (are_new [] (functions.names_in (functions.params_of «function».now))) «function».now)
         ≡ []) }
     ensures fault { IfErr result
         (IsFirstOf
         (meaning.fault_at «function».now.name None
-        (fitting.header_kind (fitting.are_new [] (functions.names_in (functions.params_of «function».now))) «function».now))) }
+        (told.header_kind beside.now (are_new [] (functions.names_in (functions.params_of «function».now))) «function».now))) }
 {
     let mut names = LentNames::new(alloc);
     let new = take_params(&mut names, function.params.as_slice())?;
-    header_fits(alloc, &function.name, header_kind(new, function))?;
+    header_fits(alloc, &function.name, header_kind(beside, new, function))?;
     Ok(names)
 }
 
 fn scope_of<'a>(
     alloc: Global,
     bit: &'a BitType,
+    beside: &'a Beside<'a>,
     function: &'a Function,
 ) -> Result<Scope<'a>, AllocError>
+    ensures beside { IfOk result (λ scope. scope.beside.now ≡ beside.now) }
     ensures labels { IfOk result (λ scope. scope.labels ≡ fitting.labels_of «function».now) }
     ensures types { IfOk result (λ scope. type_in scope.types ≡ fitting.types_of «function».now) }
     ensures edges { IfOk result
@@ -331,6 +337,7 @@ fn scope_of<'a>(
     let edges = edges_of(alloc, &labels, function.blocks.as_slice())?;
     let types = types_of(alloc, bit, function)?;
     Ok(Scope {
+        beside,
         labels,
         types,
         edges,
@@ -340,73 +347,40 @@ fn scope_of<'a>(
 /// Whether the blocks of a function have no fault, behind its parameters of these names.
 fn all_blocks_fit<'a>(
     alloc: Global,
+    beside: &'a Beside<'a>,
     function: &'a Function,
     params: LentNames<'a>,
 ) -> Result<(), ShapeEnd>
     ensures fits { IfOk result
-        (λ _. meaning.in_body «function».now (fitting.labels_of «function».now) (fitting.types_of «function».now) params.entry «function».now.blocks ≡ []) }
+        (λ _. meaning.in_body beside.now «function».now (fitting.labels_of «function».now) (fitting.types_of «function».now) params.entry «function».now.blocks ≡ []) }
     ensures fault { IfErr result
         (IsFirstOf
-        (meaning.in_body «function».now (fitting.labels_of «function».now) (fitting.types_of «function».now) params.entry «function».now.blocks)) }
+        (meaning.in_body beside.now «function».now (fitting.labels_of «function».now) (fitting.types_of «function».now) params.entry «function».now.blocks)) }
 {
     let bit = BitType::new();
-    let scope = scope_of(alloc, &bit, function)?;
+    let scope = scope_of(alloc, &bit, beside, function)?;
     body_fits(alloc, function, &scope, params, function.blocks.as_slice())
 }
 
+/// Whether a function's or a declaration's name has no fault, which may be taken.
+pub(crate) fn name_fits(alloc: Global, taken: bool, name: &Name) -> Result<(), ShapeEnd>
+    ensures fits { IfOk result (λ _. meaning.fault_at name.now None (fitting.name_kind taken name.now) ≡ []) }
+    ensures fault { IfErr result (IsFirstOf (meaning.fault_at name.now None (fitting.name_kind taken name.now))) }
+{
+    header_fits(alloc, name, name_kind(taken, name))
+}
+
 /// Whether a function has no fault, whose name may be taken.
-fn function_fits(alloc: Global, taken: bool, function: &Function) -> Result<(), ShapeEnd>
-    ensures fits { IfOk result (λ _. meaning.in_function taken «function».now ≡ []) }
-    ensures fault { IfErr result (IsFirstOf (meaning.in_function taken «function».now)) }
+pub(crate) fn function_fits(
+    alloc: Global,
+    beside: &Beside,
+    taken: bool,
+    function: &Function,
+) -> Result<(), ShapeEnd>
+    ensures fits { IfOk result (λ _. meaning.in_function beside.now taken «function».now ≡ []) }
+    ensures fault { IfErr result (IsFirstOf (meaning.in_function beside.now taken «function».now)) }
 {
-    header_fits(alloc, &function.name, name_kind(taken, &function.name))?;
-    let params = params_fit(alloc, function)?;
-    all_blocks_fit(alloc, function, params)
-}
-
-fn functions_fit(alloc: Global, functions: &[Function]) -> Result<(), ShapeEnd>
-    ensures fits { IfOk result (λ _. meaning.in_functions [] functions.now ≡ []) }
-    ensures fault { IfErr result (IsFirstOf (meaning.in_functions [] functions.now)) }
-{
-    let mut names = LentNames::new(alloc);
-    for function in functions {
-        let taken = names.take(&function.name)?;
-        function_fits(alloc, taken, function)?;
-    }
-    Ok(())
-}
-
-/// Whether a module has no fault: none in its named types, and none in its functions.
-fn module_fits(alloc: Global, module: &Module) -> Result<(), ShapeEnd>
-    ensures fits { IfOk result (λ _. meaning.faults_of «module».now ≡ []) }
-    ensures fault { IfErr result (IsFirstOf (meaning.faults_of «module».now)) }
-{
-    types_fit(alloc, module.types.as_slice())?;
-    functions_fit(alloc, module.functions.as_slice())
-}
-
-/// Whether a module has shape and is within the limit on lines; if not, that it isn't, or the first of its faults in the order of the
-/// file, and at one place the one of the first kind. Takes memory for the names of the module and for the lines of a block.
-pub fn shape(alloc: Global, module: &Module) -> Result<(), ShapeEnd>
-    ensures fits { IfOk result (λ _. meaning.first_fault «module».now ≡ None) }
-    ensures short { IfOk result (λ _. AllByRecursion meaning.IsShort «module».now.functions) }
-    ensures fault { IfErr result (IsEndOf «module».now.functions (meaning.faults_of «module».now)) }
-{
-    if !are_short(module.functions.as_slice()) {
-        return Err(ShapeEnd::Limit(Limit::Lines));
-    }
-    module_fits(alloc, module)
-}
-
-/// Whether a function beside a module has shape and is within the limit; if not, the same. Of its own name it is asked alone that it
-/// isn't one of debugging, since the module may have a function of that name.
-pub fn shape_function(alloc: Global, _module: &Module, function: &Function) -> Result<(), ShapeEnd>
-    ensures fits { IfOk result (λ _. meaning.in_function false «function».now ≡ []) }
-    ensures short { IfOk result (λ _. meaning.IsShort «function».now) }
-    ensures fault { IfErr result (IsEndOf («function».now ∷ []) (meaning.in_function false «function».now)) }
-{
-    if !is_short(function) {
-        return Err(ShapeEnd::Limit(Limit::Lines));
-    }
-    function_fits(alloc, false, function)
+    name_fits(alloc, taken, &function.name)?;
+    let params = params_fit(alloc, beside, function)?;
+    all_blocks_fit(alloc, beside, function, params)
 }

@@ -1,5 +1,6 @@
 ghost use Rattle.ir_shape.specs.Laws.{FaultlessModulesHaveShape, ShapelyModulesAreFaultless, FaultlessFunctionsHaveShape, ShapelyFunctionsAreFaultless};
 ghost use Rattle.ir_shape.specs.Laws.{FittingLinesHaveNone, OperandsOfNoInteger, ConditionsAndArms, Conversions, Results, Phis, EnteredEntries, Branches, Cases, NamedTypes, Names, Labels, Operands, Registers};
+ghost use Rattle.ir_shape.specs.Laws.{Accesses, Addresses, Calls, Declarations, DeclarationsComeInOrder, Globals, RecursiveCalls};
 ghost use Rattle.ir_shape.specs.Laws.{LinesComeBeforeEnds, NamesComeBeforeLines, TypesComeFirst, FunctionsComeInOrder, KindsComeInOrder};
 
 /// Empty on purpose: its contract is the law.
@@ -19,7 +20,7 @@ pub fn modules_with_shape_are_faultless()
 
 /// Empty on purpose: its contract is the law.
 ///
-/// A function beside a module has no fault exactly where it has shape.
+/// A function beside a module whose functions have different names has no fault exactly where it has shape.
 pub fn functions_have_shape_or_a_fault()
     ensures faultless { FaultlessFunctionsHaveShape }
     ensures shapely { ShapelyFunctionsAreFaultless }
@@ -28,7 +29,6 @@ pub fn functions_have_shape_or_a_fault()
 /// Empty on purpose: its contract is the law.
 ///
 /// What is at fault in a line, a terminator, a label and a name, and that nothing is where all fit.
-#[tactic(auto, unfolding(shape_tests::specs::Kinds::with_type))]
 pub fn examples_of_shape_faults()
     ensures none { FittingLinesHaveNone }
     ensures integers { OperandsOfNoInteger }
@@ -55,9 +55,21 @@ pub fn examples_of_type_faults()
 
 /// Empty on purpose: its contract is the law.
 ///
+/// What is at fault in a global, a declaration, an access to memory, an address and a call; and in which order globals and declarations come.
+pub fn examples_of_memory_faults()
+    ensures globals { Globals }
+    ensures declarations { Declarations }
+    ensures order { DeclarationsComeInOrder }
+    ensures accesses { Accesses }
+    ensures addresses { Addresses }
+    ensures calls { Calls }
+    ensures recursion { RecursiveCalls }
+{}
+
+/// Empty on purpose: its contract is the law.
+///
 /// The first place decides: a line before a terminator, a name before the lines, a function before the next one's name, and a named type
 /// before each function. At one place the first kind does.
-#[tactic(auto, unfolding(shape_tests::specs::Kinds::with_type), using(crate::proofs::TypeExamples::types_come_first))]
 pub fn examples_of_order()
     ensures ends { LinesComeBeforeEnds }
     ensures names { NamesComeBeforeLines }

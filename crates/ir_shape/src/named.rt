@@ -1,63 +1,33 @@
 //! Whether a module's named types have different names, and name types that are there.
-ghost use Rattle.std.specs.Prelude.{◌≡◌, [], map, None, IfOk, IfErr};
-ghost use Rattle.ir_types.specs.declared.named.NamedTy.{NamedTy};
+ghost use Rattle.std.specs.Prelude.{◌≡◌, [], IfOk, IfErr};
 ghost use Rattle.ir_types.specs.Named.{fields_or_none};
-ghost use Rattle.ir_core.specs.TypeNames.{names_in_struct};
-ghost use Rattle.shape_tests.specs.Kinds.{are_labels};
+ghost use Rattle.operand_tests.specs.Known.{are_types_known};
 ghost use Rattle.ir_shape.specs.Shape as meaning;
-ghost use Rattle.ir_shape.specs.Shape.{IsFirstOf, known_types};
-ghost use Rattle.ir_shape.specs.TypeNames as names;
+ghost use Rattle.ir_shape.specs.Shape.{IsFirstOf};
 
 use crate::{ShapeEnd, ShapeFault};
 use contents::Exact;
-use ir_core::{NamedTy, Sigil, Ty};
-use shape_tests::{LentNames, ShapeKind};
-use std::alloc::{AllocError, Global};
+use ir_core::{NamedTy, Sigil};
+use operand_tests::{Beside, are_types_known};
+use shape_kinds::{LentNames, ShapeKind};
+use std::alloc::Global;
 
-/// Whether each name that stands in the type, also behind pointers, is one of these.
-#[cycle(named)]
-#[tactic(auto, using(crate::proofs::TypeNames::int_known, crate::proofs::TypeNames::ptr_known, crate::proofs::TypeNames::array_known, crate::proofs::TypeNames::struct_known, crate::proofs::TypeNames::name_known, crate::proofs::TypeNames::void_known))]
-fn is_known(known: &LentNames, ty: &Ty) -> bool
-    ensures { result ≡ names.is_known known.now ty.now }
-{
-    match ty {
-        Ty::Ptr(target) => is_known(known, target.get()),
-        Ty::Array(_, element) => is_known(known, element.get()),
-        Ty::Struct(fields) => are_known(known, fields.get().as_slice()),
-        Ty::Named(name) => known.has(name.get()),
-        Ty::Int(_) | Ty::Void => true,
-    }
-}
-
-#[cycle(named)]
-fn are_known(known: &LentNames, fields: &[Ty]) -> bool
-    ensures { result ≡ names.are_known known.now fields.now }
-{
-    for field in fields {
-        if !is_known(known, field) {
-            return false;
-        }
-    }
-    true
-}
-
-/// Whether each name that stands in a named type is one of these. An opaque one has none.
-#[tactic(auto, using(crate::proofs::TypeNames::fields_known))]
-fn names_known(known: &LentNames, named: &NamedTy) -> bool
-    ensures { result ≡ are_labels known.now (names_in_struct named.now) }
+/// Whether each named type that stands in this one is the module's. An opaque one holds none.
+fn is_named_known(beside: &Beside, named: &NamedTy) -> bool
+    ensures { result ≡ are_types_known beside.now (fields_or_none named.now.fields) }
 {
     match &named.fields {
-        Some(fields) => are_known(known, fields.get().as_slice()),
+        Some(fields) => are_types_known(beside, fields.get().as_slice()),
         None => true,
     }
 }
 
 /// Whether a named type has no fault, whose name may be taken.
-fn type_fits(alloc: Global, known: &LentNames, taken: bool, named: &NamedTy) -> Result<(), ShapeEnd>
-    ensures fits { IfOk result (λ _. meaning.in_type known.now taken named.now ≡ []) }
-    ensures fault { IfErr result (IsFirstOf (meaning.in_type known.now taken named.now)) }
+fn type_fits(alloc: Global, beside: &Beside, taken: bool, named: &NamedTy) -> Result<(), ShapeEnd>
+    ensures fits { IfOk result (λ _. meaning.in_type beside.now taken named.now ≡ []) }
+    ensures fault { IfErr result (IsFirstOf (meaning.in_type beside.now taken named.now)) }
 {
-    if taken || !names_known(known, named) {
+    if taken || !is_named_known(beside, named) {
         return Err(ShapeEnd::Fault(ShapeFault {
             sigil: Sigil::Local,
             function: named.name.copy(alloc)?,
@@ -68,26 +38,15 @@ fn type_fits(alloc: Global, known: &LentNames, taken: bool, named: &NamedTy) -> 
     Ok(())
 }
 
-fn names_of<'a>(alloc: Global, types: &'a [NamedTy]) -> Result<LentNames<'a>, AllocError>
-    ensures { IfOk result (λ names. names ≡ known_types types.now) }
-{
-    let mut names = LentNames::with_room(alloc, types.len())?;
-    for named in types {
-        names.take(&named.name)?;
-    }
-    Ok(names)
-}
-
 /// Whether none of a module's named types has a fault.
-pub(crate) fn types_fit(alloc: Global, types: &[NamedTy]) -> Result<(), ShapeEnd>
-    ensures fits { IfOk result (λ _. meaning.in_types (known_types types.now) [] types.now ≡ []) }
-    ensures fault { IfErr result (IsFirstOf (meaning.in_types (known_types types.now) [] types.now)) }
+pub(crate) fn types_fit(alloc: Global, beside: &Beside, types: &[NamedTy]) -> Result<(), ShapeEnd>
+    ensures fits { IfOk result (λ _. meaning.in_types beside.now [] types.now ≡ []) }
+    ensures fault { IfErr result (IsFirstOf (meaning.in_types beside.now [] types.now)) }
 {
-    let known = names_of(alloc, types)?;
     let mut names = LentNames::new(alloc);
     for named in types {
         let taken = names.take(&named.name)?;
-        type_fits(alloc, &known, taken, named)?;
+        type_fits(alloc, beside, taken, named)?;
     }
     Ok(())
 }

@@ -1,12 +1,14 @@
 -- What is said of a module that is spelled is said of the text.
-use Rattle.std.proofs.Common.{◌≡◌, ◌∙◌, ◌<◌, ◌^◌, ℕ, suc, List, [], ◌∷◌, ◌++◌, ap, get_or, Fits, w8, Result, None, Ok, Err, IfOk, IfErr, subst, sym, arith}
+use Rattle.std.proofs.Common.{◌≡◌, ◌∙◌, ◌<◌, ◌^◌, ℕ, suc, List, [], ◌∷◌, get_or, Fits, w8, Result, None, Ok, Err, IfOk, IfErr, subst, sym, arith}
 use Rattle.std.specs.List.{AllByRecursion}
 use Rattle.ir_core.specs.declared.modules.Module.{Module}
-use Rattle.ir_types.specs.declared.named.NamedTy.{NamedTy}
+use Rattle.ir_core.specs.declared.limits.Limit.{Limit}
+use Rattle.ir_core.specs.declared.limits.Limit.TheVariants as limit
 use Rattle.ir_core.specs.Ranges.{AreBytes}
 use Rattle.ir_core.specs.WellFormed.{IsFunctionDefined, IsWellFormed}
 use Rattle.ir_shape.specs.declared.fault.ShapeFault.{ShapeFault}
-use Rattle.ir_shape.specs.Shape.{first_fault, first_of, in_functions, in_types, known_types}
+use Rattle.ir_shape.specs.Shape.{first_fault}
+use Rattle.module_limits.specs.Passed.{IsPassed, IsWithin}
 use Rattle.ir_spelling.specs.declared.fault.TextFault.{TextFault}
 use Rattle.ir_spelling.specs.declared.fault.TextFault.TheVariants as text
 use Rattle.ir_spelling.specs.Faults.{IsTextFault}
@@ -25,11 +27,14 @@ pub are_bytes : (bytes : List ℕ) → ((i : ℕ) → Fits w8 (get_or bytes i 0)
 are_bytes [] fit = tt
 are_bytes (b ∷ bytes) fit = (below_byte b (fit 0), are_bytes bytes (λ i. fit (suc i)))
 
--- where no types are named, the functions decide
-pub functions_decide : (m : Module) → m.types ≡ [] → in_functions [] m.functions ≡ [] → first_fault m ≡ None
-functions_decide m none faultless =
-    let of_types : List NamedTy → List ShapeFault = λ ts. in_types (known_types ts) [] ts ++ in_functions [] m.functions in
-    ap first_of (ap of_types none ∙ faultless)
+-- a module within the limits passes none
+pub never_passed : (m : Module) (l : Limit) → IsWithin m → IsPassed m l → ⊥
+never_passed m limit.Depth within passed = passed within.0
+never_passed m limit.Lines within passed = passed.1 within.1
+never_passed m limit.Block within passed = passed.2 within.2
+never_passed m limit.Text within passed = passed
+never_passed m limit.Json within passed = passed
+never_passed m limit.Facts within passed = passed
 
 module _ (bytes : List ℕ) (m : Module) (spells : Spells bytes m) where
   -- a spelled module without fault, in which all functions are defined, is well-formed

@@ -1,8 +1,10 @@
-ghost use Rattle.std.specs.Prelude.{◌≡◌, [], None, IfOk, IfErr, true};
+ghost use Rattle.std.specs.Prelude.{◌≡◌, [], map, None, IfOk, IfErr, IsTrue, true};
 ghost use Rattle.std.specs.List.{AllByRecursion};
 ghost use Rattle.ir_core.specs.declared.modules.Module.{Module};
 ghost use Rattle.ir_core.specs.WellFormed.{HasFunctionShape, HasShape, IsFunctionDefined, IsWellFormed};
-ghost use Rattle.ir_shape.specs.Shape.{IsShort, first_fault, in_functions};
+ghost use Rattle.ir_shape.specs.Shape.{first_fault};
+ghost use Rattle.module_limits.specs.Passed.{IsWithin};
+ghost use Rattle.shape_kinds.specs.Names.{are_new};
 ghost use Rattle.ir_spelling.specs.Spells.{Spells, SpellsWellFormed};
 ghost use Rattle.module_input.specs.Faults.{IsModuleFault};
 ghost use Rattle.module_input.specs.Private.{HasFault, ShapeAmong, UndefinedAmong, of_text};
@@ -13,14 +15,15 @@ use definedness::{DefEnd, defined, shape_knows_labels, undefined_uses_are_faults
 use ir_core::{Function, Module};
 use ir_reader::{TextFault, read_module};
 use ir_shape::{ShapeEnd, shape};
-use shape_tests::LentNames;
+use module_limits::ranges_lie_within;
+use shape_kinds::LentNames;
 use spelling_laws::spelled_modules_fit;
 use std::alloc::{AllocError, Global};
 use whole_functions::is_whole_and_defined;
 
 /// Whether each of the functions is defined; if not, the first use that isn't, in the first that isn't.
-fn all_defined(alloc: Global, functions: &[Function]) -> Result<(), ModuleFault>
-    requires { AllByRecursion HasFunctionShape functions.now }
+fn all_defined(alloc: Global, _module: &Module, functions: &[Function]) -> Result<(), ModuleFault>
+    requires { AllByRecursion (HasFunctionShape _module.now) functions.now }
     ensures defined { IfOk result (λ _. AllByRecursion IsFunctionDefined functions.now) }
     ensures undefined { IfErr result (UndefinedAmong functions.now) }
 {
@@ -43,22 +46,23 @@ fn all_defined(alloc: Global, functions: &[Function]) -> Result<(), ModuleFault>
 
 /// Whether a module is without fault of shape; if not, the first.
 fn shaped(alloc: Global, module: &Module) -> Result<(), ModuleFault>
-    requires { AllByRecursion IsShort «module».now.functions }
+    requires { IsWithin «module».now }
     ensures faultless { IfOk result (λ _. first_fault «module».now ≡ None) }
     ensures fault { IfErr result (ShapeAmong «module».now) }
 {
     match shape(alloc, module) {
         Ok(()) => Ok(()),
         Err(ShapeEnd::Fault(fault)) => Err(ModuleFault::Shape(fault)),
-        // A module that a text spells is within it.
+        // A module that a text spells is within all.
         Err(ShapeEnd::Limit(limit)) => Err(ModuleFault::Text(TextFault::Limit(limit))),
         Err(ShapeEnd::Memory) => Err(ModuleFault::Memory),
     }
 }
 
 /// Whether functions of different names are all seen to be without fault and defined. No is no answer.
-fn are_seen(alloc: Global, functions: &[Function]) -> Result<bool, AllocError>
-    ensures faultless { IfOk result (λ seen. seen ≡ true → in_functions [] functions.now ≡ []) }
+fn are_seen(alloc: Global, _module: &Module, functions: &[Function]) -> Result<bool, AllocError>
+    ensures names { IfOk result (λ seen. seen ≡ true → are_new [] (map (λ (f : Function). f.name) functions.now) ≡ true) }
+    ensures shape { IfOk result (λ seen. seen ≡ true → AllByRecursion (HasFunctionShape _module.now) functions.now) }
     ensures defined { IfOk result (λ seen. seen ≡ true → AllByRecursion IsFunctionDefined functions.now) }
 {
     let mut names = LentNames::new(alloc);
@@ -73,22 +77,31 @@ fn are_seen(alloc: Global, functions: &[Function]) -> Result<bool, AllocError>
     Ok(true)
 }
 
-/// Whether a module that names no types is seen to be without fault and defined. No is no answer.
-#[tactic(auto, using(crate::proofs::Told::functions_decide))]
+/// Whether a module names no types, has no globals and declares nothing.
+fn holds_definitions_alone(module: &Module) -> bool
+    ensures { IsTrue result
+        → («module».now.types ≡ []) × («module».now.globals ≡ []) × («module».now.declarations ≡ []) }
+{
+    module.types.as_slice().is_empty()
+        && module.globals.is_empty()
+        && module.declarations.is_empty()
+}
+
+/// Whether a module of definitions alone is seen to be without fault and defined. No is no answer.
 fn is_seen(alloc: Global, module: &Module) -> Result<bool, AllocError>
     ensures faultless { IfOk result (λ seen. seen ≡ true → first_fault «module».now ≡ None) }
     ensures defined { IfOk result (λ seen. seen ≡ true → AllByRecursion IsFunctionDefined «module».now.functions) }
 {
-    if module.types.as_slice().is_empty() {
-        return are_seen(alloc, module.functions.as_slice());
+    if !holds_definitions_alone(module) {
+        return Ok(false);
     }
-    Ok(false)
+    are_seen(alloc, module, module.functions.as_slice())
 }
 
 /// Whether a module that is spelled is well-formed; if not, its first fault. Nearly all are, which is seen at once.
 fn fits(alloc: Global, module: &Module) -> Result<(), ModuleFault>
     requires shape { first_fault «module».now ≡ None → HasShape «module».now }
-    requires short { AllByRecursion IsShort «module».now.functions }
+    requires within { IsWithin «module».now }
     ensures faultless { IfOk result (λ _. first_fault «module».now ≡ None) }
     ensures defined { IfOk result (λ _. AllByRecursion IsFunctionDefined «module».now.functions) }
     ensures fault { IfErr result (HasFault «module».now) }
@@ -97,7 +110,7 @@ fn fits(alloc: Global, module: &Module) -> Result<(), ModuleFault>
         return Ok(());
     }
     shaped(alloc, module)?;
-    all_defined(alloc, module.functions.as_slice())
+    all_defined(alloc, module, module.functions.as_slice())
 }
 
 /// Whether the module that the text spells is well-formed; if not, the text's first fault.
@@ -107,6 +120,7 @@ fn well_formed(alloc: Global, text: &[u8], module: &Module) -> Result<(), Module
     ensures fault { IfErr result (IsModuleFault text.now) }
 {
     spelled_modules_fit();
+    ranges_lie_within();
     fits(alloc, module)
 }
 

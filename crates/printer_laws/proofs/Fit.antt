@@ -25,9 +25,8 @@ use Rattle.ir_core.specs.Expressions.{operands_in, type_of}
 use Rattle.ir_core.specs.Functions.{function_names, line_count, names_of, operands_in_block, successors_of, typed_of}
 use Rattle.ir_core.specs.Limits.{line_limit}
 use Rattle.ir_core.specs.Order.{AreInOrder}
-use Rattle.ir_core.specs.Ranges.{AreFlagsInRange, IsNameInRange, IsTypeInRange}
+use Rattle.ir_core.specs.Ranges.{AreFlagsInRange, IsNameInRange, IsResultInRange}
 use Rattle.ir_core.specs.Types.{constant_fits}
-use Rattle.ir_core.specs.WellFormed.{HasType, IsFirstClass}
 use Rattle.ir_types.specs.declared.names.Name.{Name}
 use Rattle.ir_types.specs.declared.ty.Ty.{Ty}
 use Rattle.ir_naming.specs.Spells.{labels_of}
@@ -104,7 +103,7 @@ FitsParam p = IsNameInRange p.name × IsWritableType p.ty × (p.extensions ≡ n
 
 pub record FitsFunction (f : Function) : Type 0 where
   pub name : IsNameInRange f.name
-  pub result : IsTypeInRange f.result
+  pub result : IsResultInRange f.result
   pub params : AllByRecursion FitsParam f.params
   pub some : 0 < length f.blocks
   pub blocks : AllByRecursion (FitsBlock (typed_of f) (labels_of f)) f.blocks
@@ -132,8 +131,11 @@ module _ (labels : List Name) where
     pub operations : AllByRecursion SetsByOperation b.body
     pub successors : AllByRecursion (Contains labels) (successors_of b.term)
 
+abbrev pub IsUsedAt : List (Name × Ty) → Ty → Atom Name → Type 0
+IsUsedAt registers t (Constant c) = Unit {0}
+IsUsedAt registers t (Register name) = Contains registers (name, t)
+
 pub record HasForm (f : Function) : Type 0 where
   pub some : 0 < length f.blocks
-  pub registers : AllByRecursion (λ (r : Name × Ty). IsFirstClass r.1) (typed_of f)
-  pub operands : AllByRecursion (λ (o : Operand Name). HasType (typed_of f) o.ty o.atom) (flat_map operands_in_block f.blocks)
+  pub operands : AllByRecursion (λ (o : Operand Name). IsUsedAt (typed_of f) o.ty o.atom) (flat_map operands_in_block f.blocks)
   pub blocks : AllByRecursion (HasBlockForm (labels_of f)) f.blocks

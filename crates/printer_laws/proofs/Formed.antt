@@ -1,5 +1,5 @@
 -- Functions in order, of the form that a text has, and in range can be written as text.
-use Rattle.std.proofs.Common.{◌≡◌, ◌<◌, true, true≢false, List, [], ◌∷◌, ◌++◌, map, length, Option, None, Some, sym}
+use Rattle.std.proofs.Common.{◌≡◌, ◌<◌, List, [], ◌∷◌, ◌++◌, map, length, Option, None, Some}
 use Rattle.std.specs.List.{AllByRecursion, Contains, cons_option, flat_map}
 use Rattle.ir_core.specs.declared.functions.Block.{Block}
 use Rattle.ir_core.specs.declared.functions.Case.{Case}
@@ -13,33 +13,26 @@ use Rattle.ir_core.specs.declared.functions.Term.{Term}
 use Rattle.ir_core.specs.declared.functions.Term.TheVariants as term
 use Rattle.ir_core.specs.declared.operands.Atom.{Atom}
 use Rattle.ir_core.specs.declared.operands.Atom.TheVariants.{Constant, Register}
-use Rattle.ir_core.specs.declared.operands.Const.{Const}
 use Rattle.ir_core.specs.declared.operands.Operand.{Operand}
 use Rattle.ir_core.specs.Expressions.{type_of}
 use Rattle.ir_core.specs.Functions.{block_names, cases_of, names_in, names_of, operands_at_end, operands_in_block, operands_of, operands_of_phi, params_of, phi_registers, register_of, registers_of, set_by, successors_of, typed_of}
 use Rattle.ir_core.specs.Order.{AreInOrder}
 use Rattle.ir_core.specs.Ranges.{IsAtomInRange, IsCaseInRange, IsFunctionInRange, IsLineInRange, IsNameInRange, IsOperandInRange, IsTypeInRange}
-use Rattle.ir_core.specs.Types.{constant_fits}
-use Rattle.ir_core.specs.WellFormed.{HasType, IsFirstClass}
 use Rattle.ir_types.specs.declared.names.Name.{Name}
 use Rattle.ir_types.specs.declared.ty.Ty.{Ty}
 use Rattle.ir_types.specs.declared.ty.Ty.TheVariants.{Int}
 use Rattle.ir_naming.specs.Spells.{labels_of}
 use Rattle.ir_naming_laws.proofs.Lists.{all_both, all_from, all_left, all_lists, all_mapped, all_over, all_right, all_to, all_append}
 use Rattle.printer_laws.specs.Writable.{IsWritableType}
-use Rattle.printer_laws.proofs.Fit.{FitsAtom, FitsBlock, FitsCase, FitsEntry, FitsFunction, FitsLabel, FitsLine, FitsOperand, FitsParam, FitsPhi, FitsTerm, HasBlockForm, HasForm, HasPhiForm, SetsByOperation}
+use Rattle.printer_laws.proofs.Fit.{FitsAtom, FitsBlock, FitsCase, FitsEntry, FitsFunction, FitsLabel, FitsLine, FitsOperand, FitsParam, FitsPhi, FitsTerm, HasBlockForm, HasForm, HasPhiForm, IsUsedAt, SetsByOperation}
 use Rattle.ir_core.specs.Modules.{not_extended}
 use Rattle.ir_core.specs.declared.functions.Extensions.{Extensions}
 
 -- ---- types
 
-first_class : (t : Ty) → IsTypeInRange t → IsFirstClass t → IsWritableType t
-first_class (Int w) range class = range
-first_class t range class = absurd class
-
-fitting : (t : Ty) (c : Const) → IsTypeInRange t → constant_fits t c ≡ true → IsWritableType t
-fitting (Int w) c range fits = range
-fitting t c range fits = absurd (true≢false (sym fits))
+writable : (t : Ty) → IsTypeInRange t → IsWritableType t
+writable (Int w) range = range
+writable t range = absurd range
 
 -- ---- a block of a function
 
@@ -50,12 +43,12 @@ record Known (registers : List (Name × Ty)) (labels : List Name) : Type 0 where
   pub label_names : AllByRecursion IsNameInRange labels
 
 module _ (registers : List (Name × Ty)) (labels : List Name) (known : Known registers labels) where
-  fits_atom : (t : Ty) (a : Atom Name) → IsTypeInRange t → IsAtomInRange t a → HasType registers t a → IsWritableType t × FitsAtom registers labels t a
-  fits_atom t (Constant c) range fits is = (fitting t c range fits, fits)
+  fits_atom : (t : Ty) (a : Atom Name) → IsTypeInRange t → IsAtomInRange t a → IsUsedAt registers t a → IsWritableType t × FitsAtom registers labels t a
+  fits_atom t (Constant c) range fits is = (writable t range, fits)
   fits_atom t (Register name) range fits is =
       (all_to (λ (r : Name × Ty). IsWritableType r.1) registers known.types (name, t) is, (all_to (λ (r : Name × Ty). IsNameInRange r.0) registers known.names (name, t) is, is))
 
-  fits_operand : (o : Operand Name) → IsOperandInRange o × HasType registers o.ty o.atom → FitsOperand registers labels o
+  fits_operand : (o : Operand Name) → IsOperandInRange o × IsUsedAt registers o.ty o.atom → FitsOperand registers labels o
   fits_operand o is = fits_atom o.ty o.atom is.0.0 is.0.1 is.1
 
   fits_label : (name : Name) → Contains labels name → FitsLabel registers labels name
@@ -116,7 +109,7 @@ module _ (registers : List (Name × Ty)) (labels : List Name) (known : Known reg
   -- ---- terminators
 
   fits_case : (c : Case) → IsCaseInRange c × Contains labels c.label → FitsCase registers labels c
-  fits_case c is = (fitting c.ty _ is.0.0 is.0.1, is.0.1, fits_label c.label is.1)
+  fits_case c is = (writable c.ty is.0.0, is.0.1, fits_label c.label is.1)
 
   fits_term : (t : Term) → AllByRecursion (FitsOperand registers labels) (operands_at_end t) → AllByRecursion IsCaseInRange (cases_of t) → AllByRecursion (Contains labels) (successors_of t)
       → FitsTerm registers labels t
@@ -210,7 +203,7 @@ module _ (f : Function) (order : AreInOrder (names_of f)) (form : HasForm f) (ra
   types : AllByRecursion (λ (r : Name × Ty). IsWritableType r.1) (typed_of f)
   types =
       all_from (λ (r : Name × Ty). IsWritableType r.1) (typed_of f)
-      (λ r there. first_class r.1 (all_to (λ (r : Name × Ty). IsTypeInRange r.1) (typed_of f) range.registers r there) (all_to (λ (r : Name × Ty). IsFirstClass r.1) (typed_of f) form.registers r there))
+      (λ r there. writable r.1 (all_to (λ (r : Name × Ty). IsTypeInRange r.1) (typed_of f) range.registers r there))
 
   register_names_in : (bs : List Block) → AllByRecursion (λ (b : Block). AllByRecursion IsNameInRange (block_names b)) bs → AllByRecursion (λ (r : Name × Ty). IsNameInRange r.0) (flat_map registers_of bs)
   register_names_in [] all = tt
@@ -233,7 +226,7 @@ module _ (f : Function) (order : AreInOrder (names_of f)) (form : HasForm f) (ra
   operands =
       all_from (FitsOperand (typed_of f) (labels_of f)) (flat_map operands_in_block f.blocks)
       (λ o there. fits_operand (typed_of f) (labels_of f) known o
-      (all_to IsOperandInRange (flat_map operands_in_block f.blocks) range.operands o there, all_to (λ (o : Operand Name). HasType (typed_of f) o.ty o.atom) (flat_map operands_in_block f.blocks) form.operands o there))
+      (all_to IsOperandInRange (flat_map operands_in_block f.blocks) range.operands o there, all_to (λ (o : Operand Name). IsUsedAt (typed_of f) o.ty o.atom) (flat_map operands_in_block f.blocks) form.operands o there))
 
   known_block : (b : Block) → Contains f.blocks b → KnownBlock f b
   known_block b there = record {

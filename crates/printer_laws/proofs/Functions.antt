@@ -5,7 +5,7 @@ use Rattle.ir_core.specs.declared.functions.Function.{Function}
 use Rattle.ir_core.specs.declared.modules.Module.{Module}
 use Rattle.ir_core.specs.declared.functions.Param.{Param}
 use Rattle.ir_core.specs.Functions.{typed_of}
-use Rattle.ir_core.specs.Ranges.{IsNameInRange, IsTypeInRange}
+use Rattle.ir_core.specs.Ranges.{IsNameInRange, IsResultInRange}
 use Rattle.ir_types.specs.declared.names.Name.{Name}
 use Rattle.ir_types.specs.declared.names.Name.TheVariants.{Number, Text}
 use Rattle.ir_types.specs.declared.ty.Ty.{Ty}
@@ -73,7 +73,7 @@ params (p ∷ ps) all =
 
 -- ---- heads
 
-result : (t : Ty) → IsTypeInRange t → Prints Ir Stops write.result (λ (w : Option (Placed ℕ)). IsResult w t) (printed_type t)
+result : (t : Ty) → IsResultInRange t → Prints Ir Stops write.result (λ (w : Option (Placed ℕ)). IsResult w t) (printed_type t)
 result (Int width) writable =
     read_as Ir write.result (λ (w : Option (Placed ℕ)). IsResult w (Int width)) (λ w. Some w) (λ w named. refl) (λ w named. typed (Int width) w writable named)
     (marks.type Ir (Int width) writable)

@@ -1,33 +1,26 @@
 -- Modules that a text spells have the form that a text has; in range they can be written as text.
-use Rattle.std.proofs.Common.{◌≡◌, ℕ, ◌<◌, List, [], ◌∷◌, length, map, Option, Some, None, refl, sym, subst, arith}
-use Rattle.std.specs.List.{AllByRecursion, AllZip, Contains, flat_map}
+use Rattle.std.proofs.Common.{ℕ, ◌<◌, List, [], ◌∷◌, length, map, Option, Some, None, sym, subst, arith}
+use Rattle.std.specs.List.{AllByRecursion, AllZip, Contains}
 use Rattle.ir_core.specs.declared.functions.Block.{Block}
 use Rattle.ir_core.specs.declared.functions.Case.{Case}
-use Rattle.ir_core.specs.declared.functions.CondBr.{CondBr}
 use Rattle.ir_core.specs.declared.functions.Entry.{Entry}
 use Rattle.ir_core.specs.declared.functions.Function.{Function}
 use Rattle.ir_core.specs.declared.functions.Instr.{Instr}
 use Rattle.ir_core.specs.declared.functions.Instr.TheVariants as instr
 use Rattle.ir_core.specs.declared.modules.Module.{Module}
 use Rattle.ir_core.specs.declared.functions.Phi.{Phi}
-use Rattle.ir_core.specs.declared.functions.Switch.{Switch}
 use Rattle.ir_core.specs.declared.functions.Term.{Term}
 use Rattle.ir_core.specs.declared.operands.Atom.{Atom}
-use Rattle.ir_core.specs.declared.operands.Atom.TheVariants.{Constant, Register}
-use Rattle.ir_core.specs.declared.operands.Const.TheVariants as const
 use Rattle.ir_core.specs.declared.operands.Operand.{Operand}
-use Rattle.ir_core.specs.Functions.{operands_in_block, successors_of, typed_of}
+use Rattle.ir_core.specs.Functions.{successors_of, typed_of}
 use Rattle.ir_core.specs.Ranges.{IsFunctionInRange, IsInRange}
-use Rattle.ir_core.specs.WellFormed.{HasType, IsFirstClass}
 use Rattle.ir_types.specs.declared.names.Name.{Name}
 use Rattle.ir_types.specs.declared.ty.Ty.{Ty}
 use Rattle.ir_types.specs.declared.ty.Ty.TheVariants.{Int}
 use Rattle.ir_grammar.specs.declared.trees.BlockText.{BlockText}
 use Rattle.ir_grammar.specs.declared.trees.CaseText.{CaseText}
 use Rattle.ir_grammar.specs.declared.trees.DefinitionText.{DefinitionText}
-use Rattle.ir_grammar.specs.declared.trees.EntryText.{EntryText}
 use Rattle.ir_grammar.specs.declared.trees.LineText.{LineText}
-use Rattle.ir_grammar.specs.declared.trees.OperationText.{OperationText}
 use Rattle.ir_grammar.specs.declared.trees.PhiText.{PhiText}
 use Rattle.ir_grammar.specs.declared.trees.TermText.{TermText}
 use Rattle.ir_grammar.specs.declared.trees.ValueText.{ValueText}
@@ -36,12 +29,12 @@ use Rattle.ir_grammar.specs.Symbols.{Symbol}
 use Rattle.ir_grammar.specs.Written as write
 use Rattle.ir_naming.specs.Naming.{blocks_in, entries_in}
 use Rattle.ir_naming.specs.Spells.{IsCase, IsEntry, IsLine, IsPhi, IsTerm, IsValue, NamesBlock, NamesFunction, labels_of}
-use Rattle.ir_naming.specs.Values.{IsNumber, IsOperation, int_of}
+use Rattle.ir_naming.specs.Values.{IsNumber, int_of}
 use Rattle.ir_naming_laws.proofs.Operations.{operation_cases}
 use Rattle.ir_spelling.specs.Spells.{Spells}
 use Rattle.spelling_laws.proofs.Trees.{DefinitionHas, definition_has}
-use Rattle.spelling_laws.proofs.Walked.{operands_walked, registers_typed, term_cases}
-use Rattle.printer_laws.proofs.Fit.{FitsFunction, FitsModule, HasBlockForm, HasForm, HasPhiForm, IsNoOperand, SetsByOperation}
+use Rattle.spelling_laws.proofs.Walked.{operands_walked, term_cases}
+use Rattle.printer_laws.proofs.Fit.{FitsFunction, FitsModule, HasBlockForm, HasForm, HasPhiForm, IsNoOperand, IsUsedAt, SetsByOperation}
 use Rattle.printer_laws.proofs.Formed.{fits_function}
 
 -- ---- lists of what is named
@@ -66,15 +59,15 @@ nothing (s ∷ ss) = (tt, nothing ss)
 
 -- ---- functions
 
-number_typed : (registers : List (Name × Ty)) (w : ℕ) (n : Option ℕ) (atom : Atom Name) → IsNumber n atom → HasType registers (Int w) atom
+number_typed : (registers : List (Name × Ty)) (w : ℕ) (n : Option ℕ) (atom : Atom Name) → IsNumber n atom → IsUsedAt registers (Int w) atom
 number_typed registers w None atom none = absurd none
-number_typed registers w (Some n) atom is = subst (HasType registers (Int w)) (sym is) tt
+number_typed registers w (Some n) atom is = subst (IsUsedAt registers (Int w)) (sym is) tt
 
-value_typed : (registers : List (Name × Ty)) (w : ℕ) (v : ValueText) (atom : Atom Name) → IsValue registers w v atom → HasType registers (Int w) atom
+value_typed : (registers : List (Name × Ty)) (w : ℕ) (v : ValueText) (atom : Atom Name) → IsValue registers w v atom → IsUsedAt registers (Int w) atom
 value_typed registers w (text.Int i) atom is = number_typed registers w (int_of w i) atom is
-value_typed registers w text.Undef atom is = subst (HasType registers (Int w)) (sym is) tt
+value_typed registers w text.Undef atom is = subst (IsUsedAt registers (Int w)) (sym is) tt
 value_typed registers w (text.Local name) atom (r, (there, same), is) =
-    subst (HasType registers (Int w)) (sym is) (subst (λ (x : Name). Contains registers (x, Int w)) (sym same) there)
+    subst (IsUsedAt registers (Int w)) (sym is) (subst (λ (x : Name). Contains registers (x, Int w)) (sym same) there)
 value_typed registers w (text.Tagged tag name) atom (r, none, is) = absurd none
 
 module _ (registers : List (Name × Ty)) (labels : List Name) where
@@ -113,8 +106,7 @@ form d f n =
     let has : DefinitionHas Nothing d = definition_has Nothing d (nothing (write.definition d)) in
     record {
       some = zip_some (NamesBlock (typed_of f) (labels_of f)) d.entry d.others f.blocks n.blocks;
-      registers = registers_typed Nothing IsFirstClass (λ w has. tt) tt d f has n;
-      operands = operands_walked Nothing (λ (o : Operand Name). HasType (typed_of f) o.ty o.atom) d f (λ w v atom has is. value_typed (typed_of f) w.what v atom is) has n;
+      operands = operands_walked Nothing (λ (o : Operand Name). IsUsedAt (typed_of f) o.ty o.atom) d f (λ w v atom has is. value_typed (typed_of f) w.what v atom is) has n;
       blocks = zip_all (NamesBlock (typed_of f) (labels_of f)) (HasBlockForm (labels_of f)) (block_form (typed_of f) (labels_of f)) (blocks_in d) f.blocks n.blocks;
     }
 

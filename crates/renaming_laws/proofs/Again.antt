@@ -5,7 +5,6 @@ use Rattle.ir_core.specs.declared.functions.Function.{Function}
 use Rattle.ir_core.specs.declared.modules.Module.{Module}
 use Rattle.ir_types.specs.declared.names.Name.{Name}
 use Rattle.ir_types.specs.declared.names.Name.TheVariants.{Text, Number}
-use Rattle.ir_types.specs.declared.named.NamedTy.{NamedTy}
 use Rattle.ir_core.specs.Functions.{names_of}
 use Rattle.ir_core.specs.Order.{AreNew}
 use Rattle.ir_rename.specs.Laws.{IsText, NamedAreTexts}

@@ -36,8 +36,8 @@ each P Q step (f ∷ fs) all = (step f all.0, each P Q step fs all.1)
 pub names_in : (m : Module) → IsInRange m → HasNamesInRange m
 names_in m range = each IsFunctionInRange InRange (λ f is. is.names) m.functions range.functions
 
-apart_in : (m : Module) → AllByRecursion HasFunctionShape m.functions → HasNamesApart m
-apart_in m shape = each HasFunctionShape AllNew (λ f has. has.names) m.functions shape
+apart_in : (m : Module) → AllByRecursion (HasFunctionShape m) m.functions → HasNamesApart m
+apart_in m shape = each (HasFunctionShape m) AllNew (λ f has. has.names) m.functions shape
 
 -- ---- range
 

@@ -1,16 +1,20 @@
 -- What modules keep under other names.
-use Rattle.std.proofs.Common.{◌≡◌, ◌∙◌, List, [], ◌∷◌, map, refl, sym, ap, subst}
+use Rattle.std.proofs.Common.{◌≡◌, ◌∙◌, List, [], ◌∷◌, ◌++◌, map, refl, sym, ap, subst}
 use Rattle.std.specs.List.{AllByRecursion, AllZip}
 use Rattle.ir_core.specs.declared.functions.Function.{Function}
+use Rattle.ir_core.specs.declared.modules.Declaration.{Declaration}
+use Rattle.ir_core.specs.declared.modules.GlobalVar.{GlobalVar}
+use Rattle.ir_core.specs.declared.modules.Module.{Module}
 use Rattle.ir_types.specs.declared.named.NamedTy.{NamedTy}
 use Rattle.ir_types.specs.declared.names.Name.{Name}
-use Rattle.ir_core.specs.Functions.{names_of}
+use Rattle.ir_core.specs.Functions.{function_names, names_of}
 use Rattle.ir_core.specs.Order.{AreNew}
 use Rattle.ir_core.specs.Ranges.{IsFunctionInRange, IsNamedTypeInRange, IsNameInRange}
-use Rattle.ir_core.specs.WellFormed.{HasFunctionShape, IsFunctionDefined, NamesTypes}
+use Rattle.ir_core.specs.WellFormed.{HasDeclaredShape, HasFunctionShape, HasGlobalShape, IsFunctionDefined, NamesTypes, global_names}
 use Rattle.ir_rename.specs.Laws.{RenamedAreDefined, RenamedHaveShape}
-use Rattle.ir_rename.specs.Renamed.{IsRenamed}
+use Rattle.ir_rename.specs.Renamed.{AreRenamed, IsRenamed}
 use Rattle.ir_rename.proofs.Apart.{apart_from_new, are_new}
+use Rattle.ir_rename.proofs.Beside.{declared, global, renamed_alike}
 use Rattle.ir_rename.proofs.Renames.{names_renamed}
 use Rattle.ir_rename.proofs.Shaped.{apart_mapped}
 use Rattle.renaming_laws.specs.Kept.{DefinednessStays, FunctionNamesStay, NamesStayApart, RangeStays, ShapeStays, WellFormednessStays}
@@ -66,19 +70,38 @@ names_stay_apart m n is apart = under AllNew AllNew new_names m.functions n.func
 
 -- ---- shape
 
+global_names_stay : (m n : Module) → AreRenamed m n → global_names n ≡ global_names m
+global_names_stay m n is =
+    ap (λ (gs : List GlobalVar). map (λ (g : GlobalVar). g.name) gs ++ (function_names n ++ map (λ (d : Declaration). d.name) n.declarations)) is.globals
+    ∙ ap (λ (names : List Name). map (λ (g : GlobalVar). g.name) m.globals ++ (names ++ map (λ (d : Declaration). d.name) n.declarations)) (function_names_stay m n is)
+    ∙ ap (λ (ds : List Declaration). map (λ (g : GlobalVar). g.name) m.globals ++ (function_names m ++ map (λ (d : Declaration). d.name) ds)) is.declarations
+
+each : {A : Type 0} (P Q : A → Type 0) → ((x : A) → P x → Q x) → (xs : List A) → AllByRecursion P xs → AllByRecursion Q xs
+each P Q step [] all = tt
+each P Q step (x ∷ xs) all = (step x all.0, each P Q step xs all.1)
+
 pub shape_stays : RenamedHaveShape → ShapeStays
-shape_stays one m n is shape = record {
-  types_apart = subst (λ (types : List NamedTy). AreNew [] (map (λ (t : NamedTy). t.name) types)) (sym is.types) shape.types_apart;
-  types =
-      subst (λ (types : List NamedTy). AllByRecursion (NamesTypes (map (λ (t : NamedTy). t.name) types)) types) (sym is.types) shape.types;
-  functions = under HasFunctionShape HasFunctionShape (λ f g (ρ, renamed) has. one ρ f g renamed has) m.functions n.functions is.functions shape.functions;
-  names = subst (AreNew []) (sym (function_names_stay m n is)) shape.names;
-}
+shape_stays one m n is shape =
+    let alike = renamed_alike m n is in
+    record {
+      types_apart = subst (λ (types : List NamedTy). AreNew [] (map (λ (t : NamedTy). t.name) types)) (sym is.types) shape.types_apart;
+      types =
+          subst (λ (types : List NamedTy). AllByRecursion (NamesTypes (map (λ (t : NamedTy). t.name) types)) types) (sym is.types) shape.types;
+      globals =
+          subst (AllByRecursion (HasGlobalShape n)) (sym is.globals)
+          (each (HasGlobalShape m) (HasGlobalShape n) (global m n alike) m.globals shape.globals);
+      functions =
+          under (HasFunctionShape m) (HasFunctionShape n) (λ f g (ρ, renamed) has. one m n ρ f g is renamed has) m.functions n.functions is.functions shape.functions;
+      declarations =
+          subst (AllByRecursion (HasDeclaredShape n)) (sym is.declarations)
+          (each (HasDeclaredShape m) (HasDeclaredShape n) (declared m n alike) m.declarations shape.declarations);
+      names = subst (AreNew []) (sym (global_names_stay m n is)) shape.names;
+    }
 
 pub definedness_stays : RenamedAreDefined → DefinednessStays
 definedness_stays one m n is shape defined =
-    under (λ f. HasFunctionShape f × IsFunctionDefined f) IsFunctionDefined (λ f g (ρ, renamed) has. one ρ f g renamed has.0 has.1) m.functions n.functions is.functions
-    (both HasFunctionShape IsFunctionDefined m.functions shape defined)
+    under (λ f. HasFunctionShape m f × IsFunctionDefined f) IsFunctionDefined (λ f g (ρ, renamed) has. one m ρ f g renamed has.0 has.1) m.functions n.functions is.functions
+    (both (HasFunctionShape m) IsFunctionDefined m.functions shape defined)
 
 -- ---- range
 

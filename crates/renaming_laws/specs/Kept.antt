@@ -20,7 +20,7 @@ ShapeStays = (m n : Module) → AreRenamed m n → HasShape m → HasShape n
 
 -- where its functions have shape
 abbrev pub DefinednessStays : Type 0
-DefinednessStays = (m n : Module) → AreRenamed m n → AllByRecursion HasFunctionShape m.functions → IsDefined m → IsDefined n
+DefinednessStays = (m n : Module) → AreRenamed m n → AllByRecursion (HasFunctionShape m) m.functions → IsDefined m → IsDefined n
 
 -- where the new names are in range
 abbrev pub RangeStays : Type 0

@@ -30,7 +30,7 @@ module _ (given : Module → Module) where
 
   -- where its functions have shape
   abbrev pub KeepsDefined : Type 0
-  KeepsDefined = (m : Module) → HasNamesInRange m → AllByRecursion HasFunctionShape m.functions → IsDefined m → IsDefined (given m)
+  KeepsDefined = (m : Module) → HasNamesInRange m → AllByRecursion (HasFunctionShape m) m.functions → IsDefined m → IsDefined (given m)
 
   abbrev pub KeepsWellFormed : Type 0
   KeepsWellFormed = (m : Module) → IsWellFormed m → IsWellFormed (given m)

@@ -19,7 +19,7 @@ use Rattle.shape_tests.specs.Kinds.{are_alike, count_of, same_counts}
 use Rattle.shape_tests.proofs.Edges.{counts_joined}
 use Rattle.shape_tests.proofs.Entries.{alike_by, are_alike_is, count_cons}
 use Rattle.shape_tests.proofs.Tests.{both_hold, both_left, both_right}
-use Rattle.shape_tests.proofs.Typed.{put_entry}
+use Rattle.shape_kinds.proofs.Entries.{put_entry}
 
 -- ---- counts
 

@@ -8,6 +8,7 @@ use Rattle.ir_core.specs.declared.functions.Block.{Block}
 use Rattle.ir_core.specs.declared.functions.Case.{Case}
 use Rattle.ir_core.specs.declared.functions.Term.{Term}
 use Rattle.ir_core.specs.declared.functions.Term.TheVariants as term
+use Rattle.ir_core.specs.declared.modules.Module.{Module}
 use Rattle.ir_types.specs.declared.names.Name.{Name}
 use Rattle.ir_types.specs.declared.ty.Ty.{Ty}
 use Rattle.ir_types.specs.declared.ty.Ty.TheVariants as ty
@@ -15,43 +16,57 @@ use Rattle.ir_core.specs.Functions.{successors_of}
 use Rattle.ir_types.specs.NameLaws.{same_nat_refl, same_nat_true}
 use Rattle.ir_core.specs.Order.{AreNew}
 use Rattle.ir_types.specs.Same.{same_name, same_ty}
-use Rattle.ir_core.specs.WellFormed.{BranchesOn, HasCases, IsInteger, IsOperator, Returns}
+use Rattle.ir_core.specs.WellFormed.{BranchesOn, HasCases, IsElement, IsOperator, IsResult, Returns}
 use Rattle.ir_types.proofs.SameLaws.{same_ty_refl, same_ty_true}
-use Rattle.shape_tests.specs.Kinds.{are_apart, branch_fits, cases_fit, is_integer, leads_to, numbers_of, return_fits, right_kind}
+use Rattle.shape_tests.specs.Kinds.{are_apart, branch_fits, cases_fit, is_result, leads_to, numbers_of, return_fits, right_kind}
 use Rattle.shape_tests.proofs.Tests.{both_hold, both_left, both_right, fits_by, none_by, not_true}
 
 -- ---- tests and what they say
 
-pub integer_by : (t : Ty) → is_integer t ≡ true → IsInteger t
-integer_by (ty.Int width) e = tt
-integer_by t e = cc
-
-pub integer_is : (t : Ty) → IsInteger t → is_integer t ≡ true
-integer_is (ty.Int width) is = refl
-integer_is t is = absurd is
-
-pub operator_by : (e : Expr Name) → right_kind e ≡ None → IsOperator e
-operator_by (expr.Plain o) none = cc
-operator_by (expr.Binary b) none = integer_by b.ty (fits_by (is_integer b.ty) _ none)
-operator_by (expr.Icmp c) none = integer_by c.ty (fits_by (is_integer c.ty) _ none)
-operator_by (expr.Cast c) none = fits_by _ _ none
-operator_by (expr.Select s) none =
-    let both = fits_by _ _ none in
-    (same_ty_true s.condition.ty (ty.Int 1) (both_left _ _ both), same_ty_true s.left.ty s.right.ty (both_right _ _ both))
-operator_by (expr.Element e) none = cc
-operator_by (expr.Load l) none = cc
-
 same_by : (a b : Ty) → a ≡ b → same_ty a b ≡ true
 same_by a b e = subst (λ t. same_ty a t ≡ true) e (same_ty_refl a)
 
-pub operator_is : (e : Expr Name) → IsOperator e → right_kind e ≡ None
-operator_is (expr.Plain o) is = absurd is
-operator_is (expr.Binary b) is = none_by _ _ (integer_is b.ty is)
-operator_is (expr.Icmp c) is = none_by _ _ (integer_is c.ty is)
-operator_is (expr.Cast c) is = none_by _ _ is
-operator_is (expr.Select s) is = none_by _ _ (both_hold _ _ (same_by s.condition.ty (ty.Int 1) is.0) (same_by s.left.ty s.right.ty is.1))
-operator_is (expr.Element e) is = absurd is
-operator_is (expr.Load l) is = absurd is
+-- where it is an address, it is one beside the module
+abbrev pub IsAddressed : Module → Expr Name → Type 0
+IsAddressed m (expr.Plain o) = Unit {0}
+IsAddressed m (expr.Binary b) = Unit {0}
+IsAddressed m (expr.Icmp c) = Unit {0}
+IsAddressed m (expr.Cast c) = Unit {0}
+IsAddressed m (expr.Select s) = Unit {0}
+IsAddressed m (expr.Element e) = IsElement m e
+IsAddressed m (expr.Load l) = Unit {0}
+
+pub operator_by : (m : Module) (e : Expr Name) → right_kind e ≡ None → IsAddressed m e → IsOperator m e
+operator_by m (expr.Plain o) none addressed = cc
+operator_by m (expr.Binary b) none addressed = fits_by _ _ none
+operator_by m (expr.Icmp c) none addressed = fits_by _ _ none
+operator_by m (expr.Cast c) none addressed = fits_by _ _ none
+operator_by m (expr.Select s) none addressed =
+    let both = fits_by _ _ none in
+    (same_ty_true s.condition.ty (ty.Int 1) (both_left _ _ both), same_ty_true s.left.ty s.right.ty (both_right _ _ both))
+operator_by m (expr.Element e) none addressed = addressed
+operator_by m (expr.Load l) none addressed =
+    let both = fits_by _ _ none in
+    (same_ty_true l.pointer.ty (ty.Ptr l.of) (both_left _ _ both), both_right _ _ both)
+
+pub operator_is : (m : Module) (e : Expr Name) → IsOperator m e → right_kind e ≡ None
+operator_is m (expr.Plain o) is = absurd is
+operator_is m (expr.Binary b) is = none_by _ _ is
+operator_is m (expr.Icmp c) is = none_by _ _ is
+operator_is m (expr.Cast c) is = none_by _ _ is
+operator_is m (expr.Select s) is = none_by _ _ (both_hold _ _ (same_by s.condition.ty (ty.Int 1) is.0) (same_by s.left.ty s.right.ty is.1))
+operator_is m (expr.Element e) is = refl
+operator_is m (expr.Load l) is = none_by _ _ (both_hold _ _ (same_by l.pointer.ty (ty.Ptr l.of) is.0) is.1)
+
+-- the other way round, of an address
+pub addressed_is : (m : Module) (e : Expr Name) → IsOperator m e → IsAddressed m e
+addressed_is m (expr.Plain o) is = tt
+addressed_is m (expr.Binary b) is = tt
+addressed_is m (expr.Icmp c) is = tt
+addressed_is m (expr.Cast c) is = tt
+addressed_is m (expr.Select s) is = tt
+addressed_is m (expr.Element e) is = is
+addressed_is m (expr.Load l) is = tt
 
 pub return_by : (result : Ty) (t : Term) → return_fits result t ≡ true → Returns result t
 return_by result (term.Ret o) fits = same_ty_true o.ty result fits
@@ -74,7 +89,7 @@ branch_by (term.Ret o) fits = tt
 branch_by term.RetVoid fits = tt
 branch_by (term.Br label) fits = tt
 branch_by (term.CondBr c) fits = same_ty_true c.condition.ty (ty.Int 1) fits
-branch_by (term.Switch s) fits = integer_by s.value.ty fits
+branch_by (term.Switch s) fits = fits
 branch_by term.Unreachable fits = tt
 
 pub branch_is : (t : Term) → BranchesOn t → branch_fits t ≡ true
@@ -82,8 +97,18 @@ branch_is (term.Ret o) is = refl
 branch_is term.RetVoid is = refl
 branch_is (term.Br label) is = refl
 branch_is (term.CondBr c) is = same_by c.condition.ty (ty.Int 1) is
-branch_is (term.Switch s) is = integer_is s.value.ty is
+branch_is (term.Switch s) is = is
 branch_is term.Unreachable is = refl
+
+pub result_by : (t : Ty) → is_result t ≡ true → IsResult t
+result_by (ty.Int width) fits = refl
+result_by ty.Void fits = tt
+result_by t fits = fits
+
+pub result_is : (t : Ty) → IsResult t → is_result t ≡ true
+result_is (ty.Int width) is = refl
+result_is ty.Void is = refl
+result_is t is = is
 
 -- ---- cases
 

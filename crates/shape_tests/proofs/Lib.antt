@@ -5,7 +5,6 @@ pub mod Fits
 pub mod Numbers
 pub mod Edges
 pub mod Rows
-pub mod Borrowed
 pub mod Entries
 pub mod Counted
 pub mod Two

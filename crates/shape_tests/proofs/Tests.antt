@@ -2,8 +2,8 @@
 use Rattle.std.proofs.Common.{sym, drop, map, ◌≡◌, ◌∙◌, ◌&&◌, ℕ, suc, zero, ◌+◌, ◌<◌, Bool, true, false, not, List, [], ◌∷◌, ◌++◌, length, get_or, Option, None, Some, refl, ap, subst, arith}
 use Rattle.std.proofs.lemmas.List.{drop_more}
 use Rattle.std.specs.List.{AllByRecursion, Contains, flat_map, list_all}
-use Rattle.shape_tests.specs.declared.kind.ShapeKind.{ShapeKind}
-use Rattle.shape_tests.specs.Kinds.{fault_unless, first_kind}
+use Rattle.shape_kinds.specs.declared.kind.ShapeKind.{ShapeKind}
+use Rattle.shape_kinds.specs.Kinds.{fault_unless, least, least_of}
 
 -- ---- tests
 
@@ -39,16 +39,28 @@ fits_by false k e = cc
 pub none_by : (b : Bool) (k : ShapeKind) → b ≡ true → fault_unless b k ≡ None
 none_by b k e = ap (λ t. fault_unless t k) e
 
-pub first_none_left : (a b : Option ShapeKind) → first_kind a b ≡ None → a ≡ None
-first_none_left None b e = refl
-first_none_left (Some k) b e = absurd (cc)
+pub least_none_left : (a b : Option ShapeKind) → least a b ≡ None → a ≡ None
+least_none_left None b e = refl
+least_none_left (Some k) None e = absurd (cc)
+least_none_left (Some k) (Some l) e = absurd (cc)
 
-pub first_none_right : (a b : Option ShapeKind) → first_kind a b ≡ None → b ≡ None
-first_none_right None b e = e
-first_none_right (Some k) b e = absurd (cc)
+pub least_none_right : (a b : Option ShapeKind) → least a b ≡ None → b ≡ None
+least_none_right None b e = e
+least_none_right (Some k) None e = refl
+least_none_right (Some k) (Some l) e = absurd (cc)
 
-pub both_none : (a b : Option ShapeKind) → a ≡ None → b ≡ None → first_kind a b ≡ None
-both_none a b e f = ap (λ k. first_kind k b) e ∙ f
+pub both_none : (a b : Option ShapeKind) → a ≡ None → b ≡ None → least a b ≡ None
+both_none a b e f = ap (λ k. least k b) e ∙ f
+
+-- of many there is none where each has none
+pub each_none : {A : Type 0} (g : A → Option ShapeKind) (xs : List A) → least_of (map g xs) ≡ None → AllByRecursion (λ x. g x ≡ None) xs
+each_none g [] e = tt
+each_none g (x ∷ xs) e =
+    (least_none_left (g x) (least_of (map g xs)) e, each_none g xs (least_none_right (g x) (least_of (map g xs)) e))
+
+pub all_none : {A : Type 0} (g : A → Option ShapeKind) (xs : List A) → AllByRecursion (λ x. g x ≡ None) xs → least_of (map g xs) ≡ None
+all_none g [] all = refl
+all_none g (x ∷ xs) all = both_none (g x) (least_of (map g xs)) all.0 (all_none g xs all.1)
 
 -- ---- lists that are joined
 

@@ -1,68 +1,28 @@
--- The types of registers: as they are collected, and what they say of operands; an entry more of an index.
-use Rattle.std.proofs.Common.{◌≡◌, ◌∙◌, ℕ, suc, zero, ◌+◌, ◌<◌, Bool, true, false, cond, List, [], ◌∷◌, ◌++◌, length, drop, get_or, Option, None, Some, is_some, refl, sym, ap, subst, arith, if◌then◌else◌}
+-- The types of registers: as they are collected, and what they say of operands.
+use Rattle.std.proofs.Common.{◌≡◌, ◌∙◌, ℕ, suc, zero, ◌+◌, ◌<◌, Bool, true, false, List, [], ◌∷◌, ◌++◌, length, drop, get_or, Option, None, Some, refl, sym, ap, subst, arith, if◌then◌else◌}
 use Rattle.std.proofs.lemmas.List.{drop_more}
 use Rattle.std.proofs.lemmas.List.Elements.{Contains-append_left, Contains-push}
 use Rattle.std.specs.List.{AllByRecursion, Contains, flat_map}
-use Rattle.std.specs.Map.{lookup}
-use Rattle.indexmap.specs.IndexMap.{insert_entry}
 use Rattle.ir_core.specs.declared.functions.Block.{Block}
 use Rattle.ir_types.specs.declared.names.Name.{Name}
-use Rattle.ir_core.specs.declared.operands.Atom.{Atom}
-use Rattle.ir_core.specs.declared.operands.Atom.TheVariants.{Constant, Register}
 use Rattle.ir_core.specs.declared.operands.Operand.{Operand}
 use Rattle.ir_types.specs.declared.ty.Ty.{Ty}
-use Rattle.ir_types.specs.declared.ty.Ty.TheVariants as ty
 use Rattle.ir_core.specs.declared.functions.Instr.{Instr}
+use Rattle.ir_core.specs.declared.modules.Module.{Module}
 use Rattle.ir_core.specs.Functions.{names_in, registers_of, set_by}
 use Rattle.ir_core.proofs.Lines.{set_more}
 use Rattle.ir_types.specs.NameLaws.{same_name_refl, same_name_true}
 use Rattle.ir_core.specs.Order.{AreNew}
 use Rattle.ir_types.specs.Same.{same_name}
-use Rattle.ir_core.specs.WellFormed.{HasType, IsFirstClass}
-use Rattle.ir_types.proofs.SameLaws.{same_ty_refl, same_ty_true}
-use Rattle.shape_tests.specs.Kinds.{Types, are_known, are_typed, has_type, is_integer, is_known, is_type, none_typed, or_else, type_at, with_type, with_types}
-use Rattle.shape_tests.proofs.Tests.{all_tested, both_hold, both_left, both_right, each_tested, mapped_all}
+use Rattle.ir_core.specs.WellFormed.{HasType}
+use Rattle.shape_kinds.specs.Typed.{Types, none_typed, or_else, type_at, with_type, with_types}
+use Rattle.shape_kinds.proofs.Entries.{or_none}
 
--- ---- a register more
-
-apart : {V : Type 0} (here there : Bool) (a b : V) (rest : Option V) → (here ≡ true → there ≡ true → ⊥) → cond here (Some b) (cond there (Some a) rest) ≡ cond there (Some a) (cond here (Some b) rest)
-apart true true a b rest never = absurd (never refl refl)
-apart true false a b rest never = refl
-apart false true a b rest never = refl
-apart false false a b rest never = refl
-
-alike : {V : Type 0} (same : Bool) (a b : V) (rest : Option V) → cond same (Some a) rest ≡ cond same (Some a) (cond same (Some b) rest)
-alike true a b rest = refl
-alike false a b rest = refl
-
-not_both : (name a b : Name) → same_name a b ≡ false → same_name name b ≡ true → same_name name a ≡ true → ⊥
-not_both name a b differ x y =
-    let p = same_name_true name b x in
-    let q = same_name_true name a y in
-    let r = same_name_refl b in
-    cc
-
-pub put_entry : {K V : Type 0} (of : K → Name) (name : Name) (k : K) (v : V) (es : List (K × V)) → lookup (λ q. same_name name (of q)) (insert_entry (λ x y. same_name (of x) (of y)) es k v) ≡ cond (same_name name (of k)) (Some v) (lookup (λ q. same_name name (of q)) es)
-put_entry of name k v [] = refl
-put_entry {K = K} {V = V} of name k v (e ∷ es) = by (same_name (of k) (of e.0)) (put_entry of name k v es) refl
-  where
-    by : (same : Bool) → lookup (λ q. same_name name (of q)) (insert_entry (λ x y. same_name (of x) (of y)) es k v) ≡ cond (same_name name (of k)) (Some v) (lookup (λ q. same_name name (of q)) es) → same_name (of k) (of e.0) ≡ same → lookup (λ q. same_name name (of q)) (cond same ((e.0, v) ∷ es) (e ∷ insert_entry (λ x y. same_name (of x) (of y)) es k v)) ≡ cond (same_name name (of k)) (Some v) (cond (same_name name (of e.0)) (Some e.1) (lookup (λ q. same_name name (of q)) es))
-    by true more is =
-        alike (same_name name (of e.0)) v e.1 (lookup (λ q. same_name name (of q)) es)
-        ∙ ap (λ n. cond (same_name name n) (Some v) (cond (same_name name (of e.0)) (Some e.1) (lookup (λ q. same_name name (of q)) es))) (sym (same_name_true (of k) (of e.0) is))
-    by false more is =
-        ap (cond (same_name name (of e.0)) (Some e.1)) more
-        ∙ apart (same_name name (of e.0)) (same_name name (of k)) v e.1 (lookup (λ q. same_name name (of q)) es) (not_both name (of k) (of e.0) is)
-
-pub or_none : (o : Option Ty) → or_else o None ≡ o
-or_none None = refl
-or_none (Some t) = refl
+-- ---- registers more
 
 or_assoc : (a b c : Option Ty) → or_else (or_else a b) c ≡ or_else a (or_else b c)
 or_assoc None b c = refl
 or_assoc (Some t) b c = refl
-
--- ---- registers more
 
 pub types_joined : (types : Types) (xs ys : List (Name × Ty)) → with_types types (xs ++ ys) ≡ with_types (with_types types xs) ys
 types_joined types [] ys = refl
@@ -140,63 +100,14 @@ there_found (r ∷ rs) taken n t new (suc k, within, is) =
 
 -- ---- types and operands
 
-pub value_by : (t : Ty) → is_integer t ≡ true → IsFirstClass t
-value_by (ty.Int width) e = tt
-value_by t e = cc
+-- the type that is told of a name is that of a register
+pub register_by : (rs : List (Name × Ty)) (n : Name) (t : Ty) → with_types none_typed rs n ≡ Some t → Contains rs (n, t)
+register_by rs n t e = found_there rs n t (sym (all_types rs n) ∙ e)
 
-pub value_is : (t : Ty) → IsFirstClass t → is_integer t ≡ true
-value_is (ty.Int width) is = refl
-value_is t is = absurd is
-
-pub operand_by : (rs : List (Name × Ty)) (t : Ty) (a : Atom Name) → has_type (with_types none_typed rs) t a ≡ true → HasType rs t a
-operand_by rs t (Constant c) e = value_by t e
-operand_by rs t (Register n) e = go (type_among rs n) refl (ap (λ o. is_type o t) (sym (all_types rs n)) ∙ e)
-  where
-    go : (o : Option Ty) → type_among rs n ≡ o → is_type o t ≡ true → Contains rs (n, t)
-    go None is fits = cc
-    go (Some own) is fits = found_there rs n t (is ∙ ap (λ (u : Ty). let some : Option Ty = Some u in some) (same_ty_true own t fits))
-
-pub operand_known : (rs : List (Name × Ty)) → AreNew [] (names_in rs) → (t : Ty) (a : Atom Name) → HasType rs t a → is_known (with_types none_typed rs) a ≡ true
-operand_known rs new t (Constant c) has = refl
-operand_known rs new t (Register n) has = ap (λ (o : Option Ty). is_some o) (all_types rs n ∙ there_found rs [] n t new has)
-
-pub operand_is : (rs : List (Name × Ty)) → AreNew [] (names_in rs) → (t : Ty) (a : Atom Name) → HasType rs t a → has_type (with_types none_typed rs) t a ≡ true
-operand_is rs new t (Constant c) has = value_is t has
-operand_is rs new t (Register n) has = ap (λ (o : Option Ty). is_type o t) (all_types rs n ∙ there_found rs [] n t new has) ∙ same_ty_refl t
+-- where no two registers have one name, the type of each is told of its name
+pub register_is : (rs : List (Name × Ty)) → AreNew [] (names_in rs) → (n : Name) (t : Ty) → Contains rs (n, t) → with_types none_typed rs n ≡ Some t
+register_is rs new n t there = all_types rs n ∙ there_found rs [] n t new there
 
 -- each operand has its type
-abbrev pub AreTyped : List (Name × Ty) → List (Operand Name) → Type 0
-AreTyped rs = AllByRecursion (λ (o : Operand Name). HasType rs o.ty o.atom)
-
-pub operands_by : (rs : List (Name × Ty)) (os : List (Operand Name)) → are_typed (with_types none_typed rs) os ≡ true → AreTyped rs os
-operands_by rs os e =
-    mapped_all (λ (o : Operand Name). has_type (with_types none_typed rs) o.ty o.atom ≡ true) (λ (o : Operand Name). HasType rs o.ty o.atom)
-    (λ (o : Operand Name) is. operand_by rs o.ty o.atom is) os
-    (each_tested (λ (o : Operand Name). has_type (with_types none_typed rs) o.ty o.atom) os e)
-
-pub operands_known : (rs : List (Name × Ty)) → AreNew [] (names_in rs) → (os : List (Operand Name)) → AreTyped rs os → are_known (with_types none_typed rs) os ≡ true
-operands_known rs new os all =
-    all_tested (λ (o : Operand Name). is_known (with_types none_typed rs) o.atom) os
-    (mapped_all (λ (o : Operand Name). HasType rs o.ty o.atom) (λ (o : Operand Name). is_known (with_types none_typed rs) o.atom ≡ true)
-    (λ (o : Operand Name) has. operand_known rs new o.ty o.atom has) os all)
-
-pub operands_are : (rs : List (Name × Ty)) → AreNew [] (names_in rs) → (os : List (Operand Name)) → AreTyped rs os → are_typed (with_types none_typed rs) os ≡ true
-operands_are rs new os all =
-    all_tested (λ (o : Operand Name). has_type (with_types none_typed rs) o.ty o.atom) os
-    (mapped_all (λ (o : Operand Name). HasType rs o.ty o.atom) (λ (o : Operand Name). has_type (with_types none_typed rs) o.ty o.atom ≡ true)
-    (λ (o : Operand Name) has. operand_is rs new o.ty o.atom has) os all)
-
--- what is of a stated type is known
-one_known : (types : Types) (t : Ty) (a : Atom Name) → has_type types t a ≡ true → is_known types a ≡ true
-one_known types t (Constant c) e = refl
-one_known types t (Register n) e = go (types n) e
-  where
-    go : (o : Option Ty) → is_type o t ≡ true → is_some o ≡ true
-    go None e = cc
-    go (Some own) e = refl
-
-pub typed_known : (types : Types) (os : List (Operand Name)) → are_typed types os ≡ true → are_known types os ≡ true
-typed_known types [] e = refl
-typed_known types (o ∷ os) e =
-    both_hold (is_known types o.atom) (are_known types os) (one_known types o.ty o.atom (both_left (has_type types o.ty o.atom) (are_typed types os) e))
-    (typed_known types os (both_right (has_type types o.ty o.atom) (are_typed types os) e))
+abbrev pub AreTyped : Module → List (Name × Ty) → List (Operand Name) → Type 0
+AreTyped m rs = AllByRecursion (λ (o : Operand Name). HasType m rs o.ty o.atom)

@@ -1,6 +1,5 @@
 -- Words of private functions: edges as they are collected, and what is compared of entries.
 use Rattle.std.specs.Prelude.{◌≡◌, ℕ, ◌++◌, ◌||◌, Bool, not, true, List, [], ◌∷◌, length, map, nat_eq, nat_lt, slice_index_or, slice_set, Option, None, Some}
-use Rattle.std.specs.Borrow.{Bor}
 use Rattle.std.specs.List.{filter, flat_map}
 use Rattle.ir_core.specs.declared.functions.Block.{Block}
 use Rattle.ir_core.specs.declared.functions.Entry.{Entry}
@@ -12,10 +11,7 @@ use Rattle.name_index.specs.Among.{place_among}
 use Rattle.shape_tests.specs.declared.row.Row.{Row}
 use Rattle.shape_tests.specs.declared.row.Row.TheVariants as row
 use Rattle.shape_tests.specs.Kinds.{count_of}
-
--- names that are lent
-abbrev pub named : List (Bor Name) → List Name
-named = map (λ lent. lent.now)
+pub use Rattle.shape_kinds.specs.Names.{named}
 
 -- one for each of the labels that is that name
 abbrev pub edges_from : Name → Name → List Name → List Name

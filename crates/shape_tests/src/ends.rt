@@ -6,9 +6,8 @@ ghost use Rattle.ir_types.specs.Same as same;
 ghost use Rattle.ir_core.specs.Types as types;
 ghost use Rattle.shape_tests.specs.Kinds as meaning;
 
-use crate::kinds::is_integer;
 use indexmap::IndexSet;
-use ir_core::{Case, Name, Switch, Term, Ty, same_name, same_ty};
+use ir_core::{Case, Name, Switch, Term, Ty, is_integer, same_name, same_ty};
 use std::alloc::{AllocError, Global};
 
 fn is_case_label(cases: &[Case], name: &Name) -> bool

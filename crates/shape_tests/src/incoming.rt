@@ -8,9 +8,9 @@ ghost use Rattle.shape_tests.specs.Edges.{HasEdges, has_phis, no_rows, row_at, r
 ghost use Rattle.shape_tests.specs.Kinds.{with_names};
 
 use crate::Row;
-use crate::lent::LentNames;
 use crate::row::put_on;
 use ir_core::{Block, Case, Name, Term};
+use shape_kinds::LentNames;
 use std::alloc::{AllocError, Global};
 
 /// Puts a name behind those at a place.

@@ -1,43 +1,16 @@
 //! What is wrong with one line, one terminator or one name.
 ghost use Rattle.std.specs.Prelude.{◌≡◌, codes, nat_eq};
-ghost use Rattle.std.specs.List.{list_all, starts_with};
-ghost use Rattle.ir_core.specs.declared.functions.Param.{Param};
+ghost use Rattle.std.specs.List.{starts_with};
 ghost use Rattle.ir_core.specs.Functions.{is_debug};
 ghost use Rattle.shape_tests.specs.Kinds as meaning;
 
-use crate::kind::ShapeKind;
-use ir_core::{Cast, Expr, Function, Name, Param, Select, Ty, converts, same_ty};
+use ir_core::{Cast, Expr, Load, Name, Select, Ty, converts, is_first_class, is_integer, same_ty};
+use shape_kinds::{ShapeKind, fault_unless, points_to};
 
-pub fn is_integer(ty: &Ty) -> bool
-    ensures { result ≡ meaning.is_integer ty.now }
+fn load_fits(load: &Load<Name>) -> bool
+    ensures { result ≡ meaning.load_fits load.now }
 {
-    match ty {
-        Ty::Int(_) => true,
-        _ => false,
-    }
-}
-
-pub fn fault_unless(fits: bool, kind: ShapeKind) -> Option<ShapeKind>
-    ensures { result ≡ meaning.fault_unless fits kind }
-{
-    if fits { None } else { Some(kind) }
-}
-
-/// Of two kinds at one place the one that is told.
-pub fn least(one: Option<ShapeKind>, other: Option<ShapeKind>) -> Option<ShapeKind>
-    ensures { result ≡ meaning.least one other }
-{
-    match (one, other) {
-        (None, _) => other,
-        (Some(_), None) => one,
-        (Some(kind), Some(further)) => {
-            if further.order() < kind.order() {
-                other
-            } else {
-                one
-            }
-        }
-    }
+    points_to(&load.pointer.ty, &load.of) && is_first_class(&load.of)
 }
 
 fn cast_fits(cast: &Cast<Name>) -> bool
@@ -52,16 +25,18 @@ fn select_fits(select: &Select<Name>) -> bool
     same_ty(&select.condition.ty, &Ty::Int(1)) && same_ty(&select.left.ty, &select.right.ty)
 }
 
+/// What is wrong with a line's right side, if anything is, but for its operands. An address is asked beside its module.
 pub fn right_kind(right: &Expr<Name>) -> Option<ShapeKind>
     ensures { result ≡ meaning.right_kind right.now }
 {
     match right {
         Expr::Plain(_) => Some(ShapeKind::OperandType),
         Expr::Binary(binary) => fault_unless(is_integer(&binary.ty), ShapeKind::OperandType),
-        Expr::Icmp(icmp) => fault_unless(is_integer(&icmp.ty), ShapeKind::OperandType),
+        Expr::Icmp(icmp) => fault_unless(is_first_class(&icmp.ty), ShapeKind::OperandType),
         Expr::Cast(cast) => fault_unless(cast_fits(cast), ShapeKind::CastWidth),
         Expr::Select(select) => fault_unless(select_fits(select.get()), ShapeKind::OperandType),
-        Expr::Element(_) | Expr::Load(_) => Some(ShapeKind::OperandType),
+        Expr::Element(_) => None,
+        Expr::Load(load) => fault_unless(load_fits(load), ShapeKind::OperandType),
     }
 }
 
@@ -98,29 +73,12 @@ pub fn name_kind(taken: bool, name: &Name) -> Option<ShapeKind>
     fault_unless(fits, ShapeKind::Name)
 }
 
-fn are_values(params: &[Param]) -> bool
-    ensures { result ≡ list_all (λ (p : Param). meaning.is_integer p.ty) params.now }
+/// Whether it is a type of values, or `void`.
+pub fn is_result(ty: &Ty) -> bool
+    ensures { result ≡ meaning.is_result ty.now }
 {
-    for param in params {
-        if !is_integer(&param.ty) {
-            return false;
-        }
+    match ty {
+        Ty::Void => true,
+        _ => is_first_class(ty),
     }
-    true
-}
-
-/// What is wrong with a function's parameters, whose names are new or not, and with there being no block.
-pub fn header_kind(new: bool, function: &Function) -> Option<ShapeKind>
-    ensures { result ≡ meaning.header_kind new «function».now }
-{
-    if !new {
-        return Some(ShapeKind::Name);
-    }
-    if function.blocks.is_empty() {
-        return Some(ShapeKind::Label);
-    }
-    fault_unless(
-        are_values(function.params.as_slice()),
-        ShapeKind::OperandType,
-    )
 }

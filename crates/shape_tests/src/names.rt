@@ -7,8 +7,8 @@ ghost use Rattle.shape_tests.specs.Kinds as meaning;
 ghost use Rattle.shape_tests.specs.Kinds.{with_names};
 ghost use Rattle.shape_tests.specs.Typed.{param_names};
 
-use crate::lent::LentNames;
 use ir_core::{Block, Case, Entry, Name, Param, Term};
+use shape_kinds::LentNames;
 use std::alloc::{AllocError, Global};
 
 /// Takes the names of parameters, and says whether none was taken. The others are left where one was.

@@ -9,8 +9,8 @@ use Rattle.ir_core.specs.Ranges.{AreBytes, IsFunctionInRange, IsInRange, IsNamed
 use Rattle.ir_grammar.specs.declared.trees.DefinitionText.{DefinitionText}
 use Rattle.ir_naming.specs.Spells.{NamesFunction}
 use Rattle.ir_shape.specs.Laws.{FaultlessModulesHaveShape}
-use Rattle.ir_shape.specs.Shape.{IsShort}
 use Rattle.ir_spelling.specs.Spells.{Spells}
+use Rattle.module_limits.specs.Passed.{IsShort}
 use Rattle.spelling_laws.specs.Laws.{ModulesHaveShape}
 use Rattle.spelling_laws.proofs.Ranged.{ranged}
 use Rattle.spelling_laws.proofs.WrittenRanges.{AreWrittenInRange, spelled_range}

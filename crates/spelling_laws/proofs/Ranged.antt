@@ -20,7 +20,7 @@ use Rattle.ir_core.specs.declared.operands.Const.TheVariants as const
 use Rattle.ir_types.specs.declared.ty.Ty.{Ty}
 use Rattle.ir_types.specs.declared.ty.Ty.TheVariants.{Int}
 use Rattle.ir_core.specs.Functions.{block_names, cases_of, phi_registers, set_by, typed_of}
-use Rattle.ir_core.specs.Ranges.{AreFlagsInRange, IsAtomInRange, IsCaseInRange, IsFunctionInRange, IsLineInRange, IsNameInRange, IsOperandInRange, IsTypeInRange, may_have, may_leave, may_wrap}
+use Rattle.ir_core.specs.Ranges.{AreFlagsInRange, IsAtomInRange, IsCaseInRange, IsFunctionInRange, IsLineInRange, IsNameInRange, IsOperandInRange, IsResultInRange, IsTypeInRange, may_have, may_leave, may_wrap}
 use Rattle.ir_core.specs.Types.{constant_fits, is_width}
 use Rattle.ir_lexer.specs.declared.token.Number as lexed
 use Rattle.ir_grammar.specs.declared.operators.ExactOp.{ExactOp}
@@ -245,9 +245,9 @@ blocks_flagged registers labels (w ∷ ws) (b ∷ bs) zip =
 
 -- ---- functions
 
-result_in_range : (w : Option (Placed ℕ)) (ty : Ty) → AllByRecursion IsSymbolInRange (write.result w) → IsResult w ty → IsTypeInRange ty
-result_in_range None ty range is = subst IsTypeInRange (sym is) tt
-result_in_range (Some w) ty range is = subst IsTypeInRange (sym is) range.0
+result_in_range : (w : Option (Placed ℕ)) (ty : Ty) → AllByRecursion IsSymbolInRange (write.result w) → IsResult w ty → IsResultInRange ty
+result_in_range None ty range is = subst IsResultInRange (sym is) tt
+result_in_range (Some w) ty range is = subst IsResultInRange (sym is) range.0
 
 pub ranged : (d : DefinitionText) (f : Function) → AreWrittenInRange d → NamesFunction d f → IsFunctionInRange f
 ranged d f range n = record {

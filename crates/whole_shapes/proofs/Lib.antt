@@ -1,3 +1,4 @@
 pub mod Fitted
+pub mod OverIntegers
 pub mod Sighted
 pub mod Wholly

@@ -1,4 +1,4 @@
-use Rattle.std.specs.Prelude.{None, Some}
+use Rattle.std.specs.Prelude.{Some}
 use Rattle.ir_machine.specs.Machine.{entry_from}
 use Rattle.edge_crossing.proofs.Copying.{entry_found}
 use Rattle.edge_crossing.proofs.edges.add_phi.Goals as goal

@@ -1,5 +1,4 @@
-use Rattle.std.proofs.Common.{◌∙◌, ap, sym, rules}
-use Rattle.std.specs.Prelude.{Some}
+use Rattle.std.proofs.Common.{◌∙◌, rules}
 use Rattle.line_align.specs.Lent.{lent_block}
 use Rattle.checked_pair.proofs.Progressing.{answers_so}
 use Rattle.checked_pair.specs.Asked.{asked}

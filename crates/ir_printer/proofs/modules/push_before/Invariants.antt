@@ -1,5 +1,5 @@
 use Rattle.std.proofs.Common.{◌≡◌, drop}
-use Rattle.ir_printer.specs.Printed.{those_behind}
+use Rattle.ir_core.specs.Modules.{those_behind}
 use Rattle.ir_printer.proofs.Behind.{behind_before}
 use Rattle.ir_printer.proofs.modules.push_before.Given as goal
 

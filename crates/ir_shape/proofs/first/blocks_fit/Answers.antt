@@ -1,10 +1,15 @@
-use Rattle.std.proofs.Common.{rules}
-use Rattle.ir_shape.specs.Typed.{type_in}
-use Rattle.ir_shape.proofs.Found.{in_that_block}
+use Rattle.std.proofs.Common.{refl, rules}
+use Rattle.shape_kinds.specs.Kept.{type_in}
+use Rattle.ir_shape.specs.Shape.{in_block, in_blocks}
+use Rattle.ir_shape.proofs.Found.{in_that}
 use Rattle.ir_shape.proofs.first.blocks_fit.Goals as goal
 
 pub returns-in_err-block_fits-clause-fault : goal.returns-in_err-block_fits-clause-fault
 returns-in_err-block_fits-clause-fault c =
-    let there = in_that_block c.args.function.now c.args.scope.now.labels (type_in c.args.scope.now.types) c.args.entry.now c.loop-block.earlier c.loop-block.names c.args.blocks.now
-    c.loop-block.block-index c.block-item.result _ c.loop-block-test.true c.block-item.is c.loop-block.invariant c.in_err-block_fits.field-0.0 c.in_err-block_fits.ensures.fault in
+    let m = c.args.scope.now.beside.now in
+    let f = c.args.function.now in
+    let types = type_in c.args.scope.now.types in
+    let there = in_that (in_blocks m f c.args.scope.now.labels types c.args.entry.now c.loop-block.earlier c.loop-block.names)
+    (in_block m f c.args.scope.now.labels types c.args.entry.now c.loop-block.earlier c.loop-block.names c.block-item.result) _ c.args.blocks.now
+    c.loop-block.block-index c.block-item.result _ c.loop-block-test.true c.block-item.is refl c.loop-block.invariant c.in_err-block_fits.field-0.0 c.in_err-block_fits.ensures.fault in
     search (rules, there)

@@ -4,4 +4,4 @@ use Rattle.ir_shape.proofs.named.types_fit.Given as goal
 
 -- the types that are left decide
 abbrev pub invariant-loop-named : goal.invariant-loop-named
-invariant-loop-named l = in_types l.known l.names (drop l.named-index l.types) ≡ in_types l.known [] l.types
+invariant-loop-named l = in_types l.beside l.names (drop l.named-index l.types) ≡ in_types l.beside [] l.types

@@ -9,7 +9,7 @@ returns-in-Err-Undefined-clause-undefined c =
     let f = c.function-item.result in
     let found = c.in-Err-Undefined.ensures.undefined c.in-Err-Undefined.undefined c.in-Err-Undefined.field-0-is in (
       f,
-      first_at IsFunctionDefined c.args.functions.now c.loop-function.function-index f c.loop-function-test.true c.function-item.is c.loop-function.invariant (c.undefined_uses_are_faults.ensures f _ (all_at HasFunctionShape c.args.functions.now c.loop-function.function-index f c.loop-function-test.true c.function-item.is c.requires) found),
+      first_at IsFunctionDefined c.args.functions.now c.loop-function.function-index f c.loop-function-test.true c.function-item.is c.loop-function.invariant (c.undefined_uses_are_faults.ensures c.args._module.now f _ (all_at (HasFunctionShape c.args._module.now) c.args.functions.now c.loop-function.function-index f c.loop-function-test.true c.function-item.is c.requires) found),
       c.in-Err-Undefined.ensures.undefined _ (search rules),
       c.in_ok-copy-in-Err-Undefined.ensures,
     )

@@ -12,5 +12,9 @@ returns-clause-fault c = told_of_text c.args.text.now c.args.module.now c.requir
 pub fits-requires-clause-shape : goal.fits-requires-clause-shape
 fits-requires-clause-shape c faultless = c.spelled_modules_fit.ensures.shape c.args.text.now c.args.module.now c.requires faultless
 
-pub fits-requires-clause-short : goal.fits-requires-clause-short
-fits-requires-clause-short c = c.spelled_modules_fit.ensures.short c.args.text.now c.args.module.now c.requires
+pub fits-requires-clause-within : goal.fits-requires-clause-within
+fits-requires-clause-within c =
+    let m = c.args.module.now in
+    let range = c.spelled_modules_fit.ensures.range c.args.text.now m (are_bytes c.args.text.now c.type_inv.text) c.requires in
+    let limits = c.ranges_lie_within.ensures m range in
+    (limits.0, c.spelled_modules_fit.ensures.short c.args.text.now m c.requires, limits.1)

@@ -1,4 +1,4 @@
-use Rattle.std.proofs.Common.{◌≡◌, ◌∙◌, sym, rules}
+use Rattle.std.proofs.Common.{rules}
 use Rattle.ir_core.proofs.SameInits.{arrays_same, structs_same}
 use Rattle.ir_core.proofs.modules.InitExact.+is.Goals as goal
 

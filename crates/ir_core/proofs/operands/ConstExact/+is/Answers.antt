@@ -1,4 +1,4 @@
-use Rattle.std.proofs.Common.{◌≡◌, ◌∙◌, sym, rules}
+use Rattle.std.proofs.Common.{rules}
 use Rattle.ir_core.proofs.SameConstants.{casts_same, elements_same}
 use Rattle.ir_core.proofs.operands.ConstExact.+is.Goals as goal
 

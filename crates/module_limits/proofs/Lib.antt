@@ -1,0 +1,7 @@
+pub mod Tests
+pub mod Short
+pub mod Within
+pub mod Small
+pub mod Decided
+pub mod Ranges
+pub mod Examples

@@ -1,0 +1,5 @@
+pub mod Passed
+pub mod Lines
+pub mod Within
+pub mod Small
+pub mod Laws

@@ -1,0 +1,15 @@
+pub mod Each
+pub mod Firsts
+pub mod Measures
+pub mod TypeNames
+pub mod Stated
+pub mod Enters
+pub mod Lent
+pub mod Least
+pub mod Judged
+pub mod Arguments
+pub mod Starts
+pub mod Tests
+pub mod InitParts
+pub mod Fits
+pub mod Examples

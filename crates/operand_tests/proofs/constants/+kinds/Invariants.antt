@@ -1,0 +1,15 @@
+use Rattle.std.proofs.Common.{◌≡◌, drop}
+use Rattle.shape_kinds.specs.Kinds.{least}
+use Rattle.operand_tests.specs.Parts.{parts_kind}
+use Rattle.operand_tests.proofs.Measures.{of_constant, of_constants}
+use Rattle.operand_tests.proofs.constants.+kinds.Given as goal
+
+abbrev pub decreases-constant_kind : goal.decreases-constant_kind
+decreases-constant_kind l = of_constant l.constant.now
+
+abbrev pub decreases-parts_kind : goal.decreases-parts_kind
+decreases-parts_kind l = of_constants l.parts.now
+
+-- what is wrong so far, and in the parts that are left
+abbrev pub invariant-parts_kind-loop-part : goal.invariant-parts_kind-loop-part
+invariant-parts_kind-loop-part l = least l.kind (parts_kind l.beside (drop l.part-index l.parts)) ≡ parts_kind l.beside l.parts

@@ -1,0 +1,10 @@
+pub mod Known
+pub mod Constants
+pub mod Inits
+pub mod Calls
+pub mod Kept
+pub mod Stated
+pub mod Addresses
+pub mod Parts
+pub mod Starts
+pub mod Laws

@@ -1,0 +1,136 @@
+//! A module, and what is asked of it beside a line.
+ghost use Rattle.std.specs.Prelude.{◌≡◌, [], map, IfOk};
+ghost use Rattle.ir_types.specs.declared.named.NamedTy.{NamedTy};
+ghost use Rattle.ir_core.specs.declared.modules.GlobalVar.{GlobalVar};
+ghost use Rattle.shape_kinds.specs.Kept.{type_in};
+ghost use Rattle.shape_kinds.specs.Names.{with_names};
+ghost use Rattle.shape_kinds.specs.Typed.{none_typed, with_types};
+
+use crate::callees::{Callee, Callees};
+use ir_core::{GlobalVar, Module, Name, NamedTy, NamedTypes, Ty, fits_block};
+use shape_kinds::{LentNames, LentTypes};
+use std::alloc::{AllocError, Global};
+use std::marker::Model;
+
+/// A module whose named types, globals and functions are found without a walk through them. Contracts see it as the module.
+pub struct Beside<'a> {
+    whole: &'a Module,
+    types: LentNames<'a>,
+    globals: LentTypes<'a>,
+    callees: Callees<'a>,
+}
+
+impl<'a> Model for Beside<'a> {
+    ghost use Rattle.ir_core.specs.declared.modules.Module.{Module};
+    ghost use Rattle.std.specs.Coded.{codes};
+    ghost use Rattle.ir_types.specs.contracts.ty.Ty as ty;
+    ghost use Rattle.ir_core.specs.contracts.operands.Const as constant;
+    ghost use Rattle.ir_core.specs.contracts.modules.Init as init;
+    ghost use Rattle.operand_tests.specs.Kept.{IsKept};
+
+    ghost Value = { Module };
+
+    ghost coded = { Prim.hlevel (codes, ty.the_row.coded, constant.the_row.coded, init.the_row.coded) };
+
+    ghost view = { λ it. it.whole.now };
+
+    ghost invariant = { λ it. IsKept it.whole.now it.types it.globals it.callees };
+}
+
+impl<'a> Drop for Beside<'a> {
+    fn drop(self) {
+        let Beside {
+            whole: _,
+            types: _,
+            globals: _,
+            callees: _,
+        } = self;
+    }
+}
+
+/// The names of these types.
+fn names_of<'a>(alloc: Global, types: &'a [NamedTy]) -> Result<LentNames<'a>, AllocError>
+    ensures { IfOk result (λ names. names ≡ with_names [] (map (λ (t : NamedTy). t.name) types.now)) }
+{
+    let mut names = LentNames::with_room(alloc, types.len())?;
+    for named in types {
+        names.take(&named.name)?;
+    }
+    Ok(names)
+}
+
+/// The types of what these globals hold, by their names.
+fn contents_of<'a>(alloc: Global, globals: &'a [GlobalVar]) -> Result<LentTypes<'a>, AllocError>
+    ensures { IfOk result (λ types. type_in types
+        ≡ with_types none_typed (map (λ (g : GlobalVar). (g.name, g.ty)) globals.now)) }
+{
+    let mut types = LentTypes::new(alloc);
+    for global in globals {
+        types.put(&global.name, &global.ty)?;
+    }
+    Ok(types)
+}
+
+impl<'a> Beside<'a> {
+    ghost use Rattle.std.specs.Option.{option_copied, option_map};
+    ghost use Rattle.ir_types.specs.Named as named;
+    ghost use Rattle.name_index.specs.Among.{is_among};
+    ghost use Rattle.ir_core.specs.TypeNames.{type_names};
+    ghost use Rattle.ir_core.specs.Typing as typing;
+    ghost use Rattle.operand_tests.specs.Calls.{signature_in};
+    ghost use Rattle.operand_tests.specs.Kept.{signature_of};
+
+    pub fn new(alloc: Global, module: &'a Module) -> Result<Beside<'a>, AllocError>
+        ensures { IfOk result (λ it. it ≡ «module».now) }
+    {
+        let types = names_of(alloc, module.types.as_slice())?;
+        let globals = contents_of(alloc, module.globals.as_slice())?;
+        let functions = module.functions.as_slice();
+        let callees = Callees::of(alloc, functions, module.declarations.as_slice())?;
+        Ok(Beside {
+            whole: module,
+            types,
+            globals,
+            callees,
+        })
+    }
+
+    /// The types that the module names.
+    pub(crate) fn types(&self) -> &'a NamedTypes
+        ensures { result.now ≡ self.now.types }
+    {
+        &self.whole.types
+    }
+
+    /// Whether the module names a type so.
+    pub(crate) fn has_type(&self, name: &Name) -> bool
+        ensures { result ≡ is_among name.now (type_names self.now) }
+    {
+        let _ = &self.whole;
+        self.types.has(name)
+    }
+
+    /// The type of what the global variable of that name holds.
+    pub(crate) fn contents(&self, name: &Name) -> Option<&'a Ty>
+        ensures { option_copied result ≡ typing.contents_of self.now.globals name.now }
+    {
+        let _ = &self.whole;
+        self.globals.get(name)
+    }
+
+    /// The first function of that name.
+    #[tactic(auto, unfolding(crate::specs::Kept::signature_by))]
+    pub(crate) fn callee(&self, name: &Name) -> Option<Callee<'a>>
+        ensures { option_map signature_of result ≡ signature_in (typing.signatures_of self.now) name.now }
+    {
+        let _ = &self.whole;
+        self.callees.get(name)
+    }
+
+    /// Whether the type has a size: none of it takes no room, and so makes a block wherever one does.
+    pub fn is_sized(&self, ty: &Ty) -> bool
+        ensures { result ≡ named.is_sized self.now.types ty.now }
+    {
+        fits_block(self.whole, ty, 0).is_ok()
+    }
+}

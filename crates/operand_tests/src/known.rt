@@ -1,0 +1,105 @@
+//! Whether each named type that stands in a type, a constant or an initialiser is one of the module's.
+ghost use Rattle.std.specs.Prelude.{◌≡◌};
+ghost use Rattle.ir_core.specs.StatedTypes.{stated_in};
+ghost use Rattle.operand_tests.specs.Known as meaning;
+ghost use Rattle.operand_tests.specs.Stated as told;
+
+use crate::Beside;
+use ir_core::{Const, Init, Ty, TypedConst, TypedInit};
+
+/// Whether each named type that stands in the type, also behind pointers, is one of the module's.
+#[cycle(types)]
+#[tactic(auto, using(crate::proofs::TypeNames::int_known, crate::proofs::TypeNames::ptr_known, crate::proofs::TypeNames::array_known, crate::proofs::TypeNames::struct_known, crate::proofs::TypeNames::name_known, crate::proofs::TypeNames::void_known))]
+pub fn is_type_known(beside: &Beside, ty: &Ty) -> bool
+    ensures { result ≡ meaning.is_type_known beside.now ty.now }
+{
+    match ty {
+        Ty::Ptr(target) => is_type_known(beside, target.get()),
+        Ty::Array(_, element) => is_type_known(beside, element.get()),
+        Ty::Struct(fields) => are_types_known(beside, fields.get().as_slice()),
+        Ty::Named(name) => beside.has_type(name.get()),
+        Ty::Int(_) | Ty::Void => true,
+    }
+}
+
+/// The same of several.
+#[cycle(types)]
+pub fn are_types_known(beside: &Beside, types: &[Ty]) -> bool
+    ensures { result ≡ meaning.are_types_known beside.now types.now }
+{
+    for ty in types {
+        if !is_type_known(beside, ty) {
+            return false;
+        }
+    }
+    true
+}
+
+/// Whether the types that a constant states are known.
+#[cycle(constants)]
+#[tactic(auto, using(crate::proofs::Stated::number_known, crate::proofs::Stated::undef_known, crate::proofs::Stated::null_known, crate::proofs::Stated::global_known, crate::proofs::Stated::element_known, crate::proofs::Stated::cast_known, crate::proofs::Measures::in_element, crate::proofs::Measures::in_cast))]
+pub fn is_constant_known(beside: &Beside, constant: &Const) -> bool
+    ensures { result ≡ meaning.are_types_known beside.now (stated_in constant.now) }
+{
+    match constant {
+        Const::Element(element) => {
+            let element = element.get();
+            is_type_known(beside, &element.1) && are_constants_known(beside, element.2.as_slice())
+        }
+        Const::Cast(cast) => {
+            let cast = cast.get();
+            are_constants_known(beside, cast.1.as_slice()) && is_type_known(beside, &cast.0)
+        }
+        Const::Number(_) | Const::Undef | Const::Null | Const::Global(_) => true,
+    }
+}
+
+#[cycle(constants)]
+#[tactic(auto, using(crate::proofs::Measures::in_constants))]
+fn are_constants_known(beside: &Beside, constants: &[TypedConst]) -> bool
+    ensures { result ≡ told.are_constants_known beside.now constants.now }
+{
+    for constant in constants {
+        if !is_type_known(beside, &constant.0) || !is_constant_known(beside, &constant.1) {
+            return false;
+        }
+    }
+    true
+}
+
+/// Whether the types that an initialiser states are known.
+#[cycle(inits)]
+#[tactic(auto, using(crate::proofs::Stated::const_known, crate::proofs::Stated::zero_known, crate::proofs::Stated::bytes_known, crate::proofs::Stated::elements_known, crate::proofs::Stated::fields_known, crate::proofs::Measures::in_array, crate::proofs::Measures::in_struct))]
+fn is_init_known(beside: &Beside, init: &Init) -> bool
+    ensures { result ≡ told.is_init_known beside.now init.now }
+{
+    match init {
+        Init::Const(constant) => is_constant_known(beside, constant),
+        Init::Array(elements) => are_inits_known(beside, elements.get().as_slice()),
+        Init::Struct(fields) => are_inits_known(beside, fields.get().as_slice()),
+        Init::Zero | Init::Bytes(_) => true,
+    }
+}
+
+#[cycle(inits)]
+#[tactic(auto, using(crate::proofs::Measures::in_inits))]
+fn are_inits_known(beside: &Beside, inits: &[TypedInit]) -> bool
+    ensures { result ≡ told.are_inits_known beside.now inits.now }
+{
+    for init in inits {
+        if !is_type_known(beside, &init.0) || !is_init_known(beside, &init.1) {
+            return false;
+        }
+    }
+    true
+}
+
+/// Whether the types that stand in what a global holds at the start are known.
+pub(crate) fn is_start_known(beside: &Beside, init: &Option<Init>) -> bool
+    ensures { result ≡ told.is_start_known beside.now init.now }
+{
+    match init {
+        Some(init) => is_init_known(beside, init),
+        None => true,
+    }
+}

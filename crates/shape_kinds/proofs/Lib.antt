@@ -1,0 +1,4 @@
+mod Borrowed
+pub mod Entries
+pub mod Types
+mod Pointers

@@ -1,0 +1,53 @@
+-- The types and the names of registers as they are kept.
+use Rattle.std.proofs.Common.{◌≡◌, ◌∙◌, Bool, true, false, cond, [], Option, None, Some, refl, sym, ap, if◌then◌else◌}
+use Rattle.std.specs.Borrow.{Bor}
+use Rattle.std.specs.Map.{lookup}
+use Rattle.std.specs.Option.{option_copied}
+use Rattle.indexmap.specs.IndexMap.{insert_entry}
+use Rattle.ir_types.specs.declared.names.Name.{Name}
+use Rattle.ir_types.specs.declared.ty.Ty.{Ty}
+use Rattle.ir_types.specs.NameLaws.{same_name_true}
+use Rattle.ir_types.specs.Same.{same_name}
+use Rattle.shape_kinds.specs.declared.lent_types.LentTypes.{LentTypes as Kept}
+use Rattle.shape_kinds.specs.Kept.{found_in, lent, type_in}
+use Rattle.shape_kinds.specs.Typed.{none_typed, or_else, type_at, with_type}
+use Rattle.shape_kinds.proofs.Entries.{or_none, put_entry}
+
+-- where a register of that name is there
+pub put_there : (types : Kept) (name : Name) (t : Ty) (v : Bor Ty) → found_in types name ≡ Some v → type_in types ≡ with_type (type_in types) name t
+unfolding type_in with_type
+put_there types name t v there = λ i n. at n i
+  where
+    at : (n : Name) → lent (found_in types n) ≡ or_else (lent (found_in types n)) (type_at name t n)
+    at n = go (same_name n name) refl
+      where
+        go : (b : Bool) → same_name n name ≡ b → lent (found_in types n) ≡ or_else (lent (found_in types n)) (if b then Some t else None)
+        go false e = sym (or_none (lent (found_in types n)))
+        go true e =
+            let found : found_in types n ≡ Some v = ap (found_in types) (same_name_true n name e) ∙ there in
+            ap lent found ∙ sym (ap (λ o. or_else (lent o) (Some t)) found)
+
+-- where none is there, it is put
+pub put_new : (types new : Kept) (name : Bor Name) (t : Bor Ty) → found_in types name.now ≡ None
+    → new.first.entries ≡ insert_entry (λ (x y : Bor Name). same_name x.now y.now) types.first.entries name t → type_in new ≡ with_type (type_in types) name.now t.now
+unfolding type_in with_type
+put_new types new name t none put = λ i n. at n i
+  where
+    at : (n : Name) → lent (found_in new n) ≡ or_else (lent (found_in types n)) (type_at name.now t.now n)
+    at n =
+        ap lent (ap (lookup (λ (q : Bor Name). same_name n q.now)) put ∙ put_entry (λ (q : Bor Name). q.now) n name t types.first.entries)
+        ∙ go (same_name n name.now) refl
+      where
+        go : (b : Bool) → same_name n name.now ≡ b → lent (cond b (Some t) (found_in types n)) ≡ or_else (lent (found_in types n)) (if b then Some t.now else None)
+        go false e = sym (or_none (lent (found_in types n)))
+        go true e = sym (ap (λ o. or_else (lent o) (Some t.now)) (ap (found_in types) (same_name_true n name.now e) ∙ none))
+
+-- none is kept
+pub none_kept : (types : Kept) → types.first.entries ≡ [] → type_in types ≡ none_typed
+unfolding type_in
+none_kept types none = λ i n. lent (lookup (λ (q : Bor Name). same_name n q.now) (none i))
+
+-- what is lent, copied
+pub lent_is : (o : Option (Bor Ty)) → lent o ≡ option_copied o
+lent_is None = refl
+lent_is (Some t) = refl

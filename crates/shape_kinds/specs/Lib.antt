@@ -1,0 +1,4 @@
+pub mod Kinds
+pub mod Names
+pub mod Typed
+pub mod Kept

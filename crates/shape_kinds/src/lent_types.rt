@@ -1,0 +1,57 @@
+//! The types of names, each found without a walk through the others.
+ghost use Rattle.std.specs.Prelude.{◌≡◌};
+ghost use Rattle.shape_kinds.specs.Kept.{found_in, type_in};
+
+use indexmap::IndexMap;
+use ir_core::{Name, Ty};
+use std::alloc::{AllocError, Global};
+
+/// The type of each name, as it is first told.
+pub struct LentTypes<'a> {
+    first: IndexMap<&'a Name, &'a Ty>,
+}
+
+impl<'a> Drop for LentTypes<'a> {
+    fn drop(self) {
+        let LentTypes { first: _ } = self;
+    }
+}
+
+impl<'a> LentTypes<'a> {
+    ghost use Rattle.std.specs.Prelude.{OnOk};
+    ghost use Rattle.std.specs.Option.{option_copied};
+    ghost use Rattle.shape_kinds.specs.Typed.{none_typed, with_type};
+
+    pub fn new(alloc: Global) -> LentTypes<'a>
+        ensures { type_in result ≡ none_typed }
+    {
+        LentTypes {
+            first: IndexMap::new(alloc),
+        }
+    }
+
+    fn found(&self, name: &Name) -> Option<&'a Ty>
+        ensures { result ≡ found_in self.now name.now }
+    {
+        self.first.get(&name).copied()
+    }
+
+    #[tactic(auto, using(crate::proofs::Types::lent_is), unfolding(crate::specs::Kept::type_in))]
+    pub fn get(&self, name: &Name) -> Option<&'a Ty>
+        ensures { option_copied result ≡ type_in self.now name.now }
+    {
+        self.found(name)
+    }
+
+    pub fn put(&mut self, name: &'a Name, ty: &'a Ty) -> Result<(), AllocError>
+        ensures { OnOk result (type_in self.new ≡ with_type (type_in self.old) name.now ty.now) }
+    {
+        match self.found(name) {
+            Some(_) => Ok(()),
+            None => {
+                self.first.insert(name, ty)?;
+                Ok(())
+            }
+        }
+    }
+}

@@ -1,0 +1,12 @@
+//! The kinds of what can be wrong at a place of a module (LangRef 3.7, Well-Formedness), and names that are lent, with their types.
+#![tactic(auto)]
+
+mod kind;
+mod kinds;
+mod lent;
+mod lent_types;
+
+pub use kind::ShapeKind;
+pub use kinds::{fault_unless, least, points_to};
+pub use lent::LentNames;
+pub use lent_types::LentTypes;
