@@ -141,7 +141,7 @@ EMPTY = {"steps": steps(0), "blocks": blocks(0)}
 
 
 # The crates that ask whether a module is well-formed.
-JUDGES = {"whole_functions", "ir_shape", "whole_shapes", "shape_tests", "definedness", "name_index", "flow_solver"}
+JUDGES = {"whole_functions", "ir_shape", "line_shapes", "whole_shapes", "shape_tests", "definedness", "name_index", "flow_solver"}
 
 
 def crate_of(symbol):

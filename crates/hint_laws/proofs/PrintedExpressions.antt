@@ -37,6 +37,7 @@ use Rattle.printer_laws.proofs.Types.{width}
 use Rattle.printer_laws.proofs.Values.{Means, PrintsAtom, constant}
 use Rattle.printer_laws.proofs.WordSymbols.{key_is, tag_key, tag_said}
 use Rattle.hint_format.proofs.Alone.{expressions_are_one}
+use Rattle.ir_core.proofs.Narrow.{narrow_flags}
 use Rattle.hint_laws.specs.Laws.{IsWritableAtom, IsWritableExpression, IsWritableOperand, IsWritableRegister, PrintedExpressionsAreRead, PrintedExpressionsAreApart}
 
 -- ---- registers and operands
@@ -85,19 +86,19 @@ abbrev PrintsExpression : Expr0 → Type 0
 PrintsExpression e = Prints Logic Stops write.expression (λ (w : ExprText). NamesExpression w e) (printed_expr printed_register e)
 
 by_operator : (e : Expr0) → IsNoOperand e → IsWritableExpression e → PrintsExpression e
-by_operator e is (typed, flags, writable) =
+by_operator e is (typed, range, calm, writable) =
     read_as Logic write.expression (λ (w : ExprText). NamesExpression w e) tree.Operation (λ w named. refl) (λ w named. named)
-    (operation Logic means printed_register e is typed flags (all_over IsWritableOperand (CanPrint Logic means printed_register) (operands_in e) can_print writable))
+    (operation Logic means printed_register e is typed (narrow_flags e range calm) (all_over IsWritableOperand (CanPrint Logic means printed_register) (operands_in e) can_print writable))
 
 prints : (e : Expr0) → IsWritableExpression e → PrintsExpression e
-prints (expr.Plain o) (typed, flags, (writable, none)) =
+prints (expr.Plain o) (typed, range, calm, (writable, none)) =
     read_as Logic write.expression (λ (w : ExprText). NamesExpression w (expr.Plain o)) tree.Plain (λ w named. refl) (λ w named. named) (operand Logic means printed_register o (can_print o writable))
 prints (expr.Binary b) writable = by_operator (expr.Binary b) tt writable
 prints (expr.Icmp c) writable = by_operator (expr.Icmp c) tt writable
 prints (expr.Cast c) writable = by_operator (expr.Cast c) tt writable
 prints (expr.Select s) writable = by_operator (expr.Select s) tt writable
-prints (expr.Element e) (typed, flags, writable) = absurd flags
-prints (expr.Load l) (typed, flags, writable) = absurd flags
+prints (expr.Element e) (typed, range, calm, writable) = absurd (narrow_flags (expr.Element e) range calm)
+prints (expr.Load l) (typed, range, calm, writable) = absurd (narrow_flags (expr.Load l) range calm)
 
 pub printed_expressions_are_read : PrintedExpressionsAreRead
 printed_expressions_are_read e writable =

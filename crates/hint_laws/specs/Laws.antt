@@ -1,5 +1,5 @@
 -- The laws that tie printing to reading.
-use Rattle.std.specs.Prelude.{◌≡◌, ◌≤◌, Bool, true, length, Some, Ok}
+use Rattle.std.specs.Prelude.{◌≡◌, ◌≤◌, Bool, true, not, length, Some, Ok}
 use Rattle.std.specs.List.{AllByRecursion}
 use Rattle.serde_json.specs.Data.{Data}
 use Rattle.serde_json.specs.Read.{read}
@@ -13,7 +13,8 @@ use Rattle.ir_core.specs.declared.operands.Operand.{Operand}
 use Rattle.ir_types.specs.declared.ty.Ty.{Ty}
 use Rattle.ir_core.specs.Expressions.{Expr0, operands_in, type_of}
 use Rattle.ir_core.specs.Limits.{text_limit}
-use Rattle.ir_core.specs.Ranges.{AreFlagsInRange, IsNameInRange}
+use Rattle.ir_core.specs.Integers.{is_of_memory}
+use Rattle.ir_core.specs.Ranges.{IsNameInRange, IsRightInRange}
 use Rattle.ir_core.specs.Types.{constant_fits}
 use Rattle.ir_spelling.specs.Spells.{SpellsExpression, SpellsName}
 use Rattle.expression_printer.specs.Printed.{printed_name, printed_register, printed_expr}
@@ -54,10 +55,11 @@ IsWritableAtom t (Register r) = IsWritableRegister r
 abbrev pub IsWritableOperand : Operand Reg → Type 0
 IsWritableOperand o = IsWritableType o.ty × IsWritableAtom o.ty o.atom
 
--- An expression of such a type over such operands, with flags that its operator may have: `udiv exact i8 %x, 3`,
+-- An expression of such a type over such operands, not of memory, with flags that its operator may have: `udiv exact i8 %x, 3`,
 -- `zext i8 %x to i1`, `select i8 %x, i8 1, i16 2`; `add exact i8 %x, 3` and `i8 256` are none.
 abbrev pub IsWritableExpression : Expr0 → Type 0
-IsWritableExpression e = IsWritableType (type_of e) × AreFlagsInRange e × AllByRecursion IsWritableOperand (operands_in e)
+IsWritableExpression e =
+    IsWritableType (type_of e) × IsRightInRange e × (not (is_of_memory e) ≡ true) × AllByRecursion IsWritableOperand (operands_in e)
 
 -- A printed expression spells that expression.
 abbrev pub PrintedExpressionsAreRead : Type 0

@@ -14,7 +14,8 @@ use Rattle.ir_shape.specs.declared.fault.ShapeFault.{ShapeFault}
 use Rattle.ir_shape.specs.Shape.{first_fault}
 use Rattle.ir_spelling.specs.Forms.{module_form}
 use Rattle.ir_spelling.specs.Spells.{Spells}
-use Rattle.spelling_laws.specs.Laws.{EachIsJudged, ModulesAreInRange, ModulesHaveShape}
+use Rattle.ir_core.proofs.Within.{lies_within}
+use Rattle.spelling_laws.specs.Laws.{EachIsJudged, ModulesAreInRange, ModulesAreOverIntegers, ModulesAreShort, ModulesHaveShape}
 use Rattle.module_input.specs.declared.fault.ModuleFault.{ModuleFault}
 use Rattle.module_input.specs.declared.fault.ModuleFault.TheVariants as fault
 use Rattle.module_input.specs.Faults.{FirstWithout}
@@ -50,22 +51,27 @@ module _ (knows : ShapeKnowsLabels) (faults : UndefinedUsesAreFaults) (judged : 
       (λ undefined. inr (f, undefined.0, first_here f fs (λ defined. faults m f undefined.0 shape.0 undefined.1 defined), undefined.1))
       (judged f (knows m f shape.0))
 
-  module _ (has_shape : ModulesHaveShape) (in_range : ModulesAreInRange) (each : EachIsJudged module_form NamesModule) (bytes : List ℕ) (are_bytes : AreBytes bytes) where
-    abbrev Judged : Type 0
-    Judged = ((m : Module) × IsFitting bytes m) ⊎ ((f : ModuleFault) × IsAtFault bytes f)
+  module _
+      (has_shape : ModulesHaveShape) (in_range : ModulesAreInRange) (integers : ModulesAreOverIntegers) (few : ModulesAreShort)
+      (each : EachIsJudged module_form NamesModule) (bytes : List ℕ) (are_bytes : AreBytes bytes)
+    where
+      abbrev Judged : Type 0
+      Judged = ((m : Module) × IsFitting bytes m) ⊎ ((f : ModuleFault) × IsAtFault bytes f)
 
-    of_module : (m : Module) → length bytes ≤ text_limit → Spells bytes m → (shape : Option ShapeFault) → first_fault m ≡ shape → Judged
-    of_module m short spells (Some f) is = inr (fault.Shape f, ((m, spells, is), λ e. cc))
-    of_module m short spells None is =
-        let shape = has_shape bytes m spells is in
-        ⊎_elim (λ (all : AllByRecursion IsFunctionDefined m.functions).
-        inl (m, (short, (spells, record { shape = shape; defined = all; range = in_range bytes m are_bytes spells }))))
-        (λ (first : HasFirstUndefined m.functions).
-        inr (fault.Undefined first.0.name first.1, ((m, spells, is, (first.0, first.2, first.3, refl)), λ e. cc)))
-        (of_functions m m.functions shape.functions)
+      of_module : (m : Module) → length bytes ≤ text_limit → Spells bytes m → (shape : Option ShapeFault) → first_fault m ≡ shape → Judged
+      of_module m short spells (Some f) is = inr (fault.Shape f, ((m, spells, is), λ e. cc))
+      of_module m short spells None is =
+          let shape = has_shape bytes m spells is in
+          let range = in_range bytes m are_bytes spells in
+          let limits = lies_within m range (integers bytes m spells) in
+          ⊎_elim (λ (all : AllByRecursion IsFunctionDefined m.functions).
+          inl (m, (short, (spells, record { shape = shape; defined = all; range = range; depths = limits.0; lines = few bytes m spells; blocks = limits.1 }))))
+          (λ (first : HasFirstUndefined m.functions).
+          inr (fault.Undefined first.0.name first.1, ((m, spells, is, (first.0, first.2, first.3, refl)), λ e. cc)))
+          (of_functions m m.functions shape.functions)
 
-    pub of_text : Judged
-    of_text =
-        ⊎_elim (λ read. of_module read.0 read.1.0 read.1.1 (first_fault read.0) refl)
-        (λ told. inr (fault.Text told.0, (told.1, λ e. cc)))
-        (each bytes)
+      pub of_text : Judged
+      of_text =
+          ⊎_elim (λ read. of_module read.0 read.1.0 read.1.1 (first_fault read.0) refl)
+          (λ told. inr (fault.Text told.0, (told.1, λ e. cc)))
+          (each bytes)

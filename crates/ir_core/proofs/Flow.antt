@@ -22,7 +22,9 @@ use Rattle.ir_core.specs.FlowLaws.{CasesAreApart, JumpsGoToBlocks, PathsDefine, 
 use Rattle.ir_core.specs.Functions.{cases_of, edges_into, names_in, operands_at_end, operands_in_block, params_of, registers_of, successors_of, typed_of}
 use Rattle.ir_core.specs.StatedTypes.{types_in}
 use Rattle.ir_core.specs.TypeNames.{names_in_type}
-use Rattle.ir_core.specs.Ranges.{IsCaseInRange, IsInRange, IsNameInRange, IsOperandInRange}
+use Rattle.ir_core.proofs.Narrow.{IsNarrow, IsNarrowCase, IsNarrowOperand, wide}
+use Rattle.ir_core.proofs.Within.{well_formed}
+use Rattle.ir_core.specs.Ranges.{IsNameInRange}
 use Rattle.ir_types.specs.Same.{same_name}
 use Rattle.ir_core.specs.WellFormed.{AllUseDefined, BlockUsesDefined, BranchesOn, HasCases, HasShape, HasType, IsDefined, IsFunctionDefined, IsPath, PathUsesDefined, PhisUseDefined, Returns}
 use Rattle.ir_core.proofs.Operations.{other_type}
@@ -109,8 +111,8 @@ before_defined t uses = (
   tt,
 )
 
-before_range : (t : Term) → AllByRecursion IsOperandInRange (flat_map operands_in_block (before_return t).blocks)
-    → AllByRecursion IsCaseInRange (flat_map (λ (b : Block). cases_of b.term) (before_return t).blocks) → IsInRange (alone (before_return t))
+before_range : (t : Term) → AllByRecursion IsNarrowOperand (flat_map operands_in_block (before_return t).blocks)
+    → AllByRecursion IsNarrowCase (flat_map (λ (b : Block). cases_of b.term) (before_return t).blocks) → IsNarrow (alone (before_return t))
 before_range t operands cases = record {
   types = tt;
   globals = refl;
@@ -123,7 +125,6 @@ before_range t operands cases = record {
       operands = operands;
       flags = tt;
       cases = cases;
-      lines = omega arith;
       linkage = refl;
       extensions = (refl, tt);
     },
@@ -137,7 +138,7 @@ before_range t operands cases = record {
 to_known : Contains (f ∷ x ∷ []) x
 to_known = (1, omega arith, refl)
 
-of_end_range : (t : Term) → operands_at_end t ≡ [] → cases_of t ≡ [] → IsInRange (alone (of_end t))
+of_end_range : (t : Term) → operands_at_end t ≡ [] → cases_of t ≡ [] → IsNarrow (alone (of_end t))
 of_end_range t operands cases = record {
   types = tt;
   globals = refl;
@@ -147,10 +148,9 @@ of_end_range t operands cases = record {
       names = (name_f, tt);
       result = tt;
       registers = tt;
-      operands = subst (λ (os : List (Operand Name)). AllByRecursion IsOperandInRange (os ++ [])) (sym operands) tt;
+      operands = subst (λ (os : List (Operand Name)). AllByRecursion IsNarrowOperand (os ++ [])) (sym operands) tt;
       flags = tt;
-      cases = subst (λ (cs : List Case). AllByRecursion IsCaseInRange (cs ++ [])) (sym cases) tt;
-      lines = omega arith;
+      cases = subst (λ (cs : List Case). AllByRecursion IsNarrowCase (cs ++ [])) (sym cases) tt;
       linkage = refl;
       extensions = (refl, tt);
     },
@@ -165,7 +165,7 @@ of_end_defined t operands = (
   tt,
 )
 
-condition_range : (w : ℕ) → IsOperandInRange {R = Name} (record { ty = Int w; atom = number 1 }) → IsInRange (alone (before_return (branching (Int w) x x)))
+condition_range : (w : ℕ) → IsNarrowOperand {R = Name} (record { ty = Int w; atom = number 1 }) → IsNarrow (alone (before_return (branching (Int w) x x)))
 condition_range w fits = before_range (branching (Int w) x x) (fits, tt) tt
 
 entered_first : (first : Block) (further : List Block) → (of_end (Br f)).blocks ≡ first ∷ further → edges_into (of_end (Br f)) first.name ≡ [] → ⊥
@@ -176,63 +176,51 @@ entered_first first further are none =
 
 pub jumps_go_to_blocks : JumpsGoToBlocks
 jumps_go_to_blocks = record {
-  known = record {
-    shape = before_shape (Br x) refl (simp (at_void) refl) tt (to_known, tt) tt tt tt;
-    defined = before_defined (Br x) (λ taken. tt);
-    range = before_range (Br x) tt tt;
-  };
+  known = well_formed _ (before_shape (Br x) refl (simp (at_void) refl) tt (to_known, tt) tt tt tt) (before_defined (Br x) (λ taken. tt)) (before_range (Br x) tt tt) (omega arith, tt);
   unknown = (
     λ shape. in_one f x refl refl shape.functions.0.each.0.labels.0,
     of_end_defined (Br x) refl,
-    of_end_range (Br x) refl refl,
+    wide _ (of_end_range (Br x) refl refl),
   );
   entry = (
     λ shape. entered_first shape.functions.0.first shape.functions.0.further shape.functions.0.blocks shape.functions.0.not_entered,
     of_end_defined (Br f) refl,
-    of_end_range (Br f) refl refl,
+    wide _ (of_end_range (Br f) refl refl),
   );
-  nowhere = record {
-    shape = record {
-      types_apart = tt;
-      types = tt;
-      globals = tt;
-      functions = (
-        record {
-          first = _;
-          further = [];
-          blocks = refl;
-          not_entered = refl;
-          name = refl;
-          names = (in_none f, tt);
-          types = nameless (of_end Unreachable) (simp (at_void) refl);
-          result = tt;
-          registers = tt;
-          operands = tt;
-          each = (record { phis = tt; lines = tt; labels = tt; branches = tt; returns = tt; cases = tt }, tt);
-        },
-        tt,
-      );
-      declarations = tt;
-      names = (in_none f, tt);
-    };
-    defined = of_end_defined Unreachable refl;
-    range = of_end_range Unreachable refl refl;
-  };
-  condition = record {
-    shape = before_shape (branching (Int 1) x x) refl (simp (in_number, at_int, at_void) refl) (number_is (alone (before_return (branching (Int 1) x x))) (Int 1) 1, tt) (to_known, (to_known, tt)) refl tt tt;
-    defined = before_defined (branching (Int 1) x x) (λ taken. (tt, tt));
-    range = condition_range 1 (refl, refl);
-  };
+  nowhere = well_formed _ (record {
+    types_apart = tt;
+    types = tt;
+    globals = tt;
+    functions = (
+      record {
+        first = _;
+        further = [];
+        blocks = refl;
+        not_entered = refl;
+        name = refl;
+        names = (in_none f, tt);
+        types = nameless (of_end Unreachable) (simp (at_void) refl);
+        result = tt;
+        registers = tt;
+        operands = tt;
+        each = (record { phis = tt; lines = tt; labels = tt; branches = tt; returns = tt; cases = tt }, tt);
+      },
+      tt,
+    );
+    declarations = tt;
+    names = (in_none f, tt);
+  }) (of_end_defined Unreachable refl) (of_end_range Unreachable refl refl) (omega arith, tt);
+  condition = well_formed _ (before_shape (branching (Int 1) x x) refl (simp (in_number, at_int, at_void) refl) (number_is (alone (before_return (branching (Int 1) x x))) (Int 1) 1, tt) (to_known, (to_known, tt)) refl tt tt) (before_defined (branching (Int 1) x x) (λ taken. (tt, tt))) (condition_range 1 (refl, refl)) (omega arith, tt);
   wide_condition = (
     λ shape. other_type (Int 8) (Int 1) refl refl shape.functions.0.each.0.branches,
     before_defined (branching (Int 8) x x) (λ taken. (tt, tt)),
-    condition_range 8 (refl, refl),
+    wide _ (condition_range 8 (refl, refl)),
   );
 }
 
 -- ---- phis
 
-joining_range : (entries : List Entry) → AllByRecursion IsOperandInRange (flat_map operands_in_block (joining entries).blocks) → IsInRange (alone (joining entries))
+joining_range : (entries : List Entry) → AllByRecursion IsNarrowOperand (flat_map operands_in_block (joining entries).blocks) → IsNarrow (alone (joining entries))
 joining_range entries operands = record {
   types = tt;
   globals = refl;
@@ -245,7 +233,6 @@ joining_range entries operands = record {
       operands = operands;
       flags = tt;
       cases = tt;
-      lines = omega arith;
       linkage = refl;
       extensions = (refl, tt);
     },
@@ -286,64 +273,60 @@ twice_alike = alone (joining (from_f 0 ∷ from_f 0 ∷ []))
 
 pub phis_follow_edges : PhisFollowEdges
 phis_follow_edges = record {
-  alike = record {
-    shape = record {
-      types_apart = tt;
-      types = tt;
-      globals = tt;
-      functions = (
-        record {
-          first = _;
-          further = _;
-          blocks = refl;
-          not_entered = refl;
-          name = refl;
-          names = (in_none f, (in_one f x refl refl, (in_two f x y refl refl refl refl, tt)));
-          types = nameless (joining (from_f 0 ∷ from_f 0 ∷ [])) (simp (in_number, at_int, at_void) refl);
-          result = tt;
-          registers = (refl, tt);
-          operands = (number_is twice_alike (Int 1) 1, (number_is twice_alike (Int 32) 0, (number_is twice_alike (Int 32) 0, tt)));
-          each = (
-            record { phis = tt; lines = tt; labels = (to_known, (to_known, tt)); branches = refl; returns = tt; cases = tt },
-            (
-              record {
-                phis = (record { some = omega arith; edges = IsPermutation-refl (f ∷ f ∷ []); alike = both_alike }, tt);
-                lines = tt;
-                labels = tt;
-                branches = tt;
-                returns = refl;
-                cases = tt;
-              },
-              tt,
-            ),
-          );
-        },
-        tt,
-      );
-      declarations = tt;
-      names = (in_none f, tt);
-    };
-    defined = joining_defined (from_f 0 ∷ from_f 0 ∷ []) (λ taken from. ((λ same. tt, (λ same. tt, tt)), tt));
-    range = joining_range (from_f 0 ∷ from_f 0 ∷ []) ((refl, refl), ((refl, refl), ((refl, refl), tt)));
-  };
+  alike = well_formed _ (record {
+    types_apart = tt;
+    types = tt;
+    globals = tt;
+    functions = (
+      record {
+        first = _;
+        further = _;
+        blocks = refl;
+        not_entered = refl;
+        name = refl;
+        names = (in_none f, (in_one f x refl refl, (in_two f x y refl refl refl refl, tt)));
+        types = nameless (joining (from_f 0 ∷ from_f 0 ∷ [])) (simp (in_number, at_int, at_void) refl);
+        result = tt;
+        registers = (refl, tt);
+        operands = (number_is twice_alike (Int 1) 1, (number_is twice_alike (Int 32) 0, (number_is twice_alike (Int 32) 0, tt)));
+        each = (
+          record { phis = tt; lines = tt; labels = (to_known, (to_known, tt)); branches = refl; returns = tt; cases = tt },
+          (
+            record {
+              phis = (record { some = omega arith; edges = IsPermutation-refl (f ∷ f ∷ []); alike = both_alike }, tt);
+              lines = tt;
+              labels = tt;
+              branches = tt;
+              returns = refl;
+              cases = tt;
+            },
+            tt,
+          ),
+        );
+      },
+      tt,
+    );
+    declarations = tt;
+    names = (in_none f, tt);
+  }) (joining_defined (from_f 0 ∷ from_f 0 ∷ []) (λ taken from. ((λ same. tt, (λ same. tt, tt)), tt))) (joining_range (from_f 0 ∷ from_f 0 ∷ []) ((refl, refl), ((refl, refl), ((refl, refl), tt)))) (omega arith, tt);
   unlike = (
     λ shape. other_number 0 1 refl refl (shape.functions.0.each.1.0.phis.0.alike (from_f 0) (from_f 1) (0, omega arith, refl) (1, omega arith, refl) refl),
     joining_defined (from_f 0 ∷ from_f 1 ∷ []) (λ taken from. ((λ same. tt, (λ same. tt, tt)), tt)),
-    joining_range (from_f 0 ∷ from_f 1 ∷ []) ((refl, refl), ((refl, refl), ((refl, refl), tt))),
+    wide _ (joining_range (from_f 0 ∷ from_f 1 ∷ []) ((refl, refl), ((refl, refl), ((refl, refl), tt)))),
   );
   too_few = (
     λ shape.
         let many : 1 ≡ 2 = length_permutation _ _ shape.functions.0.each.1.0.phis.0.edges in
         absurd (omega (arith, many)),
     joining_defined (from_f 0 ∷ []) (λ taken from. ((λ same. tt, tt), tt)),
-    joining_range (from_f 0 ∷ []) ((refl, refl), ((refl, refl), tt)),
+    wide _ (joining_range (from_f 0 ∷ []) ((refl, refl), ((refl, refl), tt))),
   );
   too_many = (
     λ shape.
         let many : 3 ≡ 2 = length_permutation _ _ shape.functions.0.each.1.0.phis.0.edges in
         absurd (omega (arith, many)),
     joining_defined (from_f 0 ∷ from_f 0 ∷ from_f 0 ∷ []) (λ taken from. ((λ same. tt, (λ same. tt, (λ same. tt, tt))), tt)),
-    joining_range (from_f 0 ∷ from_f 0 ∷ from_f 0 ∷ []) ((refl, refl), ((refl, refl), ((refl, refl), ((refl, refl), tt)))),
+    wide _ (joining_range (from_f 0 ∷ from_f 0 ∷ from_f 0 ∷ []) ((refl, refl), ((refl, refl), ((refl, refl), ((refl, refl), tt))))),
   );
 }
 
@@ -356,30 +339,22 @@ switch_shape : (cases : List Case) → edges_into (switching cases) f ≡ [] →
 switch_shape cases not_entered names labels apart =
     before_shape (choosing x cases) not_entered names (number_is (alone (switching cases)) (Int 8) 1, tt) labels refl tt apart
 
-switch_range : (cases : List Case) → AllByRecursion IsCaseInRange (cases ++ []) → IsInRange (alone (switching cases))
+switch_range : (cases : List Case) → AllByRecursion IsNarrowCase (cases ++ []) → IsNarrow (alone (switching cases))
 switch_range cases fit = before_range (choosing x cases) ((refl, refl), tt) fit
 
 pub cases_are_apart : CasesAreApart
 cases_are_apart = record {
-  none = record {
-    shape = switch_shape [] refl (simp (in_number, at_int, at_void) refl) (to_known, tt) (record { typed = tt; apart = tt });
-    defined = switch_defined [];
-    range = switch_range [] tt;
-  };
-  apart = record {
-    shape = switch_shape (to_x (Int 8) 255 ∷ to_x (Int 8) 0 ∷ []) refl (simp (in_number, at_int, at_void) refl) (to_known, (to_known, (to_known, tt))) (record { typed = (refl, (refl, tt)); apart = (number_in_none 255, (number_in_one 255 0 refl refl, tt)) });
-    defined = switch_defined _;
-    range = switch_range _ ((refl, refl), ((refl, refl), tt));
-  };
+  none = well_formed _ (switch_shape [] refl (simp (in_number, at_int, at_void) refl) (to_known, tt) (record { typed = tt; apart = tt })) (switch_defined []) (switch_range [] tt) (omega arith, tt);
+  apart = well_formed _ (switch_shape (to_x (Int 8) 255 ∷ to_x (Int 8) 0 ∷ []) refl (simp (in_number, at_int, at_void) refl) (to_known, (to_known, (to_known, tt))) (record { typed = (refl, (refl, tt)); apart = (number_in_none 255, (number_in_one 255 0 refl refl, tt)) })) (switch_defined _) (switch_range _ ((refl, refl), ((refl, refl), tt))) (omega arith, tt);
   twice = (
     λ shape. shape.functions.0.each.0.cases.apart.1.0 (zero, omega arith, refl),
     switch_defined _,
-    switch_range _ ((refl, refl), ((refl, refl), tt)),
+    wide _ (switch_range _ ((refl, refl), ((refl, refl), tt))),
   );
   other_type = (
     λ shape. other_type (Int 16) (Int 8) refl refl shape.functions.0.each.0.cases.typed.0,
     switch_defined _,
-    switch_range _ ((refl, refl), tt),
+    wide _ (switch_range _ ((refl, refl), tt)),
   );
   modulo = λ shape. shape.functions.0.each.0.cases.apart.1.0 (zero, omega arith, refl);
   out_of_range = (
@@ -454,7 +429,7 @@ paths_define = record {
     λ defined.
         let uses = defined.0 (ending f (branching (Int 1) x y)) _ (ending y (Ret (held (Int 32) z)) ∷ []) refl ((2, omega arith, refl), (1, omega arith, refl), tt) in
         in_none z uses.2.0,
-    record {
+    wide _ (record {
       types = tt;
       globals = refl;
       functions = (
@@ -466,72 +441,66 @@ paths_define = record {
           operands = ((refl, refl), ((refl, refl), ((refl, refl), ((refl, tt), tt))));
           flags = (refl, tt);
           cases = tt;
-          lines = omega arith;
           linkage = refl;
           extensions = (refl, tt);
         },
         tt,
       );
       declarations = refl;
-    },
+    }),
   );
-  looping = record {
-    shape = record {
-      types_apart = tt;
-      types = tt;
-      globals = tt;
-      functions = (
-        record {
-          first = _;
-          further = _;
-          blocks = refl;
-          not_entered = refl;
-          name = refl;
-          names = (in_none f, (in_one f x refl refl, (in_two f x y refl refl refl refl, tt)));
-          types = nameless looping (simp (in_number, at_int, at_void) refl);
-          result = tt;
-          registers = (refl, tt);
-          operands = (number_is (alone looping) (Int 32) 0, ((zero, omega arith, refl), tt));
-          each = (
-            record { phis = tt; lines = tt; labels = (to_known, tt); branches = tt; returns = tt; cases = tt },
-            (
-              record {
-                phis = (record { some = omega arith; edges = IsPermutation-refl (f ∷ x ∷ []); alike = loop_alike }, tt);
-                lines = tt;
-                labels = (to_known, tt);
-                branches = tt;
-                returns = tt;
-                cases = tt;
-              },
-              tt,
-            ),
-          );
-        },
-        tt,
-      );
-      declarations = tt;
-      names = (in_none f, tt);
-    };
-    defined = (each_path looping loop_lines loop_edges, tt);
-    range = record {
-      types = tt;
-      globals = refl;
-      functions = (
-        record {
-          name = name_f;
-          names = (name_f, (name_x, (name_y, tt)));
-          result = tt;
-          registers = (refl, tt);
-          operands = ((refl, refl), ((refl, tt), tt));
-          flags = tt;
-          cases = tt;
-          lines = omega arith;
-          linkage = refl;
-          extensions = (refl, tt);
-        },
-        tt,
-      );
-      declarations = refl;
-    };
-  };
+  looping = well_formed _ (record {
+    types_apart = tt;
+    types = tt;
+    globals = tt;
+    functions = (
+      record {
+        first = _;
+        further = _;
+        blocks = refl;
+        not_entered = refl;
+        name = refl;
+        names = (in_none f, (in_one f x refl refl, (in_two f x y refl refl refl refl, tt)));
+        types = nameless looping (simp (in_number, at_int, at_void) refl);
+        result = tt;
+        registers = (refl, tt);
+        operands = (number_is (alone looping) (Int 32) 0, ((zero, omega arith, refl), tt));
+        each = (
+          record { phis = tt; lines = tt; labels = (to_known, tt); branches = tt; returns = tt; cases = tt },
+          (
+            record {
+              phis = (record { some = omega arith; edges = IsPermutation-refl (f ∷ x ∷ []); alike = loop_alike }, tt);
+              lines = tt;
+              labels = (to_known, tt);
+              branches = tt;
+              returns = tt;
+              cases = tt;
+            },
+            tt,
+          ),
+        );
+      },
+      tt,
+    );
+    declarations = tt;
+    names = (in_none f, tt);
+  }) ((each_path looping loop_lines loop_edges, tt)) (record {
+    types = tt;
+    globals = refl;
+    functions = (
+      record {
+        name = name_f;
+        names = (name_f, (name_x, (name_y, tt)));
+        result = tt;
+        registers = (refl, tt);
+        operands = ((refl, refl), ((refl, tt), tt));
+        flags = tt;
+        cases = tt;
+        linkage = refl;
+        extensions = (refl, tt);
+      },
+      tt,
+    );
+    declarations = refl;
+  }) (omega arith, tt);
 }

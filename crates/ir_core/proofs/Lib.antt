@@ -5,6 +5,10 @@ pub mod SameInits
 pub mod Inits
 pub mod SameLaws
 pub mod Widths
+pub mod Placed
+pub mod Ranges
+pub mod Narrow
+pub mod Within
 pub mod TypeNames
 pub mod Typing
 pub mod WellFormed
@@ -16,3 +20,4 @@ pub mod Flow
 pub mod TypeExamples
 pub mod TypingExamples
 pub mod NamedExamples
+pub mod RangeExamples

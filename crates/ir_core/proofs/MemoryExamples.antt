@@ -1,6 +1,6 @@
--- Of lines and constants of memory: how they are read, and that no text writes them yet.
+-- Of lines and constants of memory: how they are read, and that no module over integers alone has them.
 use Rattle.std.proofs.Common.{◌≡◌, false, true, refl}
-use Rattle.ir_core.specs.MemoryLaws.{AddressesAreRead, MemoryIsOutOfRange, MemoryLinesAreRead}
+use Rattle.ir_core.specs.MemoryLaws.{AddressesAreRead, IntegersHaveNoMemory, MemoryLinesAreRead}
 
 pub addresses_are_read : AddressesAreRead
 addresses_are_read = record {
@@ -21,15 +21,16 @@ memory_lines_are_read = record {
   arguments = refl;
 }
 
-pub memory_is_out_of_range : MemoryIsOutOfRange
-memory_is_out_of_range = record {
-  null = λ range. let fits : false ≡ true = range.functions.0.operands.0.1 in cc;
-  global = λ range. let fits : false ≡ true = range.functions.0.operands.0.1 in cc;
-  constant_element = λ range. let fits : false ≡ true = range.functions.0.operands.0.1 in cc;
-  constant_cast = λ range. let fits : false ≡ true = range.functions.0.operands.0.1 in cc;
-  element = λ e range. range.functions.0.flags.0;
-  load = λ l range. range.functions.0.flags.0;
-  alloca = λ a range. range.functions.0.flags.0;
-  store = λ s range. range.functions.0.flags.0;
-  call = λ c range. range.functions.0.flags.0;
+pub integers_have_no_memory : IntegersHaveNoMemory
+integers_have_no_memory = record {
+  null = λ integers. let plain : false ≡ true = integers.functions.0.operands.0.1 in cc;
+  global = λ integers. let plain : false ≡ true = integers.functions.0.operands.0.1 in cc;
+  constant_element = λ integers. let plain : false ≡ true = integers.functions.0.operands.0.1 in cc;
+  constant_cast = λ integers. let plain : false ≡ true = integers.functions.0.operands.0.1 in cc;
+  element = λ e integers. let calm : false ≡ true = integers.functions.0.lines.0 in cc;
+  load = λ l integers. let calm : false ≡ true = integers.functions.0.lines.0 in cc;
+  alloca = λ a integers. let calm : false ≡ true = integers.functions.0.lines.0 in cc;
+  store = λ s integers. let calm : false ≡ true = integers.functions.0.lines.0 in cc;
+  call = λ c integers. let calm : false ≡ true = integers.functions.0.lines.0 in cc;
+  pointer = λ integers. let integer : false ≡ true = integers.functions.0.registers.0 in cc;
 }

@@ -9,8 +9,10 @@ use Rattle.ir_core.specs.Examples.{f, struct, x, y}
 use Rattle.ir_core.specs.TypeLaws.{NamedTypesAreInRange, NamedTypesAreKnown}
 use Rattle.ir_core.specs.TypeNames.{names_in_struct}
 use Rattle.ir_core.specs.WellFormed.{NamesTypes}
+use Rattle.ir_core.proofs.Narrow.{wide}
 use Rattle.ir_core.proofs.TypeNames.{at_array, at_int, at_named, at_ptr, at_struct}
 use Rattle.ir_core.proofs.WellFormed.{in_none, in_one, in_two, name_x, name_y}
+use Rattle.ir_core.proofs.Within.{well_formed}
 
 -- the names that stand in it are these
 naming : (names found : List Name) (t : NamedTy) → names_in_struct t ≡ found → AllByRecursion (Contains names) found → NamesTypes names t
@@ -21,32 +23,28 @@ no_integer_names names name width = naming names [] (struct name (Int width ∷ 
 
 pub named_types_are_known : NamedTypesAreKnown
 named_types_are_known = record {
-  different = record {
-    shape = record {
-      types_apart = (in_none x, (in_one x y refl refl, tt));
-      types = (no_integer_names (x ∷ y ∷ []) x 32, (no_integer_names (x ∷ y ∷ []) y 8, tt));
-      globals = tt;
-      functions = tt;
-      declarations = tt;
-      names = tt;
-    };
-    defined = tt;
-    range = record {
-      types = (record { name = name_x; fields = (refl, tt) }, (record { name = name_y; fields = (refl, tt) }, tt));
-      globals = refl;
-      functions = tt;
-      declarations = refl;
-    };
-  };
+  different = well_formed _ (record {
+    types_apart = (in_none x, (in_one x y refl refl, tt));
+    types = (no_integer_names (x ∷ y ∷ []) x 32, (no_integer_names (x ∷ y ∷ []) y 8, tt));
+    globals = tt;
+    functions = tt;
+    declarations = tt;
+    names = tt;
+  }) (tt) (record {
+    types = (record { name = name_x; fields = (refl, tt) }, (record { name = name_y; fields = (refl, tt) }, tt));
+    globals = refl;
+    functions = tt;
+    declarations = refl;
+  }) tt;
   one_name = (
     λ shape. shape.types_apart.1.0 (zero, omega arith, refl),
     tt,
-    record {
+    wide _ (record {
       types = (record { name = name_x; fields = (refl, tt) }, (record { name = name_x; fields = (refl, tt) }, tt));
       globals = refl;
       functions = tt;
       declarations = refl;
-    },
+    }),
   );
   known = record {
     types_apart = (in_none x, (in_one x y refl refl, (in_two x y f refl refl refl refl, tt)));

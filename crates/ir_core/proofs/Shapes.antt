@@ -9,7 +9,9 @@ use Rattle.ir_types.specs.declared.ty.Ty.{Ty}
 use Rattle.ir_types.specs.declared.ty.Ty.TheVariants.{Int, Void}
 use Rattle.ir_core.specs.Examples.{alone, block, f, name_set_twice, no_operator, number, other_result, other_width, phi_of_no_edge, phi_of_nothing, returning, void_number, void_parameter, x, y}
 use Rattle.ir_core.specs.Laws.{DebugNamesAreNot, FunctionsOfOneNameAreNot, FunctionsWithoutBlocksAreNot, LinesWithoutOperatorsAreNot, NamesSetTwiceAreNot, OtherResultsAreNot, OtherWidthsAreNot, PhisOfNoEdgeAreNot, PhisOfNothingAreNot, VoidNumbersAreNot, VoidParametersAreNot}
-use Rattle.ir_core.specs.Ranges.{IsFunctionInRange, IsNameInRange}
+use Rattle.ir_core.proofs.Narrow.{IsNarrowFunction, wide}
+use Rattle.ir_core.proofs.Ranges.{no_void}
+use Rattle.ir_core.specs.Ranges.{IsNameInRange}
 use Rattle.ir_types.specs.Same.{same_ty}
 use Rattle.ir_core.specs.WellFormed.{IsFunctionDefined}
 use Rattle.ir_core.proofs.Typing.{at_void, is_no_number, no_values}
@@ -27,7 +29,7 @@ pub other_widths_are_not : OtherWidthsAreNot
 other_widths_are_not = (
   λ shape. no_other_width (Int 64) (Int 32) x refl refl shape.functions.0.operands.0,
   (defined other_width (block y [] (Int 32) (Register x)) [] refl refl ((zero, omega arith, refl), tt), tt),
-  record {
+  wide _ (record {
     types = tt;
     globals = refl;
     functions = (
@@ -39,14 +41,13 @@ other_widths_are_not = (
         operands = ((refl, tt), tt);
         flags = tt;
         cases = tt;
-        lines = omega arith;
         linkage = refl;
         extensions = (refl, (refl, tt));
       },
       tt,
     );
     declarations = refl;
-  },
+  }),
 )
 
 pub other_results_are_not : OtherResultsAreNot
@@ -56,7 +57,7 @@ other_results_are_not = (
       let both : true ≡ false = ap (same_ty (Int 64)) returns in
       cc,
   (defined other_result (block y [] (Int 64) (Register x)) [] refl refl ((zero, omega arith, refl), tt), tt),
-  record {
+  wide _ (record {
     types = tt;
     globals = refl;
     functions = (
@@ -68,21 +69,20 @@ other_results_are_not = (
         operands = ((refl, tt), tt);
         flags = tt;
         cases = tt;
-        lines = omega arith;
         linkage = refl;
         extensions = (refl, (refl, tt));
       },
       tt,
     );
     declarations = refl;
-  },
+  }),
 )
 
 pub void_parameters_are_not : VoidParametersAreNot
 void_parameters_are_not = (
   λ shape. no_values Void at_void shape.functions.0.registers.0,
   (defined void_parameter (block y [] (Int 32) (number 0)) [] refl refl (tt, tt), tt),
-  λ range. range.functions.0.registers.0,
+  λ range. no_void range.functions.0.registers.0,
 )
 
 pub void_numbers_are_not : VoidNumbersAreNot
@@ -97,7 +97,7 @@ pub lines_without_operators_are_not : LinesWithoutOperatorsAreNot
 lines_without_operators_are_not = (
   λ shape. shape.functions.0.each.0.lines.0,
   (defined no_operator _ [] refl refl ((tt, tt), ((zero, omega arith, refl), tt)), tt),
-  record {
+  wide _ (record {
     types = tt;
     globals = refl;
     functions = (
@@ -109,14 +109,13 @@ lines_without_operators_are_not = (
         operands = ((refl, refl), ((refl, tt), tt));
         flags = (tt, tt);
         cases = tt;
-        lines = omega arith;
         linkage = refl;
         extensions = (refl, tt);
       },
       tt,
     );
     declarations = refl;
-  },
+  }),
 )
 
 pub phis_of_no_edge_are_not : PhisOfNoEdgeAreNot
@@ -125,7 +124,7 @@ phis_of_no_edge_are_not = (
       let many : 1 ≡ 0 = length_permutation _ _ shape.functions.0.each.0.phis.0.edges in
       absurd (omega (arith, many)),
   (defined phi_of_no_edge _ [] refl refl ((zero, omega arith, refl), tt), tt),
-  record {
+  wide _ (record {
     types = tt;
     globals = refl;
     functions = (
@@ -137,14 +136,13 @@ phis_of_no_edge_are_not = (
         operands = ((refl, refl), ((refl, tt), tt));
         flags = tt;
         cases = tt;
-        lines = omega arith;
         linkage = refl;
         extensions = (refl, tt);
       },
       tt,
     );
     declarations = refl;
-  },
+  }),
 )
 
 pub phis_of_nothing_are_not : PhisOfNothingAreNot
@@ -153,7 +151,7 @@ phis_of_nothing_are_not = (
       let some : 0 < 0 = shape.functions.0.each.0.phis.0.some in
       absurd (omega (arith, some)),
   (defined phi_of_nothing _ [] refl refl ((zero, omega arith, refl), tt), tt),
-  record {
+  wide _ (record {
     types = tt;
     globals = refl;
     functions = (
@@ -165,19 +163,18 @@ phis_of_nothing_are_not = (
         operands = ((refl, tt), tt);
         flags = tt;
         cases = tt;
-        lines = omega arith;
         linkage = refl;
         extensions = (refl, tt);
       },
       tt,
     );
     declarations = refl;
-  },
+  }),
 )
 
 -- ---- names and blocks
 
-returning_in_range : (name : Name) → IsNameInRange name → IsFunctionInRange (returning name)
+returning_in_range : (name : Name) → IsNameInRange name → IsNarrowFunction (returning name)
 returning_in_range name h = record {
   name = h;
   names = (name_x, tt);
@@ -186,7 +183,6 @@ returning_in_range name h = record {
   operands = ((refl, refl), tt);
   flags = tt;
   cases = tt;
-  lines = omega arith;
   linkage = refl;
   extensions = (refl, tt);
 }
@@ -198,14 +194,14 @@ pub functions_of_one_name_are_not : FunctionsOfOneNameAreNot
 functions_of_one_name_are_not = (
   λ shape. shape.names.1.0 (zero, omega arith, refl),
   (returning_defined f, (returning_defined f, tt)),
-  record { types = tt; globals = refl; functions = (returning_in_range f name_f, (returning_in_range f name_f, tt)); declarations = refl },
+  wide _ (record { types = tt; globals = refl; functions = (returning_in_range f name_f, (returning_in_range f name_f, tt)); declarations = refl }),
 )
 
 pub names_set_twice_are_not : NamesSetTwiceAreNot
 names_set_twice_are_not = (
   λ shape. shape.functions.0.names.1.1.0 (1, omega arith, refl),
   (defined name_set_twice _ [] refl refl ((tt, (tt, tt)), ((tt, (tt, tt)), ((1, omega arith, refl), tt))), tt),
-  record {
+  wide _ (record {
     types = tt;
     globals = refl;
     functions = (
@@ -217,14 +213,13 @@ names_set_twice_are_not = (
         operands = ((refl, refl), ((refl, refl), ((refl, refl), ((refl, refl), ((refl, tt), tt)))));
         flags = (refl, (refl, tt));
         cases = tt;
-        lines = omega arith;
         linkage = refl;
         extensions = (refl, tt);
       },
       tt,
     );
     declarations = refl;
-  },
+  }),
 )
 
 pub debug_names_are_not : DebugNamesAreNot
@@ -233,7 +228,7 @@ debug_names_are_not = (
       let name : true ≡ false = shape.functions.0.name in
       cc,
   (returning_defined (Text (codes "llvm.dbg.value")), tt),
-  record {
+  wide _ (record {
     types = tt;
     globals = refl;
     functions = (
@@ -241,7 +236,7 @@ debug_names_are_not = (
       tt,
     );
     declarations = refl;
-  },
+  }),
 )
 
 pub functions_without_blocks_are_not : FunctionsWithoutBlocksAreNot
@@ -255,7 +250,7 @@ functions_without_blocks_are_not = (
         absurd cc,
     tt,
   ),
-  record {
+  wide _ (record {
     types = tt;
     globals = refl;
     functions = (
@@ -267,12 +262,11 @@ functions_without_blocks_are_not = (
         operands = tt;
         flags = tt;
         cases = tt;
-        lines = omega arith;
         linkage = refl;
         extensions = (refl, tt);
       },
       tt,
     );
     declarations = refl;
-  },
+  }),
 )

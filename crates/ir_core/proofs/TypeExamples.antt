@@ -1,6 +1,10 @@
 -- Which types have values.
-use Rattle.std.proofs.Common.{[], ◌∷◌, refl}
+use Rattle.std.proofs.Common.{◌≡◌, ◌∙◌, ◌+◌, ℕ, [], ◌∷◌, refl, ap, arith}
 use Rattle.ir_types.specs.declared.ty.Ty.{Ty, Int, Ptr, Array, Struct, Named}
+use Rattle.ir_types.proofs.Induction as types
+use Rattle.ir_core.specs.declared.operands.Const.{Number}
+use Rattle.ir_core.specs.Depths.{depth_at_level, depth_at_part, depth_of, depth_of_constant}
+use Rattle.ir_core.specs.Sizes.{wanted_in_function}
 use Rattle.ir_core.specs.declared.functions.Function.{Function}
 use Rattle.ir_core.specs.Examples.{alone, f, number, passing, x, y}
 use Rattle.ir_core.specs.TypeLaws.{IntegersHaveKinds, OtherTypesAreNot, beside_type, never_returning}
@@ -8,7 +12,11 @@ use Rattle.ir_core.specs.WellFormed.{HasShape}
 use Rattle.ir_core.proofs.TypeNames.{at_int, at_ptr}
 use Rattle.ir_core.proofs.Typing as typing
 use Rattle.ir_core.proofs.Typing.{in_number, is_no_number, nameless, no_values, number_is}
-use Rattle.ir_core.proofs.WellFormed.{defined, in_none, in_one}
+use Rattle.ir_core.proofs.Constants as constants
+use Rattle.ir_core.proofs.Ranges as ranges
+use Rattle.ir_core.proofs.Ranges.{no_void}
+use Rattle.ir_core.proofs.WellFormed.{defined, in_none, in_one, name_f, name_x, name_y}
+use Rattle.ir_core.proofs.Within.{IsSmallBlock, all_joined, blocks_small}
 
 pub integers_have_kinds : IntegersHaveKinds
 integers_have_kinds = record {
@@ -76,24 +84,67 @@ result_shape = record {
   names = (in_none f, tt);
 }
 
+depth_of_int : (width : ℕ) → depth_of (Int width) ≡ 1
+depth_of_int = types.at_int ℕ depth_at_level
+
+depth_of_pointer : depth_of (Ptr (Int 8)) ≡ 2
+depth_of_pointer = types.at_ptr ℕ depth_at_level (Int 8) ∙ ap (λ d. d + 1) (depth_of_int 8)
+
+depth_of_zero : depth_of_constant (Number 0) ≡ 1
+depth_of_zero = constants.at_number ℕ depth_at_part 0
+
 pub other_types_are_not : OtherTypesAreNot
 other_types_are_not = record {
-  pointer = (
-    pointer_shape,
-    (defined (taking (Ptr (Int 8))) _ [] refl refl (tt, tt), tt),
-    λ range. range.functions.0.registers.0,
-  );
+  pointer = record {
+    shape = pointer_shape;
+    defined = (defined (taking (Ptr (Int 8))) _ [] refl refl (tt, tt), tt);
+    range = record {
+      types = tt;
+      globals = tt;
+      functions = (
+        record {
+          name = name_f;
+          names = (name_x, (name_y, tt));
+          result = refl;
+          registers = (simp (ranges.at_ptr, ranges.at_int) refl, tt);
+          operands = ((refl, refl), tt);
+          lines = tt;
+          cases = tt;
+        },
+        tt,
+      );
+      declarations = tt;
+      order = tt;
+    };
+    depths = (omega (arith, depth_of_int 32), (omega (arith, depth_of_pointer), (omega (arith, depth_of_int 32, depth_of_zero), tt)));
+    lines = (omega arith, tt);
+    blocks =
+        all_joined (IsSmallBlock []) (wanted_in_function [] (taking (Ptr (Int 8)))) []
+        (blocks_small [] (taking (Ptr (Int 8))).blocks (record { typed = tt; phis = tt; operands = tt; end = ((refl, refl), tt); lines = tt; cases = tt }, tt)) tt;
+  };
   array = λ shape. no_values (Array 4 (Int 8)) (typing.at_array 4 (Int 8)) shape.functions.0.registers.0;
   struct = λ shape. no_values (Struct (Int 8 ∷ [])) (typing.at_struct (Int 8 ∷ [])) shape.functions.0.registers.0;
   named_parameter = λ shape. no_values (Named x) (typing.at_named x) shape.functions.0.registers.0;
   named = λ shape. is_no_number (beside_type (passing (Named x) (Int 32) (Named x) (number 0))) (Named x) 0 refl shape.functions.0.operands.0;
-  result = (
-    result_shape,
-    (defined (never_returning (Ptr (Int 8))) _ [] refl refl tt, tt),
-    λ range. range.functions.0.result,
-  );
+  result = record {
+    shape = result_shape;
+    defined = (defined (never_returning (Ptr (Int 8))) _ [] refl refl tt, tt);
+    range = record {
+      types = tt;
+      globals = tt;
+      functions = (
+        record { name = name_f; names = (name_f, tt); result = simp (ranges.at_ptr, ranges.at_int) refl; registers = tt; operands = tt; lines = tt; cases = tt },
+        tt,
+      );
+      declarations = tt;
+      order = tt;
+    };
+    depths = (omega (arith, depth_of_pointer), tt);
+    lines = (omega arith, tt);
+    blocks = tt;
+  };
   array_result = λ shape. no_values (Array 4 (Int 8)) (typing.at_array 4 (Int 8)) shape.functions.0.result;
   struct_result = λ shape. no_values (Struct (Int 8 ∷ [])) (typing.at_struct (Int 8 ∷ [])) shape.functions.0.result;
   named_result = λ shape. no_values (Named x) (typing.at_named x) shape.functions.0.result;
-  void_field = λ range. range.types.0.fields.0;
+  void_field = λ range. no_void range.types.0.fields.0;
 }

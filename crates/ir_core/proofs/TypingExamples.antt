@@ -1,5 +1,5 @@
 -- Of which types addresses, constants, calls and initialisers are.
-use Rattle.std.proofs.Common.{◌≡◌, ◌∙◌, ℕ, Bool, true, false, ◌&&◌, zero, suc, List, [], ◌∷◌, length, None, Some, nat_eq, refl, sym, ap, subst, arith}
+use Rattle.std.proofs.Common.{◌≡◌, ◌∙◌, ◌+◌, ℕ, Bool, true, false, ◌&&◌, zero, suc, List, [], ◌∷◌, length, None, Some, Ok, Err, nat_eq, refl, sym, ap, subst, arith}
 use Rattle.std.specs.List.{AllByRecursion, Contains}
 use Rattle.std.specs.Option.{option_map}
 use Rattle.ir_types.specs.declared.names.Name.{Name}
@@ -7,7 +7,8 @@ use Rattle.ir_types.specs.declared.ty.Ty.{Ty, Int, Ptr, Array, Named, Void, out-
 use Rattle.ir_types.specs.declared.ty.Ty.TheOpen.{Ty-F}
 use Rattle.ir_types.specs.declared.ty.Ty.TheOpen as level
 use Rattle.ir_types.specs.declared.ty.Ty.TheViews.{outs-Int, outs-Ptr, outs-Array, outs-Struct, outs-Named, outs-Void}
-use Rattle.ir_types.specs.Named.{is_sized}
+use Rattle.ir_types.specs.declared.sizes.SizeFault.TheVariants.{TooLarge}
+use Rattle.ir_types.specs.Named.{block_of, is_sized}
 use Rattle.ir_types.specs.Same.{same_level, same_name, same_parts, same_ty}
 use Rattle.ir_types.proofs.Induction as types
 use Rattle.ir_types.proofs.Monotone as layout
@@ -16,20 +17,23 @@ use Rattle.ir_core.specs.declared.modules.Init as init
 use Rattle.ir_core.specs.declared.operands.Const.{Const, Number, Undef, Null, Global}
 use Rattle.ir_core.specs.declared.operands.Const as constant
 use Rattle.ir_core.specs.declared.operands.Const.TheOpen.{Const-F}
+use Rattle.ir_core.specs.Depths.{depth_at_level, depth_of}
 use Rattle.ir_core.specs.Examples.{f, struct, x, y}
 use Rattle.ir_core.specs.FlowExamples.{z}
+use Rattle.ir_core.specs.Ranges.{IsNameInRange, IsTypeInRange}
 use Rattle.ir_core.specs.StatedTypes.{stated_at_start, stated_by_init, types_in_global}
 use Rattle.ir_core.specs.TypeNames.{names_in_struct, names_in_type}
 use Rattle.ir_core.specs.Types.{is_first_class, is_integer, is_pointer}
 use Rattle.ir_core.specs.Typing.{Fitting, Signature, are_arguments, are_parts, are_typed, contents_of, fitting_at_level, init_at_level, is_address, is_bytes, is_cast, is_due, is_init_constant, parts_of_array, parts_of_struct, signatures_of}
-use Rattle.ir_core.specs.TypingLaws.{AccessesAreTyped, AllocasAreTyped, ArgumentsAreTyped, CallsAreTyped, ConstantsAreTyped, ElementsAreTyped, GlobalsAreTyped, IndicesLead, InitialisersAreTyped, MemoryHasShape, at, by_memory, callable, having, is_of, leads, seven, starts}
+use Rattle.ir_core.specs.TypingLaws.{AccessesAreTyped, AllocasAreTyped, ArgumentsAreTyped, CallsAreTyped, ConstantsAreTyped, ElementsAreTyped, GlobalsAreTyped, IndicesLead, InitialisersAreTyped, MemoryIsWellFormed, at, by_memory, callable, having, is_of, leads, seven, starts}
 use Rattle.ir_core.proofs.Constants as constants
 use Rattle.ir_core.proofs.Inits as inits
 use Rattle.ir_core.proofs.Flow.{in_three}
+use Rattle.ir_core.proofs.Ranges as ranges
 use Rattle.ir_core.proofs.TypeNames as names
 use Rattle.ir_core.proofs.Typing as typing
 use Rattle.ir_core.proofs.Typing.{all_known, in_number, nameless, no_values}
-use Rattle.ir_core.proofs.WellFormed.{defined, in_none, in_one, in_two}
+use Rattle.ir_core.proofs.WellFormed.{defined, in_none, in_one, in_two, name_f, name_x, name_y}
 
 -- ---- the test of pointer types
 
@@ -136,9 +140,27 @@ accesses_are_typed = record {
   store_struct = λ s. no_values (Named x) (typing.at_named x) s.1;
 }
 
-pub memory_has_shape : MemoryHasShape
-memory_has_shape = (
-  record {
+name_z : IsNameInRange z
+name_z = (omega arith, (omega arith, tt))
+
+int_depth : (width : ℕ) → depth_of (Int width) ≡ 1
+int_depth = types.at_int ℕ depth_at_level
+
+pointer_depth : depth_of (Ptr (Int 8)) ≡ 2
+pointer_depth = types.at_ptr ℕ depth_at_level (Int 8) ∙ ap (λ d. d + 1) (int_depth 8)
+
+pointer_range : IsTypeInRange (Ptr (Int 8))
+pointer_range = simp (ranges.at_ptr, ranges.at_int) refl
+
+-- so many bytes aren't too many
+one_byte : block_of [] (Int 8) 1 ≡ Err TooLarge → ⊥
+one_byte large =
+    let fits : block_of [] (Int 8) 1 ≡ Ok 1 = simp (layout.at_int) refl in
+    cc
+
+pub memory_is_well_formed : MemoryIsWellFormed
+memory_is_well_formed = record {
+  shape = record {
     types_apart = tt;
     types = tt;
     globals = tt;
@@ -163,10 +185,33 @@ memory_has_shape = (
     );
     declarations = tt;
     names = (in_none f, tt);
-  },
-  (defined by_memory _ [] refl refl (tt, (((0, omega arith, refl), ((1, omega arith, refl), tt)), (((1, omega arith, refl), tt), ((2, omega arith, refl), tt)))), tt),
-  λ range. range.functions.0.flags.0,
-)
+  };
+  defined = (defined by_memory _ [] refl refl (tt, (((0, omega arith, refl), ((1, omega arith, refl), tt)), (((1, omega arith, refl), tt), ((2, omega arith, refl), tt)))), tt);
+  range = record {
+    types = tt;
+    globals = tt;
+    functions = (
+      record {
+        name = name_f;
+        names = (name_x, (name_f, (name_y, (name_z, tt))));
+        result = refl;
+        registers = (refl, (pointer_range, (refl, tt)));
+        operands = ((refl, tt), ((pointer_range, tt), ((pointer_range, tt), ((refl, tt), tt))));
+        lines = ((refl, tt, tt), (tt, (tt, tt)));
+        cases = tt;
+      },
+      tt,
+    );
+    declarations = tt;
+    order = tt;
+  };
+  depths = (
+    omega (arith, int_depth 8),
+    (omega (arith, int_depth 8), (omega (arith, int_depth 8), (omega (arith, int_depth 8), (omega (arith, pointer_depth), (omega (arith, int_depth 8), (omega (arith, pointer_depth), (omega (arith, int_depth 8), tt))))))),
+  );
+  lines = (omega arith, tt);
+  blocks = (one_byte, tt);
+}
 
 -- ---- constants
 

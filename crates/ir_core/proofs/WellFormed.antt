@@ -13,8 +13,10 @@ use Rattle.ir_core.specs.Laws.{EarlyUsesAreNot, EmptyNamesAreNot, TwoBlocksAreWe
 use Rattle.ir_core.specs.Ranges.{IsNameInRange}
 use Rattle.ir_types.specs.Same.{same_name}
 use Rattle.ir_core.specs.WellFormed.{BlockUsesDefined, IsFunctionDefined}
+use Rattle.ir_core.proofs.Narrow.{wide}
 use Rattle.ir_core.proofs.TypeNames.{at_int}
 use Rattle.ir_core.proofs.Typing.{in_number, nameless, number_is}
+use Rattle.ir_core.proofs.Within.{well_formed}
 
 pub in_none : (name : Name) → Contains [] name → ⊥
 in_none name there = absurd (omega (arith, there.1))
@@ -50,52 +52,47 @@ pub name_y : IsNameInRange y
 name_y = (omega arith, (omega arith, tt))
 
 pub two_blocks_are_well_formed : TwoBlocksAreWellFormed
-two_blocks_are_well_formed = record {
-  shape = record {
-    types_apart = tt;
-    types = tt;
-    globals = tt;
-    functions = (
-      record {
-        first = block x [] (Int 32) (number 0);
-        further = block y [] (Int 32) (number 0) ∷ [];
-        blocks = refl;
-        not_entered = refl;
-        name = refl;
-        names = (in_none x, (in_one x y refl refl, tt));
-        types = nameless (function (Int 32) f (block x [] (Int 32) (number 0) ∷ block y [] (Int 32) (number 0) ∷ [])) (simp (in_number, at_int) refl);
-        result = refl;
-        registers = tt;
-        operands = (number_is two_blocks (Int 32) 0, (number_is two_blocks (Int 32) 0, tt));
-        each = (record { phis = tt; lines = tt; labels = tt; branches = tt; returns = refl; cases = tt }, (record { phis = tt; lines = tt; labels = tt; branches = tt; returns = refl; cases = tt }, tt));
-      },
-      tt,
-    );
-    declarations = tt;
-    names = (in_none f, tt);
-  };
-  defined = (defined (function (Int 32) f (block x [] (Int 32) (number 0) ∷ block y [] (Int 32) (number 0) ∷ [])) (block x [] (Int 32) (number 0)) (block y [] (Int 32) (number 0) ∷ []) refl refl (tt, tt), tt);
-  range = record {
-    types = tt;
-    globals = refl;
-    functions = (
-      record {
-        name = name_f;
-        names = (name_x, (name_y, tt));
-        result = refl;
-        registers = tt;
-        operands = ((refl, refl), ((refl, refl), tt));
-        flags = tt;
-        cases = tt;
-        lines = omega arith;
-        linkage = refl;
-        extensions = (refl, tt);
-      },
-      tt,
-    );
-    declarations = refl;
-  };
-}
+two_blocks_are_well_formed = well_formed _ (record {
+  types_apart = tt;
+  types = tt;
+  globals = tt;
+  functions = (
+    record {
+      first = block x [] (Int 32) (number 0);
+      further = block y [] (Int 32) (number 0) ∷ [];
+      blocks = refl;
+      not_entered = refl;
+      name = refl;
+      names = (in_none x, (in_one x y refl refl, tt));
+      types = nameless (function (Int 32) f (block x [] (Int 32) (number 0) ∷ block y [] (Int 32) (number 0) ∷ [])) (simp (in_number, at_int) refl);
+      result = refl;
+      registers = tt;
+      operands = (number_is two_blocks (Int 32) 0, (number_is two_blocks (Int 32) 0, tt));
+      each = (record { phis = tt; lines = tt; labels = tt; branches = tt; returns = refl; cases = tt }, (record { phis = tt; lines = tt; labels = tt; branches = tt; returns = refl; cases = tt }, tt));
+    },
+    tt,
+  );
+  declarations = tt;
+  names = (in_none f, tt);
+}) ((defined (function (Int 32) f (block x [] (Int 32) (number 0) ∷ block y [] (Int 32) (number 0) ∷ [])) (block x [] (Int 32) (number 0)) (block y [] (Int 32) (number 0) ∷ []) refl refl (tt, tt), tt)) (record {
+  types = tt;
+  globals = refl;
+  functions = (
+    record {
+      name = name_f;
+      names = (name_x, (name_y, tt));
+      result = refl;
+      registers = tt;
+      operands = ((refl, refl), ((refl, refl), tt));
+      flags = tt;
+      cases = tt;
+      linkage = refl;
+      extensions = (refl, tt);
+    },
+    tt,
+  );
+  declarations = refl;
+}) (omega arith, tt)
 
 pub empty_names_are_not : EmptyNamesAreNot
 empty_names_are_not = (
@@ -154,7 +151,7 @@ early_uses_are_not = (
   λ defined.
       let uses = defined.0 (block f (add x (Register y) (number 0) ∷ add y (number 1) (number 2) ∷ []) (Int 32) (Register x)) [] [] refl tt in
       in_none y uses.0.0,
-  record {
+  wide _ (record {
     types = tt;
     globals = refl;
     functions = (
@@ -166,14 +163,13 @@ early_uses_are_not = (
         operands = ((refl, tt), ((refl, refl), ((refl, refl), ((refl, refl), ((refl, tt), tt)))));
         flags = (refl, (refl, tt));
         cases = tt;
-        lines = omega arith;
         linkage = refl;
         extensions = (refl, tt);
       },
       tt,
     );
     declarations = refl;
-  },
+  }),
 )
 
 pub wide_numbers_are_not : WideNumbersAreNot

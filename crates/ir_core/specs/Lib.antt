@@ -11,8 +11,10 @@ pub mod Typing
 pub mod StatedTypes
 pub mod Depths
 pub mod Sizes
+pub mod Placed
 pub mod Order
 pub mod Ranges
+pub mod Integers
 pub mod WellFormed
 pub mod Examples
 pub mod Laws
@@ -20,4 +22,5 @@ pub mod FlowExamples
 pub mod FlowLaws
 pub mod TypeLaws
 pub mod MemoryLaws
+pub mod RangeLaws
 pub mod TypingLaws

@@ -1,4 +1,4 @@
--- Of lines and constants of memory: how they are read, and that no text writes them yet.
+-- Of lines and constants of memory: how they are read, and that no module over integers alone has them.
 use Rattle.std.specs.Prelude.{◌≡◌, false, true, [], ◌∷◌, Option, None, Some}
 use Rattle.ir_types.specs.declared.names.Name.{Name}
 use Rattle.ir_types.specs.declared.ty.Ty.{Ty, Int, Ptr, Void}
@@ -20,7 +20,7 @@ use Rattle.ir_core.specs.declared.operands.Const as constant
 use Rattle.ir_core.specs.Examples.{alone, block, f, function, held, number, of_line, passing, x, y}
 use Rattle.ir_core.specs.Expressions.{expr_has, operands_in, type_of}
 use Rattle.ir_core.specs.Functions.{operands_of, register_of}
-use Rattle.ir_core.specs.Ranges.{IsInRange}
+use Rattle.ir_core.specs.Integers.{IsOverIntegers}
 
 -- getelementptr inbounds i8, i8* %x, i8 %y
 abbrev pub addressing : Expr Name
@@ -77,17 +77,18 @@ of_instr instr = function (Int 32) f (block f (instr ∷ []) (Int 32) (number 0)
 abbrev pub returning_constant : Const → Function
 returning_constant c = passing (Int 8) (Int 8) (Int 8) (Constant c)
 
-abbrev pub IsNotInRange : Function → Type 0
-IsNotInRange g = IsInRange (alone g) → ⊥
+abbrev pub IsNotOfIntegers : Function → Type 0
+IsNotOfIntegers g = IsOverIntegers (alone g) → ⊥
 
--- no function has a constant of these, an element, a load, an alloca, a store or a call
-pub record MemoryIsOutOfRange : Type 0 where
-  pub null : IsNotInRange (returning_constant Null)
-  pub global : IsNotInRange (returning_constant (Global x))
-  pub constant_element : IsNotInRange (returning_constant (constant.Element (false, Int 8, (Ptr (Int 8), Global x) ∷ (Int 8, Number 0) ∷ [])))
-  pub constant_cast : IsNotInRange (returning_constant (constant.Cast (Int 8, (Int 8, Number 0) ∷ [])))
-  pub element : (e : Element Name) → IsNotInRange (of_line (expr.Element e))
-  pub load : (l : Load Name) → IsNotInRange (of_line (expr.Load l))
-  pub alloca : (a : Alloca) → IsNotInRange (of_instr (line.Alloca a))
-  pub store : (s : Store) → IsNotInRange (of_instr (line.Store s))
-  pub call : (c : Call) → IsNotInRange (of_instr (line.Call c))
+-- no function over integers alone has a constant of these, an element, a load, an alloca, a store or a call, or a pointer for a parameter
+pub record IntegersHaveNoMemory : Type 0 where
+  pub null : IsNotOfIntegers (returning_constant Null)
+  pub global : IsNotOfIntegers (returning_constant (Global x))
+  pub constant_element : IsNotOfIntegers (returning_constant (constant.Element (false, Int 8, (Ptr (Int 8), Global x) ∷ (Int 8, Number 0) ∷ [])))
+  pub constant_cast : IsNotOfIntegers (returning_constant (constant.Cast (Int 8, (Int 8, Number 0) ∷ [])))
+  pub element : (e : Element Name) → IsNotOfIntegers (of_line (expr.Element e))
+  pub load : (l : Load Name) → IsNotOfIntegers (of_line (expr.Load l))
+  pub alloca : (a : Alloca) → IsNotOfIntegers (of_instr (line.Alloca a))
+  pub store : (s : Store) → IsNotOfIntegers (of_instr (line.Store s))
+  pub call : (c : Call) → IsNotOfIntegers (of_instr (line.Call c))
+  pub pointer : IsNotOfIntegers (passing (Int 8) (Ptr (Int 8)) (Int 8) (number 0))

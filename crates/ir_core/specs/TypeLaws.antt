@@ -5,11 +5,11 @@ use Rattle.ir_core.specs.declared.functions.Function.{Function}
 use Rattle.ir_core.specs.declared.functions.Term.TheVariants.{Unreachable}
 use Rattle.ir_core.specs.declared.modules.Module.{Module}
 use Rattle.ir_core.specs.declared.values.Kind.TheVariants as kind
-use Rattle.ir_core.specs.Examples.{f, linked_type, nameless_type, passing, number, struct, three_types, two_types, type_in_itself, types_of_one_name, unknown_type, wide_field, x}
+use Rattle.ir_core.specs.Examples.{alone, f, linked_type, nameless_type, passing, number, struct, three_types, two_types, type_in_itself, types_of_one_name, unknown_type, wide_field, x}
 use Rattle.ir_core.specs.Modules.{plain_function, plain_module}
 use Rattle.ir_core.specs.Ranges.{IsInRange}
 use Rattle.ir_core.specs.Types.{kind_of}
-use Rattle.ir_core.specs.Laws.{IsOutOfRangeAlone, LacksShapeAlone}
+use Rattle.ir_core.specs.Laws.{LacksShapeAlone}
 use Rattle.ir_core.specs.WellFormed.{HasShape, IsDefined, IsWellFormed}
 
 -- an integer of 1 to 64 bits has a kind, and no other type has one
@@ -39,15 +39,15 @@ LacksShape g = HasShape (beside_type g) → ⊥
 abbrev pub void_inside : Module
 void_inside = plain_module (struct x (Void ∷ []) ∷ []) []
 
--- Parameters and results may be pointers, which no text writes yet. No parameter is an array, a struct or of a named type, and no function
--- has one for its result, or returns a number of a named type.
+-- Parameters and results may be pointers. No parameter is an array, a struct or of a named type, and no function has one for its result, or
+-- returns a number of a named type.
 pub record OtherTypesAreNot : Type 0 where
-  pub pointer : IsOutOfRangeAlone (passing (Int 32) (Ptr (Int 8)) (Int 32) (number 0))
+  pub pointer : IsWellFormed (alone (passing (Int 32) (Ptr (Int 8)) (Int 32) (number 0)))
   pub array : LacksShape (passing (Int 32) (Array 4 (Int 8)) (Int 32) (number 0))
   pub struct : LacksShape (passing (Int 32) (Struct (Int 8 ∷ [])) (Int 32) (number 0))
   pub named_parameter : LacksShape (passing (Int 32) (Named x) (Int 32) (number 0))
   pub named : LacksShape (passing (Named x) (Int 32) (Named x) (number 0))
-  pub result : IsOutOfRangeAlone (never_returning (Ptr (Int 8)))
+  pub result : IsWellFormed (alone (never_returning (Ptr (Int 8))))
   pub array_result : LacksShape (never_returning (Array 4 (Int 8)))
   pub struct_result : LacksShape (never_returning (Struct (Int 8 ∷ [])))
   pub named_result : LacksShape (never_returning (Named x))

@@ -19,12 +19,11 @@ use Rattle.ir_core.specs.declared.modules.Module.{Module}
 use Rattle.ir_core.specs.declared.operands.Atom.TheVariants.{Register}
 use Rattle.ir_core.specs.declared.operands.Const.{Const, Number, Undef, Null, Global}
 use Rattle.ir_core.specs.declared.operands.Const as constant
-use Rattle.ir_core.specs.Examples.{block, f, held, passing, struct, typed, x, y}
+use Rattle.ir_core.specs.Examples.{alone, block, f, held, passing, struct, typed, x, y}
 use Rattle.ir_core.specs.FlowExamples.{z}
-use Rattle.ir_core.specs.Laws.{IsOutOfRangeAlone}
 use Rattle.ir_core.specs.Modules.{not_extended, plain_function, plain_param}
 use Rattle.ir_core.specs.Typing.{Index, are_arguments, element_type, is_constant_of, is_init_of}
-use Rattle.ir_core.specs.WellFormed.{HasGlobalShape, HasShape, IsAlloca, IsCall, IsElement, IsLoad, IsStore}
+use Rattle.ir_core.specs.WellFormed.{HasGlobalShape, HasShape, IsAlloca, IsCall, IsElement, IsLoad, IsStore, IsWellFormed}
 
 -- @name = global ty init
 abbrev pub starting : Name → Ty → Option Init → GlobalVar
@@ -127,9 +126,9 @@ by_memory = plain_function (Int 8) f (plain_param (Int 8) x ∷ []) (
     (Int 8) (Register z)
     ∷ [])
 
--- it has shape and its registers are defined, and no text writes it yet
-abbrev pub MemoryHasShape : Type 0
-MemoryHasShape = IsOutOfRangeAlone by_memory
+-- what is allocated, stored and loaded again
+abbrev pub MemoryIsWellFormed : Type 0
+MemoryIsWellFormed = IsWellFormed (alone by_memory)
 
 -- ---- constants
 

@@ -1,5 +1,5 @@
 -- When a module is well-formed (LangRef 3.7, Well-Formedness): a predicate of the module alone, whatever text spells it.
-use Rattle.std.specs.Prelude.{◌≡◌, ◌<◌, ℕ, true, false, List, [], ◌∷◌, ◌++◌, length, map, IsPermutation, Option, None, Some}
+use Rattle.std.specs.Prelude.{◌≡◌, ◌<◌, ◌≤◌, ℕ, true, false, List, [], ◌∷◌, ◌++◌, length, map, IsPermutation, Option, None, Some}
 use Rattle.std.specs.List.{AllByRecursion, Contains, flat_map}
 use Rattle.ir_core.specs.declared.expressions.Element.{Element}
 use Rattle.ir_core.specs.declared.expressions.Expr.{Expr}
@@ -30,9 +30,12 @@ use Rattle.ir_core.specs.declared.operands.Atom.TheVariants.{Constant, Register}
 use Rattle.ir_core.specs.declared.operands.Operand.{Operand}
 use Rattle.ir_types.specs.declared.ty.Ty.{Ty}
 use Rattle.ir_types.specs.declared.ty.Ty.TheVariants as ty
-use Rattle.ir_core.specs.Functions.{edges_into, function_names, is_debug, names_in, names_of, operands_at_end, operands_in_block, operands_of, params_of, phi_registers, registers_of, set_by, successors_of, typed_of}
+use Rattle.ir_core.specs.Functions.{edges_into, function_names, is_debug, line_count, names_in, names_of, operands_at_end, operands_in_block, operands_of, params_of, phi_registers, registers_of, set_by, successors_of, typed_of}
 use Rattle.ir_core.specs.Order.{AreNew}
+use Rattle.ir_core.specs.Depths.{IsShallow}
+use Rattle.ir_core.specs.Limits.{line_limit}
 use Rattle.ir_core.specs.Ranges.{IsInRange}
+use Rattle.ir_core.specs.Sizes.{IsSmall}
 use Rattle.ir_core.specs.StatedTypes.{types_in, types_in_global}
 use Rattle.ir_core.specs.TypeNames.{names_in_struct, names_in_type, type_names}
 use Rattle.ir_core.specs.Types.{converts, is_first_class, is_integer, number_at}
@@ -243,11 +246,15 @@ IsFunctionDefined f = (first : Block) (further path : List Block) → f.blocks �
 abbrev pub IsDefined : Module → Type 0
 IsDefined m = AllByRecursion IsFunctionDefined m.functions
 
--- ---- the three together
+-- ---- all together
 
 -- Of modules with a function `f` of i32: two blocks that both return 0 are well-formed, since nothing enters the second one. A block
--- `%x = add i32 %y, 0 %y = add i32 1, 2 ret i32 %x` has shape but uses `%y` early; `ret i32 4294967296` is out of range.
+-- `%x = add i32 %y, 0 %y = add i32 1, 2 ret i32 %x` has shape but uses `%y` early; `ret i32 4294967296` is out of range. A function of more
+-- lines than the limit is none of a well-formed module's either, nor is a type that is too deep, or a global that is too large.
 pub record IsWellFormed (m : Module) : Type 0 where
   pub shape : HasShape m
   pub defined : IsDefined m
   pub range : IsInRange m
+  pub depths : IsShallow m
+  pub lines : AllByRecursion (λ f. line_count f ≤ line_limit) m.functions
+  pub blocks : IsSmall m

@@ -4,9 +4,11 @@ ghost use Rattle.ir_core.specs.Laws.{LinesWithoutOperatorsAreNot, PhisOfNoEdgeAr
 ghost use Rattle.ir_core.specs.Laws.{FunctionsOfOneNameAreNot, NamesSetTwiceAreNot, DebugNamesAreNot, FunctionsWithoutBlocksAreNot};
 ghost use Rattle.ir_core.specs.Laws.{ConversionsChangeWidths, SelectionsHaveOneType, ComparisonsGiveBits, FlagsHaveOperators, OperatorsOfFlags, VoidReturns, ExpressionsAreRead, ExpressionsAreMapped};
 ghost use Rattle.ir_core.specs.TypeLaws.{IntegersHaveKinds, NamedTypesAreInRange, NamedTypesAreKnown, OtherTypesAreNot};
-ghost use Rattle.ir_core.specs.MemoryLaws.{AddressesAreRead, MemoryIsOutOfRange, MemoryLinesAreRead};
+ghost use Rattle.ir_core.specs.MemoryLaws.{AddressesAreRead, IntegersHaveNoMemory, MemoryLinesAreRead};
+ghost use Rattle.ir_core.specs.Placed.{PlacesAreKept};
+ghost use Rattle.ir_core.specs.RangeLaws.{AlignmentsAndCountsHaveRanges, ConstantsHaveRanges, DeclarationsStandInOrder, GlobalsHaveRanges, LinesHaveRanges, TypesHaveRanges};
 ghost use Rattle.ir_core.specs.FlowLaws.{JumpsGoToBlocks, PhisFollowEdges, CasesAreApart, PathsDefine, SuccessorsInOrder};
-ghost use Rattle.ir_core.specs.TypingLaws.{AllocasAreTyped, AccessesAreTyped, ElementsAreTyped, IndicesLead, MemoryHasShape};
+ghost use Rattle.ir_core.specs.TypingLaws.{AllocasAreTyped, AccessesAreTyped, ElementsAreTyped, IndicesLead, MemoryIsWellFormed};
 ghost use Rattle.ir_core.specs.TypingLaws.{ArgumentsAreTyped, CallsAreTyped, ConstantsAreTyped, GlobalsAreTyped, InitialisersAreTyped};
 
 /// Empty on purpose: its contract is the law.
@@ -34,7 +36,7 @@ pub fn examples_of_types()
 /// Empty on purpose: its contract is the law.
 ///
 /// `i1` and `i64` have a kind; `i0`, `i65`, `void`, a pointer, an array, a struct and a named type have none. No module has shape in which
-/// a parameter or a result is an array, a struct or of a named type. With a pointer for one a module has shape and is out of range.
+/// a parameter or a result is an array, a struct or of a named type. With a pointer for one a module is well-formed.
 #[tactic(auto, using(crate::proofs::TypeExamples::integers_have_kinds, crate::proofs::TypeExamples::other_types_are_not))]
 pub fn examples_of_kinds()
     ensures kinds { IntegersHaveKinds }
@@ -108,26 +110,26 @@ pub fn examples_of_control_flow()
 
 /// Empty on purpose: its contract is the law.
 ///
-/// The registers, types and operands of lines of memory are those of the text. No function in range has `null`, a global, a constant of
-/// constants, a `getelementptr`, `load`, `alloca`, `store` or `call`.
-#[tactic(auto, using(crate::proofs::MemoryExamples::addresses_are_read, crate::proofs::MemoryExamples::memory_lines_are_read, crate::proofs::MemoryExamples::memory_is_out_of_range))]
+/// The registers, types and operands of lines of memory are those of the text. No function over integers alone has `null`, a global, a
+/// constant of constants, a `getelementptr`, `load`, `alloca`, `store` or `call`.
+#[tactic(auto, using(crate::proofs::MemoryExamples::addresses_are_read, crate::proofs::MemoryExamples::memory_lines_are_read, crate::proofs::MemoryExamples::integers_have_no_memory))]
 pub fn examples_of_memory()
     ensures expressions { AddressesAreRead }
     ensures lines { MemoryLinesAreRead }
-    ensures range { MemoryIsOutOfRange }
+    ensures integers { IntegersHaveNoMemory }
 {}
 
 /// Empty on purpose: its contract is the law.
 ///
 /// Indices lead into arrays and to the fields of structs, also of named ones, and to nothing in an opaque type. What is allocated has a
 /// size, and what is loaded or stored is a value behind a pointer to its type.
-#[tactic(auto, using(crate::proofs::TypingExamples::indices_lead, crate::proofs::TypingExamples::elements_are_typed, crate::proofs::TypingExamples::allocas_are_typed, crate::proofs::TypingExamples::accesses_are_typed, crate::proofs::TypingExamples::memory_has_shape))]
+#[tactic(auto, using(crate::proofs::TypingExamples::indices_lead, crate::proofs::TypingExamples::elements_are_typed, crate::proofs::TypingExamples::allocas_are_typed, crate::proofs::TypingExamples::accesses_are_typed, crate::proofs::TypingExamples::memory_is_well_formed))]
 pub fn examples_of_addresses()
     ensures indices { IndicesLead }
     ensures elements { ElementsAreTyped }
     ensures allocas { AllocasAreTyped }
     ensures accesses { AccessesAreTyped }
-    ensures shape { MemoryHasShape }
+    ensures memory { MemoryIsWellFormed }
 {}
 
 /// Empty on purpose: its contract is the law.
@@ -142,4 +144,26 @@ pub fn examples_of_typing()
     ensures calls { CallsAreTyped }
     ensures initialisers { InitialisersAreTyped }
     ensures globals { GlobalsAreTyped }
+{}
+
+/// Empty on purpose: its contract is the law.
+///
+/// Integers have 64 bits at most, arrays fewer than 2^64 elements, alignments are powers of two up to 2^29, and numbers have no more bits
+/// than their types, each also inside of others. A global without initialiser is `external`. Declarations stand in the order of the file.
+#[tactic(auto, using(crate::proofs::RangeExamples::types_have_ranges, crate::proofs::RangeExamples::alignments_and_counts_have_ranges, crate::proofs::RangeExamples::constants_have_ranges, crate::proofs::RangeExamples::globals_have_ranges, crate::proofs::RangeExamples::declarations_stand_in_order, crate::proofs::RangeExamples::lines_have_ranges))]
+pub fn examples_of_ranges()
+    ensures types { TypesHaveRanges }
+    ensures alignments { AlignmentsAndCountsHaveRanges }
+    ensures constants { ConstantsHaveRanges }
+    ensures globals { GlobalsHaveRanges }
+    ensures declarations { DeclarationsStandInOrder }
+    ensures lines { LinesHaveRanges }
+{}
+
+/// Empty on purpose: its contract is the law.
+///
+/// A definition in its own place is itself, and one that is put in the place of another again stays as it is.
+#[tactic(auto, using(crate::proofs::Placed::places_are_kept))]
+pub fn places_are_kept()
+    ensures { PlacesAreKept }
 {}

@@ -29,7 +29,8 @@ pub use ir_types::{Name, NamedTy, NamedTypes, Shared, Sigil, SizeFault, Ty, same
 pub use laws::{
     examples_of_addresses, examples_of_control_flow, examples_of_expressions, examples_of_kinds,
     examples_of_lines, examples_of_memory, examples_of_named_types, examples_of_names_and_blocks,
-    examples_of_operations, examples_of_types, examples_of_typing, examples_of_well_formedness,
+    examples_of_operations, examples_of_ranges, examples_of_types, examples_of_typing,
+    examples_of_well_formedness, places_are_kept,
 };
 pub use layout::{align_of, field_offset, fits_block, size_of};
 pub use limits::Limit;

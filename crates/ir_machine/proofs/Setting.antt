@@ -29,9 +29,10 @@ use Rattle.ir_core.specs.declared.values.Value.{Value}
 use Rattle.ir_core.specs.declared.values.Value.TheVariants as value
 use Rattle.ir_core.specs.Expressions.{type_of}
 use Rattle.ir_core.specs.Functions.{edges_into, names_in, operands_at_end, operands_of, params_of, phi_registers, registers_of, set_by, successors_of, typed_of}
-use Rattle.ir_core.specs.Ranges.{IsFunctionInRange, IsTypeInRange}
+use Rattle.ir_core.proofs.Narrow.{IsNarrowFunction, IsNarrowType, narrow}
 use Rattle.ir_types.specs.Same.{same_name}
 use Rattle.ir_core.specs.Types.{kind_of, number_at}
+use Rattle.ir_core.specs.Integers.{IsOverIntegers}
 use Rattle.ir_core.specs.WellFormed.{AllUseDefined, FitsEdges, HasBlockShape, HasFunctionShape, IsFunctionDefined, IsPath, IsWellFormed, LinesUseDefined, PathUsesDefined, UsesDefined}
 use Rattle.ir_types.specs.NameLaws.{same_name_refl, same_name_true}
 use Rattle.ir_machine.specs.declared.items.Choice.{Choice}
@@ -127,16 +128,20 @@ phis_set old from (p ∷ ps) registers names kinds sets =
 
 -- ---- kinds
 
-kind_in_range : (t : Ty) → IsTypeInRange t → (k : Kind) × (kind_of t ≡ Some k)
+kind_in_range : (t : Ty) → IsNarrowType t → (k : Kind) × (kind_of t ≡ Some k)
 kind_in_range (ty.Int width) range = (Int width, rw range refl)
 kind_in_range t range = absurd range
 
-kinds_of : (f : Function) (b : Block) → IsFunctionInRange f → Contains f.blocks b → AllByRecursion HasKind (registers_of b)
+kinds_of : (f : Function) (b : Block) → IsNarrowFunction f → Contains f.blocks b → AllByRecursion HasKind (registers_of b)
 kinds_of f b range inside =
-    let all = all_so (λ (r : Name × Ty). IsTypeInRange r.1) HasKind (λ r within. kind_in_range r.1 within) (typed_of f) range.registers in
+    let all = all_so (λ (r : Name × Ty). IsNarrowType r.1) HasKind (λ r within. kind_in_range r.1 within) (typed_of f) range.registers in
     all_of HasKind registers_of f.blocks b (all_right HasKind (params_of f) (flat_map registers_of f.blocks) all) inside
 
 -- ---- where a frame stands, and what is defined there
+
+-- what is asked of a module whose runs are looked at
+abbrev CanRun : Module → Type 0
+CanRun m = IsWellFormed m × IsOverIntegers m
 
 pub record Ready (m : Module) (lines : List Instr) (frame : Frame) : Type 0 where
   pub function : Contains m.functions frame.function
@@ -160,10 +165,10 @@ abbrev LeadsReady : Module → List Item → State → Type 0
 LeadsReady m items after = StateReady m after
 
 -- at the start of a block that is entered
-block_ready : (m : Module) → IsWellFormed m → (f : Function) (b : Block) (taken : List Name) (registers : Registers) → Contains m.functions f → Contains f.blocks b
+block_ready : (m : Module) → CanRun m → (f : Function) (b : Block) (taken : List Name) (registers : Registers) → Contains m.functions f → Contains f.blocks b
     → ((path : List Block) → IsPath f b path → PathUsesDefined taken b path) → Sets registers (taken ++ names_in (phi_registers b.phis)) → Ready m b.body (at_block f b registers)
 block_ready m well f b taken registers function inside ahead sets =
-    let range : IsFunctionInRange f = all_at IsFunctionInRange m.functions f well.range.functions function in
+    let range : IsNarrowFunction f = all_at IsNarrowFunction m.functions f (narrow m well.0.range well.1).functions function in
     record {
       function = function;
       block = b;
@@ -252,12 +257,12 @@ edge_to m frame ready c x leads named =
       subst (λ (t : Term). Contains (successors_of t) c.name) ready.term_is (subst (Contains (successors_of frame.term)) (sym name) leads),
     )
 
-jump_ready : (m : Module) → IsWellFormed m → (frame : Frame) (world : World) → Ready m [] frame → (to : Name) → Contains (successors_of frame.term) to → AllDo (LeadsReady m) (jump frame [] world to)
+jump_ready : (m : Module) → CanRun m → (frame : Frame) (world : World) → Ready m [] frame → (to : Name) → Contains (successors_of frame.term) to → AllDo (LeadsReady m) (jump frame [] world to)
 jump_ready m well frame world ready to leads = all_do_jump (LeadsReady m) frame [] world to tt
     (λ b named.
     let edge = edge_to m frame ready b to leads named in
     let taken = ready.taken ++ names_in (registers_of ready.block) in
-    let range : IsFunctionInRange frame.function = all_at IsFunctionInRange m.functions frame.function well.range.functions ready.function in
+    let range : IsNarrowFunction frame.function = all_at IsNarrowFunction m.functions frame.function (narrow m well.0.range well.1).functions ready.function in
     let kinds = kinds_of frame.function b range edge.0 in
     let before : Sets frame.registers taken = subst (Sets frame.registers) (at_its_end m frame ready) ready.sets in
     let registers = with_phis frame.registers frame.block b.phis frame.registers in
@@ -265,7 +270,7 @@ jump_ready m well frame world ready to leads = all_do_jump (LeadsReady m) frame 
     phis_set frame.registers frame.block b.phis frame.registers taken (all_left HasKind (phi_registers b.phis) (set_by b.body) kinds) before in
     (block_ready m well frame.function b taken registers ready.function edge.0 (λ path goes. (ready.ahead (b ∷ path) (edge.0, edge.1, goes)).2) after, refl))
 
-term_ready : (m : Module) → IsWellFormed m → (t : Term) (frame : Frame) (world : World) → frame.term ≡ t → Ready m [] frame → AllDo (LeadsReady m) (term_step t frame [] world)
+term_ready : (m : Module) → CanRun m → (t : Term) (frame : Frame) (world : World) → frame.term ≡ t → Ready m [] frame → AllDo (LeadsReady m) (term_step t frame [] world)
 term_ready m well (Ret o) frame world is ready = all_do_show (LeadsReady m) (kind_of o.ty) (operand_value (read frame.registers) o) world _ _ tt (λ s after. tt)
 term_ready m well RetVoid frame world is ready = tt
 term_ready m well (Br label) frame world is ready =
@@ -278,18 +283,18 @@ term_ready m well (Switch s) frame world is ready =
     (λ x there. jump_ready m well frame world ready x (subst (λ (t : Term). Contains (successors_of t) x) (sym is) there))
 term_ready m well Unreachable frame world is ready = tt
 
-frame_ready : (m : Module) → IsWellFormed m → (lines : List Instr) (frame : Frame) (world : World) → Ready m lines frame → AllDo (LeadsReady m) (frame_step lines frame [] world)
+frame_ready : (m : Module) → CanRun m → (lines : List Instr) (frame : Frame) (world : World) → Ready m lines frame → AllDo (LeadsReady m) (frame_step lines frame [] world)
 frame_ready m well (line.Calm l ∷ left) frame world ready =
     all_do_set_to (LeadsReady m) (kind_of (type_of l.right)) l.name (outcome (read frame.registers) l.right) (record frame { lines = left }) [] world (λ v e. (line_ready m l left frame v ready, refl)) tt
 frame_ready m well (i ∷ left) frame world ready = tt
 frame_ready m well [] frame world ready = term_ready m well frame.term frame world refl ready
 
-step_ready : (m : Module) → IsWellFormed m → (s : State) → StateReady m s → AllDo (LeadsReady m) (asks m s)
+step_ready : (m : Module) → CanRun m → (s : State) → StateReady m s → AllDo (LeadsReady m) (asks m s)
 step_ready m well (Running frame rest world) ready =
     subst (λ (ps : List Pending). AllDo (LeadsReady m) (frame_step frame.lines frame ps world)) (sym ready.1) (frame_ready m well frame.lines frame world ready.0)
 step_ready m well Over ready = tt
 
-run_ready : (m : Module) → IsWellFormed m → (n : ℕ) (s : State) (items : List Item) (t : State) → StateReady m s → Leads m n s items t → StateReady m t
+run_ready : (m : Module) → CanRun m → (n : ℕ) (s : State) (items : List Item) (t : State) → StateReady m s → Leads m n s items t → StateReady m t
 run_ready m well zero s items t ready leads = subst (StateReady m) (sym leads.1) ready
 run_ready m well (suc n) s items t ready leads =
     run_ready m well n leads.0.after leads.1 t (all_do_made (LeadsReady m) (asks m s) leads.0 (step_ready m well s ready) leads.2) leads.4
@@ -335,11 +340,11 @@ no_phis f b (p ∷ ps) none fit =
     lost [] some e = absurd (omega (arith, some))
     lost (x ∷ es) some e = absurd (omega (arith, e))
 
-first_ready : (m : Module) → IsWellFormed m → (f : Function) (b : Block) (bs : List Block) (args : List Shown) (registers : Registers) → Contains m.functions f → f.blocks ≡ b ∷ bs
+first_ready : (m : Module) → CanRun m → (f : Function) (b : Block) (bs : List Block) (args : List Shown) (registers : Registers) → Contains m.functions f → f.blocks ≡ b ∷ bs
     → entered f.params args no_registers ≡ Some registers → StateReady m (Running (at_block f b registers) [] no_world)
 first_ready m well f b bs args registers inside are enters =
-    let shape : HasFunctionShape m f = all_at (HasFunctionShape m) m.functions f well.shape.functions inside in
-    let defined : IsFunctionDefined f = all_at IsFunctionDefined m.functions f well.defined inside in
+    let shape : HasFunctionShape m f = all_at (HasFunctionShape m) m.functions f well.0.shape.functions inside in
+    let defined : IsFunctionDefined f = all_at IsFunctionDefined m.functions f well.0.defined inside in
     let is_first : b ≡ shape.first = let both : b ∷ bs ≡ shape.first ∷ shape.further = sym are ∙ shape.blocks in cc in
     let there : Contains f.blocks b = subst (λ (l : List Block). Contains l b) (sym are) (here b bs) in
     let none : edges_into f b.name ≡ [] = subst (λ (c : Block). edges_into f c.name ≡ []) (sym is_first) shape.not_entered in
@@ -350,7 +355,7 @@ first_ready m well f b bs args registers inside are enters =
     subst (λ (ps : List Phi). Sets registers (names_in (params_of f) ++ names_in (phi_registers ps))) (sym phis) (subst (Sets registers) (sym (append-nil (names_in (params_of f)))) params) in
     (block_ready m well f b (names_in (params_of f)) registers inside there (λ path goes. defined b bs path are goes) sets, refl)
 
-entry_ready : (m : Module) → IsWellFormed m → (f : Function) (blocks : List Block) (args : List Shown) (entering : Option Registers) (s : State) → Contains m.functions f → f.blocks ≡ blocks
+entry_ready : (m : Module) → CanRun m → (f : Function) (blocks : List Block) (args : List Shown) (entering : Option Registers) (s : State) → Contains m.functions f → f.blocks ≡ blocks
     → entered f.params args no_registers ≡ entering → at_entry f blocks entering ≡ Some s → StateReady m s
 entry_ready m well f [] args entering s inside are enters is = absurd (cc)
 entry_ready m well f (b ∷ bs) args None s inside are enters is = absurd (cc)
@@ -359,7 +364,7 @@ entry_ready m well f (b ∷ bs) args (Some registers) s inside are enters is = r
     ready_so : (r s : State) → r ≡ s → StateReady m r → StateReady m s
     ready_so r s e h = subst (StateReady m) e h
 
-start_ready : (m : Module) → IsWellFormed m → (x : Name) (input : Input) (s : State) (o : Option Function) → function_named x m.functions ≡ o → option_and_then (λ f. started f input) o ≡ Some s → StateReady m s
+start_ready : (m : Module) → CanRun m → (x : Name) (input : Input) (s : State) (o : Option Function) → function_named x m.functions ≡ o → option_and_then (λ f. started f input) o ≡ Some s → StateReady m s
 start_ready m well x input s None named is = absurd (cc)
 start_ready m well x input s (Some f) named is =
     entry_ready m well f f.blocks input.args (entered f.params input.args no_registers) s (found_inside (λ (f : Function). same_name f.name x) m.functions f named) refl refl is
@@ -405,7 +410,7 @@ state_reads m (Running frame rest world) ready = frame_reads m frame.lines frame
 state_reads m Over ready = tt
 
 pub reads_are_set : ReadsAreSet
-reads_are_set m s well reached =
+reads_are_set m s well integers reached =
     state_reads m s
-    (run_ready m well reached.steps reached.first reached.items s
-    (start_ready m well reached.entry reached.input reached.first (function_named reached.entry m.functions) refl reached.starts) reached.leads)
+    (run_ready m (well, integers) reached.steps reached.first reached.items s
+    (start_ready m (well, integers) reached.entry reached.input reached.first (function_named reached.entry m.functions) refl reached.starts) reached.leads)

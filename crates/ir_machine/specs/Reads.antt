@@ -11,6 +11,7 @@ use Rattle.ir_core.specs.declared.operands.Atom.{Atom}
 use Rattle.ir_core.specs.declared.operands.Atom.TheVariants.{Constant, Register}
 use Rattle.ir_core.specs.declared.operands.Operand.{Operand}
 use Rattle.ir_core.specs.Functions.{operands_at_end, operands_of, successors_of}
+use Rattle.ir_core.specs.Integers.{IsOverIntegers}
 use Rattle.ir_core.specs.WellFormed.{IsWellFormed}
 use Rattle.ir_machine.specs.Machine.{block_named, entry_from}
 use Rattle.ir_machine.specs.Reached.{IsReached}
@@ -39,6 +40,6 @@ abbrev pub ReadsSet : State → Type 0
 ReadsSet (Running frame rest world) = NextReadsSet frame.lines frame
 ReadsSet Over = Unit {0}
 
--- In each state that a run of a well-formed module comes to, the registers are set that its next step reads.
+-- In each state that a run of a well-formed module over integers alone comes to, the registers are set that its next step reads.
 abbrev pub ReadsAreSet : Type 0
-ReadsAreSet = (m : Module) (s : State) → IsWellFormed m → IsReached m s → ReadsSet s
+ReadsAreSet = (m : Module) (s : State) → IsWellFormed m → IsOverIntegers m → IsReached m s → ReadsSet s

@@ -81,8 +81,8 @@ pub fn examples_of_control_flow()
 
 /// Empty on purpose: its contract is the law.
 ///
-/// In a module that has shape each jump finds its block, and each phi there its entry. Where it is well-formed no register is read
-/// that isn't set.
+/// In a module that has shape each jump finds its block, and each phi there its entry. Where it is well-formed, and over integers alone, no
+/// register is read that isn't set.
 pub fn well_formed_runs_go_on()
     ensures found { NothingIsLost }
     ensures set { ReadsAreSet }

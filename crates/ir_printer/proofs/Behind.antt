@@ -16,19 +16,19 @@ behind_both t (x ∷ xs) ys = behind_both (blanked t ++ x) xs ys
 -- ---- definitions and declarations
 
 -- the declarations before a definition, and the definition
-pub one_function : (t at blank new : List ℕ) (n : ℕ) (ds rest : List Declaration) (f : Function) (fs more : List Function)
+pub one_function : (declared : List Declaration) (t at blank new : List ℕ) (n : ℕ) (ds rest : List Declaration) (f : Function) (fs more : List Function)
     → fs ≡ f ∷ more
     → at ≡ all_behind t (map declaration_text (those_before n ds))
     → rest ≡ those_behind n ds
     → blank ≡ blanked at
-    → new ≡ blank ++ function_text f
-    → all_behind new (function_texts (n + 1) rest more) ≡ all_behind t (function_texts n ds fs)
-one_function t at blank new n ds rest f fs more is first left empty last =
+    → new ≡ blank ++ function_text declared f
+    → all_behind new (function_texts declared (n + 1) rest more) ≡ all_behind t (function_texts declared n ds fs)
+one_function declared t at blank new n ds rest f fs more is first left empty last =
     let before = map declaration_text (those_before n ds) in
-    ap (λ d. all_behind new (function_texts (n + 1) d more)) left
-    ∙ ap (λ text. all_behind text (function_texts (n + 1) (those_behind n ds) more)) (last ∙ ap (λ b. b ++ function_text f) (empty ∙ ap blanked first))
-    ∙ sym (behind_both t before (function_text f ∷ function_texts (n + 1) (those_behind n ds) more))
-    ∙ ap (λ gs. all_behind t (function_texts n ds gs)) (sym is)
+    ap (λ d. all_behind new (function_texts declared (n + 1) d more)) left
+    ∙ ap (λ text. all_behind text (function_texts declared (n + 1) (those_behind n ds) more)) (last ∙ ap (λ b. b ++ function_text declared f) (empty ∙ ap blanked first))
+    ∙ sym (behind_both t before (function_text declared f ∷ function_texts declared (n + 1) (those_behind n ds) more))
+    ∙ ap (λ gs. all_behind t (function_texts declared n ds gs)) (sym is)
 
 abbrev pub behind_before : ℕ → List ℕ → List Declaration → List ℕ
 behind_before count t ds = all_behind t (map declaration_text (those_before count ds))

@@ -1,4 +1,5 @@
 pub mod Behind
+pub mod Further
 pub mod Examples
 pub mod GlobalExamples
 pub mod Inits

@@ -13,5 +13,8 @@ lines_are_printed = record {
   aligned = simp (at_int, at_ptr) refl;
   call = refl;
   nothing = refl;
+  further = simp (at_int, at_ptr) refl;
+  no_params = refl;
+  other = refl;
   head = refl;
 }

@@ -1,5 +1,6 @@
 pub mod Globals
 pub mod Printed
+pub mod Called
 pub mod Examples
 pub mod MemoryExamples
 pub mod GlobalExamples

@@ -1,11 +1,12 @@
 -- Examples of how lines of memory and calls are printed.
-use Rattle.std.specs.Prelude.{◌≡◌, ℕ, true, false, [], ◌∷◌, ◌++◌, codes, Option, None, Some}
+use Rattle.std.specs.Prelude.{◌≡◌, ℕ, Bool, true, false, [], ◌∷◌, ◌++◌, codes, Option, None, Some}
 use Rattle.ir_types.specs.declared.names.Name.TheVariants.{Number}
 use Rattle.ir_types.specs.declared.ty.Ty.{Ty, Int, Ptr, Void}
 use Rattle.ir_core.specs.declared.functions.Extensions.{Extensions}
 use Rattle.ir_core.specs.declared.functions.Function.{Function}
 use Rattle.ir_core.specs.declared.functions.Instr.{Instr}
 use Rattle.ir_core.specs.declared.functions.Instr.TheVariants as line
+use Rattle.ir_core.specs.declared.modules.Declaration.{Declaration}
 use Rattle.ir_core.specs.declared.modules.Linkage.TheVariants as linkage
 use Rattle.ir_core.specs.Examples.{number}
 use Rattle.ir_printer.specs.Examples.{named, register, typed}
@@ -54,12 +55,34 @@ extended = record {
   blocks = [];
 }
 
--- a count and an alignment are printed as they are kept, and a call without a result sets nothing
+-- declare void @f(i8* signext), and with `...`
+abbrev pub declaring : Bool → Declaration
+declaring variadic = record {
+  result_extensions = unchanged;
+  result = Void;
+  name = named (codes "f");
+  params = record { ty = Ptr (Int 8); extensions = sign_extended } ∷ [];
+  variadic = variadic;
+  before = 0;
+}
+
+-- declare void @f(...)
+abbrev pub only_dots : Declaration
+only_dots = record { result_extensions = unchanged; result = Void; name = named (codes "f"); params = []; variadic = true; before = 0 }
+
+abbrev pub calling_other : Instr
+calling_other = line.Call (record { name = None; result = Void; result_extensions = unchanged; callee = named (codes "g"); arguments = [] })
+
+-- A count and an alignment are printed as they are kept, and a call without a result sets nothing. Where what is called takes further
+-- arguments, the call has its type.
 pub record LinesArePrinted : Type 0 where
-  pub alloca : instr_text (allocating None None) ≡ codes "%x = alloca i8"
-  pub counted : instr_text (allocating (Some (Int 32, 4)) (Some 16)) ≡ codes "%x = alloca i8, i32 4, align 16"
-  pub store : instr_text (storing None) ≡ codes "store i32 %v, i32* %p"
-  pub aligned : instr_text (storing (Some 4)) ≡ codes "store i32 %v, i32* %p, align 4"
-  pub call : instr_text calling ≡ codes "%x = call signext zeroext i8 @f(i8 signext %y, i32 1)"
-  pub nothing : instr_text calling_nothing ≡ codes "call void @f()"
+  pub alloca : instr_text [] (allocating None None) ≡ codes "%x = alloca i8"
+  pub counted : instr_text [] (allocating (Some (Int 32, 4)) (Some 16)) ≡ codes "%x = alloca i8, i32 4, align 16"
+  pub store : instr_text [] (storing None) ≡ codes "store i32 %v, i32* %p"
+  pub aligned : instr_text [] (storing (Some 4)) ≡ codes "store i32 %v, i32* %p, align 4"
+  pub call : instr_text (declaring false ∷ []) calling ≡ codes "%x = call signext zeroext i8 @f(i8 signext %y, i32 1)"
+  pub nothing : instr_text [] calling_nothing ≡ codes "call void @f()"
+  pub further : instr_text (declaring false ∷ declaring true ∷ []) calling_nothing ≡ codes "call void (i8*, ...) @f()"
+  pub no_params : instr_text (only_dots ∷ declaring true ∷ []) calling_nothing ≡ codes "call void (...) @f()"
+  pub other : instr_text (declaring true ∷ []) calling_other ≡ codes "call void @g()"
   pub head : head_text extended ≡ codes "define internal signext i8 @f(i8 signext zeroext %x, i1 zeroext, i8 %y) {" ++ 10 ∷ []

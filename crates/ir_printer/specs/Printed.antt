@@ -1,5 +1,5 @@
 -- How modules are printed (LangRef 3.7, Module Structure, Structure Types, Functions, phi and Terminator Instructions).
-use Rattle.std.specs.Prelude.{ℕ, ◌+◌, Bool, if◌then◌else◌, List, [], ◌∷◌, ◌++◌, codes, map, Option, None, Some}
+use Rattle.std.specs.Prelude.{ℕ, ◌+◌, ◌&&◌, Bool, true, cond, if◌then◌else◌, List, [], ◌∷◌, ◌++◌, codes, map, Option, None, Some}
 use Rattle.std.specs.List.{flat_map}
 use Rattle.std.specs.Fmt.{decimal}
 use Rattle.ir_types.specs.declared.names.Name.{Name}
@@ -7,6 +7,7 @@ use Rattle.ir_types.specs.declared.names.Name.TheVariants.{Text, Number}
 use Rattle.ir_types.specs.declared.names.Sigil.TheVariants.{Global}
 use Rattle.ir_types.specs.declared.named.NamedTy.{NamedTy}
 use Rattle.ir_types.specs.declared.ty.Ty.{Ty}
+use Rattle.ir_types.specs.Same.{same_name}
 use Rattle.ir_core.specs.declared.functions.Alloca.{Alloca}
 use Rattle.ir_core.specs.declared.functions.Argument.{Argument}
 use Rattle.ir_core.specs.declared.functions.Call.{Call}
@@ -85,16 +86,43 @@ may_set_text (Some register) = set_text register
 abbrev pub callee_text : Call → List ℕ
 callee_text c = printed_name Global c.callee ++ (40 ∷ (listed [] (map argument_text c.arguments) ++ 41 ∷ []))
 
--- `%x = call signext i8 @f(i8 signext %y, i32 1)`
-abbrev pub call_text : Call → List ℕ
-call_text c =
-    may_set_text c.name ++ (codes "call " ++ (extensions_text c.result_extensions ++ (printed_type c.result ++ (32 ∷ callee_text c))))
+-- `...` stands last, where further arguments may follow
+abbrev pub dots : Bool → List (List ℕ)
+dots variadic = if variadic then codes "..." ∷ [] else []
 
-abbrev pub instr_text : Instr → List ℕ
-instr_text (instr.Calm c) = calm_text c
-instr_text (instr.Alloca a) = alloca_text a
-instr_text (instr.Store s) = store_text s
-instr_text (instr.Call c) = call_text c
+-- `(i8*, ...) `, the type of a function with these parameters that takes further arguments
+abbrev pub function_type_text : Declaration → List ℕ
+function_type_text d = 40 ∷ (listed [] (map (λ (p : DeclaredParam). printed_type p.ty) d.params ++ dots true) ++ codes ") ")
+
+abbrev pub takes_further : Name → Declaration → Bool
+takes_further x d = d.variadic && same_name x d.name
+
+-- the first one of that name
+abbrev pub called_in : List Declaration → Name → Option Declaration
+called_in [] x = None
+called_in (d ∷ ds) x = cond (takes_further x d) (Some d) (called_in ds x)
+
+abbrev pub stated_text : Option Declaration → List ℕ
+stated_text None = []
+stated_text (Some d) = function_type_text d
+
+-- What a call states of the function of that name beside its result: the function type where it is declared to take further arguments, and
+-- else nothing.
+abbrev pub called_text : List Declaration → Name → List ℕ
+called_text ds x = stated_text (called_in ds x)
+
+-- `%x = call signext i8 @f(i8 signext %y, i32 1)`, and `call i32 (i8*, ...) @g(i8* %p)` of a function that takes further arguments
+abbrev pub call_text : List Declaration → Call → List ℕ
+call_text ds c =
+    may_set_text c.name
+    ++ (codes "call " ++ (extensions_text c.result_extensions ++ (printed_type c.result ++ (32 ∷ (called_text ds c.callee ++ callee_text c)))))
+
+-- beside what is declared
+abbrev pub instr_text : List Declaration → Instr → List ℕ
+instr_text ds (instr.Calm c) = calm_text c
+instr_text ds (instr.Alloca a) = alloca_text a
+instr_text ds (instr.Store s) = store_text s
+instr_text ds (instr.Call c) = call_text ds c
 
 -- ---- terminators
 
@@ -129,9 +157,9 @@ term_text term.Unreachable = codes "unreachable"
 -- ---- blocks
 
 -- the phis, the lines and the terminator
-abbrev pub lines_text : Block → List ℕ
-lines_text b =
-    flat_map (λ p. indented (phi_text p)) b.phis ++ (flat_map (λ l. indented (instr_text l)) b.body ++ indented (term_text b.term))
+abbrev pub lines_text : List Declaration → Block → List ℕ
+lines_text ds b =
+    flat_map (λ p. indented (phi_text p)) b.phis ++ (flat_map (λ l. indented (instr_text ds l)) b.body ++ indented (term_text b.term))
 
 -- `name:` on a line of its own
 abbrev pub label_line : Name → List ℕ
@@ -147,16 +175,16 @@ abbrev pub later_label : Name → List ℕ
 later_label (Text bytes) = label_line (Text bytes)
 later_label (Number n) = codes "; <label>:" ++ (decimal n ++ 10 ∷ [])
 
-abbrev pub first_block : Block → List ℕ
-first_block b = first_label b.name ++ lines_text b
+abbrev pub first_block : List Declaration → Block → List ℕ
+first_block ds b = first_label b.name ++ lines_text ds b
 
 -- a blank line stands before each block behind the first
-abbrev pub later_block : Block → List ℕ
-later_block b = 10 ∷ (later_label b.name ++ lines_text b)
+abbrev pub later_block : List Declaration → Block → List ℕ
+later_block ds b = 10 ∷ (later_label b.name ++ lines_text ds b)
 
-abbrev pub blocks_text : List Block → List ℕ
-blocks_text [] = []
-blocks_text (b ∷ bs) = first_block b ++ flat_map later_block bs
+abbrev pub blocks_text : List Declaration → List Block → List ℕ
+blocks_text ds [] = []
+blocks_text ds (b ∷ bs) = first_block ds b ++ flat_map (later_block ds) bs
 
 -- ---- functions
 
@@ -186,18 +214,14 @@ abbrev pub head_text : Function → List ℕ
 head_text f =
     codes "define " ++ (linkage_text f.linkage ++ (extensions_text f.result_extensions ++ (printed_type f.result ++ (32 ∷ signature_text f))))
 
-abbrev pub function_text : Function → List ℕ
-function_text f = head_text f ++ (blocks_text f.blocks ++ (125 ∷ 10 ∷ []))
+abbrev pub function_text : List Declaration → Function → List ℕ
+function_text ds f = head_text f ++ (blocks_text ds f.blocks ++ (125 ∷ 10 ∷ []))
 
 -- ---- declarations
 
 -- `i8* signext`
 abbrev pub declared_param_text : DeclaredParam → List ℕ
 declared_param_text p = printed_type p.ty ++ extended_text p.extensions
-
--- `...` stands last, where further arguments may follow
-abbrev pub dots : Bool → List (List ℕ)
-dots variadic = if variadic then codes "..." ∷ [] else []
 
 -- `@f(i8* signext, ...)`
 abbrev pub declared_signature : Declaration → List ℕ
@@ -208,11 +232,11 @@ abbrev pub declaration_text : Declaration → List ℕ
 declaration_text d = codes "declare " ++ (extensions_text d.result_extensions ++ (printed_type d.result ++ (32 ∷ declared_signature d)))
 
 -- Definitions and declarations in the order of the file, from the definition of that number on: each declaration that stands before it, and
--- then the definition itself.
-abbrev pub function_texts : ℕ → List Declaration → List Function → List (List ℕ)
-function_texts count ds [] = map declaration_text ds
-function_texts count ds (f ∷ fs) =
-    map declaration_text (those_before count ds) ++ (function_text f ∷ function_texts (count + 1) (those_behind count ds) fs)
+-- then the definition itself, whose calls are beside all that is declared.
+abbrev pub function_texts : List Declaration → ℕ → List Declaration → List Function → List (List ℕ)
+function_texts declared count ds [] = map declaration_text ds
+function_texts declared count ds (f ∷ fs) =
+    map declaration_text (those_before count ds) ++ (function_text declared f ∷ function_texts declared (count + 1) (those_behind count ds) fs)
 
 -- ---- modules
 
@@ -242,4 +266,5 @@ group text_of (x ∷ xs) = flat_map text_of (x ∷ xs) ∷ []
 
 -- the named types, the globals, and then each definition and declaration
 abbrev pub printed_module : Module → List ℕ
-printed_module m = all_behind [] (group named_type_text m.types ++ (group global_text m.globals ++ function_texts 0 m.declarations m.functions))
+printed_module m =
+    all_behind [] (group named_type_text m.types ++ (group global_text m.globals ++ function_texts m.declarations 0 m.declarations m.functions))

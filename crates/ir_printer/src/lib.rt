@@ -5,6 +5,7 @@
 #![tactic(auto)]
 
 mod blocks;
+mod called;
 mod globals;
 mod laws;
 mod lines;

@@ -1,13 +1,15 @@
-ghost use Rattle.std.specs.Prelude.{◌≡◌, ◌++◌, [], map, codes, OnOk};
+ghost use Rattle.std.specs.Prelude.{◌≡◌, ◌++◌, [], true, map, codes, OnOk};
 ghost use Rattle.std.specs.List.{flat_map};
-ghost use Rattle.expression_printer.specs.Printed.{listed};
-ghost use Rattle.ir_printer.specs.Printed.{indented, set_text, entry_text, phi_text, calm_text, count_text, alloca_text, store_text, extensions_text, argument_text, may_set_text, callee_text, call_text, instr_text};
+ghost use Rattle.expression_printer.specs.Printed.{listed, printed_type};
+ghost use Rattle.ir_printer.specs.Printed.{indented, set_text, entry_text, phi_text, calm_text, count_text, alloca_text, store_text, extensions_text, argument_text, may_set_text, callee_text, call_text, called_text, dots, function_type_text, instr_text};
 
+use crate::called::Declared;
 use expression_printer::{
     push_align, push_name, push_number, push_right, push_type, push_typed_value, push_value,
 };
 use ir_core::{
-    Alloca, Argument, Bits, Call, Calm, Entry, Extensions, Instr, Name, Phi, Sigil, Store, Ty,
+    Alloca, Argument, Bits, Call, Calm, Declaration, DeclaredParam, Entry, Extensions, Instr, Name,
+    Phi, Sigil, Store, Ty,
 };
 use std::alloc::AllocError;
 
@@ -22,12 +24,16 @@ pub(crate) fn push_phis(text: &mut Vec<u8>, phis: &[Phi]) -> Result<(), AllocErr
     Ok(())
 }
 
-pub(crate) fn push_instrs(text: &mut Vec<u8>, lines: &[Instr]) -> Result<(), AllocError>
-    ensures { OnOk result (text.new.items ≡ text.old.items ++ flat_map (λ l. indented (instr_text l)) lines.now) }
+pub(crate) fn push_instrs(
+    text: &mut Vec<u8>,
+    declared: &Declared,
+    lines: &[Instr],
+) -> Result<(), AllocError>
+    ensures { OnOk result (text.new.items ≡ text.old.items ++ flat_map (λ l. indented (instr_text declared.now l)) lines.now) }
 {
     for line in lines {
         text.extend_from_slice(b"  ")?;
-        push_instr(text, line)?;
+        push_instr(text, declared, line)?;
         text.push(b'\n')?;
     }
     Ok(())
@@ -72,14 +78,14 @@ fn push_entry(text: &mut Vec<u8>, ty: &Ty, entry: &Entry) -> Result<(), AllocErr
     text.extend_from_slice(b" ]")
 }
 
-fn push_instr(text: &mut Vec<u8>, line: &Instr) -> Result<(), AllocError>
-    ensures { OnOk result (text.new.items ≡ text.old.items ++ instr_text line.now) }
+fn push_instr(text: &mut Vec<u8>, declared: &Declared, line: &Instr) -> Result<(), AllocError>
+    ensures { OnOk result (text.new.items ≡ text.old.items ++ instr_text declared.now line.now) }
 {
     match line {
         Instr::Calm(calm) => push_calm(text, calm),
         Instr::Alloca(alloca) => push_alloca(text, alloca),
         Instr::Store(store) => push_store(text, store),
-        Instr::Call(call) => push_call(text, call.get()),
+        Instr::Call(call) => push_call(text, declared, call.get()),
     }
 }
 
@@ -167,15 +173,48 @@ fn push_may_set(text: &mut Vec<u8>, register: &Option<Name>) -> Result<(), Alloc
     }
 }
 
-fn push_call(text: &mut Vec<u8>, call: &Call) -> Result<(), AllocError>
-    ensures { OnOk result (text.new.items ≡ text.old.items ++ call_text call.now) }
+fn push_call(text: &mut Vec<u8>, declared: &Declared, call: &Call) -> Result<(), AllocError>
+    ensures { OnOk result (text.new.items ≡ text.old.items ++ call_text declared.now call.now) }
 {
     push_may_set(text, &call.name)?;
     text.extend_from_slice(b"call ")?;
     push_extensions(text, call.result_extensions)?;
     push_type(text, &call.result)?;
     text.push(b' ')?;
+    push_called(text, declared, &call.callee)?;
     push_callee(text, call)
+}
+
+/// The function type, where further arguments may follow.
+fn push_called(text: &mut Vec<u8>, declared: &Declared, callee: &Name) -> Result<(), AllocError>
+    ensures { OnOk result (text.new.items ≡ text.old.items ++ called_text declared.now callee.now) }
+{
+    match declared.get(callee) {
+        Some(declaration) => push_function_type(text, declaration),
+        None => Ok(()),
+    }
+}
+
+fn push_function_type(text: &mut Vec<u8>, declaration: &Declaration) -> Result<(), AllocError>
+    ensures { OnOk result (text.new.items ≡ text.old.items ++ function_type_text declaration.now) }
+{
+    text.push(b'(')?;
+    push_further_params(text, declaration.params.as_slice())?;
+    text.extend_from_slice(b") ")
+}
+
+/// The types of parameters, and `...` behind them.
+fn push_further_params(text: &mut Vec<u8>, params: &[DeclaredParam]) -> Result<(), AllocError>
+    ensures { OnOk result (text.new.items ≡ text.old.items ++ listed [] (map (λ p. printed_type p.ty) params.now ++ dots true)) }
+{
+    let mut before: &[u8] = b"";
+    for i in 0..params.len() {
+        text.extend_from_slice(before)?;
+        push_type(text, &params[i].ty)?;
+        before = b", ";
+    }
+    text.extend_from_slice(before)?;
+    text.extend_from_slice(b"...")
 }
 
 fn push_callee(text: &mut Vec<u8>, call: &Call) -> Result<(), AllocError>

@@ -5,6 +5,7 @@ ghost use Rattle.ir_printer.specs.Globals.{global_text};
 ghost use Rattle.ir_printer.specs.Printed.{all_behind, blanked, declaration_text, declared_param_text, declared_signature, dots, extended_text, function_text, function_texts, group, head_text, param_name, param_text, printed_module, signature_text};
 
 use crate::blocks::push_blocks;
+use crate::called::Declared;
 use crate::globals::{linkage_text, push_globals};
 use crate::lines::push_extensions;
 use crate::named_types::push_types;
@@ -16,15 +17,17 @@ use ir_core::{
 use std::alloc::{AllocError, Global};
 
 /// The module as text: its named types, its globals, and its definitions and declarations, each in the order of the file, with a blank line
-/// between these groups and between any two functions. The function types of calls aren't printed.
+/// between these groups and between any two functions. A call has a function type where what it calls takes further arguments.
 pub fn print_module(alloc: Global, module: &Module) -> Result<Vec<u8>, AllocError>
     ensures { IfOk result (λ text. text.items ≡ printed_module «module».now) }
 {
     let mut text = Vec::new(alloc);
     push_types(&mut text, module.types.as_slice())?;
     push_group(&mut text, module.globals.as_slice())?;
+    let declared = Declared::new(alloc, module.declarations.as_slice())?;
     push_functions(
         &mut text,
+        &declared,
         module.declarations.as_slice(),
         module.functions.as_slice(),
     )?;
@@ -55,16 +58,17 @@ fn push_group(text: &mut Vec<u8>, globals: &[GlobalVar]) -> Result<(), AllocErro
 /// In the order of the file, each behind a blank line.
 fn push_functions(
     text: &mut Vec<u8>,
+    declared: &Declared,
     declarations: &[Declaration],
     functions: &[Function],
 ) -> Result<(), AllocError>
-    ensures { OnOk result (text.new.items ≡ all_behind text.old.items (function_texts 0 declarations.now functions.now)) }
+    ensures { OnOk result (text.new.items ≡ all_behind text.old.items (function_texts declared.now 0 declarations.now functions.now)) }
 {
     let mut rest = declarations;
     for i in 0..functions.len() {
         rest = push_before(text, i, rest)?;
         push_blank(text)?;
-        push_function(text, &functions[i])?;
+        push_function(text, declared, &functions[i])?;
     }
     push_declarations(text, rest)
 }
@@ -145,11 +149,15 @@ fn push_declared_param(text: &mut Vec<u8>, param: &DeclaredParam) -> Result<(), 
     push_extended(text, param.extensions)
 }
 
-fn push_function(text: &mut Vec<u8>, function: &Function) -> Result<(), AllocError>
-    ensures { OnOk result (text.new.items ≡ text.old.items ++ function_text «function».now) }
+fn push_function(
+    text: &mut Vec<u8>,
+    declared: &Declared,
+    function: &Function,
+) -> Result<(), AllocError>
+    ensures { OnOk result (text.new.items ≡ text.old.items ++ function_text declared.now «function».now) }
 {
     push_head(text, function)?;
-    push_blocks(text, function.blocks.as_slice())?;
+    push_blocks(text, declared, function.blocks.as_slice())?;
     text.extend_from_slice(b"}\n")
 }
 

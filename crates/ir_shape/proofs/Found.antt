@@ -10,7 +10,7 @@ use Rattle.ir_shape.specs.declared.fault.ShapeFault.{ShapeFault}
 use Rattle.shape_kinds.specs.declared.kind.ShapeKind.{ShapeKind}
 use Rattle.shape_kinds.specs.Kinds.{least}
 use Rattle.ir_shape.specs.Shape.{IsEndWithin, IsFirstOf, fault_at, first_of}
-use Rattle.ir_shape.specs.Told.{header_kind}
+use Rattle.line_shapes.specs.Told.{header_kind}
 
 first_joined : (xs ys : List ShapeFault) (f : ShapeFault) → first_of xs ≡ Some f → first_of (xs ++ ys) ≡ Some f
 first_joined [] ys f e = cc
@@ -37,6 +37,11 @@ in_that {A = A} faults here rest xs k x whole within at parts same e is =
 pub others_decide : {A : Type 0} (xs ys : List ShapeFault) → xs ≡ [] → (r : Result A ShapeEnd) → IfErr r (IsFirstOf ys) → IfErr r (IsFirstOf (xs ++ ys))
 others_decide xs ys none (Ok a) is = tt
 others_decide xs ys none (Err e) is = behind xs ys none e is
+
+-- and there is none where there is none in the others
+pub others_fit : {A E : Type 0} (xs ys : List ShapeFault) → xs ≡ [] → (r : Result A E) → IfOk r (λ _. ys ≡ []) → IfOk r (λ _. xs ++ ys ≡ [])
+others_fit xs ys none (Ok a) is = ap (λ (zs : List ShapeFault). zs ++ ys) none ∙ is
+others_fit xs ys none (Err e) is = tt
 
 -- within the limits, the first fault is why
 end_by : (shallow short small : Type 0) (faults : List ShapeFault) → shallow × short × small → (e : ShapeEnd) → IsFirstOf faults e → IsEndWithin shallow short small faults e

@@ -1,17 +1,3 @@
-pub mod Faults
-pub mod Names
-pub mod Lines
-pub mod Phis
-pub mod Ends
-pub mod Blocks
-pub mod Functions
-pub mod Shapely
-pub mod Examples
-pub mod TypeExamples
-pub mod MemoryExamples
 pub mod Kept
-pub mod LeastKinds
 pub mod Found
 pub mod FileOrder
-pub mod Levels
-pub mod SameTypes

@@ -31,7 +31,7 @@ use Rattle.shape_kinds.specs.Kinds.{fault_unless, least}
 use Rattle.shape_kinds.specs.Names.{with_name, with_names, are_new}
 use Rattle.shape_kinds.specs.Typed.{Types}
 use Rattle.shape_tests.specs.Kinds.{labels_of, types_of, block_kind, name_kind}
-use Rattle.ir_shape.specs.Told.{declared_kind, end_kind, header_kind, line_kind, phi_kind}
+use Rattle.line_shapes.specs.Told.{declared_kind, end_kind, header_kind, line_kind, phi_kind}
 
 -- the fault of that kind at a place, if there is one
 abbrev pub fault_of : Sigil → Name → Option LinePlace → Option ShapeKind → List ShapeFault

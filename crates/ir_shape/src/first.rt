@@ -1,46 +1,25 @@
-ghost use Rattle.std.specs.Prelude.{◌≡◌, ◌++◌, [], ◌∷◌, None, Some, IfOk, IfErr, OnOk};
+ghost use Rattle.std.specs.Prelude.{◌≡◌, ◌<◌, ◌++◌, [], ◌∷◌, None, Some, IfOk, IfErr, OnOk, length};
 ghost use Rattle.std.specs.List.{AllByRecursion};
 ghost use Rattle.std.specs.Option.{option_copied};
 ghost use Rattle.ir_core.specs.Functions as functions;
 ghost use Rattle.shape_kinds.specs.Kept.{type_in};
 ghost use Rattle.shape_kinds.specs.Names.{are_new, with_names};
+ghost use Rattle.name_index.specs.Among.{is_among};
+ghost use Rattle.shape_tests.specs.Counted.{count_in, counts_of};
 ghost use Rattle.shape_tests.specs.Edges.{HasEdges, named, row_kept, rows_of};
 ghost use Rattle.shape_tests.specs.Kinds as fitting;
 ghost use Rattle.ir_shape.specs.Shape as meaning;
 ghost use Rattle.ir_shape.specs.Shape.{IsFirstOf};
-ghost use Rattle.ir_shape.specs.Told as told;
+ghost use Rattle.line_shapes.specs.Told as told;
 
-use crate::told::{end_kind, header_kind, line_kind, phi_kind};
-use crate::types::types_of;
 use crate::{LinePlace, ShapeEnd, ShapeFault};
 use contents::Exact;
 use ir_core::{BitType, Block, Function, Instr, Name, Phi, Sigil};
+use line_shapes::{Scope, end_kind, header_kind, line_kind, phi_kind, scope_of};
 use operand_tests::Beside;
-use shape_kinds::{LentNames, LentTypes, ShapeKind, least};
-use shape_tests::{
-    Row, block_kind, counts_of, edges_of, labels_of, name_kind, row_of, take_params,
-};
+use shape_kinds::{LentNames, ShapeKind, least};
+use shape_tests::{Counts, Row, block_kind, counts_of, name_kind, row_of, take_params};
 use std::alloc::{AllocError, Global};
-
-/// What is known of a function before its blocks are read: the module beside it, the names of its blocks, the types of its registers, and
-/// the edges that enter the blocks that have phis, at the places of their names.
-pub(crate) struct Scope<'a> {
-    pub(crate) beside: &'a Beside<'a>,
-    pub(crate) labels: LentNames<'a>,
-    pub(crate) types: LentTypes<'a>,
-    pub(crate) edges: Vec<Row<'a>>,
-}
-
-impl<'a> Drop for Scope<'a> {
-    fn drop(self) {
-        let Scope {
-            beside: _,
-            labels: _,
-            types: _,
-            edges: _,
-        } = self;
-    }
-}
 
 fn fault_in_line(
     alloc: Global,
@@ -64,6 +43,7 @@ fn fault_in_line(
 }
 
 /// Whether the line of that number has no fault.
+#[inline(always)]
 fn line_fits(
     alloc: Global,
     function: &Name,
@@ -124,6 +104,29 @@ fn kinds_fit(
     line_fits(alloc, function, block, line, least(pending, end))
 }
 
+/// Puts the kinds of phis behind the others, and takes their names, where these edges enter their block, so many of each block.
+fn push_counted<'a>(
+    alloc: Global,
+    scope: &Scope,
+    edges: &[&Name],
+    counts: &Counts,
+    names: &mut LentNames<'a>,
+    phis: &'a [Phi],
+    kinds: &mut Vec<Option<ShapeKind>>,
+) -> Result<(), AllocError>
+    requires counted { 8 < length edges.now → count_in counts.now ≡ counts_of (named edges.now) }
+    ensures kinds { OnOk result
+        (kinds.new.items
+        ≡ kinds.old.items ++ meaning.phi_kinds scope.now.beside.now scope.now.labels (type_in scope.now.types) (named edges.now) names.old phis.now) }
+    ensures names { OnOk result (names.new ≡ meaning.with_phis names.old phis.now) }
+{
+    for phi in phis {
+        let taken = names.take(&phi.name)?;
+        kinds.push(phi_kind(alloc, scope, edges, counts, !taken, phi)?)?;
+    }
+    Ok(())
+}
+
 fn push_phis<'a>(
     alloc: Global,
     scope: &Scope,
@@ -138,11 +141,7 @@ fn push_phis<'a>(
     ensures names { OnOk result (names.new ≡ meaning.with_phis names.old phis.now) }
 {
     let counts = counts_of(alloc, edges)?;
-    for phi in phis {
-        let taken = names.take(&phi.name)?;
-        kinds.push(phi_kind(alloc, scope, edges, &counts, !taken, phi)?)?;
-    }
-    Ok(())
+    push_counted(alloc, scope, edges, &counts, names, phis, kinds)
 }
 
 /// The same, where the edges are those that are kept, or none.
@@ -221,6 +220,42 @@ fn push_lines<'a>(
     Ok(())
 }
 
+/// Takes a block's name among those of the blocks before it and among all; gives what is wrong with it.
+fn own_kind<'a>(
+    earlier: &mut LentNames<'a>,
+    names: &mut LentNames<'a>,
+    name: &'a Name,
+) -> Result<Option<ShapeKind>, AllocError>
+    ensures kind { IfOk result
+        (λ kind. kind ≡ fitting.block_kind (is_among name.now earlier.old) (is_among name.now names.old)) }
+    ensures earlier { OnOk result (earlier.new ≡ fitting.with_name earlier.old name.now) }
+    ensures names { OnOk result (names.new ≡ fitting.with_name names.old name.now) }
+{
+    let doubled = earlier.take(name)?;
+    Ok(block_kind(doubled, names.take(name)?))
+}
+
+/// The kinds of a block's phis and lines; takes their names.
+fn kinds_of<'a>(
+    alloc: Global,
+    function: &Function,
+    scope: &Scope,
+    names: &mut LentNames<'a>,
+    block: &'a Block,
+) -> Result<Vec<Option<ShapeKind>>, AllocError>
+    requires edges { HasEdges scope.now.labels (rows_of scope.now.edges.items) «function».now.blocks block.now }
+    ensures kinds { IfOk result
+        (λ kinds. kinds.items
+        ≡ meaning.phi_kinds scope.now.beside.now scope.now.labels (type_in scope.now.types) (functions.edges_into «function».now block.now.name) names.old block.now.phis
+        ++ meaning.line_kinds scope.now.beside.now (type_in scope.now.types) (meaning.with_phis names.old block.now.phis) block.now.body) }
+    ensures names { OnOk result (names.new ≡ meaning.with_lines (meaning.with_phis names.old block.now.phis) block.now.body) }
+{
+    let mut kinds = Vec::with_capacity(alloc, block.body.len())?;
+    push_block_phis(alloc, function, scope, names, block, &mut kinds)?;
+    push_lines(alloc, scope, names, block.body.as_slice(), &mut kinds)?;
+    Ok(kinds)
+}
+
 /// Whether a block has no fault, behind blocks whose names are given.
 fn block_fits<'a>(
     alloc: Global,
@@ -239,12 +274,9 @@ fn block_fits<'a>(
     ensures fault { IfErr result
         (IsFirstOf (meaning.in_block scope.now.beside.now «function».now scope.now.labels (type_in scope.now.types) entry.now earlier.old names.old block.now)) }
 {
-    let doubled = earlier.take(&block.name)?;
-    let own = block_kind(doubled, names.take(&block.name)?);
-    let mut kinds = Vec::new(alloc);
-    push_block_phis(alloc, function, scope, names, block, &mut kinds)?;
-    push_lines(alloc, scope, names, block.body.as_slice(), &mut kinds)?;
+    let own = own_kind(earlier, names, &block.name)?;
     let end = end_kind(alloc, scope, entry, &function.result, &block.term)?;
+    let kinds = kinds_of(alloc, function, scope, names, block)?;
     kinds_fit(alloc, &function.name, &block.name, own, &kinds, end)
 }
 
@@ -263,7 +295,7 @@ fn blocks_fit<'a>(
         (IsFirstOf (meaning.in_blocks scope.now.beside.now «function».now scope.now.labels (type_in scope.now.types) entry.now [] params.entry blocks.now)) }
 {
     let mut names = params;
-    let mut earlier = LentNames::new(alloc);
+    let mut earlier = LentNames::with_room(alloc, blocks.len())?;
     for block in blocks {
         block_fits(
             alloc,
@@ -315,33 +347,10 @@ fn params_fit<'a>(
         (meaning.fault_at «function».now.name None
         (told.header_kind beside.now (are_new [] (functions.names_in (functions.params_of «function».now))) «function».now))) }
 {
-    let mut names = LentNames::new(alloc);
+    let mut names = LentNames::for_function(alloc, function)?;
     let new = take_params(&mut names, function.params.as_slice())?;
     header_fits(alloc, &function.name, header_kind(beside, new, function))?;
     Ok(names)
-}
-
-fn scope_of<'a>(
-    alloc: Global,
-    bit: &'a BitType,
-    beside: &'a Beside<'a>,
-    function: &'a Function,
-) -> Result<Scope<'a>, AllocError>
-    ensures beside { IfOk result (λ scope. scope.beside.now ≡ beside.now) }
-    ensures labels { IfOk result (λ scope. scope.labels ≡ fitting.labels_of «function».now) }
-    ensures types { IfOk result (λ scope. type_in scope.types ≡ fitting.types_of «function».now) }
-    ensures edges { IfOk result
-        (λ scope. AllByRecursion (HasEdges scope.labels (rows_of scope.edges.items) «function».now.blocks) «function».now.blocks) }
-{
-    let labels = labels_of(alloc, function.blocks.as_slice())?;
-    let edges = edges_of(alloc, &labels, function.blocks.as_slice())?;
-    let types = types_of(alloc, bit, function)?;
-    Ok(Scope {
-        beside,
-        labels,
-        types,
-        edges,
-    })
 }
 
 /// Whether the blocks of a function have no fault, behind its parameters of these names.

@@ -4,19 +4,9 @@
 
 mod fault;
 mod first;
-mod laws;
 mod modules;
 mod named;
-mod operands;
-mod stated;
-mod told;
-mod types;
 
 pub use fault::{LinePlace, ShapeEnd, ShapeFault};
-pub use laws::{
-    examples_of_memory_faults, examples_of_order, examples_of_shape_faults,
-    examples_of_type_faults, faultless_modules_have_shape, functions_have_shape_or_a_fault,
-    modules_with_shape_are_faultless,
-};
 pub use modules::{shape, shape_function};
 pub use shape_kinds::ShapeKind;

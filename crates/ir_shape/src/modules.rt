@@ -1,5 +1,5 @@
 //! Whether a module has shape, in the order of the file.
-ghost use Rattle.std.specs.Prelude.{◌≡◌, ◌≤◌, [], drop, false, length, map, None, IfOk, IfErr, take};
+ghost use Rattle.std.specs.Prelude.{◌≡◌, ◌≤◌, ◌++◌, [], drop, false, length, map, None, IfOk, IfErr, take};
 ghost use Rattle.ir_core.specs.Modules.{those_before, those_behind};
 ghost use Rattle.shape_kinds.specs.Names.{with_name};
 ghost use Rattle.module_limits.specs.Passed as limits;
@@ -10,8 +10,8 @@ ghost use Rattle.ir_shape.specs.Shape.{IsFirstOf};
 use crate::ShapeEnd;
 use crate::first::{function_fits, header_fits, name_fits};
 use crate::named::types_fit;
-use crate::told::declared_kind;
 use ir_core::{Declaration, Function, GlobalVar, Module};
+use line_shapes::declared_kind;
 use module_limits::{first_limit, first_limit_of_function};
 use operand_tests::{Beside, global_var_kind};
 use shape_kinds::LentNames;
@@ -120,6 +120,28 @@ fn functions_fit<'a>(
     declarations_fit(alloc, beside, names, rest)
 }
 
+/// Whether a module has no fault but in its named types: none in its globals, and none in its functions.
+fn values_fit(alloc: Global, beside: &Beside, module: &Module) -> Result<(), ShapeEnd>
+    ensures fits { IfOk result
+        (λ _. meaning.in_globals beside.now [] «module».now.globals
+        ++ meaning.in_functions beside.now (meaning.with_globals [] «module».now.globals) 0 «module».now.declarations «module».now.functions
+        ≡ []) }
+    ensures fault { IfErr result
+        (IsFirstOf
+        (meaning.in_globals beside.now [] «module».now.globals
+        ++ meaning.in_functions beside.now (meaning.with_globals [] «module».now.globals) 0 «module».now.declarations «module».now.functions)) }
+{
+    let mut names = LentNames::new(alloc);
+    globals_fit(alloc, beside, &mut names, module.globals.as_slice())?;
+    functions_fit(
+        alloc,
+        beside,
+        &mut names,
+        module.declarations.as_slice(),
+        module.functions.as_slice(),
+    )
+}
+
 /// Whether a module has no fault: none in its named types, none in its globals, and none in its functions.
 fn module_fits(alloc: Global, module: &Module) -> Result<(), ShapeEnd>
     ensures fits { IfOk result (λ _. meaning.faults_of «module».now ≡ []) }
@@ -127,15 +149,7 @@ fn module_fits(alloc: Global, module: &Module) -> Result<(), ShapeEnd>
 {
     let beside = Beside::new(alloc, module)?;
     types_fit(alloc, &beside, module.types.as_slice())?;
-    let mut names = LentNames::new(alloc);
-    globals_fit(alloc, &beside, &mut names, module.globals.as_slice())?;
-    functions_fit(
-        alloc,
-        &beside,
-        &mut names,
-        module.declarations.as_slice(),
-        module.functions.as_slice(),
-    )
+    values_fit(alloc, &beside, module)
 }
 
 /// Whether a module has shape and is within the limits; if not, which limit it passes first, or the first of its faults in the order of the

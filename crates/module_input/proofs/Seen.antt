@@ -15,7 +15,7 @@ use Rattle.ir_core.specs.WellFormed.{HasDeclaredShape, HasFunctionShape, HasGlob
 use Rattle.name_index.specs.Among.{is_among}
 use Rattle.ir_shape.specs.Shape.{first_fault}
 use Rattle.shape_kinds.specs.Names.{are_new, with_name}
-use Rattle.ir_shape.proofs.Shapely.{shapely_modules_are_faultless}
+use Rattle.shape_laws.proofs.Shapely.{shapely_modules_are_faultless}
 use Rattle.shape_tests.proofs.Taken.{new_by}
 
 abbrev pub names_of : List Function → List Name

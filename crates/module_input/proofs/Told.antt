@@ -4,7 +4,7 @@ use Rattle.std.specs.List.{AllByRecursion}
 use Rattle.ir_core.specs.declared.modules.Module.{Module}
 use Rattle.ir_core.specs.declared.limits.Limit.{Limit}
 use Rattle.ir_core.specs.declared.limits.Limit.TheVariants as limit
-use Rattle.ir_core.specs.Ranges.{AreBytes}
+use Rattle.ir_core.specs.Ranges.{AreBytes, IsInRange}
 use Rattle.ir_core.specs.WellFormed.{IsFunctionDefined, IsWellFormed}
 use Rattle.ir_shape.specs.declared.fault.ShapeFault.{ShapeFault}
 use Rattle.ir_shape.specs.Shape.{first_fault}
@@ -14,7 +14,7 @@ use Rattle.ir_spelling.specs.declared.fault.TextFault.TheVariants as text
 use Rattle.ir_spelling.specs.Faults.{IsTextFault}
 use Rattle.ir_spelling.specs.Forms.{module_form}
 use Rattle.ir_spelling.specs.Spells.{Spells}
-use Rattle.spelling_laws.specs.Laws.{ModulesHaveShape, ModulesAreInRange}
+use Rattle.spelling_laws.specs.Laws.{ModulesHaveShape}
 use Rattle.module_input.specs.declared.fault.ModuleFault.{ModuleFault}
 use Rattle.module_input.specs.declared.fault.ModuleFault.TheVariants as fault
 use Rattle.module_input.specs.Faults.{IsModuleFault}
@@ -38,10 +38,17 @@ never_passed m limit.Facts within passed = passed
 
 module _ (bytes : List ℕ) (m : Module) (spells : Spells bytes m) where
   -- a spelled module without fault, in which all functions are defined, is well-formed
-  pub fitting : {A E : Type 0} → ModulesHaveShape → ModulesAreInRange → AreBytes bytes → (r : Result A E) → IfOk r (λ _. first_fault m ≡ None)
+  pub fitting : {A E : Type 0} → ModulesHaveShape → IsInRange m → IsWithin m → (r : Result A E) → IfOk r (λ _. first_fault m ≡ None)
       → IfOk r (λ _. AllByRecursion IsFunctionDefined m.functions) → IfOk r (λ _. IsWellFormed m)
-  fitting shapes ranges small (Ok a) faultless defined = record { shape = shapes bytes m spells faultless; defined = defined; range = ranges bytes m small spells }
-  fitting shapes ranges small (Err e) faultless defined = tt
+  fitting shapes range within (Ok a) faultless defined = record {
+    shape = shapes bytes m spells faultless;
+    defined = defined;
+    range = range;
+    depths = within.0;
+    lines = within.1;
+    blocks = within.2;
+  }
+  fitting shapes range within (Err e) faultless defined = tt
 
   told : (e : ModuleFault) → HasFault m e → IsModuleFault bytes e
   told (fault.Text f) has = absurd has

@@ -4,4 +4,3 @@ pub mod Within
 pub mod Small
 pub mod Decided
 pub mod Ranges
-pub mod Examples

@@ -8,5 +8,5 @@ mod limits;
 mod lines;
 mod sizes;
 
-pub use laws::{examples_of_depths, examples_of_sizes, ranges_lie_within};
+pub use laws::ranges_lie_within;
 pub use limits::{first_limit, first_limit_of_function};

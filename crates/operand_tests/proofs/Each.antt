@@ -1,15 +1,16 @@
--- Tests of each of a list, and tests that are joined.
-use Rattle.std.proofs.Common.{◌≡◌, ◌∙◌, ◌&&◌, Bool, true, false, List, [], ◌∷◌, ◌++◌, refl, sym, ap}
-use Rattle.std.specs.List.{list_all}
+-- Two tests that are both to be passed.
+use Rattle.std.proofs.Common.{◌≡◌, ◌∙◌, ◌&&◌, Bool, true, false, refl, sym}
 
 pub with_true : (b : Bool) → (b && true) ≡ b
 with_true true = refl
 with_true false = refl
 
-both_assoc : (a b c : Bool) → ((a && b) && c) ≡ (a && (b && c))
-both_assoc true b c = refl
-both_assoc false b c = refl
+-- where the first is passed, the second one decides
+pub then_both : (whole a b first second : Bool) → whole ≡ (a && b) → first ≡ a → first ≡ true → second ≡ b → second ≡ whole
+then_both whole true b first second both is passed rest = rest ∙ sym both
+then_both whole false b first second both is passed rest = absurd (cc)
 
-pub all_joined : {A : Type 0} (p : A → Bool) (xs ys : List A) → list_all p (xs ++ ys) ≡ (list_all p xs && list_all p ys)
-all_joined p [] ys = refl
-all_joined p (x ∷ xs) ys = ap (λ b. p x && b) (all_joined p xs ys) ∙ sym (both_assoc (p x) (list_all p xs) (list_all p ys))
+-- where it isn't, it decides
+pub else_both : (whole a b first : Bool) → whole ≡ (a && b) → first ≡ a → first ≡ false → first ≡ whole
+else_both whole true b first both is failed = absurd (cc)
+else_both whole false b first both is failed = is ∙ sym both

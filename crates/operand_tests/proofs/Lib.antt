@@ -12,4 +12,3 @@ pub mod Starts
 pub mod Tests
 pub mod InitParts
 pub mod Fits
-pub mod Examples

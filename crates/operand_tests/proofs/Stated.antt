@@ -1,5 +1,6 @@
 -- Whether the types that stand in each kind of constant and of initialiser are known.
-use Rattle.std.proofs.Common.{◌≡◌, ◌∙◌, ◌&&◌, ℕ, Bool, true, List, [], ◌∷◌, map, refl, ap}
+use Rattle.std.proofs.Common.{◌≡◌, ◌∙◌, ◌&&◌, ℕ, Bool, true, List, [], ◌∷◌, map, refl, sym, ap}
+use Rattle.std.proofs.lemmas.List.Folds.{list_all-append}
 use Rattle.std.specs.List.{list_all}
 use Rattle.ir_core.specs.declared.modules.Init.{Init, Zero, Bytes, fold-Init}
 use Rattle.ir_core.specs.declared.modules.Init as init
@@ -12,7 +13,7 @@ use Rattle.ir_types.specs.declared.names.Name.{Name}
 use Rattle.ir_types.specs.declared.ty.Ty.{Ty}
 use Rattle.operand_tests.specs.Known.{are_types_known, is_type_known}
 use Rattle.operand_tests.specs.Stated.{are_constants_known, are_inits_known, is_init_known}
-use Rattle.operand_tests.proofs.Each.{all_joined, with_true}
+use Rattle.operand_tests.proofs.Each.{with_true}
 
 module _ (m : Module) where
   -- parts behind their types, each of which states these
@@ -20,7 +21,7 @@ module _ (m : Module) where
       → are_types_known m (behind_each (map (λ (p : Ty × A). (p.0, stated p.1)) ps)) ≡ list_all (λ (p : Ty × A). is_type_known m p.0 && are_types_known m (stated p.1)) ps
   in_parts stated [] = refl
   in_parts {A} stated (p ∷ ps) =
-      all_joined (is_type_known m) (p.0 ∷ stated p.1) (behind_each (map (λ (p : Ty × A). (p.0, stated p.1)) ps))
+      list_all-append (is_type_known m) (p.0 ∷ stated p.1) (behind_each (map (λ (p : Ty × A). (p.0, stated p.1)) ps))
       ∙ ap (λ b. (is_type_known m p.0 && are_types_known m (stated p.1)) && b) (in_parts stated ps)
 
   pub number_known : (n : ℕ) → are_types_known m (stated_in (Number n)) ≡ true
@@ -41,9 +42,25 @@ module _ (m : Module) where
   pub cast_known : (c : Ty × List (Ty × Const)) → are_types_known m (stated_in (Cast c)) ≡ (are_constants_known m c.1 && is_type_known m c.0)
   cast_known c =
       ap (are_types_known m) (constants.at_cast (List Ty) stated_at_level c.0 c.1)
-      ∙ all_joined (is_type_known m) (behind_each (map (λ (p : Ty × Const). (p.0, stated_in p.1)) c.1)) (c.0 ∷ [])
+      ∙ list_all-append (is_type_known m) (behind_each (map (λ (p : Ty × Const). (p.0, stated_in p.1)) c.1)) (c.0 ∷ [])
       ∙ ap (λ b. b && (is_type_known m c.0 && true)) (in_parts stated_in c.1)
       ∙ ap (λ b. are_constants_known m c.1 && b) (with_true (is_type_known m c.0))
+
+  -- the types that an address states, as it is lent
+  pub element_is : (c : Const) (e f : Bool × Ty × List (Ty × Const)) → c ≡ Element e → f ≡ e
+      → are_types_known m (stated_in c) ≡ (is_type_known m f.1 && are_constants_known m f.2)
+  element_is c e f is lent =
+      ap (λ (c : Const). are_types_known m (stated_in c)) is
+      ∙ element_known e
+      ∙ sym (ap (λ (e : Bool × Ty × List (Ty × Const)). is_type_known m e.1 && are_constants_known m e.2) lent)
+
+  -- and those that a conversion states
+  pub cast_is : (c : Const) (d e : Ty × List (Ty × Const)) → c ≡ Cast d → e ≡ d
+      → are_types_known m (stated_in c) ≡ (are_constants_known m e.1 && is_type_known m e.0)
+  cast_is c d e is lent =
+      ap (λ (c : Const). are_types_known m (stated_in c)) is
+      ∙ cast_known d
+      ∙ sym (ap (λ (d : Ty × List (Ty × Const)). are_constants_known m d.1 && is_type_known m d.0) lent)
 
   pub const_known : (c : Const) → is_init_known m (init.Const c) ≡ are_types_known m (stated_in c)
   const_known c = ap (are_types_known m) (inits.at_const (List Ty) stated_by_init c)

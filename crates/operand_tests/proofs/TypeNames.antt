@@ -1,5 +1,6 @@
 -- Whether the names that stand in types are a module's.
 use Rattle.std.proofs.Common.{◌≡◌, ◌∙◌, ◌&&◌, ℕ, true, List, [], ◌∷◌, refl, ap}
+use Rattle.std.proofs.lemmas.List.Folds.{list_all-append}
 use Rattle.std.specs.List.{flat_map}
 use Rattle.ir_core.specs.declared.modules.Module.{Module}
 use Rattle.ir_types.specs.declared.names.Name.{Name}
@@ -8,13 +9,13 @@ use Rattle.ir_core.specs.TypeNames.{names_in_type, type_names}
 use Rattle.ir_core.proofs.TypeNames.{at_array, at_int, at_named, at_ptr, at_struct, at_void}
 use Rattle.name_index.specs.Among.{is_among}
 use Rattle.operand_tests.specs.Known.{are_among, are_types_known, is_type_known}
-use Rattle.operand_tests.proofs.Each.{all_joined, with_true}
+use Rattle.operand_tests.proofs.Each.{with_true}
 
 module _ (m : Module) where
   in_fields : (ts : List Ty) → are_among (flat_map names_in_type ts) (type_names m) ≡ are_types_known m ts
   in_fields [] = refl
   in_fields (t ∷ ts) =
-      all_joined (λ x. is_among x (type_names m)) (names_in_type t) (flat_map names_in_type ts) ∙ ap (λ b. is_type_known m t && b) (in_fields ts)
+      list_all-append (λ x. is_among x (type_names m)) (names_in_type t) (flat_map names_in_type ts) ∙ ap (λ b. is_type_known m t && b) (in_fields ts)
 
   pub int_known : (width : ℕ) → is_type_known m (Int width) ≡ true
   int_known width = ap (λ (xs : List Name). are_among xs (type_names m)) (at_int width)

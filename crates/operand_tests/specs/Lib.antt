@@ -7,4 +7,3 @@ pub mod Stated
 pub mod Addresses
 pub mod Parts
 pub mod Starts
-pub mod Laws

@@ -64,7 +64,7 @@ fn contents_of<'a>(alloc: Global, globals: &'a [GlobalVar]) -> Result<LentTypes<
     ensures { IfOk result (λ types. type_in types
         ≡ with_types none_typed (map (λ (g : GlobalVar). (g.name, g.ty)) globals.now)) }
 {
-    let mut types = LentTypes::new(alloc);
+    let mut types = LentTypes::with_room(alloc, globals.len())?;
     for global in globals {
         types.put(&global.name, &global.ty)?;
     }

@@ -37,7 +37,7 @@ pub fn are_types_known(beside: &Beside, types: &[Ty]) -> bool
 
 /// Whether the types that a constant states are known.
 #[cycle(constants)]
-#[tactic(auto, using(crate::proofs::Stated::number_known, crate::proofs::Stated::undef_known, crate::proofs::Stated::null_known, crate::proofs::Stated::global_known, crate::proofs::Stated::element_known, crate::proofs::Stated::cast_known, crate::proofs::Measures::in_element, crate::proofs::Measures::in_cast))]
+#[tactic(auto, using(crate::proofs::Stated::number_known, crate::proofs::Stated::undef_known, crate::proofs::Stated::null_known, crate::proofs::Stated::global_known, crate::proofs::Measures::in_element, crate::proofs::Measures::in_cast))]
 pub fn is_constant_known(beside: &Beside, constant: &Const) -> bool
     ensures { result ≡ meaning.are_types_known beside.now (stated_in constant.now) }
 {

@@ -10,7 +10,6 @@ mod constants;
 mod globals;
 mod inits;
 mod known;
-mod laws;
 
 pub use addresses::{element_kind, entered, number_in, number_of};
 pub use beside::Beside;
@@ -18,4 +17,3 @@ pub use calls::call_kind;
 pub use constants::constant_kind;
 pub use globals::global_var_kind;
 pub use known::{are_types_known, is_constant_known, is_type_known};
-pub use laws::{examples_of_wrong_calls, examples_of_wrong_constants, examples_of_wrong_globals};

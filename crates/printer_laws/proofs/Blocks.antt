@@ -82,26 +82,26 @@ module _ (registers : List (Name × Ty)) (labels : List Name) where
     pub lines : AllZip (IsLine registers) w.1.0 b.body
     pub ends : IsTerm registers labels w.1.1 b.term
 
-  parts : (b : Block) → FitsBlock registers labels b → Prints Ir Any parts_written (NamesParts b) (lines_text b)
+  parts : (b : Block) → FitsBlock registers labels b → Prints Ir Any parts_written (NamesParts b) (lines_text [] b)
   parts b fits =
       read_as Ir parts_written (NamesParts b) (λ t. t) (λ t named. refl) (λ t named. record { phis = named.0; lines = named.1.0; ends = named.1.1 })
       (both Ir (each Ir (FitsPhi registers labels) write.phi_node (IsPhi registers labels) (λ p. indented (phi_text p)) (phi registers labels) b.phis fits.phis)
-      (both Ir (each Ir (FitsLine registers labels) write.line (IsLine registers) (λ l. indented (instr_text l)) (line registers labels) b.body fits.lines)
+      (both Ir (each Ir (FitsLine registers labels) write.line (IsLine registers) (λ l. indented (instr_text [] l)) (line registers labels) b.body fits.lines)
       (on_line (terminator registers labels b.term fits.ends)) (λ rest end. tt)) (λ rest end. tt))
 
-  behind_label : (b : Block) (bytes : List ℕ) → FitsBlock registers labels b → PrintsLabel b.name bytes → Prints Ir Any write.block (λ (w : BlockText). NamesBlock registers labels w b) (bytes ++ lines_text b)
+  behind_label : (b : Block) (bytes : List ℕ) → FitsBlock registers labels b → PrintsLabel b.name bytes → Prints Ir Any write.block (λ (w : BlockText). NamesBlock registers labels w b) (bytes ++ lines_text [] b)
   behind_label b bytes fits label =
       read_as Ir write.block (λ (w : BlockText). NamesBlock registers labels w b)
       (λ t. record { label = t.0; body = record { phis = t.1.0; lines = t.1.1.0 }; term = t.1.1.1 }) (λ t named. regrouped t.0 t.1)
       (λ t named. record { label = named.0; phis = named.1.phis; lines = named.1.lines; ends = named.1.ends })
       (both Ir label (parts b fits) (λ rest end. tt))
 
-  later_one : (b : Block) → FitsBlock registers labels b → Prints Ir Any write.block (λ (w : BlockText). NamesBlock registers labels w b) (later_block b)
+  later_one : (b : Block) → FitsBlock registers labels b → Prints Ir Any write.block (λ (w : BlockText). NamesBlock registers labels w b) (later_block [] b)
   later_one b fits = before Ir (line_end Ir) (behind_label b (later_label b.name) fits (later b.name fits.name))
 
   pub blocks : (bs : List Block) → 0 < length bs → AllByRecursion (FitsBlock registers labels) bs
-      → Prints Ir Any blocks_written (λ (w : BlockText × List BlockText). AllZip (NamesBlock registers labels) (w.0 ∷ w.1) bs) (blocks_text bs)
+      → Prints Ir Any blocks_written (λ (w : BlockText × List BlockText). AllZip (NamesBlock registers labels) (w.0 ∷ w.1) bs) (blocks_text [] bs)
   blocks [] none all = absurd (omega (arith, none))
   blocks (b ∷ bs) some all =
       both Ir (behind_label b (first_label b.name) all.0 (first b.name all.0.name))
-      (each Ir (FitsBlock registers labels) write.block (NamesBlock registers labels) later_block later_one bs all.1) (λ rest end. tt)
+      (each Ir (FitsBlock registers labels) write.block (NamesBlock registers labels) (later_block []) later_one bs all.1) (λ rest end. tt)

@@ -25,7 +25,8 @@ use Rattle.ir_core.specs.Expressions.{operands_in, type_of}
 use Rattle.ir_core.specs.Functions.{function_names, line_count, names_of, operands_in_block, successors_of, typed_of}
 use Rattle.ir_core.specs.Limits.{line_limit}
 use Rattle.ir_core.specs.Order.{AreInOrder}
-use Rattle.ir_core.specs.Ranges.{AreFlagsInRange, IsNameInRange, IsResultInRange}
+use Rattle.ir_core.proofs.Narrow.{AreNarrowFlags, IsNarrowResult}
+use Rattle.ir_core.specs.Ranges.{IsNameInRange}
 use Rattle.ir_core.specs.Types.{constant_fits}
 use Rattle.ir_types.specs.declared.names.Name.{Name}
 use Rattle.ir_types.specs.declared.ty.Ty.{Ty}
@@ -59,7 +60,7 @@ module _ (registers : List (Name × Ty)) (labels : List Name) where
     pub name : IsNameInRange c.name
     pub operator : IsNoOperand c.right
     pub typed : IsWritableType (type_of c.right)
-    pub flags : AreFlagsInRange c.right
+    pub flags : AreNarrowFlags c.right
     pub operands : AllByRecursion FitsOperand (operands_in c.right)
 
   abbrev pub FitsLine : Instr → Type 0
@@ -103,7 +104,7 @@ FitsParam p = IsNameInRange p.name × IsWritableType p.ty × (p.extensions ≡ n
 
 pub record FitsFunction (f : Function) : Type 0 where
   pub name : IsNameInRange f.name
-  pub result : IsResultInRange f.result
+  pub result : IsNarrowResult f.result
   pub params : AllByRecursion FitsParam f.params
   pub some : 0 < length f.blocks
   pub blocks : AllByRecursion (FitsBlock (typed_of f) (labels_of f)) f.blocks

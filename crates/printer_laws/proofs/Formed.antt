@@ -1,5 +1,5 @@
 -- Functions in order, of the form that a text has, and in range can be written as text.
-use Rattle.std.proofs.Common.{◌≡◌, ◌<◌, List, [], ◌∷◌, ◌++◌, map, length, Option, None, Some}
+use Rattle.std.proofs.Common.{◌≡◌, ◌<◌, ◌≤◌, List, [], ◌∷◌, ◌++◌, map, length, Option, None, Some}
 use Rattle.std.specs.List.{AllByRecursion, Contains, cons_option, flat_map}
 use Rattle.ir_core.specs.declared.functions.Block.{Block}
 use Rattle.ir_core.specs.declared.functions.Case.{Case}
@@ -15,9 +15,11 @@ use Rattle.ir_core.specs.declared.operands.Atom.{Atom}
 use Rattle.ir_core.specs.declared.operands.Atom.TheVariants.{Constant, Register}
 use Rattle.ir_core.specs.declared.operands.Operand.{Operand}
 use Rattle.ir_core.specs.Expressions.{type_of}
-use Rattle.ir_core.specs.Functions.{block_names, cases_of, names_in, names_of, operands_at_end, operands_in_block, operands_of, operands_of_phi, params_of, phi_registers, register_of, registers_of, set_by, successors_of, typed_of}
+use Rattle.ir_core.specs.Functions.{block_names, cases_of, line_count, names_in, names_of, operands_at_end, operands_in_block, operands_of, operands_of_phi, params_of, phi_registers, register_of, registers_of, set_by, successors_of, typed_of}
+use Rattle.ir_core.specs.Limits.{line_limit}
 use Rattle.ir_core.specs.Order.{AreInOrder}
-use Rattle.ir_core.specs.Ranges.{IsAtomInRange, IsCaseInRange, IsFunctionInRange, IsLineInRange, IsNameInRange, IsOperandInRange, IsTypeInRange}
+use Rattle.ir_core.proofs.Narrow.{IsNarrowAtom, IsNarrowCase, IsNarrowFunction, IsNarrowLine, IsNarrowOperand, IsNarrowType}
+use Rattle.ir_core.specs.Ranges.{IsNameInRange}
 use Rattle.ir_types.specs.declared.names.Name.{Name}
 use Rattle.ir_types.specs.declared.ty.Ty.{Ty}
 use Rattle.ir_types.specs.declared.ty.Ty.TheVariants.{Int}
@@ -30,7 +32,7 @@ use Rattle.ir_core.specs.declared.functions.Extensions.{Extensions}
 
 -- ---- types
 
-writable : (t : Ty) → IsTypeInRange t → IsWritableType t
+writable : (t : Ty) → IsNarrowType t → IsWritableType t
 writable (Int w) range = range
 writable t range = absurd range
 
@@ -43,12 +45,12 @@ record Known (registers : List (Name × Ty)) (labels : List Name) : Type 0 where
   pub label_names : AllByRecursion IsNameInRange labels
 
 module _ (registers : List (Name × Ty)) (labels : List Name) (known : Known registers labels) where
-  fits_atom : (t : Ty) (a : Atom Name) → IsTypeInRange t → IsAtomInRange t a → IsUsedAt registers t a → IsWritableType t × FitsAtom registers labels t a
+  fits_atom : (t : Ty) (a : Atom Name) → IsNarrowType t → IsNarrowAtom t a → IsUsedAt registers t a → IsWritableType t × FitsAtom registers labels t a
   fits_atom t (Constant c) range fits is = (writable t range, fits)
   fits_atom t (Register name) range fits is =
       (all_to (λ (r : Name × Ty). IsWritableType r.1) registers known.types (name, t) is, (all_to (λ (r : Name × Ty). IsNameInRange r.0) registers known.names (name, t) is, is))
 
-  fits_operand : (o : Operand Name) → IsOperandInRange o × IsUsedAt registers o.ty o.atom → FitsOperand registers labels o
+  fits_operand : (o : Operand Name) → IsNarrowOperand o × IsUsedAt registers o.ty o.atom → FitsOperand registers labels o
   fits_operand o is = fits_atom o.ty o.atom is.0.0 is.0.1 is.1
 
   fits_label : (name : Name) → Contains labels name → FitsLabel registers labels name
@@ -99,7 +101,7 @@ module _ (registers : List (Name × Ty)) (labels : List Name) (known : Known reg
     pub name : Sets (λ r. IsNameInRange r.0) line
     pub typed : Sets (λ r. IsWritableType r.1) line
     pub operator : SetsByOperation line
-    pub flags : IsLineInRange line
+    pub flags : IsNarrowLine line
     pub operands : AllByRecursion (FitsOperand registers labels) (operands_of line)
 
   fits_line : (line : Instr) → KnownLine line → FitsLine registers labels line
@@ -108,10 +110,10 @@ module _ (registers : List (Name × Ty)) (labels : List Name) (known : Known reg
 
   -- ---- terminators
 
-  fits_case : (c : Case) → IsCaseInRange c × Contains labels c.label → FitsCase registers labels c
+  fits_case : (c : Case) → IsNarrowCase c × Contains labels c.label → FitsCase registers labels c
   fits_case c is = (writable c.ty is.0.0, is.0.1, fits_label c.label is.1)
 
-  fits_term : (t : Term) → AllByRecursion (FitsOperand registers labels) (operands_at_end t) → AllByRecursion IsCaseInRange (cases_of t) → AllByRecursion (Contains labels) (successors_of t)
+  fits_term : (t : Term) → AllByRecursion (FitsOperand registers labels) (operands_at_end t) → AllByRecursion IsNarrowCase (cases_of t) → AllByRecursion (Contains labels) (successors_of t)
       → FitsTerm registers labels t
   fits_term (term.Ret o) operands cases successors = operands.0
   fits_term term.RetVoid operands cases successors = tt
@@ -120,8 +122,8 @@ module _ (registers : List (Name × Ty)) (labels : List Name) (known : Known reg
   fits_term (term.Switch s) operands cases successors = (
     operands.0,
     fits_label s.default successors.0,
-    all_over (λ (c : Case). IsCaseInRange c × Contains labels c.label) (FitsCase registers labels) s.cases fits_case
-        (all_both IsCaseInRange (λ (c : Case). Contains labels c.label) s.cases cases (all_mapped (Contains labels) (λ (c : Case). c.label) s.cases successors.1)),
+    all_over (λ (c : Case). IsNarrowCase c × Contains labels c.label) (FitsCase registers labels) s.cases fits_case
+        (all_both IsNarrowCase (λ (c : Case). Contains labels c.label) s.cases cases (all_mapped (Contains labels) (λ (c : Case). c.label) s.cases successors.1)),
   )
   fits_term term.Unreachable operands cases successors = tt
 
@@ -132,8 +134,8 @@ record KnownBlock (f : Function) (b : Block) : Type 0 where
   pub names : AllByRecursion IsNameInRange (block_names b)
   pub types : AllByRecursion (λ (r : Name × Ty). IsWritableType r.1) (registers_of b)
   pub operands : AllByRecursion (FitsOperand (typed_of f) (labels_of f)) (operands_in_block b)
-  pub flags : AllByRecursion IsLineInRange b.body
-  pub cases : AllByRecursion IsCaseInRange (cases_of b.term)
+  pub flags : AllByRecursion IsNarrowLine b.body
+  pub cases : AllByRecursion IsNarrowCase (cases_of b.term)
   pub form : HasBlockForm (labels_of f) b
 
 module _ (f : Function) (known : Known (typed_of f) (labels_of f)) (b : Block) (is : KnownBlock f b) where
@@ -179,7 +181,7 @@ module _ (f : Function) (known : Known (typed_of f) (labels_of f)) (b : Block) (
     name = all_to (Sets (typed_of f) (labels_of f) known (λ r. IsNameInRange r.0)) b.body (of_lines (λ r. IsNameInRange r.0) register_names) l there;
     typed = all_to (Sets (typed_of f) (labels_of f) known (λ r. IsWritableType r.1)) b.body (of_lines (λ r. IsWritableType r.1) is.types) l there;
     operator = all_to SetsByOperation b.body is.form.operations l there;
-    flags = all_to IsLineInRange b.body is.flags l there;
+    flags = all_to IsNarrowLine b.body is.flags l there;
     operands = all_to (λ (k : Instr). AllByRecursion Fits (operands_of k)) b.body line_operands l there;
   }
 
@@ -193,7 +195,7 @@ module _ (f : Function) (known : Known (typed_of f) (labels_of f)) (b : Block) (
 
 -- ---- functions
 
-module _ (f : Function) (order : AreInOrder (names_of f)) (form : HasForm f) (range : IsFunctionInRange f) where
+module _ (f : Function) (order : AreInOrder (names_of f)) (form : HasForm f) (range : IsNarrowFunction f) (short : line_count f ≤ line_limit) where
   param_names : AllByRecursion (λ (r : Name × Ty). IsNameInRange r.0) (params_of f)
   param_names = all_mapped IsNameInRange (λ (r : Name × Ty). r.0) (params_of f) (all_left IsNameInRange (names_in (params_of f)) (flat_map block_names f.blocks) range.names)
 
@@ -203,7 +205,7 @@ module _ (f : Function) (order : AreInOrder (names_of f)) (form : HasForm f) (ra
   types : AllByRecursion (λ (r : Name × Ty). IsWritableType r.1) (typed_of f)
   types =
       all_from (λ (r : Name × Ty). IsWritableType r.1) (typed_of f)
-      (λ r there. writable r.1 (all_to (λ (r : Name × Ty). IsTypeInRange r.1) (typed_of f) range.registers r there))
+      (λ r there. writable r.1 (all_to (λ (r : Name × Ty). IsNarrowType r.1) (typed_of f) range.registers r there))
 
   register_names_in : (bs : List Block) → AllByRecursion (λ (b : Block). AllByRecursion IsNameInRange (block_names b)) bs → AllByRecursion (λ (r : Name × Ty). IsNameInRange r.0) (flat_map registers_of bs)
   register_names_in [] all = tt
@@ -226,7 +228,7 @@ module _ (f : Function) (order : AreInOrder (names_of f)) (form : HasForm f) (ra
   operands =
       all_from (FitsOperand (typed_of f) (labels_of f)) (flat_map operands_in_block f.blocks)
       (λ o there. fits_operand (typed_of f) (labels_of f) known o
-      (all_to IsOperandInRange (flat_map operands_in_block f.blocks) range.operands o there, all_to (λ (o : Operand Name). IsUsedAt (typed_of f) o.ty o.atom) (flat_map operands_in_block f.blocks) form.operands o there))
+      (all_to IsNarrowOperand (flat_map operands_in_block f.blocks) range.operands o there, all_to (λ (o : Operand Name). IsUsedAt (typed_of f) o.ty o.atom) (flat_map operands_in_block f.blocks) form.operands o there))
 
   known_block : (b : Block) → Contains f.blocks b → KnownBlock f b
   known_block b there = record {
@@ -235,8 +237,8 @@ module _ (f : Function) (order : AreInOrder (names_of f)) (form : HasForm f) (ra
         (all_lists (λ (r : Name × Ty). IsWritableType r.1) registers_of f.blocks (all_right (λ (r : Name × Ty). IsWritableType r.1) (params_of f) (flat_map registers_of f.blocks) types)) b there;
     operands = all_to (λ (b : Block). AllByRecursion (FitsOperand (typed_of f) (labels_of f)) (operands_in_block b)) f.blocks
         (all_lists (FitsOperand (typed_of f) (labels_of f)) operands_in_block f.blocks operands) b there;
-    flags = all_to (λ (b : Block). AllByRecursion IsLineInRange b.body) f.blocks (all_lists IsLineInRange (λ (b : Block). b.body) f.blocks range.flags) b there;
-    cases = all_to (λ (b : Block). AllByRecursion IsCaseInRange (cases_of b.term)) f.blocks (all_lists IsCaseInRange (λ (b : Block). cases_of b.term) f.blocks range.cases) b there;
+    flags = all_to (λ (b : Block). AllByRecursion IsNarrowLine b.body) f.blocks (all_lists IsNarrowLine (λ (b : Block). b.body) f.blocks range.flags) b there;
+    cases = all_to (λ (b : Block). AllByRecursion IsNarrowCase (cases_of b.term)) f.blocks (all_lists IsNarrowCase (λ (b : Block). cases_of b.term) f.blocks range.cases) b there;
     form = all_to (HasBlockForm (labels_of f)) f.blocks form.blocks b there;
   }
 
@@ -257,7 +259,7 @@ module _ (f : Function) (order : AreInOrder (names_of f)) (form : HasForm f) (ra
     some = form.some;
     blocks = all_from (FitsBlock (typed_of f) (labels_of f)) f.blocks (λ b there. fits_block f known b (known_block b there));
     order = order;
-    few = range.lines;
+    few = short;
     linkage = range.linkage;
     extensions = range.extensions.0;
   }

@@ -5,7 +5,8 @@ use Rattle.ir_core.specs.declared.functions.Function.{Function}
 use Rattle.ir_core.specs.declared.modules.Module.{Module}
 use Rattle.ir_core.specs.declared.functions.Param.{Param}
 use Rattle.ir_core.specs.Functions.{typed_of}
-use Rattle.ir_core.specs.Ranges.{IsNameInRange, IsResultInRange}
+use Rattle.ir_core.proofs.Narrow.{IsNarrowResult}
+use Rattle.ir_core.specs.Ranges.{IsNameInRange}
 use Rattle.ir_types.specs.declared.names.Name.{Name}
 use Rattle.ir_types.specs.declared.names.Name.TheVariants.{Number, Text}
 use Rattle.ir_types.specs.declared.ty.Ty.{Ty}
@@ -73,7 +74,7 @@ params (p ∷ ps) all =
 
 -- ---- heads
 
-result : (t : Ty) → IsResultInRange t → Prints Ir Stops write.result (λ (w : Option (Placed ℕ)). IsResult w t) (printed_type t)
+result : (t : Ty) → IsNarrowResult t → Prints Ir Stops write.result (λ (w : Option (Placed ℕ)). IsResult w t) (printed_type t)
 result (Int width) writable =
     read_as Ir write.result (λ (w : Option (Placed ℕ)). IsResult w (Int width)) (λ w. Some w) (λ w named. refl) (λ w named. typed (Int width) w writable named)
     (marks.type Ir (Int width) writable)
@@ -126,7 +127,7 @@ defined h bs =
     ∙ ap (λ more. symbols.define ∷ (write.result h.0 ++ (Global h.1.0 ∷ symbols.open_paren ∷ (write.params h.1.1 ++ (symbols.close_paren ∷ symbols.open_brace ∷ more)))))
     (append_assoc (write.block bs.0) (flat_map write.block bs.1) (symbols.close_brace ∷ []))
 
-function : (f : Function) → FitsFunction f → Prints Ir Any write.definition (λ (w : DefinitionText). NamesFunction w f) (function_text f)
+function : (f : Function) → FitsFunction f → Prints Ir Any write.definition (λ (w : DefinitionText). NamesFunction w f) (function_text [] f)
 function f fits =
     read_as Ir write.definition (λ (w : DefinitionText). NamesFunction w f)
     (λ t. record { result = t.0.0; name = t.0.1.0; params = t.0.1.1; entry = t.1.0; others = t.1.1 }) (λ t named. defined t.0 t.1)

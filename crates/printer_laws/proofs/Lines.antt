@@ -77,7 +77,7 @@ module _ (registers : List (Name × Ty)) (labels : List Name) where
 
   -- ---- lines that set a register by an operation
 
-  pub line : (i : Instr) → FitsLine registers labels i → Prints Ir Any write.line (λ (w : LineText). IsLine registers w i) (indented (instr_text i))
+  pub line : (i : Instr) → FitsLine registers labels i → Prints Ir Any write.line (λ (w : LineText). IsLine registers w i) (indented (instr_text [] i))
   line (instr.Calm c) fits =
       read_as Ir write.line (λ (w : LineText). IsLine registers w (instr.Calm c)) (λ t. record { register = Some t.0; operation = t.1 }) (λ t named. refl) (λ t named. named)
       (on_line (both Ir (set c.name fits.name)

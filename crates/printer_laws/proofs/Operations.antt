@@ -14,7 +14,8 @@ use Rattle.ir_core.specs.declared.operands.BinOp.{BinOp}
 use Rattle.ir_core.specs.declared.operands.Flags.{Flags}
 use Rattle.ir_core.specs.declared.operands.Operand.{Operand}
 use Rattle.ir_core.specs.Expressions.{operands_in, type_of}
-use Rattle.ir_core.specs.Ranges.{AreFlagsInRange, may_have}
+use Rattle.ir_core.proofs.Narrow.{AreNarrowFlags}
+use Rattle.ir_core.specs.Ranges.{may_have}
 use Rattle.ir_core.specs.Words as words
 use Rattle.ir_grammar.specs.declared.trees.OperandText.{OperandText}
 use Rattle.ir_grammar.specs.declared.trees.OperationText.{OperationText}
@@ -137,7 +138,7 @@ module _ (language : Language) {R : Type 0} (means : Means R) (register : R → 
       (both language (operand s.condition condition)
       (before language (comma language) (both language (operand s.left left) (before language (comma language) (operand s.right right)) (λ rest end. refl))) (λ rest end. refl)))
 
-  pub operation : (e : Expr R) → IsNoOperand e → IsWritableType (type_of e) → AreFlagsInRange e → AllByRecursion CanPrint (operands_in e) → PrintsOperation e
+  pub operation : (e : Expr R) → IsNoOperand e → IsWritableType (type_of e) → AreNarrowFlags e → AllByRecursion CanPrint (operands_in e) → PrintsOperation e
   operation (expr.Plain o) none writable may can = absurd none
   operation (expr.Binary b) is writable may can = binary b can.0.0 may can.0.1 can.1.0.1
   operation (expr.Icmp c) is writable may can = compare c can.0.0 can.0.1 can.1.0.1

@@ -16,13 +16,14 @@ use Rattle.ir_core.specs.declared.operands.Atom.TheVariants.{Constant, Register}
 use Rattle.ir_core.specs.declared.operands.Operand.{Operand}
 use Rattle.ir_core.specs.Functions.{edges_into, names_of, operands_in_block, successors_of, typed_of}
 use Rattle.ir_core.specs.Order.{AreInOrder, IsInOrder}
-use Rattle.ir_core.specs.Ranges.{IsFunctionInRange, IsInRange, IsLineInRange}
+use Rattle.ir_core.proofs.Narrow.{IsNarrow, IsNarrowFunction, IsNarrowLine}
 use Rattle.ir_core.specs.WellFormed.{FitsEdges, HasBlockShape, HasFunctionShape, HasShape, HasType, IsLine, IsOperator}
 use Rattle.ir_types.specs.declared.names.Name.{Name}
 use Rattle.ir_types.specs.declared.ty.Ty.{Ty}
 use Rattle.ir_types.specs.Same.{same_name}
 use Rattle.ir_naming.specs.Spells.{labels_of}
 use Rattle.ir_naming_laws.proofs.Lists.{all_append, all_both, all_from, all_lists, all_mapped, all_over, all_to}
+use Rattle.module_limits.specs.Passed.{AreShort, IsShort}
 use Rattle.printer_laws.proofs.Fit.{FitsFunction, FitsModule, HasBlockForm, HasForm, HasPhiForm, IsNoOperand, IsUsedAt, SetsByOperation}
 use Rattle.printer_laws.proofs.Formed.{fits_function}
 
@@ -62,7 +63,7 @@ no_operand m (expr.Element e) is = tt
 no_operand m (expr.Load l) is = tt
 
 -- of the lines those that are in range
-by_operation : (m : Module) (l : Instr) → IsLine m l × IsLineInRange l → SetsByOperation l
+by_operation : (m : Module) (l : Instr) → IsLine m l × IsNarrowLine l → SetsByOperation l
 by_operation m (instr.Calm c) is = no_operand m c.right is.0
 by_operation m l is = absurd is.1
 
@@ -70,36 +71,36 @@ used_at : (m : Module) (registers : List (Name × Ty)) (t : Ty) (a : Atom Name) 
 used_at m registers t (Constant c) has = tt
 used_at m registers t (Register name) has = has
 
-block_form : (m : Module) (f : Function) (b : Block) → HasBlockShape m f b × AllByRecursion IsLineInRange b.body → HasBlockForm (labels_of f) b
+block_form : (m : Module) (f : Function) (b : Block) → HasBlockShape m f b × AllByRecursion IsNarrowLine b.body → HasBlockForm (labels_of f) b
 block_form m f b (shape, range) = record {
   phis = all_over (FitsEdges f b) (HasPhiForm (labels_of f)) b.phis (λ p fits. (fits.some, froms_known f b p fits)) shape.phis;
   operations =
-      all_over (λ (l : Instr). IsLine m l × IsLineInRange l) SetsByOperation b.body (by_operation m) (all_both (IsLine m) IsLineInRange b.body shape.lines range);
+      all_over (λ (l : Instr). IsLine m l × IsNarrowLine l) SetsByOperation b.body (by_operation m) (all_both (IsLine m) IsNarrowLine b.body shape.lines range);
   successors = shape.labels;
 }
 
-form : (m : Module) (f : Function) → HasFunctionShape m f → IsFunctionInRange f → HasForm f
+form : (m : Module) (f : Function) → HasFunctionShape m f → IsNarrowFunction f → HasForm f
 form m f shape range =
-    let lines_in_range = all_lists IsLineInRange (λ (b : Block). b.body) f.blocks range.flags in
+    let lines_in_range = all_lists IsNarrowLine (λ (b : Block). b.body) f.blocks range.flags in
     record {
       some = subst (λ (bs : List Block). 0 < length bs) (sym shape.blocks) (omega arith);
       operands =
           all_over (λ (o : Operand Name). HasType m (typed_of f) o.ty o.atom) (λ (o : Operand Name). IsUsedAt (typed_of f) o.ty o.atom) (flat_map operands_in_block f.blocks)
           (λ o has. used_at m (typed_of f) o.ty o.atom has) shape.operands;
       blocks =
-          all_over (λ (b : Block). HasBlockShape m f b × AllByRecursion IsLineInRange b.body) (HasBlockForm (labels_of f)) f.blocks (block_form m f)
-          (all_both (HasBlockShape m f) (λ (b : Block). AllByRecursion IsLineInRange b.body) f.blocks shape.each lines_in_range);
+          all_over (λ (b : Block). HasBlockShape m f b × AllByRecursion IsNarrowLine b.body) (HasBlockForm (labels_of f)) f.blocks (block_form m f)
+          (all_both (HasBlockShape m f) (λ (b : Block). AllByRecursion IsNarrowLine b.body) f.blocks shape.each lines_in_range);
     }
 
-pub fits_module : (m : Module) → m.types ≡ [] → IsInOrder m → HasShape m → IsInRange m → FitsModule m
-fits_module m none order shape range = record {
+pub fits_module : (m : Module) → m.types ≡ [] → IsInOrder m → HasShape m → IsNarrow m → AreShort m.functions → FitsModule m
+fits_module m none order shape range short = record {
   types = none;
   globals = range.globals;
   declarations = range.declarations;
   functions = all_from FitsFunction m.functions
       (λ f there.
-      let in_range = all_to IsFunctionInRange m.functions range.functions f there in
+      let in_range = all_to IsNarrowFunction m.functions range.functions f there in
       fits_function f (all_to (λ (f : Function). AreInOrder (names_of f)) m.functions order.functions f there)
-      (form m f (all_to (HasFunctionShape m) m.functions shape.functions f there) in_range) in_range);
+      (form m f (all_to (HasFunctionShape m) m.functions shape.functions f there) in_range) in_range (all_to IsShort m.functions short f there));
   order = order.names;
 }

@@ -13,7 +13,7 @@ use Rattle.ir_core.specs.declared.functions.Term.{Term}
 use Rattle.ir_core.specs.declared.operands.Atom.{Atom}
 use Rattle.ir_core.specs.declared.operands.Operand.{Operand}
 use Rattle.ir_core.specs.Functions.{successors_of, typed_of}
-use Rattle.ir_core.specs.Ranges.{IsFunctionInRange, IsInRange}
+use Rattle.ir_core.proofs.Narrow.{IsNarrow, IsNarrowFunction}
 use Rattle.ir_types.specs.declared.names.Name.{Name}
 use Rattle.ir_types.specs.declared.ty.Ty.{Ty}
 use Rattle.ir_types.specs.declared.ty.Ty.TheVariants.{Int}
@@ -112,13 +112,13 @@ form d f n =
 
 -- ---- modules
 
-functions_fit : (ds : List DefinitionText) (fs : List Function) → AllZip NamesFunction ds fs → AllByRecursion IsFunctionInRange fs → AllByRecursion FitsFunction fs
+functions_fit : (ds : List DefinitionText) (fs : List Function) → AllZip NamesFunction ds fs → AllByRecursion IsNarrowFunction fs → AllByRecursion FitsFunction fs
 functions_fit [] [] zip range = tt
 functions_fit [] (f ∷ fs) zip range = absurd zip
 functions_fit (d ∷ ds) [] zip range = absurd zip
-functions_fit (d ∷ ds) (f ∷ fs) zip range = (fits_function f zip.0.order (form d f zip.0) range.0, functions_fit ds fs zip.1 range.1)
+functions_fit (d ∷ ds) (f ∷ fs) zip range = (fits_function f zip.0.order (form d f zip.0) range.0 zip.0.few, functions_fit ds fs zip.1 range.1)
 
-pub fits_spelled : (bytes : List ℕ) (m : Module) → Spells bytes m → IsInRange m → FitsModule m
+pub fits_spelled : (bytes : List ℕ) (m : Module) → Spells bytes m → IsNarrow m → FitsModule m
 fits_spelled bytes m s range = record {
   types = s.names.types;
   globals = s.names.globals;

@@ -1,19 +1,22 @@
 -- The laws of printing and reading modules.
 use Rattle.std.specs.Prelude.{◌≡◌, ℕ, [], List}
 use Rattle.ir_core.specs.declared.modules.Module.{Module}
+use Rattle.ir_core.specs.Integers.{IsOverIntegers}
 use Rattle.ir_core.specs.Order.{IsInOrder}
 use Rattle.ir_core.specs.Ranges.{AreBytes, IsInRange}
 use Rattle.ir_core.specs.WellFormed.{HasShape, IsWellFormed}
 use Rattle.ir_printer.specs.Printed.{printed_module}
+use Rattle.module_limits.specs.Passed.{AreShort}
 use Rattle.ir_spelling.specs.Spells.{Spells, SpellsWellFormed}
 
--- A printed module spells that module, where it has no named types, its names are in order, it has shape, and all of it is in range.
+-- A printed module over integers alone spells that module, where it has no named types, its names are in order, it has shape, all of it is
+-- in range, and its functions are within the limit on lines.
 abbrev pub PrintedModulesAreRead : Type 0
-PrintedModulesAreRead = (m : Module) → m.types ≡ [] → IsInOrder m → HasShape m → IsInRange m → Spells (printed_module m) m
+PrintedModulesAreRead = (m : Module) → m.types ≡ [] → IsInOrder m → HasShape m → IsInRange m → AreShort m.functions → IsOverIntegers m → Spells (printed_module m) m
 
 -- A well-formed one is printed as a text that has it as a module that can be run.
 abbrev pub PrintedModulesCanBeRun : Type 0
-PrintedModulesCanBeRun = (m : Module) → m.types ≡ [] → IsInOrder m → IsWellFormed m → SpellsWellFormed (printed_module m) m
+PrintedModulesCanBeRun = (m : Module) → m.types ≡ [] → IsInOrder m → IsWellFormed m → IsOverIntegers m → SpellsWellFormed (printed_module m) m
 
 -- ---- what is read, printed again
 

@@ -20,6 +20,7 @@ use Rattle.ir_core.specs.Functions.{names_of, typed_of}
 use Rattle.ir_core.specs.Limits.{line_limit}
 use Rattle.ir_core.specs.Order.{AreInOrder, AreNew}
 use Rattle.ir_core.specs.Ranges.{IsNameInRange}
+use Rattle.ir_core.proofs.Narrow.{narrow}
 use Rattle.ir_naming.specs.Spells.{labels_of}
 use Rattle.ir_rename.specs.Renamed.{rename_block, rename_case, rename_entry, rename_function, rename_line, rename_param, rename_phi, rename_term}
 use Rattle.ir_rename.proofs.Shaped.{all_types, all_under, in_mapped, line_operands, twice, typed}
@@ -33,7 +34,7 @@ use Rattle.printer_laws.proofs.Functions.{module_spelled}
 use Rattle.printer_laws.proofs.Spelled.{fits_spelled}
 use Rattle.printer_laws.specs.Laws.{SpelledModulesArePrinted}
 use Rattle.printer_laws.specs.Writable.{IsWritableType}
-use Rattle.spelling_laws.specs.Laws.{ModulesAreInOrder, ModulesAreInRange}
+use Rattle.spelling_laws.specs.Laws.{ModulesAreInOrder, ModulesAreInRange, ModulesAreOverIntegers}
 use Rattle.renaming_laws.specs.Laws.{GivesOrder, SpelledCanBeRead}
 use Rattle.renaming_laws.proofs.Given.{names_in}
 use Rattle.renaming_laws.proofs.Names.{by_text, text_in_range}
@@ -157,10 +158,10 @@ apart : (fs : List Function) → AllByRecursion FitsFunction fs → AllByRecursi
 apart [] fits = tt
 apart (f ∷ fs) fits = (fits.0.order.0, apart fs fits.1)
 
-pub named_can_be_read : ModulesAreInRange → GivesOrder named_all → SpelledCanBeRead named_all
-named_can_be_read ranges orders bytes m are_bytes spells =
+pub named_can_be_read : ModulesAreInRange → ModulesAreOverIntegers → GivesOrder named_all → SpelledCanBeRead named_all
+named_can_be_read ranges integers orders bytes m are_bytes spells =
     let range = ranges bytes m are_bytes spells in
-    let fits = fits_spelled bytes m spells range in
+    let fits = fits_spelled bytes m spells (narrow m range (integers bytes m spells)) in
     let names = names_in m range in
     let order = orders m names (apart m.functions fits.functions) fits.order in
     module_spelled (named_all m)

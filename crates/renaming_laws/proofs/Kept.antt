@@ -1,5 +1,5 @@
 -- What modules keep under other names.
-use Rattle.std.proofs.Common.{◌≡◌, ◌∙◌, List, [], ◌∷◌, ◌++◌, map, refl, sym, ap, subst}
+use Rattle.std.proofs.Common.{◌≡◌, ◌∙◌, suc, List, [], ◌∷◌, ◌++◌, length, map, refl, sym, ap, subst}
 use Rattle.std.specs.List.{AllByRecursion, AllZip}
 use Rattle.ir_core.specs.declared.functions.Function.{Function}
 use Rattle.ir_core.specs.declared.modules.Declaration.{Declaration}
@@ -9,7 +9,8 @@ use Rattle.ir_types.specs.declared.named.NamedTy.{NamedTy}
 use Rattle.ir_types.specs.declared.names.Name.{Name}
 use Rattle.ir_core.specs.Functions.{function_names, names_of}
 use Rattle.ir_core.specs.Order.{AreNew}
-use Rattle.ir_core.specs.Ranges.{IsFunctionInRange, IsNamedTypeInRange, IsNameInRange}
+use Rattle.ir_core.specs.Integers.{AreFieldsIntegers, IsIntegerFunction}
+use Rattle.ir_core.specs.Ranges.{IsDeclarationInRange, IsFunctionInRange, IsGlobalInRange, IsNamedTypeInRange, IsNameInRange, StandBehind}
 use Rattle.ir_core.specs.WellFormed.{HasDeclaredShape, HasFunctionShape, HasGlobalShape, IsFunctionDefined, NamesTypes, global_names}
 use Rattle.ir_rename.specs.Laws.{RenamedAreDefined, RenamedHaveShape}
 use Rattle.ir_rename.specs.Renamed.{AreRenamed, IsRenamed}
@@ -17,8 +18,9 @@ use Rattle.ir_rename.proofs.Apart.{apart_from_new, are_new}
 use Rattle.ir_rename.proofs.Beside.{declared, global, renamed_alike}
 use Rattle.ir_rename.proofs.Renames.{names_renamed}
 use Rattle.ir_rename.proofs.Shaped.{apart_mapped}
-use Rattle.renaming_laws.specs.Kept.{DefinednessStays, FunctionNamesStay, NamesStayApart, RangeStays, ShapeStays, WellFormednessStays}
-use Rattle.renaming_laws.proofs.Ranges.{in_range}
+use Rattle.renaming_laws.specs.Kept.{DefinednessStays, FunctionNamesStay, IntegersStay, NamesStayApart, RangeStays, ShapeStays, WellFormednessStays}
+use Rattle.renaming_laws.proofs.Limits.{limits_stay}
+use Rattle.renaming_laws.proofs.Ranges.{in_range, of_integers}
 
 -- ---- functions side by side
 
@@ -109,18 +111,45 @@ range_of : (f g : Function) → Renamed f g → IsFunctionInRange f → AllByRec
 range_of f g (ρ, is) range names =
     subst IsFunctionInRange (sym is.same) (in_range ρ f range (subst (λ h. AllByRecursion IsNameInRange (names_of h)) is.same names))
 
+as_many_functions : (fs gs : List Function) → AllZip Renamed fs gs → length gs ≡ length fs
+as_many_functions [] [] zip = refl
+as_many_functions [] (g ∷ gs) zip = absurd zip
+as_many_functions (f ∷ fs) [] zip = absurd zip
+as_many_functions (f ∷ fs) (g ∷ gs) zip = ap suc (as_many_functions fs gs zip.1)
+
 pub range_stays : RangeStays
 range_stays m n is range names = record {
   types = subst (AllByRecursion IsNamedTypeInRange) (sym is.types) range.types;
-  globals = is.globals ∙ range.globals;
-  declarations = is.declarations ∙ range.declarations;
+  globals = subst (AllByRecursion IsGlobalInRange) (sym is.globals) range.globals;
   functions =
       over IsFunctionInRange (λ g. AllByRecursion IsNameInRange (names_of g)) IsFunctionInRange range_of m.functions n.functions is.functions range.functions names;
+  declarations = subst (AllByRecursion IsDeclarationInRange) (sym is.declarations) range.declarations;
+  order =
+      subst (λ (ds : List Declaration). StandBehind 0 (length n.functions) ds) (sym is.declarations)
+      (subst (λ count. StandBehind 0 count m.declarations) (sym (as_many_functions m.functions n.functions is.functions)) range.order);
+}
+
+-- ---- over integers
+
+integers_of : (f g : Function) → Renamed f g → IsIntegerFunction f → IsIntegerFunction g
+integers_of f g (ρ, is) integers = subst IsIntegerFunction (sym is.same) (of_integers ρ f integers)
+
+pub integers_stay : IntegersStay
+integers_stay m n is integers = record {
+  types = subst (AllByRecursion AreFieldsIntegers) (sym is.types) integers.types;
+  globals = is.globals ∙ integers.globals;
+  functions = under IsIntegerFunction IsIntegerFunction integers_of m.functions n.functions is.functions integers.functions;
+  declarations = is.declarations ∙ integers.declarations;
 }
 
 pub well_formedness_stays : RenamedHaveShape → RenamedAreDefined → WellFormednessStays
-well_formedness_stays has are m n is well names = record {
-  shape = shape_stays has m n is well.shape;
-  defined = definedness_stays are m n is well.shape.functions well.defined;
-  range = range_stays m n is well.range names;
-}
+well_formedness_stays has are m n is well names =
+    let within = limits_stay m n is (well.depths, well.lines, well.blocks) in
+    record {
+      shape = shape_stays has m n is well.shape;
+      defined = definedness_stays are m n is well.shape.functions well.defined;
+      range = range_stays m n is well.range names;
+      depths = within.0;
+      lines = within.1;
+      blocks = within.2;
+    }

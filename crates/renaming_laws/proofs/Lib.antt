@@ -1,5 +1,6 @@
 pub mod Ranges
 pub mod Names
+pub mod Limits
 pub mod Kept
 pub mod Given
 pub mod Fits

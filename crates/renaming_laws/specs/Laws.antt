@@ -3,6 +3,7 @@ use Rattle.std.specs.Prelude.{◌≡◌, ℕ, List, []}
 use Rattle.std.specs.List.{AllByRecursion}
 use Rattle.ir_core.specs.declared.modules.Module.{Module}
 use Rattle.ir_core.specs.Functions.{function_names, names_of}
+use Rattle.ir_core.specs.Integers.{IsOverIntegers}
 use Rattle.ir_core.specs.Order.{AreInOrder, IsInOrder}
 use Rattle.ir_core.specs.Ranges.{AreBytes, IsInRange}
 use Rattle.ir_core.specs.WellFormed.{HasFunctionShape, HasShape, IsDefined, IsWellFormed}
@@ -11,6 +12,7 @@ use Rattle.ir_rename.specs.Laws.{HasNamesApart, HasNamesInRange, IsText}
 use Rattle.ir_rename.specs.Named.{named_all}
 use Rattle.ir_rename.specs.Numbered.{numbered_in_order}
 use Rattle.ir_spelling.specs.Spells.{Spells, SpellsWellFormed}
+use Rattle.module_limits.specs.Passed.{AreShort}
 
 -- ---- where names become this
 
@@ -35,15 +37,21 @@ module _ (given : Module → Module) where
   abbrev pub KeepsWellFormed : Type 0
   KeepsWellFormed = (m : Module) → IsWellFormed m → IsWellFormed (given m)
 
-  -- A module without named types becomes one that is printed as its own text, and can be run, where the names of its functions are in order.
+  abbrev pub KeepsIntegers : Type 0
+  KeepsIntegers = (m : Module) → IsOverIntegers m → IsOverIntegers (given m)
+
+  -- A module over integers alone, without named types, becomes one that is printed as its own text, and can be run, where the names of its
+  -- functions are in order.
   abbrev pub CanBeRun : Type 0
   CanBeRun =
-      (m : Module) → m.types ≡ [] → AreInOrder (function_names m) → IsWellFormed m → SpellsWellFormed (printed_module (given m)) (given m)
+      (m : Module) → m.types ≡ [] → AreInOrder (function_names m) → IsWellFormed m → IsOverIntegers m
+      → SpellsWellFormed (printed_module (given m)) (given m)
 
-  -- where it has shape and is in range, it is read as that module at least
+  -- where it has shape, is in range and within the limit on lines, it is read as that module at least
   abbrev pub CanBeRead : Type 0
   CanBeRead =
-      (m : Module) → m.types ≡ [] → AreInOrder (function_names m) → HasShape m → IsInRange m → Spells (printed_module (given m)) (given m)
+      (m : Module) → m.types ≡ [] → AreInOrder (function_names m) → HasShape m → IsInRange m → AreShort m.functions → IsOverIntegers m
+      → Spells (printed_module (given m)) (given m)
 
   -- what a text spells, and can be run, becomes such a module
   abbrev pub SpelledCanBeRun : Type 0

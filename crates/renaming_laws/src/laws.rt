@@ -1,7 +1,7 @@
 ghost use Rattle.ir_rename.specs.Named.{named_all};
 ghost use Rattle.ir_rename.specs.Numbered.{numbered_in_order};
-ghost use Rattle.renaming_laws.specs.Kept.{DefinednessStays, FunctionNamesStay, NamesStayApart, RangeStays, ShapeStays, WellFormednessStays};
-ghost use Rattle.renaming_laws.specs.Laws.{CanBeRead, CanBeRun, GivesOrder, KeepsDefined, KeepsNamesInRange, KeepsRange, KeepsShape, KeepsWellFormed, NamedHaveNoNumbers, NamingAgainChangesNothing, NumberingAgainChangesNothing, SpelledCanBeRead, SpelledCanBeRun, TextsStay};
+ghost use Rattle.renaming_laws.specs.Kept.{DefinednessStays, FunctionNamesStay, IntegersStay, LimitsStay, NamesStayApart, RangeStays, ShapeStays, WellFormednessStays};
+ghost use Rattle.renaming_laws.specs.Laws.{CanBeRead, CanBeRun, GivesOrder, KeepsDefined, KeepsIntegers, KeepsNamesInRange, KeepsRange, KeepsShape, KeepsWellFormed, NamedHaveNoNumbers, NamingAgainChangesNothing, NumberingAgainChangesNothing, SpelledCanBeRead, SpelledCanBeRun, TextsStay};
 
 use ir_rename::{
     named_functions_are_renamed, numbered_functions_are_renamed, renamed_functions_keep_their_shape,
@@ -11,14 +11,16 @@ use spelling_laws::spelled_modules_fit;
 
 /// The body calls a law alone, since the clauses are laws.
 ///
-/// Under whatever other names a module keeps its shape, and what it uses goes on to be defined; where the names are in range, so is the
-/// module. So it stays well-formed.
+/// Under whatever other names a module keeps its shape, passes no limit that it didn't pass, and what it uses goes on to be defined; where
+/// the names are in range, so is the module. So it stays well-formed. One over integers alone stays one.
 pub fn renamed_modules_stay_well_formed()
     ensures names { FunctionNamesStay }
     ensures apart { NamesStayApart }
     ensures shape { ShapeStays }
     ensures defined { DefinednessStays }
     ensures range { RangeStays }
+    ensures limits { LimitsStay }
+    ensures integers { IntegersStay }
     ensures well { WellFormednessStays }
 {
     renamed_functions_keep_their_shape();
@@ -33,6 +35,7 @@ pub fn named_modules_stay_well_formed()
     ensures order { GivesOrder named_all }
     ensures shape { KeepsShape named_all }
     ensures defined { KeepsDefined named_all }
+    ensures integers { KeepsIntegers named_all }
     ensures well { KeepsWellFormed named_all }
 {
     named_functions_are_renamed();
@@ -49,6 +52,7 @@ pub fn numbered_modules_stay_well_formed()
     ensures order { GivesOrder numbered_in_order }
     ensures shape { KeepsShape numbered_in_order }
     ensures defined { KeepsDefined numbered_in_order }
+    ensures integers { KeepsIntegers numbered_in_order }
     ensures well { KeepsWellFormed numbered_in_order }
 {
     numbered_functions_are_renamed();
@@ -58,7 +62,7 @@ pub fn numbered_modules_stay_well_formed()
 /// The body calls laws alone, since the clauses are laws.
 ///
 /// What a text spells, and can be run, is named and printed as a text that spells what was named, and that can be run. So is whatever
-/// well-formed module without named types, where the names of its functions are in order.
+/// well-formed module over integers alone without named types, where the names of its functions are in order.
 pub fn named_modules_can_be_run()
     ensures read { CanBeRead named_all }
     ensures run { CanBeRun named_all }
@@ -66,6 +70,7 @@ pub fn named_modules_can_be_run()
 {
     named_modules_stay_well_formed();
     printed_modules_are_read();
+    spelled_modules_fit();
 }
 
 /// The body calls laws alone, since the clauses are laws.
@@ -78,6 +83,7 @@ pub fn numbered_modules_can_be_run()
 {
     numbered_modules_stay_well_formed();
     printed_modules_are_read();
+    spelled_modules_fit();
 }
 
 /// The body calls laws alone, since the clauses are laws.

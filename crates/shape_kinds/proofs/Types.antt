@@ -13,19 +13,22 @@ use Rattle.shape_kinds.specs.Kept.{found_in, lent, type_in}
 use Rattle.shape_kinds.specs.Typed.{none_typed, or_else, type_at, with_type}
 use Rattle.shape_kinds.proofs.Entries.{or_none, put_entry}
 
--- where a register of that name is there
-pub put_there : (types : Kept) (name : Name) (t : Ty) (v : Bor Ty) → found_in types name ≡ Some v → type_in types ≡ with_type (type_in types) name t
+-- where a register of that name is there, its type is put again
+pub put_there : (types other new : Kept) (name : Bor Name) (t first : Bor Ty) → found_in types name.now ≡ Some first
+    → other.first.entries ≡ insert_entry (λ (x y : Bor Name). same_name x.now y.now) types.first.entries name t
+    → new.first.entries ≡ insert_entry (λ (x y : Bor Name). same_name x.now y.now) other.first.entries name first → type_in new ≡ with_type (type_in types) name.now t.now
 unfolding type_in with_type
-put_there types name t v there = λ i n. at n i
+put_there types other new name t first there put again = λ i n. at n i
   where
-    at : (n : Name) → lent (found_in types n) ≡ or_else (lent (found_in types n)) (type_at name t n)
-    at n = go (same_name n name) refl
+    at : (n : Name) → lent (found_in new n) ≡ or_else (lent (found_in types n)) (type_at name.now t.now n)
+    at n =
+        ap lent (ap (lookup (λ (q : Bor Name). same_name n q.now)) again ∙ put_entry (λ (q : Bor Name). q.now) n name first other.first.entries)
+        ∙ ap (λ o. lent (cond (same_name n name.now) (Some first) o)) (ap (lookup (λ (q : Bor Name). same_name n q.now)) put ∙ put_entry (λ (q : Bor Name). q.now) n name t types.first.entries)
+        ∙ go (same_name n name.now) refl
       where
-        go : (b : Bool) → same_name n name ≡ b → lent (found_in types n) ≡ or_else (lent (found_in types n)) (if b then Some t else None)
+        go : (b : Bool) → same_name n name.now ≡ b → lent (cond b (Some first) (cond b (Some t) (found_in types n))) ≡ or_else (lent (found_in types n)) (if b then Some t.now else None)
         go false e = sym (or_none (lent (found_in types n)))
-        go true e =
-            let found : found_in types n ≡ Some v = ap (found_in types) (same_name_true n name e) ∙ there in
-            ap lent found ∙ sym (ap (λ o. or_else (lent o) (Some t)) found)
+        go true e = sym (ap (λ o. or_else (lent o) (Some t.now)) (ap (found_in types) (same_name_true n name.now e) ∙ there))
 
 -- where none is there, it is put
 pub put_new : (types new : Kept) (name : Bor Name) (t : Bor Ty) → found_in types name.now ≡ None

@@ -1,8 +1,9 @@
 //! Names in an order that are lent, each found without a walk through the others.
 ghost use Rattle.std.specs.Prelude.{◌≡◌};
 
+use crate::room::names_at_most;
 use indexmap::IndexSet;
-use ir_core::Name;
+use ir_core::{Function, Name};
 use std::alloc::{AllocError, Global};
 use std::marker::Model;
 
@@ -39,6 +40,13 @@ impl<'a> LentNames<'a> {
         Ok(LentNames {
             names: IndexSet::with_capacity(alloc, names)?,
         })
+    }
+
+    /// There is room for the names of the function.
+    pub fn for_function(alloc: Global, function: &Function) -> Result<LentNames<'a>, AllocError>
+        ensures { IfOk result (λ names. names ≡ []) }
+    {
+        LentNames::with_room(alloc, names_at_most(function))
     }
 
     pub fn new(alloc: Global) -> LentNames<'a>

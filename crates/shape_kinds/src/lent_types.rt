@@ -2,8 +2,9 @@
 ghost use Rattle.std.specs.Prelude.{◌≡◌};
 ghost use Rattle.shape_kinds.specs.Kept.{found_in, type_in};
 
+use crate::room::names_at_most;
 use indexmap::IndexMap;
-use ir_core::{Name, Ty};
+use ir_core::{Function, Name, Ty};
 use std::alloc::{AllocError, Global};
 
 /// The type of each name, as it is first told.
@@ -18,7 +19,7 @@ impl<'a> Drop for LentTypes<'a> {
 }
 
 impl<'a> LentTypes<'a> {
-    ghost use Rattle.std.specs.Prelude.{OnOk};
+    ghost use Rattle.std.specs.Prelude.{IfOk, OnOk};
     ghost use Rattle.std.specs.Option.{option_copied};
     ghost use Rattle.shape_kinds.specs.Typed.{none_typed, with_type};
 
@@ -28,6 +29,22 @@ impl<'a> LentTypes<'a> {
         LentTypes {
             first: IndexMap::new(alloc),
         }
+    }
+
+    /// There is room for so many.
+    pub fn with_room(alloc: Global, names: usize) -> Result<LentTypes<'a>, AllocError>
+        ensures { IfOk result (λ types. type_in types ≡ none_typed) }
+    {
+        Ok(LentTypes {
+            first: IndexMap::with_capacity(alloc, names)?,
+        })
+    }
+
+    /// There is room for the names of the function.
+    pub fn for_function(alloc: Global, function: &Function) -> Result<LentTypes<'a>, AllocError>
+        ensures { IfOk result (λ types. type_in types ≡ none_typed) }
+    {
+        LentTypes::with_room(alloc, names_at_most(function))
     }
 
     fn found(&self, name: &Name) -> Option<&'a Ty>
@@ -46,10 +63,11 @@ impl<'a> LentTypes<'a> {
     pub fn put(&mut self, name: &'a Name, ty: &'a Ty) -> Result<(), AllocError>
         ensures { OnOk result (type_in self.new ≡ with_type (type_in self.old) name.now ty.now) }
     {
-        match self.found(name) {
-            Some(_) => Ok(()),
-            None => {
-                self.first.insert(name, ty)?;
+        // A name that is there keeps its place and its first type.
+        match self.first.insert(name, ty)? {
+            None => Ok(()),
+            Some(first) => {
+                self.first.insert(name, first)?;
                 Ok(())
             }
         }

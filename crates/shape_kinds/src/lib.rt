@@ -5,6 +5,7 @@ mod kind;
 mod kinds;
 mod lent;
 mod lent_types;
+mod room;
 
 pub use kind::ShapeKind;
 pub use kinds::{fault_unless, least, points_to};

@@ -4,6 +4,7 @@ pub mod Fit
 pub mod Flat
 pub mod Found
 pub mod Grammars
+pub mod Integers
 pub mod Instances
 pub mod Judged
 pub mod Judging

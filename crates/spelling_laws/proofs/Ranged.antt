@@ -20,7 +20,8 @@ use Rattle.ir_core.specs.declared.operands.Const.TheVariants as const
 use Rattle.ir_types.specs.declared.ty.Ty.{Ty}
 use Rattle.ir_types.specs.declared.ty.Ty.TheVariants.{Int}
 use Rattle.ir_core.specs.Functions.{block_names, cases_of, phi_registers, set_by, typed_of}
-use Rattle.ir_core.specs.Ranges.{AreFlagsInRange, IsAtomInRange, IsCaseInRange, IsFunctionInRange, IsLineInRange, IsNameInRange, IsOperandInRange, IsResultInRange, IsTypeInRange, may_have, may_leave, may_wrap}
+use Rattle.ir_core.proofs.Narrow.{AreNarrowFlags, IsNarrowAtom, IsNarrowCase, IsNarrowFunction, IsNarrowLine, IsNarrowOperand, IsNarrowResult, IsNarrowType}
+use Rattle.ir_core.specs.Ranges.{IsNameInRange, may_have, may_leave, may_wrap}
 use Rattle.ir_core.specs.Types.{constant_fits, is_width}
 use Rattle.ir_lexer.specs.declared.token.Number as lexed
 use Rattle.ir_grammar.specs.declared.operators.ExactOp.{ExactOp}
@@ -88,7 +89,7 @@ params_in_range (w ∷ ws) [] range zip = absurd zip
 params_in_range (w ∷ ws) (p ∷ ps) range zip =
     (named_in_range w.name p.name (local_range w.name range.0.1) zip.0.0, params_in_range ws ps range.1 zip.1)
 
-params_not_extended : (ws : List ParamText) (ps : List Param) → AllZip IsParam ws ps → AllByRecursion (λ (e : Extensions). e ≡ not_extended) (map (λ (p : Param). p.extensions) ps)
+pub params_not_extended : (ws : List ParamText) (ps : List Param) → AllZip IsParam ws ps → AllByRecursion (λ (e : Extensions). e ≡ not_extended) (map (λ (p : Param). p.extensions) ps)
 params_not_extended [] [] zip = tt
 params_not_extended [] (p ∷ ps) zip = absurd zip
 params_not_extended (w ∷ ws) [] zip = absurd zip
@@ -153,42 +154,42 @@ int_fits : (width : ℕ) (i : IntText) (k : ℕ) → int_of width i ≡ Some k �
 int_fits width (integer.Number n) k e = kept_fits width n.what k e
 int_fits width (integer.Truth b) k e = truth_fits width b.what k e
 
-number_in_range : (width : ℕ) (n : Option ℕ) (atom : Atom Name) → ((k : ℕ) → n ≡ Some k → k < 2 ^ width) → IsNumber n atom → IsAtomInRange (Int width) atom
+number_in_range : (width : ℕ) (n : Option ℕ) (atom : Atom Name) → ((k : ℕ) → n ≡ Some k → k < 2 ^ width) → IsNumber n atom → IsNarrowAtom (Int width) atom
 number_in_range width None atom small is = absurd is
-number_in_range width (Some k) atom small is = subst (IsAtomInRange (Int width)) (sym is) (lt-ltb k (2 ^ width) (small k refl))
+number_in_range width (Some k) atom small is = subst (IsNarrowAtom (Int width)) (sym is) (lt-ltb k (2 ^ width) (small k refl))
 
-value_in_range : (registers : List (Name × Ty)) (width : ℕ) (v : ValueText) (atom : Atom Name) → IsValue registers width v atom → IsAtomInRange (Int width) atom
+value_in_range : (registers : List (Name × Ty)) (width : ℕ) (v : ValueText) (atom : Atom Name) → IsValue registers width v atom → IsNarrowAtom (Int width) atom
 value_in_range registers width (text.Int i) atom is = number_in_range width (int_of width i) atom (int_fits width i) is
-value_in_range registers width text.Undef atom is = subst (IsAtomInRange (Int width)) (sym is) refl
-value_in_range registers width (text.Local name) atom is = subst (IsAtomInRange (Int width)) (sym is.2) tt
+value_in_range registers width text.Undef atom is = subst (IsNarrowAtom (Int width)) (sym is) refl
+value_in_range registers width (text.Local name) atom is = subst (IsNarrowAtom (Int width)) (sym is.2) tt
 value_in_range registers width (text.Tagged t name) atom is = absurd is.1
 
 -- ---- cases
 
-case_in_range : (labels : List Name) (w : CaseText) (c : Case) → CaseHas IsSymbolInRange w → IsCase labels w c → IsCaseInRange c
+case_in_range : (labels : List Name) (w : CaseText) (c : Case) → CaseHas IsSymbolInRange w → IsCase labels w c → IsNarrowCase c
 case_in_range labels w c range is =
-    let at : Ty → Type 0 = λ t. IsTypeInRange t × (constant_fits t (const.Number c.number) ≡ true) in
+    let at : Ty → Type 0 = λ t. IsNarrowType t × (constant_fits t (const.Number c.number) ≡ true) in
     subst at (sym is.0) (range.0, lt-ltb c.number (2 ^ w.ty.what) (int_fits w.ty.what w.number c.number is.1))
 
-cases_in_range : (labels : List Name) (ws : List CaseText) (cs : List Case) → AllByRecursion (CaseHas IsSymbolInRange) ws → AllZip (IsCase labels) ws cs → AllByRecursion IsCaseInRange cs
+cases_in_range : (labels : List Name) (ws : List CaseText) (cs : List Case) → AllByRecursion (CaseHas IsSymbolInRange) ws → AllZip (IsCase labels) ws cs → AllByRecursion IsNarrowCase cs
 cases_in_range labels [] [] range zip = tt
 cases_in_range labels [] (c ∷ cs) range zip = absurd zip
 cases_in_range labels (w ∷ ws) [] range zip = absurd zip
 cases_in_range labels (w ∷ ws) (c ∷ cs) range zip = (case_in_range labels w c range.0 zip.0, cases_in_range labels ws cs range.1 zip.1)
 
-term_in_range : (registers : List (Name × Ty)) (labels : List Name) (w : TermText) (t : Term) → IsTerm registers labels w t → TermHas IsSymbolInRange w → AllByRecursion IsCaseInRange (cases_of t)
+term_in_range : (registers : List (Name × Ty)) (labels : List Name) (w : TermText) (t : Term) → IsTerm registers labels w t → TermHas IsSymbolInRange w → AllByRecursion IsNarrowCase (cases_of t)
 term_in_range registers labels =
-    term_cases registers labels (λ w t. TermHas IsSymbolInRange w → AllByRecursion IsCaseInRange (cases_of t))
+    term_cases registers labels (λ w t. TermHas IsSymbolInRange w → AllByRecursion IsNarrowCase (cases_of t))
     (λ w o is range. tt) (λ range. tt) (λ w label is range. tt) (λ w c is range. tt)
     (λ w s is range. cases_in_range labels w.cases s.cases range.2 is.2)
     (λ range. tt)
 
-all_cases : (registers : List (Name × Ty)) (labels : List Name) (ws : List BlockText) (bs : List Block) → AllByRecursion (BlockHas IsSymbolInRange) ws → AllZip (NamesBlock registers labels) ws bs → AllByRecursion IsCaseInRange (flat_map (λ (b : Block). cases_of b.term) bs)
+all_cases : (registers : List (Name × Ty)) (labels : List Name) (ws : List BlockText) (bs : List Block) → AllByRecursion (BlockHas IsSymbolInRange) ws → AllZip (NamesBlock registers labels) ws bs → AllByRecursion IsNarrowCase (flat_map (λ (b : Block). cases_of b.term) bs)
 all_cases registers labels [] [] range zip = tt
 all_cases registers labels [] (b ∷ bs) range zip = absurd zip
 all_cases registers labels (w ∷ ws) [] range zip = absurd zip
 all_cases registers labels (w ∷ ws) (b ∷ bs) range zip =
-    all_append IsCaseInRange (cases_of b.term) (flat_map (λ (b : Block). cases_of b.term) bs) (term_in_range registers labels w.term b.term zip.0.ends range.0.term) (all_cases registers labels ws bs range.1 zip.1)
+    all_append IsNarrowCase (cases_of b.term) (flat_map (λ (b : Block). cases_of b.term) bs) (term_in_range registers labels w.term b.term zip.0.ends range.0.term) (all_cases registers labels ws bs range.1 zip.1)
 
 -- ---- flags
 
@@ -222,13 +223,13 @@ flags_fit (operators.Exact op is_exact) =
     all_three true true (not is_exact || may) refl refl (allowed is_exact may (leaves op))
 flags_fit (operators.Plain op) = refl
 
-operation_flagged : (registers : List (Name × Ty)) (w : OperationText) (e : Expr Name) → IsOperation (IsValue registers) w e → AreFlagsInRange e
+operation_flagged : (registers : List (Name × Ty)) (w : OperationText) (e : Expr Name) → IsOperation (IsValue registers) w e → AreNarrowFlags e
 operation_flagged registers =
-    operation_cases (IsValue registers) (λ w e. AreFlagsInRange e)
+    operation_cases (IsValue registers) (λ w e. AreNarrowFlags e)
     (λ w b is. ap (λ op. may_have op b.flags) is.0 ∙ ap (may_have (operator_op w.operator)) is.1 ∙ flags_fit w.operator)
     (λ w c is. tt) (λ w c is. tt) (λ w s is. tt)
 
-lines_flagged : (registers : List (Name × Ty)) (ws : List LineText) (ls : List Instr) → AllZip (IsLine registers) ws ls → AllByRecursion IsLineInRange ls
+lines_flagged : (registers : List (Name × Ty)) (ws : List LineText) (ls : List Instr) → AllZip (IsLine registers) ws ls → AllByRecursion IsNarrowLine ls
 lines_flagged registers [] [] zip = tt
 lines_flagged registers [] (l ∷ ls) zip = absurd zip
 lines_flagged registers (w ∷ ws) [] zip = absurd zip
@@ -236,29 +237,28 @@ lines_flagged registers (w ∷ ws) (instr.Calm c ∷ ls) zip =
     (operation_flagged registers w.operation c.right zip.0.1, lines_flagged registers ws ls zip.1)
 lines_flagged registers (w ∷ ws) (l ∷ ls) zip = absurd zip.0
 
-blocks_flagged : (registers : List (Name × Ty)) (labels : List Name) (ws : List BlockText) (bs : List Block) → AllZip (NamesBlock registers labels) ws bs → AllByRecursion IsLineInRange (flat_map (λ (b : Block). b.body) bs)
+pub blocks_flagged : (registers : List (Name × Ty)) (labels : List Name) (ws : List BlockText) (bs : List Block) → AllZip (NamesBlock registers labels) ws bs → AllByRecursion IsNarrowLine (flat_map (λ (b : Block). b.body) bs)
 blocks_flagged registers labels [] [] zip = tt
 blocks_flagged registers labels [] (b ∷ bs) zip = absurd zip
 blocks_flagged registers labels (w ∷ ws) [] zip = absurd zip
 blocks_flagged registers labels (w ∷ ws) (b ∷ bs) zip =
-    all_append IsLineInRange b.body (flat_map (λ (b : Block). b.body) bs) (lines_flagged registers w.body.lines b.body zip.0.lines) (blocks_flagged registers labels ws bs zip.1)
+    all_append IsNarrowLine b.body (flat_map (λ (b : Block). b.body) bs) (lines_flagged registers w.body.lines b.body zip.0.lines) (blocks_flagged registers labels ws bs zip.1)
 
 -- ---- functions
 
-result_in_range : (w : Option (Placed ℕ)) (ty : Ty) → AllByRecursion IsSymbolInRange (write.result w) → IsResult w ty → IsResultInRange ty
-result_in_range None ty range is = subst IsResultInRange (sym is) tt
-result_in_range (Some w) ty range is = subst IsResultInRange (sym is) range.0
+result_in_range : (w : Option (Placed ℕ)) (ty : Ty) → AllByRecursion IsSymbolInRange (write.result w) → IsResult w ty → IsNarrowResult ty
+result_in_range None ty range is = subst IsNarrowResult (sym is) tt
+result_in_range (Some w) ty range is = subst IsNarrowResult (sym is) range.0
 
-pub ranged : (d : DefinitionText) (f : Function) → AreWrittenInRange d → NamesFunction d f → IsFunctionInRange f
+pub ranged : (d : DefinitionText) (f : Function) → AreWrittenInRange d → NamesFunction d f → IsNarrowFunction f
 ranged d f range n = record {
   name = subst IsNameInRange (sym n.name) range.name;
   names = all_append IsNameInRange (param_names f.params) (flat_map block_names f.blocks) (params_in_range d.params f.params range.params n.params) (blocks_in_range (typed_of f) (labels_of f) (blocks_in d) f.blocks range.blocks n.blocks);
   result = result_in_range d.result f.result range.result n.result;
-  registers = registers_typed IsSymbolInRange IsTypeInRange (λ w range. range) refl d f range n;
-  operands = operands_walked IsSymbolInRange IsOperandInRange d f (λ w v atom range is. (range, value_in_range (typed_of f) w.what v atom is)) range n;
+  registers = registers_typed IsSymbolInRange IsNarrowType (λ w range. range) refl d f range n;
+  operands = operands_walked IsSymbolInRange IsNarrowOperand d f (λ w v atom range is. (range, value_in_range (typed_of f) w.what v atom is)) range n;
   flags = blocks_flagged (typed_of f) (labels_of f) (blocks_in d) f.blocks n.blocks;
   cases = all_cases (typed_of f) (labels_of f) (blocks_in d) f.blocks range.blocks n.blocks;
-  lines = n.few;
   linkage = n.linkage;
   extensions = (n.extensions, params_not_extended d.params f.params n.params);
 }

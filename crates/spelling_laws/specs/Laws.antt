@@ -3,6 +3,7 @@ use Rattle.std.specs.Prelude.{◌≡◌, ◌⊎◌, ◌≤◌, ℕ, List, length
 use Rattle.std.specs.List.{AllByRecursion}
 use Rattle.ir_core.specs.declared.modules.Module.{Module}
 use Rattle.ir_types.specs.declared.names.Sigil.{Sigil}
+use Rattle.ir_core.specs.Integers.{IsOverIntegers}
 use Rattle.ir_core.specs.Limits.{text_limit}
 use Rattle.ir_core.specs.Order.{IsInOrder}
 use Rattle.ir_core.specs.Ranges.{AreBytes, IsInRange}
@@ -48,6 +49,10 @@ ModulesAreShort = (bytes : List ℕ) (m : Module) → Spells bytes m → AllByRe
 -- its names, types and constants are in range, since the text is made of bytes
 abbrev pub ModulesAreInRange : Type 0
 ModulesAreInRange = (bytes : List ℕ) (m : Module) → AreBytes bytes → Spells bytes m → IsInRange m
+
+-- and it is over integers alone, as texts write nothing else yet
+abbrev pub ModulesAreOverIntegers : Type 0
+ModulesAreOverIntegers = (bytes : List ℕ) (m : Module) → Spells bytes m → IsOverIntegers m
 
 -- ---- faults
 

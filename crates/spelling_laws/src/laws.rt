@@ -2,9 +2,9 @@ ghost use Rattle.ir_types.specs.declared.names.Sigil.{Sigil};
 ghost use Rattle.ir_naming.specs.Expressions.{IsNameOf, NamesExpression};
 ghost use Rattle.ir_naming.specs.Spells.{NamesModule};
 ghost use Rattle.ir_spelling.specs.Forms.{expression_form, module_form, name_form};
-ghost use Rattle.spelling_laws.specs.Laws.{ModulesAreOne, ExpressionsAreOne, NamesAreOne, ModulesAreInOrder, ModulesHaveShape, ModulesAreShort, ModulesAreInRange, FaultsExclude, FaultsAreOne, EachIsJudged};
+ghost use Rattle.spelling_laws.specs.Laws.{ModulesAreOne, ExpressionsAreOne, NamesAreOne, ModulesAreInOrder, ModulesHaveShape, ModulesAreShort, ModulesAreInRange, ModulesAreOverIntegers, FaultsExclude, FaultsAreOne, EachIsJudged};
 
-use ir_shape::faultless_modules_have_shape;
+use shape_laws::faultless_modules_have_shape;
 use tree_reader::written_once;
 
 /// The body calls a law alone, since the clauses are laws.
@@ -20,13 +20,14 @@ pub fn texts_spell_one()
 
 /// The body calls a law alone, since the clauses are laws.
 ///
-/// Each module that a text spells has its names in order, is within the limit on lines, and all of it is in range. It has shape where it has no fault of shape; so it
-/// is well-formed where its registers are defined before they are used, too.
+/// Each module that a text spells has its names in order, is within the limit on lines, and is over integers alone, all of it in range. It
+/// has shape where it has no fault of shape; so it is well-formed where its registers are defined before they are used, too.
 pub fn spelled_modules_fit()
     ensures order { ModulesAreInOrder }
     ensures shape { ModulesHaveShape }
     ensures short { ModulesAreShort }
     ensures range { ModulesAreInRange }
+    ensures integers { ModulesAreOverIntegers }
 {
     faultless_modules_have_shape();
 }

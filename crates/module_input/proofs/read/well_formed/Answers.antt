@@ -3,8 +3,11 @@ use Rattle.module_input.proofs.read.well_formed.Goals as goal
 
 pub returns-clause-well_formed : goal.returns-clause-well_formed
 returns-clause-well_formed c =
-    fitting c.args.text.now c.args.module.now c.requires c.spelled_modules_fit.ensures.shape c.spelled_modules_fit.ensures.range (are_bytes c.args.text.now c.type_inv.text) c.fits.result
-    c.fits.ensures.faultless c.fits.ensures.defined
+    let m = c.args.module.now in
+    let range = c.spelled_modules_fit.ensures.range c.args.text.now m (are_bytes c.args.text.now c.type_inv.text) c.requires in
+    let limits = c.ranges_lie_within.ensures m range (c.spelled_modules_fit.ensures.integers c.args.text.now m c.requires) in
+    fitting c.args.text.now m c.requires c.spelled_modules_fit.ensures.shape range
+    (limits.0, c.spelled_modules_fit.ensures.short c.args.text.now m c.requires, limits.1) c.fits.result c.fits.ensures.faultless c.fits.ensures.defined
 
 pub returns-clause-fault : goal.returns-clause-fault
 returns-clause-fault c = told_of_text c.args.text.now c.args.module.now c.requires c.fits.result c.fits.ensures.fault
@@ -16,5 +19,5 @@ pub fits-requires-clause-within : goal.fits-requires-clause-within
 fits-requires-clause-within c =
     let m = c.args.module.now in
     let range = c.spelled_modules_fit.ensures.range c.args.text.now m (are_bytes c.args.text.now c.type_inv.text) c.requires in
-    let limits = c.ranges_lie_within.ensures m range in
+    let limits = c.ranges_lie_within.ensures m range (c.spelled_modules_fit.ensures.integers c.args.text.now m c.requires) in
     (limits.0, c.spelled_modules_fit.ensures.short c.args.text.now m c.requires, limits.1)

@@ -1,5 +1,5 @@
 -- What is spelled has its names in order, has shape, and is in range.
-use Rattle.spelling_laws.proofs.Fit.{has_shape, in_order, in_range, short}
+use Rattle.spelling_laws.proofs.Fit.{has_shape, in_order, in_range, over_integers, short}
 use Rattle.spelling_laws.proofs.laws.spelled_modules_fit.Goals as goal
 
 pub returns-clause-order : goal.returns-clause-order
@@ -13,3 +13,6 @@ returns-clause-short c = short
 
 pub returns-clause-range : goal.returns-clause-range
 returns-clause-range c = in_range
+
+pub returns-clause-integers : goal.returns-clause-integers
+returns-clause-integers c = over_integers

@@ -1,0 +1,34 @@
+-- One definition in the place of another, as what an optimisation makes of it.
+use Rattle.std.specs.Prelude.{◌≡◌, List, [], ◌∷◌, map}
+use Rattle.ir_core.specs.declared.functions.Extensions.{Extensions}
+use Rattle.ir_core.specs.declared.functions.Function.{Function}
+use Rattle.ir_core.specs.declared.functions.Param.{Param}
+use Rattle.ir_types.specs.declared.names.Name.{Name}
+use Rattle.ir_types.specs.declared.ty.Ty.{Ty}
+use Rattle.ir_core.specs.Functions.{params_of}
+
+-- These parameters, each widened as the one at its place was; there is none at the place of a further one, which stays as it is.
+abbrev pub widened_as : List Extensions → List Param → List Param
+widened_as [] ps = ps
+widened_as es [] = []
+widened_as (e ∷ es) (p ∷ ps) = record { name = p.name; ty = p.ty; extensions = e } ∷ widened_as es ps
+
+abbrev pub widening_of : List Param → List Extensions
+widening_of = map (λ (p : Param). p.extensions)
+
+-- The parameters and blocks of `g`, where `f` stood: its linkage, its name, its result, and what widens are those of `f`.
+abbrev pub placed : Function → Function → Function
+placed f g = record {
+  linkage = f.linkage;
+  result_extensions = f.result_extensions;
+  result = f.result;
+  name = f.name;
+  params = widened_as (widening_of f.params) g.params;
+  blocks = g.blocks;
+}
+
+-- In its own place a definition is itself, and what is put there again stays as it is. Parameters keep their names and types.
+pub record PlacesAreKept : Type 0 where
+  pub itself : (f : Function) → placed f f ≡ f
+  pub again : (f g : Function) → placed f (placed f g) ≡ placed f g
+  pub params : (f g : Function) → params_of (placed f g) ≡ params_of g

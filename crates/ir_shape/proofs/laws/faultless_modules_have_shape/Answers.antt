@@ -1,5 +1,0 @@
-use Rattle.ir_shape.proofs.Shapely.{faultless_modules_have_shape}
-use Rattle.ir_shape.proofs.laws.faultless_modules_have_shape.Goals as goal
-
-pub returns : goal.returns
-returns c = faultless_modules_have_shape

@@ -1,9 +1,0 @@
-use Rattle.std.proofs.Common.{◌≡◌, drop}
-use Rattle.ir_core.specs.Functions.{phi_registers}
-use Rattle.shape_kinds.specs.Kept.{type_in}
-use Rattle.shape_kinds.specs.Typed.{with_types}
-use Rattle.ir_shape.proofs.types.put_phis.Given as goal
-
-abbrev pub invariant-loop-phi : goal.invariant-loop-phi
-invariant-loop-phi l =
-    with_types (type_in l.types) (phi_registers (drop l.phi-index l.phis)) ≡ with_types (type_in l.initial.types) (phi_registers l.phis)

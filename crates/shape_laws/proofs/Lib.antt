@@ -1,0 +1,14 @@
+pub mod Faults
+pub mod Names
+pub mod Lines
+pub mod Phis
+pub mod Ends
+pub mod Blocks
+pub mod Functions
+pub mod Shapely
+pub mod Levels
+pub mod SameTypes
+pub mod Examples
+pub mod TypeExamples
+pub mod StatedExamples
+pub mod MemoryExamples
