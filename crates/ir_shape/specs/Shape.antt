@@ -107,7 +107,7 @@ abbrev pub in_function : Module → Bool → Function → List ShapeFault
 in_function m taken f =
     fault_at f.name None (name_kind taken f.name)
     ++ (fault_at f.name None (header_kind m (are_new [] (names_in (params_of f))) f)
-    ++ in_body m f (labels_of f) (types_of f) (with_names [] (names_in (params_of f))) f.blocks)
+    ++ in_body m f (labels_of f) (types_of m f) (with_names [] (names_in (params_of f))) f.blocks)
 
 abbrev pub in_declaration : Module → Bool → Declaration → List ShapeFault
 in_declaration m taken d = fault_at d.name None (name_kind taken d.name) ++ fault_at d.name None (declared_kind m d)

@@ -12,6 +12,7 @@ ghost use Rattle.ir_shape.specs.Shape as meaning;
 ghost use Rattle.ir_shape.specs.Shape.{IsFirstOf};
 ghost use Rattle.line_shapes.specs.Told as told;
 
+use crate::apart::{are_apart, new_body_fits};
 use crate::{LinePlace, ShapeEnd, ShapeFault};
 use contents::Exact;
 use ir_core::{BitType, Block, Function, Instr, Name, Phi, Sigil};
@@ -44,7 +45,7 @@ fn fault_in_line(
 
 /// Whether the line of that number has no fault.
 #[inline(always)]
-fn line_fits(
+pub(crate) fn line_fits(
     alloc: Global,
     function: &Name,
     block: &Name,
@@ -353,6 +354,17 @@ fn params_fit<'a>(
     Ok(names)
 }
 
+/// The names of a function's parameters.
+fn param_names<'a>(alloc: Global, function: &'a Function) -> Result<LentNames<'a>, AllocError>
+    ensures { IfOk result (λ names. names ≡ with_names [] (functions.names_in (functions.params_of «function».now))) }
+{
+    let mut names = LentNames::for_function(alloc, function)?;
+    for param in function.params.as_slice() {
+        names.take(&param.name)?;
+    }
+    Ok(names)
+}
+
 /// Whether the blocks of a function have no fault, behind its parameters of these names.
 fn all_blocks_fit<'a>(
     alloc: Global,
@@ -360,15 +372,21 @@ fn all_blocks_fit<'a>(
     function: &'a Function,
     params: LentNames<'a>,
 ) -> Result<(), ShapeEnd>
+    requires { params ≡ with_names [] (functions.names_in (functions.params_of «function».now)) }
     ensures fits { IfOk result
-        (λ _. meaning.in_body beside.now «function».now (fitting.labels_of «function».now) (fitting.types_of «function».now) params.entry «function».now.blocks ≡ []) }
+        (λ _. meaning.in_body beside.now «function».now (fitting.labels_of «function».now) (fitting.types_of beside.now «function».now) params.entry «function».now.blocks ≡ []) }
     ensures fault { IfErr result
         (IsFirstOf
-        (meaning.in_body beside.now «function».now (fitting.labels_of «function».now) (fitting.types_of «function».now) params.entry «function».now.blocks)) }
+        (meaning.in_body beside.now «function».now (fitting.labels_of «function».now) (fitting.types_of beside.now «function».now) params.entry «function».now.blocks)) }
 {
     let bit = BitType::new();
     let scope = scope_of(alloc, &bit, beside, function)?;
-    body_fits(alloc, function, &scope, params, function.blocks.as_slice())
+    let blocks = function.blocks.as_slice();
+    if are_apart(params, blocks)? {
+        return new_body_fits(alloc, function, &scope, blocks);
+    }
+    let names = param_names(alloc, function)?;
+    body_fits(alloc, function, &scope, names, blocks)
 }
 
 /// Whether a function's or a declaration's name has no fault, which may be taken.

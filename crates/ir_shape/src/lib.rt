@@ -2,6 +2,7 @@
 //! lines, calls, terminators, constants and initialisers fit their types, and what wants a size has one.
 #![tactic(auto)]
 
+mod apart;
 mod fault;
 mod first;
 mod modules;

@@ -120,6 +120,14 @@ fn functions_fit<'a>(
     declarations_fit(alloc, beside, names, rest)
 }
 
+/// How many globals and functions there are: what it says decides nothing but where memory is taken.
+fn values_in(module: &Module) -> usize {
+    let functions = module.functions.len();
+    let declared = module.declarations.len();
+    let globals = module.globals.len();
+    globals.saturating_add(functions).saturating_add(declared)
+}
+
 /// Whether a module has no fault but in its named types: none in its globals, and none in its functions.
 fn values_fit(alloc: Global, beside: &Beside, module: &Module) -> Result<(), ShapeEnd>
     ensures fits { IfOk result
@@ -131,7 +139,7 @@ fn values_fit(alloc: Global, beside: &Beside, module: &Module) -> Result<(), Sha
         (meaning.in_globals beside.now [] «module».now.globals
         ++ meaning.in_functions beside.now (meaning.with_globals [] «module».now.globals) 0 «module».now.declarations «module».now.functions)) }
 {
-    let mut names = LentNames::new(alloc);
+    let mut names = LentNames::with_room(alloc, values_in(module))?;
     globals_fit(alloc, beside, &mut names, module.globals.as_slice())?;
     functions_fit(
         alloc,

@@ -43,7 +43,7 @@ pub(crate) fn types_fit(alloc: Global, beside: &Beside, types: &[NamedTy]) -> Re
     ensures fits { IfOk result (λ _. meaning.in_types beside.now [] types.now ≡ []) }
     ensures fault { IfErr result (IsFirstOf (meaning.in_types beside.now [] types.now)) }
 {
-    let mut names = LentNames::new(alloc);
+    let mut names = LentNames::with_room(alloc, types.len())?;
     for named in types {
         let taken = names.take(&named.name)?;
         type_fits(alloc, beside, taken, named)?;

@@ -36,10 +36,11 @@ use Rattle.shape_tests.specs.Kinds.{are_labels, branch_fits, cases_fit, froms_of
 
 -- ---- operands
 
--- a register is one of the function's, and of the type that is stated
-abbrev pub register_kind : Option Ty → Ty → Option ShapeKind
+-- a register is one of the function's, and of the type that is stated, where it has one
+abbrev pub register_kind : Option (Option Ty) → Ty → Option ShapeKind
 register_kind None t = Some kind.Name
-register_kind (Some own) t = fault_unless (same_ty own t) kind.OperandType
+register_kind (Some None) t = None
+register_kind (Some (Some own)) t = fault_unless (same_ty own t) kind.OperandType
 
 abbrev pub atom_kind : Module → Types → Ty → Atom Name → Option ShapeKind
 atom_kind m types t (Constant c) = constant_kind m t c

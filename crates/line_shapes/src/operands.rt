@@ -11,13 +11,14 @@ use ir_core::{Argument, Atom, Entry, Expr, Instr, Name, Operand, Term, Ty, same_
 use operand_tests::{Beside, constant_kind};
 use shape_kinds::{LentTypes, ShapeKind, fault_unless, least};
 
-/// What is wrong with a register that is stated at that type, if anything is.
+/// What is wrong with a register that is stated at that type, if anything is: it isn't there, or is of another type.
 fn register_kind(types: &LentTypes, ty: &Ty, name: &Name) -> Option<ShapeKind>
     ensures { result ≡ meaning.register_kind (type_in types.now name.now) ty.now }
 {
     match types.get(name) {
         None => Some(ShapeKind::Name),
-        Some(own) => fault_unless(same_ty(own, ty), ShapeKind::OperandType),
+        Some(None) => None,
+        Some(Some(own)) => fault_unless(same_ty(own, ty), ShapeKind::OperandType),
     }
 }
 

@@ -41,13 +41,13 @@ pub fn scope_of<'a>(
 ) -> Result<Scope<'a>, AllocError>
     ensures beside { IfOk result (λ scope. scope.beside.now ≡ beside.now) }
     ensures labels { IfOk result (λ scope. scope.labels ≡ fitting.labels_of «function».now) }
-    ensures types { IfOk result (λ scope. type_in scope.types ≡ fitting.types_of «function».now) }
+    ensures types { IfOk result (λ scope. type_in scope.types ≡ fitting.types_of beside.now «function».now) }
     ensures edges { IfOk result
         (λ scope. AllByRecursion (HasEdges scope.labels (rows_of scope.edges.items) «function».now.blocks) «function».now.blocks) }
 {
     let labels = labels_of(alloc, function.blocks.as_slice())?;
     let edges = edges_of(alloc, &labels, function.blocks.as_slice())?;
-    let types = types_of(alloc, bit, function)?;
+    let types = types_of(alloc, beside, bit, function)?;
     Ok(Scope {
         beside,
         labels,

@@ -4,3 +4,4 @@ pub mod Within
 pub mod Small
 pub mod Decided
 pub mod Ranges
+pub mod Clear

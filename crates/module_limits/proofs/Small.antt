@@ -18,6 +18,7 @@ use Rattle.ir_core.specs.Typing.{Index}
 use Rattle.ir_core.proofs.Constants as constants
 use Rattle.ir_core.proofs.Inits as inits
 use Rattle.operand_tests.specs.Addresses.{index_told, number_of}
+use Rattle.operand_tests.specs.Numbers.{IsNumber}
 use Rattle.module_limits.specs.Small.{are_small, constant_small, constants_small, init_small, inits_small, is_small, stepped_small, told_behind, wanted_by_phi}
 
 abbrev index_in : Ty × Wanted → Index
@@ -103,6 +104,9 @@ module _ (types : List NamedTy) where
 
   pub held_small : (c : Const) → init_small types (init.Const c) ≡ constant_small types c
   held_small c = ap (are_small types) (inits.at_const Blocks (wanted_by_init_at types) c)
+
+  pub plain_small : (p : Ty × Init) → IsNumber p → init_small types p.1 ≡ true
+  plain_small p is = ap (λ (q : Ty × Init). init_small types q.1) is.2 ∙ held_small (Number is.1) ∙ number_small is.1
 
   pub zero_small : init_small types Zero ≡ true
   zero_small = ap (are_small types) (inits.at_zero Blocks (wanted_by_init_at types))

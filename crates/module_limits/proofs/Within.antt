@@ -19,6 +19,7 @@ use Rattle.ir_core.specs.declared.operands.Operand.{Operand}
 use Rattle.ir_core.specs.Depths.{deepest, depth_at_level, depth_at_part, depth_of, depth_of_atom, depth_of_constant, depth_of_init, depth_of_init_at, depth_of_operand, depth_of_parts, depths_at_line, depths_at_phi, depths_in, depths_in_block, depths_in_declaration, depths_in_function, depths_in_global, depths_in_named}
 use Rattle.ir_core.proofs.Constants as constants
 use Rattle.ir_core.proofs.Inits as inits
+use Rattle.operand_tests.specs.Numbers.{IsNumber}
 use Rattle.module_limits.specs.Within.{are_shallow, atom_shallow, constant_within, depths_at_end, init_within, is_shallow, part_within, type_within, typed_within}
 
 max_within : (a b n : ℕ) → nat_le (max a b) n ≡ (nat_le a n && nat_le b n)
@@ -127,6 +128,13 @@ no_constant_within = constants.by_parts (λ c. constant_within 0 c ≡ false)
 
 pub held_within : (n : ℕ) (c : Const) → init_within n (init.Const c) ≡ constant_within n c
 held_within n c = ap (λ d. nat_le d n) (inits.at_const ℕ depth_of_init_at c)
+
+pub plain_within : (n : ℕ) (p : Ty × Init) → 0 < n → IsNumber p → part_within n p ≡ true
+plain_within n p positive is =
+    ap (part_within n) is.2
+    ∙ ap (λ b. b && init_within n (init.Const (Number is.1))) (int_within n is.0 positive)
+    ∙ held_within n (Number is.1)
+    ∙ number_within n is.1 positive
 
 pub zero_within : (n : ℕ) → 0 < n → init_within n Zero ≡ true
 zero_within n positive = ap (λ d. nat_le d n) (inits.at_zero ℕ depth_of_init_at) ∙ one_within n positive

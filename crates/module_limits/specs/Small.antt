@@ -1,11 +1,12 @@
 -- Words of private functions: whether what is wanted at once makes blocks.
-use Rattle.std.specs.Prelude.{ℕ, Bool, false, true, List, [], ◌∷◌, ◌++◌, map, Result, Ok, Err}
-use Rattle.std.specs.List.{list_all}
+use Rattle.std.specs.Prelude.{◌≡◌, ℕ, Bool, false, true, List, [], ◌∷◌, ◌++◌, map, Result, Ok, Err}
+use Rattle.std.specs.List.{AllByRecursion, list_all}
 use Rattle.ir_types.specs.declared.named.NamedTy.{NamedTy}
 use Rattle.ir_types.specs.declared.sizes.SizeFault.{SizeFault}
 use Rattle.ir_types.specs.declared.sizes.SizeFault.TheVariants.{TooLarge, Unsized}
 use Rattle.ir_types.specs.declared.ty.Ty.{Ty}
-use Rattle.ir_types.specs.Named.{block_of}
+use Rattle.ir_types.specs.Held.{Holds}
+use Rattle.ir_types.specs.Named.{block_of, fields_or_none}
 use Rattle.ir_core.specs.declared.expressions.Element.{Element}
 use Rattle.ir_core.specs.declared.expressions.Expr.{Expr}
 use Rattle.ir_core.specs.declared.functions.Phi.{Phi}
@@ -29,6 +30,16 @@ is_small types b = is_none_larger (block_of types b.0 b.1)
 
 abbrev pub are_small : List NamedTy → Blocks → Bool
 are_small types = list_all (is_small types)
+
+-- ---- types that are judged once
+
+-- The type makes a block or has no size, and so does each that it holds, but for those that stand behind names.
+abbrev pub IsClear : List NamedTy → Ty → Type 0
+IsClear types t = (is_small types (t, 1) ≡ true) × ((u : Ty) → Holds [] t u → is_small types (u, 1) ≡ true)
+
+-- so are the fields of each of these named types
+abbrev pub AreClear : List NamedTy → List NamedTy → Type 0
+AreClear types = AllByRecursion (λ (n : NamedTy). AllByRecursion (IsClear types) (fields_or_none n.fields))
 
 -- ---- indices
 

@@ -15,6 +15,7 @@ use ir_core::{
     Function, GlobalVar, Init, Instr, Module, Name, NamedTy, Operand, Param, Phi, Term, Ty,
     TypedConst, TypedInit,
 };
+use operand_tests::is_number;
 
 /// The limit `depth`.
 const DEPTH: u32 = 64;
@@ -104,27 +105,38 @@ fn is_init_within(init: &Init, budget: u32) -> bool
 
 /// Whether the parts, and the types that are stated for them, are no deeper.
 #[cycle(inits)]
+#[tactic(auto, using(crate::proofs::Within::plain_within))]
 fn are_parts_within(parts: &[TypedInit], budget: u32) -> bool
     ensures { result ≡ list_all (within.part_within budget) parts.now }
 {
     for part in parts {
-        if !is_type_within(&part.0, budget) || !is_init_within(&part.1, budget) {
+        let plain = budget > 0 && is_number(part);
+        if !plain && (!is_type_within(&part.0, budget) || !is_init_within(&part.1, budget)) {
             return false;
         }
     }
     true
 }
 
+/// Whether the type is no deeper than the limit. Most have no parts.
+#[inline(always)]
+#[tactic(auto, using(crate::proofs::Within::int_within, crate::proofs::Within::name_within, crate::proofs::Within::void_within))]
 fn is_type_shallow(ty: &Ty) -> bool
     ensures { result ≡ within.is_shallow (depths.depth_of ty.now) }
 {
-    is_type_within(ty, DEPTH)
+    match ty {
+        Ty::Int(_) | Ty::Named(_) | Ty::Void => true,
+        Ty::Ptr(_) | Ty::Array(_, _) | Ty::Struct(_) => is_type_within(ty, DEPTH),
+    }
 }
 
+#[inline(always)]
+#[tactic(auto, using(crate::proofs::Within::number_within))]
 fn is_atom_shallow(atom: &Atom<Name>) -> bool
     ensures { result ≡ within.atom_shallow atom.now }
 {
     match atom {
+        Atom::Constant(Const::Number(_)) => true,
         Atom::Constant(constant) => is_constant_within(constant, DEPTH),
         Atom::Register(_) => true,
     }

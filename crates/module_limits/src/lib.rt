@@ -3,6 +3,7 @@
 #![tactic(auto)]
 
 mod depths;
+mod judged;
 mod laws;
 mod limits;
 mod lines;

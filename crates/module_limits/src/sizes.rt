@@ -9,32 +9,22 @@ ghost use Rattle.ir_core.specs.Typing.{index_of};
 ghost use Rattle.module_limits.specs.Small as small;
 ghost use Rattle.operand_tests.specs.Addresses.{index_told};
 
+use crate::judged::Judged;
 use ir_core::{
     Alloca, Argument, Atom, Block, Const, Element, Entry, Expr, Function, GlobalVar, Init, Instr,
-    Module, Name, Operand, Phi, SizeFault, Term, Ty, TypedConst, TypedInit, fits_block, is_integer,
+    Module, Name, Operand, Phi, Term, Ty, TypedConst, TypedInit, is_integer,
 };
-use operand_tests::{entered, number_in, number_of};
-
-/// Whether so many of the type take no more than a block may. A type without size passes.
-fn is_small_block(module: &Module, ty: &Ty, count: u64) -> bool
-    ensures { result ≡ small.is_small «module».now.types (ty.now, count) }
-{
-    match fits_block(module, ty, count) {
-        Ok(_) => true,
-        Err(SizeFault::Unsized) => true,
-        Err(SizeFault::TooLarge) => false,
-    }
-}
+use operand_tests::{entered, is_number, number_in, number_of};
 
 /// Whether the types that operands enter, one inside the other, make blocks.
-fn are_entered_small(module: &Module, of: &Ty, indices: &[Operand<Name>]) -> bool
+fn are_entered_small(module: &Judged, of: &Ty, indices: &[Operand<Name>]) -> bool
     ensures { result ≡ small.entered_small «module».now.types of.now (map index_of indices.now) }
 {
     let mut ty = of;
     for index in indices {
-        match entered(&module.types, ty, &index.ty, number_in(&index.atom)) {
+        match entered(module.types(), ty, &index.ty, number_in(&index.atom)) {
             Some(further) => {
-                if !is_small_block(module, further, 1) {
+                if !module.is_small_block(further, 1) {
                     return false;
                 }
                 ty = further;
@@ -45,26 +35,33 @@ fn are_entered_small(module: &Module, of: &Ty, indices: &[Operand<Name>]) -> boo
     true
 }
 
-/// Whether a type makes a block, and those do that operands behind the first enter.
-fn is_stepped_small(module: &Module, of: &Ty, indices: &[Operand<Name>]) -> bool
+/// Whether a type makes a block, and those do that operands behind the first enter, one after the other.
+fn is_each_small(module: &Judged, of: &Ty, indices: &[Operand<Name>]) -> bool
     ensures { result ≡ small.stepped_small «module».now.types of.now (map index_of indices.now) }
 {
-    is_small_block(module, of, 1)
+    module.is_small_block(of, 1)
         && match indices.split_first() {
             Some((_, further)) => are_entered_small(module, of, further),
             None => true,
         }
 }
 
+/// The same, with no walk where all that can be entered makes blocks.
+fn is_stepped_small(module: &Judged, of: &Ty, indices: &[Operand<Name>]) -> bool
+    ensures { result ≡ small.stepped_small «module».now.types of.now (map index_of indices.now) }
+{
+    module.is_stepped_clear(of) || is_each_small(module, of, indices)
+}
+
 /// Whether the types that constants enter, one inside the other, make blocks.
-fn are_told_small(module: &Module, of: &Ty, indices: &[TypedConst]) -> bool
+fn are_told_small(module: &Judged, of: &Ty, indices: &[TypedConst]) -> bool
     ensures { result ≡ small.entered_small «module».now.types of.now (map index_told indices.now) }
 {
     let mut ty = of;
     for index in indices {
-        match entered(&module.types, ty, &index.0, number_of(&index.1)) {
+        match entered(module.types(), ty, &index.0, number_of(&index.1)) {
             Some(further) => {
-                if !is_small_block(module, further, 1) {
+                if !module.is_small_block(further, 1) {
                     return false;
                 }
                 ty = further;
@@ -75,31 +72,38 @@ fn are_told_small(module: &Module, of: &Ty, indices: &[TypedConst]) -> bool
     true
 }
 
-/// Whether a type makes a block, and those do that constants behind the first enter.
-fn is_told_small(module: &Module, of: &Ty, indices: &[TypedConst]) -> bool
+/// Whether a type makes a block, and those do that constants behind the first enter, one after the other.
+fn is_each_told_small(module: &Judged, of: &Ty, indices: &[TypedConst]) -> bool
     ensures { result ≡ small.stepped_small «module».now.types of.now (map index_told indices.now) }
 {
-    is_small_block(module, of, 1)
+    module.is_small_block(of, 1)
         && match indices.split_first() {
             Some((_, further)) => are_told_small(module, of, further),
             None => true,
         }
 }
 
+/// The same, with no walk where all that can be entered makes blocks.
+fn is_told_small(module: &Judged, of: &Ty, indices: &[TypedConst]) -> bool
+    ensures { result ≡ small.stepped_small «module».now.types of.now (map index_told indices.now) }
+{
+    module.is_stepped_clear(of) || is_each_told_small(module, of, indices)
+}
+
 /// The same of an address whose base stands before the indices.
-fn is_address_small(module: &Module, of: &Ty, parts: &[TypedConst]) -> bool
+fn is_address_small(module: &Judged, of: &Ty, parts: &[TypedConst]) -> bool
     ensures { result ≡ small.stepped_small «module».now.types of.now (small.told_behind parts.now) }
 {
     match parts.split_first() {
         Some((_, indices)) => is_told_small(module, of, indices),
-        None => is_small_block(module, of, 1),
+        None => module.is_small_block(of, 1),
     }
 }
 
 /// Whether what a constant wants makes blocks.
 #[cycle(constants)]
 #[tactic(auto, using(crate::proofs::Small::number_small, crate::proofs::Small::undef_small, crate::proofs::Small::null_small, crate::proofs::Small::global_small, crate::proofs::Small::element_small, crate::proofs::Small::cast_small, operand_tests::proofs::Measures::in_element, operand_tests::proofs::Measures::in_cast))]
-fn is_constant_small(module: &Module, constant: &Const) -> bool
+fn is_constant_small(module: &Judged, constant: &Const) -> bool
     ensures { result ≡ small.constant_small «module».now.types constant.now }
 {
     match constant {
@@ -115,7 +119,7 @@ fn is_constant_small(module: &Module, constant: &Const) -> bool
 
 #[cycle(constants)]
 #[tactic(auto, using(operand_tests::proofs::Measures::in_constants))]
-fn are_constants_small(module: &Module, constants: &[TypedConst]) -> bool
+fn are_constants_small(module: &Judged, constants: &[TypedConst]) -> bool
     ensures { result ≡ small.constants_small «module».now.types constants.now }
 {
     for constant in constants {
@@ -129,7 +133,7 @@ fn are_constants_small(module: &Module, constants: &[TypedConst]) -> bool
 /// Whether what an initialiser wants makes blocks.
 #[cycle(inits)]
 #[tactic(auto, using(crate::proofs::Small::held_small, crate::proofs::Small::zero_small, crate::proofs::Small::bytes_small, crate::proofs::Small::array_small, crate::proofs::Small::struct_small, operand_tests::proofs::Measures::in_array, operand_tests::proofs::Measures::in_struct))]
-fn is_init_small(module: &Module, init: &Init) -> bool
+fn is_init_small(module: &Judged, init: &Init) -> bool
     ensures { result ≡ small.init_small «module».now.types init.now }
 {
     match init {
@@ -141,29 +145,32 @@ fn is_init_small(module: &Module, init: &Init) -> bool
 }
 
 #[cycle(inits)]
-#[tactic(auto, using(operand_tests::proofs::Measures::in_inits))]
-fn are_inits_small(module: &Module, inits: &[TypedInit]) -> bool
+#[tactic(auto, using(operand_tests::proofs::Measures::in_inits, crate::proofs::Small::plain_small))]
+fn are_inits_small(module: &Judged, inits: &[TypedInit]) -> bool
     ensures { result ≡ small.inits_small «module».now.types inits.now }
 {
     for init in inits {
-        if !is_init_small(module, &init.1) {
+        if !is_number(init) && !is_init_small(module, &init.1) {
             return false;
         }
     }
     true
 }
 
-fn is_atom_small(module: &Module, atom: &Atom<Name>) -> bool
+#[inline(always)]
+#[tactic(auto, using(crate::proofs::Small::number_small))]
+fn is_atom_small(module: &Judged, atom: &Atom<Name>) -> bool
     ensures { result ≡ small.are_small «module».now.types (sizes.wanted_by_atom «module».now.types atom.now) }
 {
     match atom {
+        Atom::Constant(Const::Number(_)) => true,
         Atom::Constant(constant) => is_constant_small(module, constant),
         Atom::Register(_) => true,
     }
 }
 
 #[tactic(auto, using(crate::proofs::Small::both_small))]
-fn are_operands_small(module: &Module, operands: &[Operand<Name>]) -> bool
+fn are_operands_small(module: &Judged, operands: &[Operand<Name>]) -> bool
     ensures { result ≡ small.are_small «module».now.types (sizes.wanted_by_operands «module».now.types operands.now) }
 {
     for operand in operands {
@@ -175,7 +182,7 @@ fn are_operands_small(module: &Module, operands: &[Operand<Name>]) -> bool
 }
 
 #[tactic(auto, using(crate::proofs::Small::both_small))]
-fn is_element_small(module: &Module, element: &Element<Name>) -> bool
+fn is_element_small(module: &Judged, element: &Element<Name>) -> bool
     ensures { result ≡ small.are_small «module».now.types (small.wanted_at_element «module».now.types element.now) }
 {
     is_stepped_small(module, &element.of, element.indices.as_slice())
@@ -185,7 +192,7 @@ fn is_element_small(module: &Module, element: &Element<Name>) -> bool
 
 /// Whether what a line's right side wants makes blocks.
 #[tactic(auto, using(crate::proofs::Small::both_small))]
-fn is_right_small(module: &Module, right: &Expr<Name>) -> bool
+fn is_right_small(module: &Judged, right: &Expr<Name>) -> bool
     ensures { result ≡ small.are_small «module».now.types (small.wanted_at_right «module».now.types right.now) }
 {
     match right {
@@ -207,19 +214,17 @@ fn is_right_small(module: &Module, right: &Expr<Name>) -> bool
 }
 
 /// An alloca whose count is no integer wants nothing.
-fn is_alloca_small(module: &Module, alloca: &Alloca) -> bool
+fn is_alloca_small(module: &Judged, alloca: &Alloca) -> bool
     ensures { result ≡ small.are_small «module».now.types (sizes.wanted_by_count alloca.now.of alloca.now.count) }
 {
     match &alloca.count {
-        Some(count) => {
-            !is_integer(&count.0) || is_small_block(module, &alloca.of, count.1.get())
-        }
-        None => is_small_block(module, &alloca.of, 1),
+        Some(count) => { !is_integer(&count.0) || module.is_small_block(&alloca.of, count.1.get()) }
+        None => module.is_small_block(&alloca.of, 1),
     }
 }
 
 #[tactic(auto, using(crate::proofs::Small::both_small))]
-fn are_arguments_small(module: &Module, arguments: &[Argument]) -> bool
+fn are_arguments_small(module: &Judged, arguments: &[Argument]) -> bool
     ensures { result ≡ small.are_small «module».now.types
         (sizes.wanted_by_operands «module».now.types (map (λ (a : Argument). a.operand) arguments.now)) }
 {
@@ -232,7 +237,7 @@ fn are_arguments_small(module: &Module, arguments: &[Argument]) -> bool
 }
 
 #[tactic(auto, using(crate::proofs::Small::both_small))]
-fn is_line_small(module: &Module, line: &Instr) -> bool
+fn is_line_small(module: &Judged, line: &Instr) -> bool
     ensures { result ≡ small.are_small «module».now.types (sizes.wanted_by_line «module».now.types line.now) }
 {
     match line {
@@ -246,7 +251,7 @@ fn is_line_small(module: &Module, line: &Instr) -> bool
 }
 
 #[tactic(auto, using(crate::proofs::Small::both_small))]
-fn are_lines_small(module: &Module, lines: &[Instr]) -> bool
+fn are_lines_small(module: &Judged, lines: &[Instr]) -> bool
     ensures { result ≡ small.are_small «module».now.types (flat_map (sizes.wanted_by_line «module».now.types) lines.now) }
 {
     for line in lines {
@@ -258,7 +263,7 @@ fn are_lines_small(module: &Module, lines: &[Instr]) -> bool
 }
 
 #[tactic(auto, using(crate::proofs::Small::both_small))]
-fn are_entries_small(module: &Module, entries: &[Entry]) -> bool
+fn are_entries_small(module: &Judged, entries: &[Entry]) -> bool
     ensures { result ≡ small.are_small «module».now.types
         (flat_map (λ (e : Entry). sizes.wanted_by_atom «module».now.types e.value) entries.now) }
 {
@@ -271,14 +276,14 @@ fn are_entries_small(module: &Module, entries: &[Entry]) -> bool
 }
 
 #[tactic(auto, using(crate::proofs::Small::phi_small))]
-fn is_phi_small(module: &Module, phi: &Phi) -> bool
+fn is_phi_small(module: &Judged, phi: &Phi) -> bool
     ensures { result ≡ small.are_small «module».now.types (small.wanted_by_phi «module».now.types phi.now) }
 {
     are_entries_small(module, phi.entries.as_slice())
 }
 
 #[tactic(auto, using(crate::proofs::Small::both_small))]
-fn are_phis_small(module: &Module, phis: &[Phi]) -> bool
+fn are_phis_small(module: &Judged, phis: &[Phi]) -> bool
     ensures { result ≡ small.are_small «module».now.types (flat_map (small.wanted_by_phi «module».now.types) phis.now) }
 {
     for phi in phis {
@@ -290,7 +295,7 @@ fn are_phis_small(module: &Module, phis: &[Phi]) -> bool
 }
 
 #[tactic(auto, using(crate::proofs::Small::both_small))]
-fn is_end_small(module: &Module, end: &Term) -> bool
+fn is_end_small(module: &Judged, end: &Term) -> bool
     ensures { result ≡ small.are_small «module».now.types (sizes.wanted_by_operands «module».now.types (operands_at_end end.now)) }
 {
     match end {
@@ -302,7 +307,7 @@ fn is_end_small(module: &Module, end: &Term) -> bool
 }
 
 #[tactic(auto, using(crate::proofs::Small::block_small))]
-fn is_block_small(module: &Module, block: &Block) -> bool
+fn is_block_small(module: &Judged, block: &Block) -> bool
     ensures { result ≡ small.are_small «module».now.types (sizes.wanted_in_block «module».now.types block.now) }
 {
     are_phis_small(module, block.phis.as_slice())
@@ -311,7 +316,7 @@ fn is_block_small(module: &Module, block: &Block) -> bool
 }
 
 #[tactic(auto, using(crate::proofs::Small::both_small))]
-fn are_blocks_small(module: &Module, blocks: &[Block]) -> bool
+fn are_blocks_small(module: &Judged, blocks: &[Block]) -> bool
     ensures { result ≡ small.are_small «module».now.types (flat_map (sizes.wanted_in_block «module».now.types) blocks.now) }
 {
     for block in blocks {
@@ -326,25 +331,25 @@ fn are_blocks_small(module: &Module, blocks: &[Block]) -> bool
 pub(crate) fn is_function_small(module: &Module, function: &Function) -> bool
     ensures { result ≡ small.are_small «module».now.types (sizes.wanted_in_function «module».now.types «function».now) }
 {
-    are_blocks_small(module, function.blocks.as_slice())
+    are_blocks_small(&Judged::of(module), function.blocks.as_slice())
 }
 
 #[tactic(auto, using(crate::proofs::Small::both_small))]
-fn are_functions_small(module: &Module, functions: &[Function]) -> bool
+fn are_functions_small(module: &Judged, functions: &[Function]) -> bool
     ensures { result ≡ small.are_small «module».now.types (flat_map (sizes.wanted_in_function «module».now.types) functions.now) }
 {
     for function in functions {
-        if !is_function_small(module, function) {
+        if !are_blocks_small(module, function.blocks.as_slice()) {
             return false;
         }
     }
     true
 }
 
-fn is_global_small(module: &Module, global: &GlobalVar) -> bool
+fn is_global_small(module: &Judged, global: &GlobalVar) -> bool
     ensures { result ≡ small.are_small «module».now.types (sizes.wanted_by_global «module».now.types global.now) }
 {
-    is_small_block(module, &global.ty, 1)
+    module.is_small_block(&global.ty, 1)
         && match &global.init {
             Some(init) => is_init_small(module, init),
             None => true,
@@ -352,7 +357,7 @@ fn is_global_small(module: &Module, global: &GlobalVar) -> bool
 }
 
 #[tactic(auto, using(crate::proofs::Small::both_small))]
-fn are_globals_small(module: &Module, globals: &[GlobalVar]) -> bool
+fn are_globals_small(module: &Judged, globals: &[GlobalVar]) -> bool
     ensures { result ≡ small.are_small «module».now.types (flat_map (sizes.wanted_by_global «module».now.types) globals.now) }
 {
     for global in globals {
@@ -368,6 +373,7 @@ fn are_globals_small(module: &Module, globals: &[GlobalVar]) -> bool
 pub(crate) fn is_small(module: &Module) -> bool
     ensures { result ≡ small.are_small «module».now.types (sizes.wanted_in «module».now) }
 {
-    are_globals_small(module, module.globals.as_slice())
-        && are_functions_small(module, module.functions.as_slice())
+    let judged = Judged::of(module);
+    are_globals_small(&judged, module.globals.as_slice())
+        && are_functions_small(&judged, module.functions.as_slice())
 }

@@ -2,7 +2,7 @@
 use Rattle.std.proofs.Common.{◌≡◌, ◌∙◌, ◌||◌, Bool, true, false, cond, List, [], ◌∷◌, ◌++◌, map, Option, None, Some, refl, sym, ap, if◌then◌else◌}
 use Rattle.std.specs.Borrow.{Bor}
 use Rattle.std.specs.Map.{lookup}
-use Rattle.std.specs.Option.{option_map, option_or}
+use Rattle.std.specs.Option.{option_copied, option_map, option_or}
 use Rattle.indexmap.specs.IndexMap.{insert_entry}
 use Rattle.ir_core.specs.declared.modules.GlobalVar.{GlobalVar}
 use Rattle.ir_core.specs.Typing.{Signature, contents_of}
@@ -128,31 +128,43 @@ among_collected x names = among_more x [] names
 
 -- ---- types of what globals hold
 
-abbrev held : GlobalVar → Name × Ty
-held g = (g.name, g.ty)
+abbrev held : GlobalVar → Name × Option Ty
+held g = (g.name, Some g.ty)
 
-at_name : (n : Name) (t : Ty) (rest : Option Ty) (x : Name) → or_else (if same_name x n then Some t else None) rest ≡ cond (same_name n x) (Some t) rest
-at_name n t rest x = ap (λ b. or_else (if b then Some t else None) rest) (turned x n) ∙ go (same_name n x)
+at_name : (n : Name) (t : Ty) (rest : Option Ty) (x : Name)
+    → or_else (if same_name x n then Some (Some t) else None) (option_map Some rest) ≡ option_map Some (cond (same_name n x) (Some t) rest)
+at_name n t rest x = ap (λ b. or_else (if b then Some (Some t) else None) (option_map Some rest)) (turned x n) ∙ go (same_name n x)
   where
-    go : (b : Bool) → or_else (if b then Some t else None) rest ≡ cond b (Some t) rest
+    go : (b : Bool) → or_else (if b then Some (Some t) else None) (option_map Some rest) ≡ option_map Some (cond b (Some t) rest)
     go true = refl
     go false = refl
 
-else_assoc : (o p q : Option Ty) → or_else (or_else o p) q ≡ or_else o (or_else p q)
+else_assoc : (o p q : Option (Option Ty)) → or_else (or_else o p) q ≡ or_else o (or_else p q)
 else_assoc None p q = refl
 else_assoc (Some t) p q = refl
 
-else_none : (o : Option Ty) → o ≡ or_else o None
+else_none : (o : Option (Option Ty)) → o ≡ or_else o None
 else_none None = refl
 else_none (Some t) = refl
 
-contents_more : (types : Types) (gs : List GlobalVar) (x : Name) → with_types types (map held gs) x ≡ or_else (types x) (contents_of gs x)
+contents_more : (types : Types) (gs : List GlobalVar) (x : Name) → with_types types (map held gs) x ≡ or_else (types x) (option_map Some (contents_of gs x))
 unfolding with_type
 contents_more types [] x = else_none (types x)
 contents_more types (g ∷ gs) x =
-    contents_more (with_type types g.name g.ty) gs x ∙ else_assoc (types x) (if same_name x g.name then Some g.ty else None) (contents_of gs x)
+    contents_more (with_type types g.name (Some g.ty)) gs x
+    ∙ else_assoc (types x) (if same_name x g.name then Some (Some g.ty) else None) (option_map Some (contents_of gs x))
     ∙ ap (or_else (types x)) (at_name g.name g.ty (contents_of gs x) x)
 
 -- types that are collected are those of the first of each name
-pub contents_collected : (gs : List GlobalVar) (x : Name) → with_types none_typed (map (λ (g : GlobalVar). (g.name, g.ty)) gs) x ≡ contents_of gs x
+pub contents_collected : (gs : List GlobalVar) (x : Name) → with_types none_typed (map (λ (g : GlobalVar). (g.name, Some g.ty)) gs) x ≡ option_map Some (contents_of gs x)
 contents_collected gs x = contents_more none_typed gs x
+
+-- what is told is what is there
+pub told_there : (told : Option (Bor Ty)) (there : Option Ty) → Some (option_copied told) ≡ option_map Some there → option_copied told ≡ there
+told_there told None e = absurd (cc)
+told_there None (Some t) e = absurd (cc)
+told_there (Some told) (Some t) e = cc
+
+pub none_there : (there : Option Ty) → None ≡ option_map Some there → None ≡ there
+none_there None e = refl
+none_there (Some t) e = absurd (cc)

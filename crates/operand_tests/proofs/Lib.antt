@@ -12,3 +12,5 @@ pub mod Starts
 pub mod Tests
 pub mod InitParts
 pub mod Fits
+pub mod HasSize
+pub mod Plain

@@ -1,5 +1,5 @@
 -- Words of private functions: what is kept beside a module, so that it is found without a walk.
-use Rattle.std.specs.Prelude.{◌≡◌, List, map, Option}
+use Rattle.std.specs.Prelude.{◌≡◌, List, map, Option, Some}
 use Rattle.std.specs.Borrow.{Bor}
 use Rattle.std.specs.Option.{option_map}
 use Rattle.indexmap.specs.IndexMap.{get_by}
@@ -43,5 +43,5 @@ signature_by callees name = option_map signature_of (callee_in callees name)
 -- beside a module the names of its types are kept, the types of its globals' contents and its functions, each as the first of its name
 pub record IsKept (m : Module) (names : List Name) (contents : LentTypes) (functions : Callees) : Type 0 where
   pub types : (x : Name) → is_among x names ≡ is_among x (type_names m)
-  pub globals : (x : Name) → type_in contents x ≡ contents_of m.globals x
+  pub globals : (x : Name) → type_in contents x ≡ option_map Some (contents_of m.globals x)
   pub callees : (x : Name) → signature_by functions x ≡ signature_in (signatures_of m) x

@@ -7,3 +7,4 @@ pub mod Stated
 pub mod Addresses
 pub mod Parts
 pub mod Starts
+pub mod Numbers

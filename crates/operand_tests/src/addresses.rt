@@ -1,6 +1,6 @@
 //! What is wrong with an address.
 ghost use Rattle.std.specs.Prelude.{◌≡◌, List, map};
-ghost use Rattle.std.specs.Option.{option_copied, option_map, option_and_then};
+ghost use Rattle.std.specs.Option.{is_some, option_copied, option_map, option_and_then};
 ghost use Rattle.std.specs.Prelude.{slice_get};
 ghost use Rattle.ir_core.specs.Typing as typing;
 ghost use Rattle.ir_core.specs.Typing.{Index, index_of, number_in};
@@ -135,6 +135,14 @@ fn pointed_by_operands<'a>(
             }
         }
     }
+}
+
+/// Whether the indices lead somewhere, so that the address has a type.
+#[tactic(auto, using(crate::proofs::Lent::is_pointed))]
+pub fn leads_somewhere(beside: &Beside, element: &Element<Name>) -> bool
+    ensures { result ≡ is_some (typing.element_type beside.now.types element.now.of (map index_of element.now.indices)) }
+{
+    pointed_by_operands(beside.types(), &element.of, element.indices.as_slice()).is_some()
 }
 
 /// What an address points to whose indices are constants.

@@ -1,5 +1,5 @@
 //! A module, and what is asked of it beside a line.
-ghost use Rattle.std.specs.Prelude.{◌≡◌, [], map, IfOk};
+ghost use Rattle.std.specs.Prelude.{◌≡◌, [], map, Some, IfOk};
 ghost use Rattle.ir_types.specs.declared.named.NamedTy.{NamedTy};
 ghost use Rattle.ir_core.specs.declared.modules.GlobalVar.{GlobalVar};
 ghost use Rattle.shape_kinds.specs.Kept.{type_in};
@@ -7,7 +7,8 @@ ghost use Rattle.shape_kinds.specs.Names.{with_names};
 ghost use Rattle.shape_kinds.specs.Typed.{none_typed, with_types};
 
 use crate::callees::{Callee, Callees};
-use ir_core::{GlobalVar, Module, Name, NamedTy, NamedTypes, Ty, fits_block};
+use crate::sized::has_size;
+use ir_core::{GlobalVar, Module, Name, NamedTy, NamedTypes, Ty};
 use shape_kinds::{LentNames, LentTypes};
 use std::alloc::{AllocError, Global};
 use std::marker::Model;
@@ -62,11 +63,11 @@ fn names_of<'a>(alloc: Global, types: &'a [NamedTy]) -> Result<LentNames<'a>, Al
 /// The types of what these globals hold, by their names.
 fn contents_of<'a>(alloc: Global, globals: &'a [GlobalVar]) -> Result<LentTypes<'a>, AllocError>
     ensures { IfOk result (λ types. type_in types
-        ≡ with_types none_typed (map (λ (g : GlobalVar). (g.name, g.ty)) globals.now)) }
+        ≡ with_types none_typed (map (λ (g : GlobalVar). (g.name, Some g.ty)) globals.now)) }
 {
     let mut types = LentTypes::with_room(alloc, globals.len())?;
     for global in globals {
-        types.put(&global.name, &global.ty)?;
+        types.put(&global.name, Some(&global.ty))?;
     }
     Ok(types)
 }
@@ -115,7 +116,10 @@ impl<'a> Beside<'a> {
         ensures { option_copied result ≡ typing.contents_of self.now.globals name.now }
     {
         let _ = &self.whole;
-        self.globals.get(name)
+        match self.globals.get(name) {
+            Some(ty) => ty,
+            None => None,
+        }
     }
 
     /// The first function of that name.
@@ -127,10 +131,10 @@ impl<'a> Beside<'a> {
         self.callees.get(name)
     }
 
-    /// Whether the type has a size: none of it takes no room, and so makes a block wherever one does.
+    /// Whether the type has a size.
     pub fn is_sized(&self, ty: &Ty) -> bool
         ensures { result ≡ named.is_sized self.now.types ty.now }
     {
-        fits_block(self.whole, ty, 0).is_ok()
+        has_size(self.whole, ty)
     }
 }

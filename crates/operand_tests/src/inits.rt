@@ -9,6 +9,7 @@ ghost use Rattle.operand_tests.specs.Starts as told;
 
 use crate::Beside;
 use crate::constants::constant_kind;
+use crate::numbers::is_number;
 use contents::Seq;
 use ir_core::{Const, Init, NamedTypes, Ty, TypedInit, same_ty};
 use shape_kinds::{ShapeKind, fault_unless, least};
@@ -129,7 +130,9 @@ fn parts_kind(beside: &Beside, parts: &[TypedInit]) -> Option<ShapeKind>
 {
     let mut kind = None;
     for part in parts {
-        kind = least(kind, init_kind(beside, &part.0, &part.1));
+        if !is_number(part) {
+            kind = least(kind, init_kind(beside, &part.0, &part.1));
+        }
     }
     kind
 }

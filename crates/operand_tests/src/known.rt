@@ -5,17 +5,29 @@ ghost use Rattle.operand_tests.specs.Known as meaning;
 ghost use Rattle.operand_tests.specs.Stated as told;
 
 use crate::Beside;
+use crate::numbers::is_number;
 use ir_core::{Const, Init, Ty, TypedConst, TypedInit};
 
-/// Whether each named type that stands in the type, also behind pointers, is one of the module's.
-#[cycle(types)]
-#[tactic(auto, using(crate::proofs::TypeNames::int_known, crate::proofs::TypeNames::ptr_known, crate::proofs::TypeNames::array_known, crate::proofs::TypeNames::struct_known, crate::proofs::TypeNames::name_known, crate::proofs::TypeNames::void_known))]
+/// Whether each named type that stands in the type, also behind pointers, is one of the module's. Most types are integers.
+#[inline(always)]
+#[tactic(auto, using(crate::proofs::TypeNames::int_known))]
 pub fn is_type_known(beside: &Beside, ty: &Ty) -> bool
     ensures { result ≡ meaning.is_type_known beside.now ty.now }
 {
     match ty {
-        Ty::Ptr(target) => is_type_known(beside, target.get()),
-        Ty::Array(_, element) => is_type_known(beside, element.get()),
+        Ty::Int(_) => true,
+        _ => has_known(beside, ty),
+    }
+}
+
+#[cycle(types)]
+#[tactic(auto, using(crate::proofs::TypeNames::int_known, crate::proofs::TypeNames::ptr_known, crate::proofs::TypeNames::array_known, crate::proofs::TypeNames::struct_known, crate::proofs::TypeNames::name_known, crate::proofs::TypeNames::void_known))]
+fn has_known(beside: &Beside, ty: &Ty) -> bool
+    ensures { result ≡ meaning.is_type_known beside.now ty.now }
+{
+    match ty {
+        Ty::Ptr(target) => has_known(beside, target.get()),
+        Ty::Array(_, element) => has_known(beside, element.get()),
         Ty::Struct(fields) => are_types_known(beside, fields.get().as_slice()),
         Ty::Named(name) => beside.has_type(name.get()),
         Ty::Int(_) | Ty::Void => true,
@@ -28,7 +40,7 @@ pub fn are_types_known(beside: &Beside, types: &[Ty]) -> bool
     ensures { result ≡ meaning.are_types_known beside.now types.now }
 {
     for ty in types {
-        if !is_type_known(beside, ty) {
+        if !has_known(beside, ty) {
             return false;
         }
     }
@@ -82,12 +94,14 @@ fn is_init_known(beside: &Beside, init: &Init) -> bool
 }
 
 #[cycle(inits)]
-#[tactic(auto, using(crate::proofs::Measures::in_inits))]
+#[tactic(auto, using(crate::proofs::Measures::in_inits, crate::proofs::Plain::part_known))]
 fn are_inits_known(beside: &Beside, inits: &[TypedInit]) -> bool
     ensures { result ≡ told.are_inits_known beside.now inits.now }
 {
     for init in inits {
-        if !is_type_known(beside, &init.0) || !is_init_known(beside, &init.1) {
+        if !is_number(init)
+            && (!is_type_known(beside, &init.0) || !is_init_known(beside, &init.1))
+        {
             return false;
         }
     }

@@ -10,10 +10,13 @@ mod constants;
 mod globals;
 mod inits;
 mod known;
+mod numbers;
+mod sized;
 
-pub use addresses::{element_kind, entered, number_in, number_of};
+pub use addresses::{element_kind, entered, leads_somewhere, number_in, number_of};
 pub use beside::Beside;
 pub use calls::call_kind;
 pub use constants::constant_kind;
 pub use globals::global_var_kind;
 pub use known::{are_types_known, is_constant_known, is_type_known};
+pub use numbers::is_number;

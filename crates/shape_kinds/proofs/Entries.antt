@@ -37,6 +37,6 @@ put_entry {K = K} {V = V} of name k v (e ∷ es) = by (same_name (of k) (of e.0)
         ap (cond (same_name name (of e.0)) (Some e.1)) more
         ∙ apart (same_name name (of e.0)) (same_name name (of k)) v e.1 (lookup (λ q. same_name name (of q)) es) (not_both name (of k) (of e.0) is)
 
-pub or_none : (o : Option Ty) → or_else o None ≡ o
+pub or_none : (o : Option (Option Ty)) → or_else o None ≡ o
 or_none None = refl
 or_none (Some t) = refl

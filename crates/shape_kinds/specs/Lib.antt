@@ -2,3 +2,5 @@ pub mod Kinds
 pub mod Names
 pub mod Typed
 pub mod Kept
+pub mod Held
+pub mod Marks

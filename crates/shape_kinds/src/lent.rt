@@ -1,44 +1,44 @@
 //! Names in an order that are lent, each found without a walk through the others.
 ghost use Rattle.std.specs.Prelude.{◌≡◌};
 
+use crate::held::Held;
 use crate::room::names_at_most;
-use indexmap::IndexSet;
 use ir_core::{Function, Name};
 use std::alloc::{AllocError, Global};
 use std::marker::Model;
 
 /// Names in the order in which they are put. Contracts see them as their list.
 pub struct LentNames<'a> {
-    names: IndexSet<&'a Name>,
+    held: Held<'a>,
 }
 
 impl<'a> Drop for LentNames<'a> {
     fn drop(self) {
-        let LentNames { names: _ } = self;
+        let LentNames { held: _ } = self;
     }
 }
 
 impl<'a> Model for LentNames<'a> {
-    ghost use Rattle.std.specs.Prelude.{List, map};
+    ghost use Rattle.std.specs.Prelude.{List};
     ghost use Rattle.ir_types.specs.declared.names.Name.{Name};
+    ghost use Rattle.shape_kinds.specs.Held.{names_held};
 
     ghost Value = { List Name };
 
-    ghost view = { λ it. map (λ name. name.now) it.names.keys };
+    ghost view = { λ it. names_held it.held };
 }
 
 impl<'a> LentNames<'a> {
     ghost use Rattle.std.specs.Prelude.{[], IfOk, OnOk};
     ghost use Rattle.name_index.specs.Among.{is_among, place_among};
-    ghost use Rattle.shape_kinds.specs.Names.{named};
     ghost use Rattle.shape_kinds.specs.Names.{with_name};
 
-    /// There is room for so many.
+    /// There is room for so many. Where few are told and more come, each is found by a walk.
     pub fn with_room(alloc: Global, names: usize) -> Result<LentNames<'a>, AllocError>
         ensures { IfOk result (λ names. names ≡ []) }
     {
         Ok(LentNames {
-            names: IndexSet::with_capacity(alloc, names)?,
+            held: Held::with_room(alloc, names)?,
         })
     }
 
@@ -53,27 +53,21 @@ impl<'a> LentNames<'a> {
         ensures { result ≡ [] }
     {
         LentNames {
-            names: IndexSet::new(alloc),
+            held: Held::new(alloc),
         }
-    }
-
-    pub fn as_slice(&self) -> &[&'a Name]
-        ensures { named result.now ≡ self.now }
-    {
-        self.names.as_slice()
     }
 
     pub fn has(&self, name: &Name) -> bool
         ensures { result ≡ is_among name.now self.now }
     {
-        self.names.contains(&name)
+        self.held.has(name)
     }
 
     /// The place of the name among them, if it is one.
     pub fn position(&self, name: &Name) -> Option<usize>
         ensures { result ≡ place_among name.now self.now }
     {
-        self.names.get_index_of(&name)
+        self.held.position(name)
     }
 
     /// Puts the name behind the others where it is new, and says whether it was taken.
@@ -81,7 +75,6 @@ impl<'a> LentNames<'a> {
         ensures taken { IfOk result (λ taken. taken ≡ is_among name.now self.old) }
         ensures names { OnOk result (self.new ≡ with_name self.old name.now) }
     {
-        let new = self.names.insert(name)?;
-        Ok(!new)
+        self.held.take(name)
     }
 }

@@ -7,9 +7,9 @@ use indexmap::IndexMap;
 use ir_core::{Function, Name, Ty};
 use std::alloc::{AllocError, Global};
 
-/// The type of each name, as it is first told.
+/// The type of each name, or that it has none, as it is first told.
 pub struct LentTypes<'a> {
-    first: IndexMap<&'a Name, &'a Ty>,
+    first: IndexMap<&'a Name, Option<&'a Ty>>,
 }
 
 impl<'a> Drop for LentTypes<'a> {
@@ -20,7 +20,7 @@ impl<'a> Drop for LentTypes<'a> {
 
 impl<'a> LentTypes<'a> {
     ghost use Rattle.std.specs.Prelude.{IfOk, OnOk};
-    ghost use Rattle.std.specs.Option.{option_copied};
+    ghost use Rattle.std.specs.Option.{option_copied, option_map};
     ghost use Rattle.shape_kinds.specs.Typed.{none_typed, with_type};
 
     pub fn new(alloc: Global) -> LentTypes<'a>
@@ -47,23 +47,24 @@ impl<'a> LentTypes<'a> {
         LentTypes::with_room(alloc, names_at_most(function))
     }
 
-    fn found(&self, name: &Name) -> Option<&'a Ty>
+    fn found(&self, name: &Name) -> Option<Option<&'a Ty>>
         ensures { result ≡ found_in self.now name.now }
     {
         self.first.get(&name).copied()
     }
 
-    #[tactic(auto, using(crate::proofs::Types::lent_is), unfolding(crate::specs::Kept::type_in))]
-    pub fn get(&self, name: &Name) -> Option<&'a Ty>
-        ensures { option_copied result ≡ type_in self.now name.now }
+    /// What is told of the name, if it is there: its type, or that it has none.
+    #[tactic(auto, unfolding(crate::specs::Kept::type_in))]
+    pub fn get(&self, name: &Name) -> Option<Option<&'a Ty>>
+        ensures { option_map option_copied result ≡ type_in self.now name.now }
     {
         self.found(name)
     }
 
-    pub fn put(&mut self, name: &'a Name, ty: &'a Ty) -> Result<(), AllocError>
-        ensures { OnOk result (type_in self.new ≡ with_type (type_in self.old) name.now ty.now) }
+    pub fn put(&mut self, name: &'a Name, ty: Option<&'a Ty>) -> Result<(), AllocError>
+        ensures { OnOk result (type_in self.new ≡ with_type (type_in self.old) name.now (option_copied ty.entry)) }
     {
-        // A name that is there keeps its place and its first type.
+        // A name that is there keeps its place and what was told of it first.
         match self.first.insert(name, ty)? {
             None => Ok(()),
             Some(first) => {

@@ -1,10 +1,12 @@
 //! The kinds of what can be wrong at a place of a module (LangRef 3.7, Well-Formedness), and names that are lent, with their types.
 #![tactic(auto)]
 
+mod held;
 mod kind;
 mod kinds;
 mod lent;
 mod lent_types;
+mod marked;
 mod room;
 
 pub use kind::ShapeKind;

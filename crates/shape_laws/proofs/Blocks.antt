@@ -15,7 +15,7 @@ use Rattle.ir_shape.specs.declared.fault.ShapeFault.{ShapeFault}
 use Rattle.shape_kinds.specs.declared.kind.ShapeKind.{ShapeKind}
 use Rattle.shape_kinds.specs.declared.kind.ShapeKind.TheVariants as kind
 use Rattle.shape_kinds.specs.Names.{are_new, with_name, with_names}
-use Rattle.shape_tests.specs.Kinds.{block_kind, labels_of, leads_to, types_of}
+use Rattle.shape_tests.specs.Kinds.{block_kind, labels_of, leads_to}
 use Rattle.shape_tests.proofs.Taken.{Among, all_kept, kept, names_joined, new_joined, not_taken, old_or_new, put, registers_joined}
 use Rattle.shape_tests.proofs.Tests.{all_joined, all_left, all_right, both_hold, both_left, both_right, fits_by, joined_none, left_none, none_by, not_true, right_none}
 use Rattle.shape_tests.proofs.Typed.{AreTyped}
@@ -23,7 +23,7 @@ use Rattle.ir_shape.specs.Shape.{in_block, in_blocks, line_kinds, with_block, wi
 use Rattle.line_shapes.specs.Told.{stated_at_end}
 use Rattle.shape_laws.proofs.Ends.{end_by, end_is, of_end}
 use Rattle.shape_laws.proofs.Faults.{kinds_are, kinds_by}
-use Rattle.shape_laws.proofs.Lines.{AreApart, IsValue, lines_are, lines_by}
+use Rattle.shape_laws.proofs.Lines.{AreApart, IsValue, all_told, lines_are, lines_by}
 use Rattle.shape_laws.proofs.Phis.{of_phis, phis_are, phis_by}
 
 -- what is so of a block without fault in a function with that entry, but for its names
@@ -47,10 +47,10 @@ own_none : (doubled taken : Bool) → doubled ≡ false → taken ≡ false → 
 own_none doubled taken d t = ap (λ x. block_kind x taken) d ∙ none_by (not taken) kind.Name (ap not t)
 
 abbrev in_one : Module → Function → Name → List Name → List Name → Block → List ShapeFault
-in_one m f entry earlier taken b = in_block m f (labels_of f) (types_of f) entry earlier taken b
+in_one m f entry earlier taken b = in_block m f (labels_of f) (all_told (typed_of f)) entry earlier taken b
 
 abbrev of_lines : Module → Function → List Name → List Instr → List (Option ShapeKind)
-of_lines m f = line_kinds m (types_of f)
+of_lines m f = line_kinds m (all_told (typed_of f))
 
 -- the names of a block's registers are new where those of its phis are, and behind them those of its lines
 registers_new : (taken : List Name) (b : Block)
@@ -129,7 +129,7 @@ block_is m apart f unique entry earlier taken b first new fit =
 -- ---- blocks one after the other
 
 abbrev pub in_these : Module → Function → Name → List Name → List Name → List Block → List ShapeFault
-in_these m f = in_blocks m f (labels_of f) (types_of f)
+in_these m f = in_blocks m f (labels_of f) (all_told (typed_of f))
 
 pub blocks_by : (m : Module) (f : Function) (entry : Name) (earlier taken : List Name) (bs : List Block) → in_these m f entry earlier taken bs ≡ []
     → (are_new taken (flat_map block_names bs) ≡ true) × AllByRecursion (BlockFits m f entry) bs

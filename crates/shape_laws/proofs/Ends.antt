@@ -13,13 +13,13 @@ use Rattle.operand_tests.proofs.Fits.{types_known}
 use Rattle.shape_kinds.specs.declared.kind.ShapeKind.{ShapeKind}
 use Rattle.shape_kinds.specs.declared.kind.ShapeKind.TheVariants as kind
 use Rattle.shape_kinds.specs.Kinds.{fault_unless, least}
-use Rattle.shape_tests.specs.Kinds.{are_labels, branch_fits, cases_fit, labels_of, leads_to, return_fits, types_of}
+use Rattle.shape_tests.specs.Kinds.{are_labels, branch_fits, cases_fit, labels_of, leads_to, return_fits}
 use Rattle.shape_tests.proofs.Fits.{branch_by, branch_is, cases_by, cases_is, return_by, return_is}
 use Rattle.shape_tests.proofs.Taken.{labels_are, labels_by}
 use Rattle.shape_tests.proofs.Tests.{both_none, fits_by, least_none_left, least_none_right, none_by, not_true}
 use Rattle.shape_tests.proofs.Typed.{AreTyped}
 use Rattle.line_shapes.specs.Told.{end_kind, operands_kind, stated_at_end}
-use Rattle.shape_laws.proofs.Lines.{operands_are, operands_by}
+use Rattle.shape_laws.proofs.Lines.{all_told, operands_are, operands_by}
 use Rattle.shape_laws.proofs.Phis.{names_of_blocks}
 
 pub record EndFits (m : Module) (f : Function) (entry : Name) (end : Term) : Type 0 where
@@ -32,14 +32,14 @@ pub record EndFits (m : Module) (f : Function) (entry : Name) (end : Term) : Typ
   pub cases : HasCases end
 
 abbrev pub of_end : Module → Function → Name → Term → Option ShapeKind
-of_end m f entry end = end_kind m (labels_of f) (types_of f) entry f.result end
+of_end m f entry end = end_kind m (labels_of f) (all_told (typed_of f)) entry f.result end
 
 pub end_by : (m : Module) (f : Function) (entry : Name) (end : Term) → of_end m f entry end ≡ None → EndFits m f entry end
 end_by m f entry end none =
     let known = are_types_known m (stated_at_end end) in
     let labels = are_labels (labels_of f) (successors_of end) in
     let outside = not (leads_to entry end) in
-    let operands = operands_kind m (types_of f) (operands_at_end end) in
+    let operands = operands_kind m (all_told (typed_of f)) (operands_at_end end) in
     let last = least (fault_unless (return_fits f.result end) kind.ReturnType) (fault_unless (cases_fit end) kind.CaseTwice) in
     let branch = least (fault_unless (branch_fits end) kind.OperandType) last in
     let typed = least operands branch in
@@ -66,7 +66,7 @@ end_is m f entry end unique fit =
     let known = are_types_known m (stated_at_end end) in
     let labels = are_labels (labels_of f) (successors_of end) in
     let outside = not (leads_to entry end) in
-    let operands = operands_kind m (types_of f) (operands_at_end end) in
+    let operands = operands_kind m (all_told (typed_of f)) (operands_at_end end) in
     both_none (fault_unless known kind.Name) _ (none_by known kind.Name ((types_known m (stated_at_end end)).1 fit.known))
     (both_none (fault_unless labels kind.Label) _ (none_by labels kind.Label (labels_are (names_of_blocks f.blocks) (successors_of end) fit.labels))
     (both_none (fault_unless outside kind.EntryEntered) _ (none_by outside kind.EntryEntered (ap not fit.not_entered))

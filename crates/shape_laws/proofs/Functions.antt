@@ -20,16 +20,18 @@ use Rattle.shape_kinds.specs.declared.kind.ShapeKind.{ShapeKind}
 use Rattle.shape_kinds.specs.declared.kind.ShapeKind.TheVariants as kind
 use Rattle.shape_kinds.specs.Kinds.{fault_unless, least}
 use Rattle.shape_kinds.specs.Names.{are_new, with_names}
+use Rattle.shape_kinds.specs.Typed.{Types}
 use Rattle.shape_tests.specs.Kinds.{is_result, labels_of, leads_to, name_kind, types_of}
 use Rattle.shape_tests.proofs.Fits.{edge_none, edges_from, no_edge, result_by, result_is}
 use Rattle.shape_tests.proofs.Taken.{new_by, new_is, new_joined, registers_new}
 use Rattle.shape_tests.proofs.Tests.{all_flat, all_joined, all_left, all_parts, all_right, both_hold, both_left, both_none, both_right, fits_by, joined_none, least_none_left, least_none_right, left_none, mapped_all, none_by, not_true, right_none}
-use Rattle.shape_tests.proofs.Typed.{AreTyped}
+use Rattle.shape_tests.proofs.Typed.{AllGive, AreTyped, all_typed}
 use Rattle.ir_shape.specs.Shape.{fault_at, in_body, in_function}
 use Rattle.line_shapes.specs.Told.{header_kind}
 use Rattle.shape_laws.proofs.Blocks.{BlockFits, blocks_are, blocks_by, in_these}
 use Rattle.shape_laws.proofs.Faults.{no_fault, no_kind}
-use Rattle.shape_laws.proofs.Lines.{AreApart, IsValue}
+use Rattle.shape_laws.proofs.Leading.{blocks_with_shape, body_gives}
+use Rattle.shape_laws.proofs.Lines.{AreApart, IsValue, all_told}
 
 abbrev param_names : Function → List Name
 param_names f = names_in (params_of f)
@@ -147,7 +149,18 @@ header_fits m f shape = record {
 -- ---- functions
 
 abbrev in_all : Module → Function → List Block → List ShapeFault
-in_all m f = in_body m f (labels_of f) (types_of f) (with_names [] (param_names f))
+in_all m f = in_body m f (labels_of f) (all_told (typed_of f)) (with_names [] (param_names f))
+
+-- as it is told
+abbrev in_told : Module → Function → List Block → List ShapeFault
+in_told m f = in_body m f (labels_of f) (types_of m f) (with_names [] (param_names f))
+
+-- where each line gives its register a type, this is the same
+told_is : (m : Module) (f : Function) → AllByRecursion (λ (b : Block). AllGive m.types b.body) f.blocks → in_told m f f.blocks ≡ in_all m f f.blocks
+told_is m f all = ap (λ (types : Types). in_body m f (labels_of f) types (with_names [] (param_names f)) f.blocks) (all_typed m f all)
+
+told_none : (m : Module) (f : Function) → in_told m f f.blocks ≡ [] → in_all m f f.blocks ≡ []
+told_none m f none = sym (told_is m f (body_gives m f (labels_of f) (types_of m f) (with_names [] (param_names f)) f.blocks none)) ∙ none
 
 abbrev of_header : Module → Function → Option ShapeKind
 of_header m f = header_kind m (are_new [] (param_names f)) f
@@ -156,11 +169,11 @@ pub function_by : (m : Module) (f : Function) (taken : Bool) → in_function m t
 function_by m f taken e =
     let name = fault_at f.name None (name_kind taken f.name) in
     let header = fault_at f.name None (of_header m f) in
-    let own = fits_by (not taken && not (is_debug f.name)) kind.Name (no_kind _ f.name None (name_kind taken f.name) (left_none name (header ++ in_all m f f.blocks) e)) in
-    let behind = right_none name (header ++ in_all m f f.blocks) e in
-    let top = header_by m (are_new [] (param_names f)) f (no_kind _ f.name None (of_header m f) (left_none header (in_all m f f.blocks) behind)) in
+    let own = fits_by (not taken && not (is_debug f.name)) kind.Name (no_kind _ f.name None (name_kind taken f.name) (left_none name (header ++ in_told m f f.blocks) e)) in
+    let behind = right_none name (header ++ in_told m f f.blocks) e in
+    let top = header_by m (are_new [] (param_names f)) f (no_kind _ f.name None (of_header m f) (left_none header (in_told m f f.blocks) behind)) in
     let plain = not_true (is_debug f.name) (both_right (not taken) (not (is_debug f.name)) own) in
-    (both_left (not taken) (not (is_debug f.name)) own, go f.blocks refl plain top.0 top.1 (right_none header (in_all m f f.blocks) behind))
+    (both_left (not taken) (not (is_debug f.name)) own, go f.blocks refl plain top.0 top.1 (told_none m f (right_none header (in_told m f f.blocks) behind)))
   where
     go : (bs : List Block) → f.blocks ≡ bs → is_debug f.name ≡ false → are_new [] (param_names f) ≡ true → HeaderFits m f → in_all m f f.blocks ≡ [] → HasFunctionShape m f
     go [] are plain params header none = let never = sym (ap (λ (bs : List Block). nat_lt 0 (length bs)) are) ∙ header.some in absurd (cc)
@@ -179,6 +192,6 @@ function_is m apart f taken free shape =
     blocks_are m apart f unique entry [] (with_names [] (param_names f)) f.blocks (λ n there. absurd (omega (arith, there.1))) (both_right params_new blocks_new new) (blocks_fit m f shape) in
     joined_none (fault_at f.name None (name_kind taken f.name)) _
     (no_fault _ f.name None (name_kind taken f.name) (none_by (not taken && not (is_debug f.name)) kind.Name (both_hold (not taken) (not (is_debug f.name)) (ap not free) (ap not shape.name))))
-    (joined_none (fault_at f.name None (of_header m f)) (in_all m f f.blocks)
+    (joined_none (fault_at f.name None (of_header m f)) (in_told m f f.blocks)
     (no_fault _ f.name None (of_header m f) (header_is m params_new f (both_left params_new blocks_new new) (header_fits m f shape)))
-    (ap (in_all m f) shape.blocks ∙ sym (ap (in_these m f entry [] (with_names [] (param_names f))) shape.blocks) ∙ body))
+    (told_is m f (blocks_with_shape m f f.blocks shape.each) ∙ ap (in_all m f) shape.blocks ∙ sym (ap (in_these m f entry [] (with_names [] (param_names f))) shape.blocks) ∙ body))

@@ -6,6 +6,7 @@ pub mod Ends
 pub mod Blocks
 pub mod Functions
 pub mod Shapely
+pub mod Leading
 pub mod Levels
 pub mod SameTypes
 pub mod Examples

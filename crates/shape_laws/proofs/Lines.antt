@@ -32,12 +32,12 @@ use Rattle.operand_tests.proofs.Fits.{call_by, call_is, constant_fits, element_f
 use Rattle.shape_kinds.specs.declared.kind.ShapeKind.TheVariants as kind
 use Rattle.shape_kinds.specs.Kinds.{fault_unless, least, points_to}
 use Rattle.shape_kinds.specs.Names.{are_new}
-use Rattle.shape_kinds.specs.Typed.{none_typed, with_types}
-use Rattle.shape_tests.specs.Kinds.{right_kind}
+use Rattle.shape_kinds.specs.Typed.{Types, none_typed, with_types}
+use Rattle.shape_tests.specs.Kinds.{right_kind, typed}
 use Rattle.shape_tests.proofs.Fits.{IsAddressed, addressed_is, operator_by, operator_is}
 use Rattle.shape_tests.proofs.Taken.{new_joined}
 use Rattle.shape_tests.proofs.Tests.{all_joined, all_left, all_none, all_right, both_hold, both_left, both_none, both_right, each_none, fits_by, least_none_left, least_none_right, mapped_all, none_by, with_true}
-use Rattle.shape_tests.proofs.Typed.{AreTyped, register_by, register_is}
+use Rattle.shape_tests.proofs.Typed.{AreTyped, register_by, register_is, register_typed}
 use Rattle.ir_shape.specs.Shape.{is_name_taken, is_taken, line_kinds, with_lines}
 use Rattle.line_shapes.specs.Told.{addressed_kind, atom_kind, has_count, is_stored, operands_kind, register_kind, rest_kind}
 use Rattle.shape_laws.proofs.Faults.{AllNone}
@@ -55,29 +55,34 @@ same_by a b e = subst (λ t. same_ty a t ≡ true) e (same_ty_refl a)
 
 -- ---- operands
 
-own_type : (own : Option Ty) (t : Ty) → register_kind own t ≡ None → own ≡ Some t
-own_type None t e = absurd (cc)
-own_type (Some own) t e = ap Some (same_ty_true own t (fits_by (same_ty own t) kind.OperandType e))
+-- what is told of registers that all have types
+abbrev pub all_told : List (Name × Ty) → Types
+all_told rs = with_types none_typed (typed rs)
 
-atom_by : (m : Module) (rs : List (Name × Ty)) (t : Ty) (a : Atom Name) → atom_kind m (with_types none_typed rs) t a ≡ None → HasType m rs t a
+own_type : (own : Option (Option Ty)) (t : Ty) → (own ≡ Some None → ⊥) → register_kind own t ≡ None → own ≡ Some (Some t)
+own_type None t has e = absurd (cc)
+own_type (Some None) t has e = absurd (has refl)
+own_type (Some (Some own)) t has e = ap (λ (u : Ty). Some (Some u)) (same_ty_true own t (fits_by (same_ty own t) kind.OperandType e))
+
+atom_by : (m : Module) (rs : List (Name × Ty)) (t : Ty) (a : Atom Name) → atom_kind m (all_told rs) t a ≡ None → HasType m rs t a
 atom_by m rs t (Constant c) e = (constant_fits m t c).0 e
-atom_by m rs t (Register x) e = register_by rs x t (own_type (with_types none_typed rs x) t e)
+atom_by m rs t (Register x) e = register_by rs x t (own_type (all_told rs x) t (register_typed rs x) e)
 
-atom_is : (m : Module) (rs : List (Name × Ty)) → AreNew [] (names_in rs) → (t : Ty) (a : Atom Name) → HasType m rs t a → atom_kind m (with_types none_typed rs) t a ≡ None
+atom_is : (m : Module) (rs : List (Name × Ty)) → AreNew [] (names_in rs) → (t : Ty) (a : Atom Name) → HasType m rs t a → atom_kind m (all_told rs) t a ≡ None
 atom_is m rs unique t (Constant c) is = (constant_fits m t c).1 is
 atom_is m rs unique t (Register x) is =
-    ap (λ (own : Option Ty). register_kind own t) (register_is rs unique x t is) ∙ none_by (same_ty t t) kind.OperandType (same_ty_refl t)
+    ap (λ (own : Option (Option Ty)). register_kind own t) (register_is rs unique x t is) ∙ none_by (same_ty t t) kind.OperandType (same_ty_refl t)
 
-pub operands_by : (m : Module) (rs : List (Name × Ty)) (os : List (Operand Name)) → operands_kind m (with_types none_typed rs) os ≡ None → AreTyped m rs os
+pub operands_by : (m : Module) (rs : List (Name × Ty)) (os : List (Operand Name)) → operands_kind m (all_told rs) os ≡ None → AreTyped m rs os
 operands_by m rs os e =
-    mapped_all (λ (o : Operand Name). atom_kind m (with_types none_typed rs) o.ty o.atom ≡ None) (λ (o : Operand Name). HasType m rs o.ty o.atom)
-    (λ o none. atom_by m rs o.ty o.atom none) os (each_none (λ (o : Operand Name). atom_kind m (with_types none_typed rs) o.ty o.atom) os e)
+    mapped_all (λ (o : Operand Name). atom_kind m (all_told rs) o.ty o.atom ≡ None) (λ (o : Operand Name). HasType m rs o.ty o.atom)
+    (λ o none. atom_by m rs o.ty o.atom none) os (each_none (λ (o : Operand Name). atom_kind m (all_told rs) o.ty o.atom) os e)
 
 pub operands_are : (m : Module) (rs : List (Name × Ty)) → AreNew [] (names_in rs) → (os : List (Operand Name)) → AreTyped m rs os
-    → operands_kind m (with_types none_typed rs) os ≡ None
+    → operands_kind m (all_told rs) os ≡ None
 operands_are m rs unique os typed =
-    all_none (λ (o : Operand Name). atom_kind m (with_types none_typed rs) o.ty o.atom) os
-    (mapped_all (λ (o : Operand Name). HasType m rs o.ty o.atom) (λ (o : Operand Name). atom_kind m (with_types none_typed rs) o.ty o.atom ≡ None)
+    all_none (λ (o : Operand Name). atom_kind m (all_told rs) o.ty o.atom) os
+    (mapped_all (λ (o : Operand Name). HasType m rs o.ty o.atom) (λ (o : Operand Name). atom_kind m (all_told rs) o.ty o.atom ≡ None)
     (λ o is. atom_is m rs unique o.ty o.atom is) os typed)
 
 -- ---- one line, but for its name and its operands
@@ -91,7 +96,7 @@ addressed_by m (expr.Select s) none = tt
 addressed_by m (expr.Element e) none = (element_fits m e).0 none
 addressed_by m (expr.Load l) none = tt
 
-addressed_none : (m : Module) (e : Expr Name) → IsAddressed m e → addressed_kind m e ≡ None
+pub addressed_none : (m : Module) (e : Expr Name) → IsAddressed m e → addressed_kind m e ≡ None
 addressed_none m (expr.Plain o) is = refl
 addressed_none m (expr.Binary b) is = refl
 addressed_none m (expr.Icmp c) is = refl
@@ -209,13 +214,13 @@ pub record LinesFit (m : Module) (rs : List (Name × Ty)) (taken : List Name) (l
   pub operands : AreTyped m rs (flat_map operands_of ls)
   pub lines : AllByRecursion (IsLine m) ls
 
-pub lines_by : (m : Module) (rs : List (Name × Ty)) (taken : List Name) (ls : List Instr) → AllNone (line_kinds m (with_types none_typed rs) taken ls) → LinesFit m rs taken ls
+pub lines_by : (m : Module) (rs : List (Name × Ty)) (taken : List Name) (ls : List Instr) → AllNone (line_kinds m (all_told rs) taken ls) → LinesFit m rs taken ls
 lines_by m rs taken [] all = record { new = refl; known = tt; values = tt; operands = tt; lines = tt }
 lines_by m rs taken (l ∷ ls) all =
     let fresh = not (is_taken taken l) in
     let known = are_types_known m (stated_by_line l) in
     let name = fault_unless (fresh && known) kind.Name in
-    let operands = operands_kind m (with_types none_typed rs) (operands_of l) in
+    let operands = operands_kind m (all_told rs) (operands_of l) in
     let own = fits_by (fresh && known) kind.Name (least_none_left name (least operands (rest_kind m l)) all.0) in
     let behind = least_none_right name (least operands (rest_kind m l)) all.0 in
     let rest = least_none_right operands (rest_kind m l) behind in
@@ -229,13 +234,13 @@ lines_by m rs taken (l ∷ ls) all =
     }
 
 pub lines_are : (m : Module) → AreApart m → (rs : List (Name × Ty)) → AreNew [] (names_in rs) → (taken : List Name) (ls : List Instr) → LinesFit m rs taken ls
-    → AllNone (line_kinds m (with_types none_typed rs) taken ls)
+    → AllNone (line_kinds m (all_told rs) taken ls)
 lines_are m apart rs unique taken [] fit = tt
 lines_are m apart rs unique taken (l ∷ ls) fit =
     let fresh = not (is_taken taken l) in
     let later = are_new (with_lines taken (l ∷ [])) (names_in (set_by ls)) in
     let known = are_types_known m (stated_by_line l) in
-    let operands = operands_kind m (with_types none_typed rs) (operands_of l) in
+    let operands = operands_kind m (all_told rs) (operands_of l) in
     let new = sym (lines_new taken l ls) ∙ fit.new in
     let values = subst (AllByRecursion IsValue) (set_more l ls) fit.values in (
       both_none (fault_unless (fresh && known) kind.Name) (least operands (rest_kind m l))

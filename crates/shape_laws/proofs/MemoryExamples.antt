@@ -5,9 +5,9 @@ use Rattle.ir_types.proofs.Monotone as layout
 use Rattle.ir_core.proofs.TypeNames.{at_array, at_int, at_named, at_ptr, at_void}
 use Rattle.ir_core.proofs.Typing.{in_number}
 use Rattle.shape_laws.proofs.Levels.{in_global, in_null, of_const, of_global, of_null, of_number, of_zero, start_of_const, start_of_zero}
-use Rattle.shape_laws.proofs.SameTypes.{integers, name_and_integer, names, pointers}
+use Rattle.shape_laws.proofs.SameTypes.{integers, name_and_integer, names, pointer_and_integer, pointers}
 use Rattle.shape_kinds.specs.Typed.{with_type}
-use Rattle.shape_laws.specs.Laws.{Accesses, Addresses, Calls, Declarations, DeclarationsComeInOrder, Globals, RecursiveCalls}
+use Rattle.shape_laws.specs.Laws.{Accesses, Addresses, Calls, Declarations, DeclarationsComeInOrder, Globals, RecursiveCalls, UsesOfAddresses}
 
 -- the names in types, sizes, and the test of types
 ruleset stated = (at_int, at_array, at_named, at_ptr, at_void)
@@ -61,6 +61,15 @@ addresses = (
   simp (stated, sizes, in_number, of_number, outs-Ptr, outs-Named, outs-Int, same) refl,
   simp (stated, sizes, in_number, of_number, outs-Ptr, same) refl,
   simp (stated, sizes, in_number, of_number, outs-Ptr, outs-Named, outs-Array, same) refl,
+)
+
+pub uses_of_addresses : UsesOfAddresses
+unfolding with_type
+uses_of_addresses = (
+  simp (stated, sizes, in_number, of_number, outs-Ptr, outs-Named, pointer_and_integer, same) refl,
+  simp (stated, sizes, in_number, of_number, outs-Ptr, outs-Named, same) refl,
+  simp (stated, outs-Ptr, outs-Named, of_number, same) refl,
+  simp (stated, sizes, in_number, of_number, outs-Ptr, outs-Named, same) refl,
 )
 
 pub calls : Calls

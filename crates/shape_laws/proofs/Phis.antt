@@ -20,7 +20,7 @@ use Rattle.shape_kinds.specs.declared.kind.ShapeKind.{ShapeKind}
 use Rattle.shape_kinds.specs.declared.kind.ShapeKind.TheVariants as kind
 use Rattle.shape_kinds.specs.Kinds.{fault_unless, least}
 use Rattle.shape_kinds.specs.Names.{are_new, with_name}
-use Rattle.shape_tests.specs.Kinds.{are_labels, froms_of, labels_of, phi_fits, types_of}
+use Rattle.shape_tests.specs.Kinds.{are_labels, froms_of, labels_of, phi_fits}
 use Rattle.shape_tests.proofs.Entries.{fits_edges_by, fits_edges_is}
 use Rattle.shape_tests.proofs.Fits.{edges_from}
 use Rattle.shape_tests.proofs.Taken.{labels_are}
@@ -29,7 +29,7 @@ use Rattle.shape_tests.proofs.Typed.{AreTyped}
 use Rattle.ir_shape.specs.Shape.{phi_kinds}
 use Rattle.line_shapes.specs.Told.{operands_kind, phi_kind}
 use Rattle.shape_laws.proofs.Faults.{AllNone}
-use Rattle.shape_laws.proofs.Lines.{IsValue, operands_are, operands_by}
+use Rattle.shape_laws.proofs.Lines.{IsValue, all_told, operands_are, operands_by}
 
 abbrev pub names_of_blocks : List Block → List Name
 names_of_blocks = map (λ (b : Block). b.name)
@@ -50,10 +50,10 @@ record PhiFits (m : Module) (f : Function) (b : Block) (p : Phi) : Type 0 where
   pub edges : FitsEdges f b p
 
 abbrev pub of_phis : Module → Function → Block → List Name → List Phi → List (Option ShapeKind)
-of_phis m f b = phi_kinds m (labels_of f) (types_of f) (edges_into f b.name)
+of_phis m f b = phi_kinds m (labels_of f) (all_told (typed_of f)) (edges_into f b.name)
 
 abbrev of_phi : Module → Function → Block → Bool → Phi → Option ShapeKind
-of_phi m f b = phi_kind m (labels_of f) (types_of f) (edges_into f b.name)
+of_phi m f b = phi_kind m (labels_of f) (all_told (typed_of f)) (edges_into f b.name)
 
 phi_by : (m : Module) (f : Function) (b : Block) (new : Bool) (p : Phi) → of_phi m f b new p ≡ None → (new ≡ true) × PhiFits m f b p
 phi_by m f b new p e =
@@ -61,7 +61,7 @@ phi_by m f b new p e =
     let name = fault_unless (new && known) kind.Name in
     let label = fault_unless (are_labels (labels_of f) (froms_of p.entries)) kind.Label in
     let edges = phi_fits (edges_into f b.name) p.entries in
-    let operands = operands_kind m (types_of f) (operands_of_phi p) in
+    let operands = operands_kind m (all_told (typed_of f)) (operands_of_phi p) in
     let last = least (fault_unless (is_first_class p.ty) kind.OperandType) operands in
     let third = least (fault_unless edges kind.PhiEntries) last in
     let own = fits_by (new && known) kind.Name (least_none_left name (least label third) e) in
@@ -115,7 +115,7 @@ phi_is m f b unique new p fresh fit =
     let known = are_types_known m (stated_by_phi p) in
     let labels = are_labels (labels_of f) (froms_of p.entries) in
     let edges = phi_fits (edges_into f b.name) p.entries in
-    let operands = operands_kind m (types_of f) (operands_of_phi p) in
+    let operands = operands_kind m (all_told (typed_of f)) (operands_of_phi p) in
     both_none (fault_unless (new && known) kind.Name) _ (none_by (new && known) kind.Name (both_hold new known fresh ((types_known m (stated_by_phi p)).1 fit.known)))
     (both_none (fault_unless labels kind.Label) _ (none_by labels kind.Label (entries_from f b p fit.edges))
     (both_none (fault_unless edges kind.PhiEntries) _ (none_by edges kind.PhiEntries (fits_edges_is f b p fit.edges))

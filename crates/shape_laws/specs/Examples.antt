@@ -231,6 +231,14 @@ store ty = line.Store (record { value = record { ty = ty; atom = Constant (const
 abbrev pub element : ℕ → Ty → List (Operand Name) → Ty → Instr
 element name of indices to = setting name (expr.Element (record { inbounds = false; of = of; base = pointer; indices = indices; to = to }))
 
+-- %101 = getelementptr of that pointer, one past its fields
+abbrev pub leading_nowhere : Instr
+leading_nowhere = element 101 (Named x) (index 64 0 ∷ index 32 2 ∷ []) (Ptr (Int 32))
+
+-- i8 %101
+abbrev pub used : Operand Name
+used = record { ty = Int 8; atom = Register (Number 101) }
+
 -- %name = call i32 @callee(arguments)
 abbrev pub call : ℕ → Name → List (Operand Name) → Instr
 call name callee arguments = line.Call (record {

@@ -16,7 +16,7 @@ use Rattle.ir_core.specs.declared.operands.Const as constant
 use Rattle.ir_core.specs.Order.{AreNew}
 use Rattle.ir_core.specs.Typing.{Signature, signatures_of}
 use Rattle.ir_types.specs.declared.names.Name.{Name}
-use Rattle.shape_laws.specs.Examples.{add, alloca, alone, block, branching, call, calling, cast, cast_of, debug, declared, declaring, element, entering, entry, f, fitting, function, held, icmp, icmp_of, in_f, in_header, in_named, in_y, index, jumping, last, load, naming, null_to_x, number_of, of_blocks, of_globals, of_lines, of_memory, params, phi, phi_to_x, returning, returning_recast, select, setting, store, struct, switching, to_x, beside_types, given, x, y}
+use Rattle.shape_laws.specs.Examples.{add, alloca, alone, block, branching, call, calling, cast, cast_of, debug, declared, declaring, element, entering, entry, f, fitting, function, held, icmp, icmp_of, in_f, in_header, in_named, in_y, index, jumping, last, leading_nowhere, load, naming, null_to_x, number_of, of_blocks, of_globals, of_lines, of_memory, params, phi, phi_to_x, returning, returning_recast, select, setting, store, struct, switching, to_x, used, beside_types, given, x, y}
 use Rattle.ir_shape.specs.declared.fault.ShapeFault.{ShapeFault}
 use Rattle.ir_shape.specs.Shape.{first_fault, first_of, in_function}
 use Rattle.ir_core.specs.Modules.{plain_function, plain_module, plain_param}
@@ -228,6 +228,15 @@ Addresses =
     × (first_fault (of_memory (element 101 (Named x) (index 64 0 ∷ index 32 0 ∷ index 32 0 ∷ []) (Ptr (Int 32)) ∷ [])) ≡ Some (in_f 0 kind.GepIndex))
     × (first_fault (of_memory (element 101 (Int 8) (index 64 0 ∷ []) (Ptr (Int 8)) ∷ [])) ≡ Some (in_f 0 kind.OperandType))
     × (first_fault (of_memory (element 101 (Named x) (index 64 0 ∷ index 32 1 ∷ index 64 2 ∷ []) (Ptr (Int 8)) ∷ [])) ≡ None)
+
+-- A register that is used at an `i8` before it is set: by a getelementptr that leads to a pointer, or nowhere, which has no type that the use
+-- could differ from. Where two lines set it the first one decides: a sum of `i32`, or the getelementptr that leads nowhere.
+abbrev pub UsesOfAddresses : Type 0
+UsesOfAddresses =
+    (first_fault (of_memory (icmp_of 102 used ∷ element 101 (Named x) (index 64 0 ∷ index 32 0 ∷ []) (Ptr (Int 32)) ∷ [])) ≡ Some (in_f 0 kind.OperandType))
+    × (first_fault (of_memory (icmp_of 102 used ∷ leading_nowhere ∷ [])) ≡ Some (in_f 1 kind.GepIndex))
+    × (first_fault (of_memory (icmp_of 102 used ∷ add 101 (Int 32) ∷ leading_nowhere ∷ [])) ≡ Some (in_f 0 kind.OperandType))
+    × (first_fault (of_memory (icmp_of 102 used ∷ leading_nowhere ∷ add 101 (Int 32) ∷ [])) ≡ Some (in_f 1 kind.GepIndex))
 
 -- A call of what isn't there; with an argument that is missing; with one that is of another type than its register, which is told before its
 -- being of another type than the parameter; and one that fits. It calls `declare i32 @y(i32)`.

@@ -1,6 +1,6 @@
 ghost use Rattle.shape_laws.specs.Laws.{FaultlessModulesHaveShape, ShapelyModulesAreFaultless, FaultlessFunctionsHaveShape, ShapelyFunctionsAreFaultless};
 ghost use Rattle.shape_laws.specs.Laws.{FittingLinesHaveNone, OperandsOfNoInteger, ConditionsAndArms, Conversions, Results, Phis, EnteredEntries, Branches, Cases, NamedTypes, StatedTypes, Names, Labels, Operands, Registers};
-ghost use Rattle.shape_laws.specs.Laws.{Accesses, Addresses, Calls, Declarations, DeclarationsComeInOrder, Globals, RecursiveCalls};
+ghost use Rattle.shape_laws.specs.Laws.{Accesses, Addresses, Calls, Declarations, DeclarationsComeInOrder, Globals, RecursiveCalls, UsesOfAddresses};
 ghost use Rattle.shape_laws.specs.Laws.{LinesComeBeforeEnds, NamesComeBeforeLines, TypesComeFirst, FunctionsComeInOrder, KindsComeInOrder};
 
 /// Empty on purpose: its contract is the law.
@@ -63,6 +63,7 @@ pub fn examples_of_memory_faults()
     ensures order { DeclarationsComeInOrder }
     ensures accesses { Accesses }
     ensures addresses { Addresses }
+    ensures uses { UsesOfAddresses }
     ensures calls { Calls }
     ensures recursion { RecursiveCalls }
 {}

@@ -1,5 +1,7 @@
 -- How often names stand, and what is first for each: as they are kept, and as they are told.
-use Rattle.std.proofs.Common.{◌≡◌, ◌∙◌, ◌&&◌, ℕ, suc, zero, ◌+◌, Bool, true, false, cond, nat_eq, List, [], ◌∷◌, Option, None, Some, refl, sym, ap, subst, arith, if◌then◌else◌}
+use Rattle.std.proofs.Common.{◌≡◌, ◌∙◌, ◌&&◌, ◌<◌, drop, get_or, length, ℕ, suc, zero, ◌+◌, Bool, true, false, cond, nat_eq, List, [], ◌∷◌, Option, None, Some, refl, sym, ap, subst, arith, if◌then◌else◌}
+use Rattle.std.proofs.lemmas.Bool.Decides.{nat_tests}
+use Rattle.std.proofs.lemmas.List.{drop_more}
 use Rattle.std.specs.Borrow.{Bor}
 use Rattle.std.specs.List.{Contains, list_all}
 use Rattle.std.specs.Map.{lookup}
@@ -14,8 +16,8 @@ use Rattle.ir_core.proofs.SameLaws.{same_name_atom_refl, same_name_atom_true}
 use Rattle.shape_tests.specs.declared.counts.Counts.{Counts}
 use Rattle.shape_tests.specs.declared.counts.Firsts.{Firsts}
 use Rattle.shape_tests.specs.Counted.{agree_at, agrees_with, alike_along, count_in, counts_of, first_in, found_count, found_first, lent_atom, none_counted, none_first, number, or_first, with_count, with_counts, with_first}
-use Rattle.shape_tests.specs.Edges.{agrees}
-use Rattle.shape_tests.specs.Kinds.{are_alike, count_of, same_counts}
+use Rattle.shape_tests.specs.Edges.{agrees, named}
+use Rattle.shape_tests.specs.Kinds.{are_alike, count_of, froms_of, same_counts}
 use Rattle.shape_tests.proofs.Edges.{counts_joined}
 use Rattle.shape_tests.proofs.Entries.{alike_by, are_alike_is, count_cons}
 use Rattle.shape_tests.proofs.Tests.{both_hold, both_left, both_right}
@@ -46,6 +48,34 @@ one_more counts new name count more put = λ i n. at n i
             let here : number (found_count counts n) ≡ number (found_count counts name.now) = ap (λ x. number (found_count counts x)) (same_name_true n name.now e) in
             omega (arith, here, more)
 
+-- a name that is new
+first_count : (counts : Counts) (name : Name) → found_count counts name ≡ None → 1 ≡ count_in counts name + 1
+unfolding count_in
+first_count counts name none = omega (arith, ap number none)
+
+pub put_first : (counts new : Counts) (name : Bor Name) → found_count counts name.now ≡ None
+    → new.of.entries ≡ insert_entry (λ (x y : Bor Name). same_name x.now y.now) counts.of.entries name 1 → count_in new ≡ with_count (count_in counts) name.now
+put_first counts new name none put = one_more counts new name 1 (first_count counts name.now none) put
+
+-- one that is there
+pub put_again : (counts other new : Counts) (name : Bor Name) (k : ℕ) → found_count counts name.now ≡ Some k
+    → other.of.entries ≡ insert_entry (λ (x y : Bor Name). same_name x.now y.now) counts.of.entries name 1
+    → new.of.entries ≡ insert_entry (λ (x y : Bor Name). same_name x.now y.now) other.of.entries name (k + 1) → count_in new ≡ with_count (count_in counts) name.now
+unfolding count_in with_count
+put_again counts other new name k there put again = λ i n. at n i
+  where
+    at : (n : Name) → number (found_count new n) ≡ (if same_name n name.now then 1 else 0) + number (found_count counts n)
+    at n =
+        ap number (ap (lookup (λ (q : Bor Name). same_name n q.now)) again ∙ put_entry (λ (q : Bor Name). q.now) n name (k + 1) other.of.entries)
+        ∙ ap (λ o. number (cond (same_name n name.now) (Some (k + 1)) o)) (ap (lookup (λ (q : Bor Name). same_name n q.now)) put ∙ put_entry (λ (q : Bor Name). q.now) n name 1 counts.of.entries)
+        ∙ go (same_name n name.now) refl
+      where
+        go : (b : Bool) → same_name n name.now ≡ b → number (cond b (Some (k + 1)) (cond b (Some 1) (found_count counts n))) ≡ (if b then 1 else 0) + number (found_count counts n)
+        go false e = sym (none_more (number (found_count counts n)))
+        go true e =
+            let here : number (found_count counts n) ≡ k = ap number (ap (found_count counts) (same_name_true n name.now e) ∙ there) in
+            omega (arith, here)
+
 count_with : (counts : Name → ℕ) (name n : Name) → with_count counts name n ≡ (if same_name n name then 1 else 0) + counts n
 unfolding with_count
 count_with counts name n = refl
@@ -70,6 +100,29 @@ both_counts c d xs ys this that =
     ap (λ (p : Name → Bool). list_all p xs && list_all p ys) (ap (λ (f : Name → ℕ). agree_at f d) this ∙ ap (agree_at (counts_of xs)) that ∙ agree_is xs ys)
     ∙ sym (counts_joined xs ys)
 
+-- where an entry more is the one for its edge
+pub rest_in_order : (edges : List (Bor Name)) (entries : List Entry) (k : ℕ) (x : Bor Name) (e : Entry) (whole : Type 0) → k < length edges → k < length entries → x ≡ get_or edges k x
+    → e ≡ get_or entries k e → same_name x.now e.from ≡ true → (froms_of (drop k entries) ≡ named (drop k edges) → whole)
+    → froms_of (drop (k + 1) entries) ≡ named (drop (k + 1) edges) → whole
+rest_in_order edges entries k x e whole within inside at also same so_far rest =
+    let is : e.from ≡ x.now = sym (same_name_true x.now e.from same) in
+    so_far
+    (ap froms_of (drop_more entries k e inside ∙ ap (λ (d : Entry). d ∷ drop (k + 1) entries) (sym also))
+    ∙ (λ i. is i ∷ rest i)
+    ∙ sym (ap named (drop_more edges k x within ∙ ap (λ (y : Bor Name). y ∷ drop (k + 1) edges) (sym at))))
+
+-- names are as often among themselves
+each_agrees : (xs ys : List Name) → list_all (agrees ys ys) xs ≡ true
+each_agrees [] ys = refl
+each_agrees (x ∷ xs) ys = both_hold (agrees ys ys x) (list_all (agrees ys ys) xs) (as_many (count_of x ys)) (each_agrees xs ys)
+  where
+    as_many : (n : ℕ) → nat_eq n n ≡ true
+    as_many n = grind (arith, nat_tests)
+
+pub counts_alike : (xs ys : List Name) → ys ≡ xs → same_counts xs ys ≡ true
+counts_alike xs ys same =
+    ap (same_counts xs) same ∙ counts_joined xs xs ∙ both_hold (list_all (agrees xs xs) xs) (list_all (agrees xs xs) xs) (each_agrees xs xs) (each_agrees xs xs)
+
 -- ---- the first of each name
 
 pub none_put : (firsts : Firsts) → firsts.of.entries ≡ [] → first_in firsts ≡ none_first
@@ -80,18 +133,22 @@ or_none : (o : Option (Atom Name)) → or_first o None ≡ o
 or_none None = refl
 or_none (Some a) = refl
 
-pub first_there : (firsts : Firsts) (name : Name) (a : Atom Name) (v : Bor (Atom Name)) → found_first firsts name ≡ Some v → first_in firsts ≡ with_first (first_in firsts) name a
+pub first_again : (firsts new : Firsts) (name : Bor Name) (a v : Bor (Atom Name)) → found_first firsts name.now ≡ Some v → same_atom same_name v.now a.now ≡ true
+    → new.of.entries ≡ insert_entry (λ (x y : Bor Name). same_name x.now y.now) firsts.of.entries name a → first_in new ≡ with_first (first_in firsts) name.now a.now
 unfolding first_in with_first
-first_there firsts name a v there = λ i n. at n i
+first_again firsts new name a v there same put = λ i n. at n i
   where
-    at : (n : Name) → lent_atom (found_first firsts n) ≡ or_first (lent_atom (found_first firsts n)) (if same_name n name then Some a else None)
-    at n = go (same_name n name) refl
+    at : (n : Name) → lent_atom (found_first new n) ≡ or_first (lent_atom (found_first firsts n)) (if same_name n name.now then Some a.now else None)
+    at n =
+        ap lent_atom (ap (lookup (λ (q : Bor Name). same_name n q.now)) put ∙ put_entry (λ (q : Bor Name). q.now) n name a firsts.of.entries)
+        ∙ go (same_name n name.now) refl
       where
-        go : (b : Bool) → same_name n name ≡ b → lent_atom (found_first firsts n) ≡ or_first (lent_atom (found_first firsts n)) (if b then Some a else None)
+        go : (b : Bool) → same_name n name.now ≡ b → lent_atom (cond b (Some a) (found_first firsts n)) ≡ or_first (lent_atom (found_first firsts n)) (if b then Some a.now else None)
         go false e = sym (or_none (lent_atom (found_first firsts n)))
         go true e =
-            let found : found_first firsts n ≡ Some v = ap (found_first firsts) (same_name_true n name e) ∙ there in
-            ap lent_atom found ∙ sym (ap (λ o. or_first (lent_atom o) (Some a)) found)
+            let found : found_first firsts n ≡ Some v = ap (found_first firsts) (same_name_true n name.now e) ∙ there in
+            let is : v.now ≡ a.now = same_name_atom_true v.now a.now same in
+            sym (ap (λ o. or_first (lent_atom o) (Some a.now)) found ∙ ap (λ (x : Atom Name). let some : Option (Atom Name) = Some x in some) is)
 
 pub first_new : (firsts new : Firsts) (name : Bor Name) (a : Bor (Atom Name)) → found_first firsts name.now ≡ None
     → new.of.entries ≡ insert_entry (λ (x y : Bor Name). same_name x.now y.now) firsts.of.entries name a → first_in new ≡ with_first (first_in firsts) name.now a.now

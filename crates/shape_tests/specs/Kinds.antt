@@ -1,6 +1,6 @@
 -- What is wrong with a line, a terminator, a phi or a name (LangRef 3.7, Well-Formedness, Instruction Reference).
-use Rattle.std.specs.Prelude.{ℕ, ◌&&◌, ◌||◌, Bool, true, cond, not, List, [], ◌∷◌, ◌++◌, length, map, nat_eq, nat_lt, Option, None, Some}
-use Rattle.std.specs.List.{count_by, list_all, list_any}
+use Rattle.std.specs.Prelude.{ℕ, ◌&&◌, ◌||◌, Bool, true, cond, not, List, [], ◌∷◌, ◌++◌, length, map, nat_eq, nat_lt, Option, None, Some, is_some}
+use Rattle.std.specs.List.{count_by, flat_map, list_all, list_any}
 use Rattle.ir_core.specs.declared.expressions.Cast.{Cast}
 use Rattle.ir_core.specs.declared.expressions.Expr.{Expr}
 use Rattle.ir_core.specs.declared.expressions.Expr.TheVariants as expr
@@ -10,15 +10,20 @@ use Rattle.ir_core.specs.declared.functions.Block.{Block}
 use Rattle.ir_core.specs.declared.functions.Case.{Case}
 use Rattle.ir_core.specs.declared.functions.Entry.{Entry}
 use Rattle.ir_core.specs.declared.functions.Function.{Function}
+use Rattle.ir_core.specs.declared.functions.Instr.{Instr}
+use Rattle.ir_core.specs.declared.functions.Instr.TheVariants as instr
 use Rattle.ir_core.specs.declared.functions.Term.{Term}
 use Rattle.ir_core.specs.declared.functions.Term.TheVariants as term
+use Rattle.ir_core.specs.declared.modules.Module.{Module}
+use Rattle.ir_types.specs.declared.named.NamedTy.{NamedTy}
 use Rattle.ir_types.specs.declared.names.Name.{Name}
 use Rattle.ir_types.specs.declared.ty.Ty.{Ty}
 use Rattle.ir_types.specs.declared.ty.Ty.TheVariants as ty
-use Rattle.ir_core.specs.Functions.{is_debug, successors_of, typed_of}
+use Rattle.ir_core.specs.Functions.{is_debug, params_of, phi_registers, set_by, successors_of}
 use Rattle.ir_types.specs.Same.{same_name, same_ty}
 use Rattle.ir_core.specs.Same.{same_atom}
 use Rattle.ir_core.specs.Types.{converts, is_first_class, is_integer, number_at}
+use Rattle.ir_core.specs.Typing.{element_type, index_of}
 use Rattle.name_index.specs.Among.{is_among}
 use Rattle.shape_kinds.specs.declared.kind.ShapeKind.{ShapeKind}
 use Rattle.shape_kinds.specs.declared.kind.ShapeKind.TheVariants as kind
@@ -35,9 +40,30 @@ labels_of f = with_names [] (map (λ (b : Block). b.name) f.blocks)
 abbrev pub are_labels : List Name → List Name → Bool
 are_labels labels = list_all (λ name. is_among name labels)
 
--- the types of a function's registers, each as it is first defined
-abbrev pub types_of : Function → Types
-types_of f = with_types none_typed (typed_of f)
+-- registers, each with its type
+abbrev pub typed : List (Name × Ty) → List (Name × Option Ty)
+typed = map (λ (r : Name × Ty). (r.0, Some r.1))
+
+abbrev pub right_gives_type : List NamedTy → Expr Name → Bool
+right_gives_type types (expr.Element e) = is_some (element_type types e.of (map index_of e.indices))
+right_gives_type types e = true
+
+-- A line's register has the type that the line gives, but where it is a getelementptr whose indices lead nowhere, which gives none.
+abbrev pub gives_type : List NamedTy → Instr → Bool
+gives_type types (instr.Calm c) = right_gives_type types c.right
+gives_type types line = true
+
+abbrev pub told_of : List NamedTy → Instr → List (Name × Option Ty)
+told_of types line = map (λ (r : Name × Ty). (r.0, cond (gives_type types line) (Some r.1) None)) (set_by (line ∷ []))
+
+-- the registers that a block sets
+abbrev pub told_in : List NamedTy → Block → List (Name × Option Ty)
+told_in types b = typed (phi_registers b.phis) ++ flat_map (told_of types) b.body
+
+-- What is told of a function's registers, each as it is first defined. In `%p = getelementptr i32, i32* %q, i64 0, i64 1` the register `%p`
+-- is there and has no type, so no use of it is of another type than its own.
+abbrev pub types_of : Module → Function → Types
+types_of m f = with_types none_typed (typed (params_of f) ++ flat_map (told_in m.types) f.blocks)
 
 -- ---- what is wrong with one line, one terminator or one name
 

@@ -1,5 +1,5 @@
 //! The entries of a phi: how many there are of each block, and what is first for each.
-ghost use Rattle.std.specs.Prelude.{◌≡◌, IfOk, OnOk};
+ghost use Rattle.std.specs.Prelude.{◌≡◌, true, IfOk, OnOk};
 ghost use Rattle.shape_tests.specs.Counted.{alike_along, count_in, counts_of, first_in, none_first};
 ghost use Rattle.shape_tests.specs.Edges.{named};
 ghost use Rattle.shape_tests.specs.Kinds as meaning;
@@ -40,23 +40,37 @@ impl<'a> Counts<'a> {
         }
     }
 
+    /// There is room for so many.
+    fn with_room(alloc: Global, names: usize) -> Result<Counts<'a>, AllocError>
+        ensures { IfOk result (λ counts. count_in counts ≡ none_counted) }
+    {
+        Ok(Counts {
+            of: IndexMap::with_capacity(alloc, names)?,
+        })
+    }
+
+    /// Most names come once.
     fn put(&mut self, name: &'a Name) -> Result<(), AllocError>
         ensures { OnOk result (count_in self.new ≡ with_count (count_in self.old) name.now) }
     {
-        // So many names stand in no memory.
-        let count = self.get(name);
-        if count == usize::MAX {
-            return Err(AllocError);
+        match self.of.insert(name, 1)? {
+            None => Ok(()),
+            Some(count) => {
+                // So many names stand in no memory.
+                if count == usize::MAX {
+                    return Err(AllocError);
+                }
+                self.of.insert(name, count + 1)?;
+                Ok(())
+            }
         }
-        self.of.insert(name, count + 1)?;
-        Ok(())
     }
 }
 
 pub(crate) fn count_edges<'a>(alloc: Global, edges: &[&'a Name]) -> Result<Counts<'a>, AllocError>
     ensures { IfOk result (λ counts. count_in counts ≡ counts_of (named edges.now)) }
 {
-    let mut counts = Counts::new(alloc);
+    let mut counts = Counts::with_room(alloc, edges.len())?;
     for edge in edges {
         counts.put(*edge)?;
     }
@@ -69,7 +83,7 @@ pub(crate) fn count_entries<'a>(
 ) -> Result<Counts<'a>, AllocError>
     ensures { IfOk result (λ counts. count_in counts ≡ counts_of (meaning.froms_of entries.now)) }
 {
-    let mut counts = Counts::new(alloc);
+    let mut counts = Counts::with_room(alloc, entries.len())?;
     for entry in entries {
         counts.put(&entry.from)?;
     }
@@ -88,42 +102,27 @@ impl<'a> Drop for Firsts<'a> {
 }
 
 impl<'a> Firsts<'a> {
-    ghost use Rattle.shape_tests.specs.Counted.{agrees_with, found_first, with_first};
+    ghost use Rattle.shape_tests.specs.Counted.{agrees_with, with_first};
 
-    fn new(alloc: Global) -> Firsts<'a>
-        ensures { first_in result ≡ none_first }
+    /// There is room for so many.
+    fn with_room(alloc: Global, names: usize) -> Result<Firsts<'a>, AllocError>
+        ensures { IfOk result (λ firsts. first_in firsts ≡ none_first) }
     {
-        Firsts {
-            of: IndexMap::new(alloc),
-        }
+        Ok(Firsts {
+            of: IndexMap::with_capacity(alloc, names)?,
+        })
     }
 
-    fn get(&self, name: &Name) -> Option<&'a Atom<Name>>
-        ensures { result ≡ found_first self.now name.now }
-    {
-        self.of.get(&name).copied()
-    }
-
-    fn put(&mut self, name: &'a Name, value: &'a Atom<Name>) -> Result<(), AllocError>
-        ensures { OnOk result (first_in self.new ≡ with_first (first_in self.old) name.now value.now) }
-    {
-        match self.get(name) {
-            Some(_) => Ok(()),
-            None => {
-                self.of.insert(name, value)?;
-                Ok(())
-            }
-        }
-    }
-
-    /// Whether the value is the first one of that name, if there is one.
+    /// Keeps the value, and says whether it is the first one of that name, if there is one.
     #[tactic(auto, unfolding(crate::specs::Counted::first_in))]
-    fn agree(&self, name: &Name, value: &Atom<Name>) -> bool
-        ensures { result ≡ agrees_with (first_in self.now name.now) value.now }
+    fn meet(&mut self, name: &'a Name, value: &'a Atom<Name>) -> Result<bool, AllocError>
+        ensures alike { IfOk result (λ alike. alike ≡ agrees_with (first_in self.old name.now) value.now) }
+        ensures kept { IfOk result
+            (λ alike. alike ≡ true → first_in self.new ≡ with_first (first_in self.old) name.now value.now) }
     {
-        match self.get(name) {
-            None => true,
-            Some(first) => same_name_atom(first, value),
+        match self.of.insert(name, value)? {
+            None => Ok(true),
+            Some(first) => Ok(same_name_atom(first, value)),
         }
     }
 }
@@ -132,12 +131,11 @@ impl<'a> Firsts<'a> {
 pub(crate) fn are_alike(alloc: Global, entries: &[Entry]) -> Result<bool, AllocError>
     ensures { IfOk result (λ alike. alike ≡ alike_along none_first entries.now) }
 {
-    let mut firsts = Firsts::new(alloc);
+    let mut firsts = Firsts::with_room(alloc, entries.len())?;
     for entry in entries {
-        if !firsts.agree(&entry.from, &entry.value) {
+        if !firsts.meet(&entry.from, &entry.value)? {
             return Ok(false);
         }
-        firsts.put(&entry.from, &entry.value)?;
     }
     Ok(true)
 }

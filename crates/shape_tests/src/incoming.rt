@@ -93,7 +93,7 @@ fn put_blocks<'a>(
 fn no_edges<'a>(alloc: Global, blocks: &[Block]) -> Result<Vec<Row<'a>>, AllocError>
     ensures { IfOk result (λ into. rows_of into.items ≡ no_rows blocks.now) }
 {
-    let mut into = Vec::new(alloc);
+    let mut into = Vec::with_capacity(alloc, blocks.len())?;
     for _block in blocks {
         into.push(Row::Empty)?;
     }

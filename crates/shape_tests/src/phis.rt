@@ -1,5 +1,5 @@
 //! What is wrong with a phi.
-ghost use Rattle.std.specs.Prelude.{◌≡◌, ◌<◌, ◌&&◌, length, IfOk};
+ghost use Rattle.std.specs.Prelude.{◌≡◌, ◌<◌, ◌&&◌, true, length, IfOk};
 ghost use Rattle.std.specs.List.{list_all};
 ghost use Rattle.shape_tests.specs.Counted.{agree_at, count_in, counts_of};
 ghost use Rattle.shape_tests.specs.Edges.{named};
@@ -7,7 +7,7 @@ ghost use Rattle.shape_tests.specs.Kinds as meaning;
 
 use crate::counts::{Counts, are_alike, count_edges, count_entries};
 use crate::few::{FEW, few_fit};
-use ir_core::{Entry, Name};
+use ir_core::{Entry, Name, same_name};
 use std::alloc::{AllocError, Global};
 
 fn edges_agree(counts: &Counts, others: &Counts, edges: &[&Name]) -> bool
@@ -46,6 +46,38 @@ fn counts_agree(
     Ok(edges_agree(counts, &others, edges) && entries_agree(counts, &others, entries))
 }
 
+/// Whether there is one entry for each of the edges, in their order.
+fn are_in_order(edges: &[&Name], entries: &[Entry]) -> bool
+    ensures { result ≡ true → meaning.froms_of entries.now ≡ named edges.now }
+{
+    if edges.len() != entries.len() {
+        return false;
+    }
+    for at in 0..edges.len() {
+        if !same_name(edges[at], &entries[at].from) {
+            return false;
+        }
+    }
+    true
+}
+
+/// Whether each block stands among the entries as often as among the edges, which is seen at once where they are in one order.
+#[tactic(auto, using(crate::proofs::Counted::counts_alike))]
+fn are_as_often(
+    alloc: Global,
+    edges: &[&Name],
+    counts: &Counts,
+    entries: &[Entry],
+) -> Result<bool, AllocError>
+    requires { count_in counts.now ≡ counts_of (named edges.now) }
+    ensures { IfOk result (λ agree. agree ≡ meaning.same_counts (named edges.now) (meaning.froms_of entries.now)) }
+{
+    if are_in_order(edges, entries) {
+        return Ok(true);
+    }
+    counts_agree(alloc, edges, counts, entries)
+}
+
 /// Where they are many, by indexes.
 #[tactic(auto, using(crate::proofs::Counted::alike_along_none))]
 fn many_fit(
@@ -57,7 +89,7 @@ fn many_fit(
     requires { count_in counts.now ≡ counts_of (named edges.now) }
     ensures { IfOk result (λ fit. fit ≡ (meaning.same_counts (named edges.now) (meaning.froms_of entries.now) && meaning.are_alike entries.now)) }
 {
-    if !counts_agree(alloc, edges, counts, entries)? {
+    if !are_as_often(alloc, edges, counts, entries)? {
         return Ok(false);
     }
     are_alike(alloc, entries)

@@ -31,7 +31,7 @@ returns-clause-fits c =
     let f = c.args.function.now in
     let r = c.all_blocks_fit.result in
     let header = fault_at f.name None (header_kind m (are_new [] (names_in (params_of f))) f) in
-    let body = subst (λ (ns : List Name). IfOk r (λ _. in_body m f (labels_of f) (types_of f) ns f.blocks ≡ [])) c.in_ok-params.ensures.names c.all_blocks_fit.ensures.fits in
+    let body = subst (λ (ns : List Name). IfOk r (λ _. in_body m f (labels_of f) (types_of m f) ns f.blocks ≡ [])) c.in_ok-params.ensures.names c.all_blocks_fit.ensures.fits in
     others_fit (fault_at f.name None (name_kind c.args.taken f.name)) _ c.in_ok-name_fits.ensures.fits r (others_fit header _ c.in_ok-params.ensures.fits r body)
 
 pub returns-clause-fault : goal.returns-clause-fault
@@ -40,5 +40,5 @@ returns-clause-fault c =
     let f = c.args.function.now in
     let r = c.all_blocks_fit.result in
     let header = fault_at f.name None (header_kind m (are_new [] (names_in (params_of f))) f) in
-    let body = subst (λ (ns : List Name). IfErr r (IsFirstOf (in_body m f (labels_of f) (types_of f) ns f.blocks))) c.in_ok-params.ensures.names c.all_blocks_fit.ensures.fault in
+    let body = subst (λ (ns : List Name). IfErr r (IsFirstOf (in_body m f (labels_of f) (types_of m f) ns f.blocks))) c.in_ok-params.ensures.names c.all_blocks_fit.ensures.fault in
     others_decide (fault_at f.name None (name_kind c.args.taken f.name)) _ c.in_ok-name_fits.ensures.fits r (others_decide header _ c.in_ok-params.ensures.fits r body)

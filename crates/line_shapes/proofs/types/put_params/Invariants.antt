@@ -2,8 +2,9 @@ use Rattle.std.proofs.Common.{◌≡◌, drop, map}
 use Rattle.ir_core.specs.declared.functions.Param.{Param}
 use Rattle.shape_kinds.specs.Kept.{type_in}
 use Rattle.shape_kinds.specs.Typed.{with_types}
+use Rattle.shape_tests.specs.Kinds.{typed}
 use Rattle.line_shapes.proofs.types.put_params.Given as goal
 
 abbrev pub invariant-loop-param : goal.invariant-loop-param
 invariant-loop-param l =
-    with_types (type_in l.types) (map (λ (p : Param). (p.name, p.ty)) (drop l.param-index l.params)) ≡ with_types (type_in l.initial.types) (map (λ (p : Param). (p.name, p.ty)) l.params)
+    with_types (type_in l.types) (typed (map (λ (p : Param). (p.name, p.ty)) (drop l.param-index l.params))) ≡ with_types (type_in l.initial.types) (typed (map (λ (p : Param). (p.name, p.ty)) l.params))

@@ -1,11 +1,15 @@
-use Rattle.std.proofs.Common.{◌∙◌, sym, ap}
+use Rattle.std.proofs.Common.{◌∙◌, ◌+◌, Option, drop, sym, ap}
 use Rattle.ir_core.specs.declared.modules.Init.{Init}
 use Rattle.ir_types.specs.declared.ty.Ty.{Ty}
 use Rattle.operand_tests.specs.Inits.{init_kind}
-use Rattle.operand_tests.specs.Starts.{are_elements, are_fields}
+use Rattle.operand_tests.specs.Starts.{are_elements, are_fields, parts_kind}
+use Rattle.shape_kinds.specs.declared.kind.ShapeKind.{ShapeKind}
+use Rattle.shape_kinds.specs.Kinds.{least}
 use Rattle.operand_tests.proofs.Least.{one_more}
+use Rattle.operand_tests.proofs.Plain.{number_more}
 use Rattle.operand_tests.proofs.Starts.{list_found, of_array, of_struct}
 use Rattle.operand_tests.proofs.inits.+starts.Goals as goal
+use Rattle.operand_tests.proofs.inits.+starts.Goals.{parts_kind-then-not-is_number, parts_kind-else-not-is_number}
 
 pub init_kind-returns-in-Array : goal.init_kind-returns-in-Array
 init_kind-returns-in-Array t c =
@@ -24,6 +28,12 @@ init_kind-returns-in-Struct t c =
     ∙ sym (ap (init_kind m ty) c.in-Struct.is)
 
 pub parts_kind-loop-part-preserved : goal.parts_kind-loop-part-preserved
-parts_kind-loop-part-preserved t c =
-    one_more (λ (p : Ty × Init). init_kind c.args.beside.now p.0 p.1) c.loop-part.kind _ _ _ c.args.parts.now c.loop-part.part-index c.part-item.result c.loop-part-test.true c.part-item.is
-    c.init_kind.ensures c.least-kind.ensures c.loop-part.invariant
+parts_kind-loop-part-preserved t c = elim c.if-not-is_number.branch [
+  | parts_kind-then-not-is_number w ↦
+      one_more (λ (p : Ty × Init). init_kind c.args.beside.now p.0 p.1) c.loop-part.kind _ _ _ c.args.parts.now c.loop-part.part-index c.part-item.result c.loop-part-test.true c.part-item.is
+      w.init_kind.ensures (w.kind-is ∙ w.least-kind.ensures) c.loop-part.invariant
+  | parts_kind-else-not-is_number w ↦
+      ap (λ (found : Option ShapeKind). least found (parts_kind c.args.beside.now (drop (c.loop-part.part-index + 1) c.args.parts.now))) w.kind-is
+      ∙ number_more c.args.beside.now c.loop-part.kind _ c.args.parts.now c.loop-part.part-index c.part-item.result c.loop-part-test.true c.part-item.is
+      (c.is_number.ensures w.if-not-is_number.false) c.loop-part.invariant
+]

@@ -1,4 +1,4 @@
-use Rattle.shape_laws.proofs.MemoryExamples.{accesses, addresses, calls, declarations, declarations_come_in_order, globals, recursion}
+use Rattle.shape_laws.proofs.MemoryExamples.{accesses, addresses, calls, declarations, declarations_come_in_order, globals, recursion, uses_of_addresses}
 use Rattle.shape_laws.proofs.laws.examples_of_memory_faults.Goals as goal
 
 pub returns-clause-globals : goal.returns-clause-globals
@@ -15,6 +15,9 @@ returns-clause-accesses c = accesses
 
 pub returns-clause-addresses : goal.returns-clause-addresses
 returns-clause-addresses c = addresses
+
+pub returns-clause-uses : goal.returns-clause-uses
+returns-clause-uses c = uses_of_addresses
 
 pub returns-clause-calls : goal.returns-clause-calls
 returns-clause-calls c = calls

@@ -1,4 +1,4 @@
-use Rattle.std.proofs.Common.{◌∙◌, ◌++◌, [], List, ap, map}
+use Rattle.std.proofs.Common.{◌∙◌, ◌++◌, [], List, Some, ap, map}
 use Rattle.ir_core.specs.declared.functions.Function.{Function}
 use Rattle.ir_core.specs.declared.modules.Declaration.{Declaration}
 use Rattle.ir_core.specs.declared.modules.GlobalVar.{GlobalVar}
@@ -16,7 +16,7 @@ pub invariant_of-result : goal.invariant_of-result
 invariant_of-result c =
     let m = c.args.module.now in
     let types = c.in_ok-types.ensures ∙ ap (λ (ts : List NamedTy). with_names [] (map (λ (t : NamedTy). t.name) ts)) c.as_slice.ensures in
-    let globals = c.in_ok-globals.ensures ∙ ap (λ (gs : List GlobalVar). with_types none_typed (map (λ (g : GlobalVar). (g.name, g.ty)) gs)) c.as_slice-2.ensures in
+    let globals = c.in_ok-globals.ensures ∙ ap (λ (gs : List GlobalVar). with_types none_typed (map (λ (g : GlobalVar). (g.name, Some g.ty)) gs)) c.as_slice-2.ensures in
     record {
       types = λ x. ap (λ (names : List Name). is_among x names) types ∙ among_collected x (map (λ (t : NamedTy). t.name) m.types);
       globals = λ x. ap (λ (held : Types). held x) globals ∙ contents_collected m.globals x;

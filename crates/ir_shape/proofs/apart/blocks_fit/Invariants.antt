@@ -1,0 +1,10 @@
+use Rattle.std.proofs.Common.{◌≡◌, drop}
+use Rattle.shape_kinds.specs.Kept.{type_in}
+use Rattle.ir_shape.specs.Apart.{in_new_blocks}
+use Rattle.ir_shape.proofs.apart.blocks_fit.Given as goal
+
+-- the blocks that are left decide
+abbrev pub invariant-loop-block : goal.invariant-loop-block
+invariant-loop-block l =
+    in_new_blocks l.scope.beside.now l.«function» l.scope.labels (type_in l.scope.types) l.entry (drop l.block-index l.blocks)
+    ≡ in_new_blocks l.scope.beside.now l.«function» l.scope.labels (type_in l.scope.types) l.entry l.blocks

@@ -1,0 +1,33 @@
+//! Whether types have a size.
+ghost use Rattle.std.specs.Prelude.{◌≡◌};
+ghost use Rattle.std.specs.List.{list_all};
+ghost use Rattle.ir_types.specs.Named as named;
+
+use ir_core::{Module, Ty, fits_block};
+
+/// Whether the type has a size. Of a name it is asked whether none of its type makes a block, which takes no room.
+#[cycle(sized)]
+#[tactic(auto, using(crate::proofs::HasSize::int_sized, crate::proofs::HasSize::ptr_sized, crate::proofs::HasSize::array_sized, crate::proofs::HasSize::struct_sized, crate::proofs::HasSize::void_sized))]
+pub(crate) fn has_size(module: &Module, ty: &Ty) -> bool
+    ensures { result ≡ named.is_sized «module».now.types ty.now }
+{
+    match ty {
+        Ty::Int(_) | Ty::Ptr(_) => true,
+        Ty::Array(_, element) => has_size(module, element.get()),
+        Ty::Struct(fields) => have_sizes(module, fields.get().as_slice()),
+        Ty::Named(_) => fits_block(module, ty, 0).is_ok(),
+        Ty::Void => false,
+    }
+}
+
+#[cycle(sized)]
+fn have_sizes(module: &Module, types: &[Ty]) -> bool
+    ensures { result ≡ list_all (named.is_sized «module».now.types) types.now }
+{
+    for ty in types {
+        if !has_size(module, ty) {
+            return false;
+        }
+    }
+    true
+}
