@@ -1,0 +1,4 @@
+pub mod Fills
+pub mod Gapped
+pub mod Examples
+pub mod Listing

@@ -1,0 +1,76 @@
+use crate::attributes::MetaText;
+use crate::constants::{GlobalNameText, InitText};
+use crate::functions::{DeclarationText, DefinitionText};
+use crate::operators::LinkageWord;
+use crate::places::Placed;
+use crate::types::TypeText;
+use contents::Boxed;
+use ir_core::Name;
+use ir_lexer::Number;
+use typed_grammars::Stack;
+
+/// What a type's name stands for, as it is written: nothing that is known, or a struct with the place of its brace.
+#[derive(Drop)]
+pub enum TypeBodyText {
+    Opaque,
+    Struct { at: u32, fields: Stack<TypeText> },
+}
+
+/// `global` or `constant`.
+#[derive(Drop, Clone, Copy)]
+pub enum HoldingWord {
+    Global,
+    Constant,
+}
+
+/// What a global holds, with its linkage: nothing that is known where it is `external`.
+#[derive(Drop)]
+pub enum HeldText {
+    External,
+    Init {
+        linkage: Option<LinkageWord>,
+        init: InitText,
+    },
+}
+
+/// What stands behind `GLOBAL =`, as it is written (LangRef 3.7, Global Variables).
+#[derive(Drop)]
+pub struct GlobalBodyText {
+    pub held: HeldText,
+    pub unnamed_addr: bool,
+    pub word: HoldingWord,
+    pub ty: TypeText,
+    pub align: Option<Placed<Number>>,
+}
+
+/// An item of a module as it is written (LangRef 3.7, High Level Structure). Of what plays no part it is kept how it is written, but not
+/// what it says.
+#[derive(Drop)]
+pub enum ItemText {
+    /// `target datalayout = ".."`, `target triple = ".."`
+    Target,
+    /// `attributes #N = { .. }`, with the place of the brace.
+    Attributes(u32),
+    /// `!name = distinct METADATA`
+    Metadata {
+        is_distinct: bool,
+        meta: MetaText,
+    },
+    Declaration(Boxed<DeclarationText>),
+    /// `LOCAL = type ..`
+    Type {
+        name: Placed<Name>,
+        body: TypeBodyText,
+    },
+    Global {
+        name: GlobalNameText,
+        body: Boxed<GlobalBodyText>,
+    },
+    Definition(Boxed<DefinitionText>),
+}
+
+/// The items of a module as they are written, in their order.
+#[derive(Drop)]
+pub struct ModuleText {
+    pub items: Stack<ItemText>,
+}
