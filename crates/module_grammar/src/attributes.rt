@@ -4,7 +4,6 @@ use ir_lexer::Number;
 
 /// An attribute of a parameter or a result as it is written (LangRef 3.7, Parameter Attributes). Of those that play no part it isn't said
 /// which word stands there.
-#[derive(Drop)]
 pub enum ParamAttributeText {
     Extension(ExtensionWord),
     /// `noalias`, `nocapture`, `nonnull` or `returned`.
@@ -17,8 +16,19 @@ pub enum ParamAttributeText {
     Align(Placed<Number>),
 }
 
+impl Drop for ParamAttributeText {
+    fn drop(self) {
+        match self {
+            ParamAttributeText::Extension(_) => {}
+            ParamAttributeText::Word => {}
+            ParamAttributeText::Access => {}
+            ParamAttributeText::Sized(_) => {}
+            ParamAttributeText::Align(_) => {}
+        }
+    }
+}
+
 /// An attribute of a function as it is written (LangRef 3.7, Function Attributes); none plays a part.
-#[derive(Drop)]
 pub enum FunctionAttributeText {
     /// `#N`.
     Group,
@@ -32,6 +42,19 @@ pub enum FunctionAttributeText {
     Word,
     /// `readonly` or `readnone`.
     Access,
+}
+
+impl Drop for FunctionAttributeText {
+    fn drop(self) {
+        match self {
+            FunctionAttributeText::Group => {}
+            FunctionAttributeText::Text { has_value: _ } => {}
+            FunctionAttributeText::Align(_) => {}
+            FunctionAttributeText::AlignStack(_) => {}
+            FunctionAttributeText::Word => {}
+            FunctionAttributeText::Access => {}
+        }
+    }
 }
 
 /// Metadata behind `!` (LangRef 3.7, Metadata): a string, or a node with the place of its brace. What a node holds isn't kept.

@@ -5,17 +5,33 @@ use ir_core::Name;
 use ir_lexer::Number;
 
 /// A number as it is written: by its digits, or as `true` or `false`.
-#[derive(Drop)]
 pub enum IntText {
     Number(Placed<Number>),
     Truth(Placed<bool>),
 }
 
+impl Drop for IntText {
+    fn drop(self) {
+        match self {
+            IntText::Number(_) => {}
+            IntText::Truth(_) => {}
+        }
+    }
+}
+
 /// The name of a global or a function; one that begins with `llvm.dbg.` is apart (LangRef 3.7, Debugger intrinsic functions).
-#[derive(Drop)]
 pub enum GlobalNameText {
     Plain(Placed<Name>),
     Debug(Placed<Name>),
+}
+
+impl Drop for GlobalNameText {
+    fn drop(self) {
+        match self {
+            GlobalNameText::Plain(_) => {}
+            GlobalNameText::Debug(_) => {}
+        }
+    }
 }
 
 /// A constant as it is written (LangRef 3.7, Constants): `null`, `getelementptr` and `bitcast` with the place of that word.
@@ -86,16 +102,30 @@ pub enum Tag {
 }
 
 /// A value as it is written. A register with a tag stands in expressions of the logic alone.
-#[derive(Drop)]
 pub enum ValueText {
     Const(ConstText),
     Local(Placed<Name>),
     Tagged { tag: Tag, name: Placed<Name> },
 }
 
+impl Drop for ValueText {
+    fn drop(self) {
+        match self {
+            ValueText::Const(_) => {}
+            ValueText::Local(_) => {}
+            ValueText::Tagged { tag: _, name: _ } => {}
+        }
+    }
+}
+
 /// `T V` as it is written.
-#[derive(Drop)]
 pub struct OperandText {
     pub ty: TypeText,
     pub value: ValueText,
+}
+
+impl Drop for OperandText {
+    fn drop(self) {
+        let OperandText { ty: _, value: _ } = self;
+    }
 }

@@ -9,18 +9,35 @@ use ir_core::Name;
 use typed_grammars::Stack;
 
 /// A parameter as it is written: a type, attributes, and a name that may be left out.
-#[derive(Drop)]
 pub struct ParamText {
     pub ty: TypeText,
     pub attributes: Stack<ParamAttributeText>,
     pub name: Option<Placed<Name>>,
 }
 
+impl Drop for ParamText {
+    fn drop(self) {
+        let ParamText {
+            ty: _,
+            attributes: _,
+            name: _,
+        } = self;
+    }
+}
+
 /// The parameters of a declaration, and whether `...` stands behind them.
-#[derive(Drop)]
 pub struct DeclaredText {
     pub params: Stack<ParamText>,
     pub is_open: bool,
+}
+
+impl Drop for DeclaredText {
+    fn drop(self) {
+        let DeclaredText {
+            params: _,
+            is_open: _,
+        } = self;
+    }
 }
 
 /// What stands there from a parameter on, or from `...` on.
@@ -34,23 +51,39 @@ pub enum NextDeclaredText {
 }
 
 /// What stands in the head of a function before its name: whether `ccc`, attributes of the result, and its type, None for `void`.
-#[derive(Drop)]
 pub struct ResultText {
     pub is_ccc: bool,
     pub attributes: Stack<ParamAttributeText>,
     pub ty: Option<TypeText>,
 }
 
+impl Drop for ResultText {
+    fn drop(self) {
+        let ResultText {
+            is_ccc: _,
+            attributes: _,
+            ty: _,
+        } = self;
+    }
+}
+
 /// What stands in the head of a function behind its parameters.
-#[derive(Drop)]
 pub struct HeadEndText {
     pub unnamed_addr: bool,
     pub attributes: Stack<FunctionAttributeText>,
 }
 
+impl Drop for HeadEndText {
+    fn drop(self) {
+        let HeadEndText {
+            unnamed_addr: _,
+            attributes: _,
+        } = self;
+    }
+}
+
 /// The name and the parameters of a declaration, and what stands behind them. What stands between the parentheses behind a name of
 /// debugging isn't kept: such a declaration is of no function, unless `unnamed_addr` stands behind it.
-#[derive(Drop)]
 pub enum DeclaredNameText {
     Plain {
         name: Placed<Name>,
@@ -63,11 +96,32 @@ pub enum DeclaredNameText {
     },
 }
 
+impl Drop for DeclaredNameText {
+    fn drop(self) {
+        match self {
+            DeclaredNameText::Plain {
+                name: _,
+                params: _,
+                end: _,
+            } => {}
+            DeclaredNameText::Debug { name: _, end: _ } => {}
+        }
+    }
+}
+
 /// `declare ..` as it is written (LangRef 3.7, Functions).
-#[derive(Drop)]
 pub struct DeclarationText {
     pub result: ResultText,
     pub declared: DeclaredNameText,
+}
+
+impl Drop for DeclarationText {
+    fn drop(self) {
+        let DeclarationText {
+            result: _,
+            declared: _,
+        } = self;
+    }
 }
 
 /// The linkage of a definition as it is written.
@@ -79,7 +133,6 @@ pub enum LinkageText {
 }
 
 /// `result GLOBAL ( params ) unnamed_addr attributes` as it is written.
-#[derive(Drop)]
 pub struct HeadText {
     pub result: ResultText,
     pub name: GlobalNameText,
@@ -87,8 +140,18 @@ pub struct HeadText {
     pub end: HeadEndText,
 }
 
+impl Drop for HeadText {
+    fn drop(self) {
+        let HeadText {
+            result: _,
+            name: _,
+            params: _,
+            end: _,
+        } = self;
+    }
+}
+
 /// A definition as it is written: of one block at least, with the place of its brace.
-#[derive(Drop)]
 pub struct DefinitionText {
     pub linkage: LinkageText,
     pub head: HeadText,
@@ -96,4 +159,17 @@ pub struct DefinitionText {
     pub at: u32,
     pub entry: Boxed<BlockText>,
     pub others: Stack<Boxed<BlockText>>,
+}
+
+impl Drop for DefinitionText {
+    fn drop(self) {
+        let DefinitionText {
+            linkage: _,
+            head: _,
+            attachment: _,
+            at: _,
+            entry: _,
+            others: _,
+        } = self;
+    }
 }

@@ -10,10 +10,18 @@ use ir_lexer::Number;
 use typed_grammars::Stack;
 
 /// What a type's name stands for, as it is written: nothing that is known, or a struct with the place of its brace.
-#[derive(Drop)]
 pub enum TypeBodyText {
     Opaque,
     Struct { at: u32, fields: Stack<TypeText> },
+}
+
+impl Drop for TypeBodyText {
+    fn drop(self) {
+        match self {
+            TypeBodyText::Opaque => {}
+            TypeBodyText::Struct { at: _, fields: _ } => {}
+        }
+    }
 }
 
 /// `global` or `constant`.
@@ -24,7 +32,6 @@ pub enum HoldingWord {
 }
 
 /// What a global holds, with its linkage: nothing that is known where it is `external`.
-#[derive(Drop)]
 pub enum HeldText {
     External,
     Init {
@@ -33,8 +40,19 @@ pub enum HeldText {
     },
 }
 
+impl Drop for HeldText {
+    fn drop(self) {
+        match self {
+            HeldText::External => {}
+            HeldText::Init {
+                linkage: _,
+                init: _,
+            } => {}
+        }
+    }
+}
+
 /// What stands behind `GLOBAL =`, as it is written (LangRef 3.7, Global Variables).
-#[derive(Drop)]
 pub struct GlobalBodyText {
     pub held: HeldText,
     pub unnamed_addr: bool,
@@ -43,9 +61,20 @@ pub struct GlobalBodyText {
     pub align: Option<Placed<Number>>,
 }
 
+impl Drop for GlobalBodyText {
+    fn drop(self) {
+        let GlobalBodyText {
+            held: _,
+            unnamed_addr: _,
+            word: _,
+            ty: _,
+            align: _,
+        } = self;
+    }
+}
+
 /// An item of a module as it is written (LangRef 3.7, High Level Structure). Of what plays no part it is kept how it is written, but not
 /// what it says.
-#[derive(Drop)]
 pub enum ItemText {
     /// `target datalayout = ".."`, `target triple = ".."`
     Target,
@@ -69,8 +98,30 @@ pub enum ItemText {
     Definition(Boxed<DefinitionText>),
 }
 
+impl Drop for ItemText {
+    fn drop(self) {
+        match self {
+            ItemText::Target => {}
+            ItemText::Attributes(_) => {}
+            ItemText::Metadata {
+                is_distinct: _,
+                meta: _,
+            } => {}
+            ItemText::Declaration(_) => {}
+            ItemText::Type { name: _, body: _ } => {}
+            ItemText::Global { name: _, body: _ } => {}
+            ItemText::Definition(_) => {}
+        }
+    }
+}
+
 /// The items of a module as they are written, in their order.
-#[derive(Drop)]
 pub struct ModuleText {
     pub items: Stack<ItemText>,
+}
+
+impl Drop for ModuleText {
+    fn drop(self) {
+        let ModuleText { items: _ } = self;
+    }
 }

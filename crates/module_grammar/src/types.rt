@@ -30,10 +30,18 @@ impl Drop for TypeText {
 }
 
 /// The types of a function's parameters as a call states them, and whether `...` stands behind them.
-#[derive(Drop)]
 pub struct CalledText {
     pub types: Stack<TypeText>,
     pub is_open: bool,
+}
+
+impl Drop for CalledText {
+    fn drop(self) {
+        let CalledText {
+            types: _,
+            is_open: _,
+        } = self;
+    }
 }
 
 /// What stands there from a type on, or from `...` on.

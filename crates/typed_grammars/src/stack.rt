@@ -1,4 +1,5 @@
-ghost use Rattle.std.specs.Prelude.{◌≡◌, ◌+◌, ◌≤◌, [], ◌∷◌, length, vec_len, vec_capacity, MatchOption, OnOk, OnErr};
+ghost use Rattle.std.specs.Prelude.{◌≡◌, ◌+◌, ◌≤◌, [], ◌∷◌, length, slice_get, vec_len, vec_capacity, MatchOption, OnOk, OnErr};
+ghost use Rattle.std.specs.Option.{option_copied};
 
 use std::alloc::{AllocError, Global};
 use std::marker::Model;
@@ -41,6 +42,18 @@ impl<T> Stack<T> {
         ensures { result ≡ length self.now }
     {
         self.items.len()
+    }
+
+    /// The item of that number, counted from the top.
+    pub fn get(&self, number: usize) -> Option<&T>
+        ensures { option_copied result ≡ slice_get self.now number }
+    {
+        let count = self.items.len();
+        if number < count {
+            self.items.get(count - 1 - number)
+        } else {
+            None
+        }
     }
 
     pub fn pop(&mut self) -> Option<T>

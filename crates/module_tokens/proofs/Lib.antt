@@ -1,0 +1,3 @@
+pub mod Debug
+pub mod Slots
+mod Wide

@@ -1,0 +1,14 @@
+pub mod Folds
+pub mod TypesTested
+pub mod NumbersTested
+pub mod ConstantsTested
+pub mod RegistersTested
+pub mod CallsTested
+pub mod NamesTested
+pub mod Builds
+pub mod ModulesBuilt
+pub mod TreesNamed
+pub mod Fits
+pub mod New
+pub mod LinesNamed
+pub mod PartsJudged

@@ -1,0 +1,11 @@
+pub mod Words
+pub mod TypesAtFault
+pub mod NumbersAtFault
+pub mod ConstantsAtFault
+pub mod RegistersAtFault
+pub mod CallsAtFault
+pub mod NamesAtFault
+pub mod BuiltModules
+pub mod NamedTrees
+pub mod NamedLines
+pub mod Judged

@@ -1,0 +1,10 @@
+pub mod Types
+pub mod Constants
+pub mod Values
+pub mod Lines
+pub mod Flow
+pub mod Functions
+pub mod Modules
+pub mod Built
+pub mod Faults
+pub mod Laws

@@ -1,0 +1,7 @@
+//! What module a tree of the whole grammar names (LangRef 3.7, Module Structure, Identifiers), and what is at fault in it: definitions, and
+//! the laws that tie them.
+#![tactic(auto)]
+
+mod laws;
+
+pub use laws::{faultless_trees_name_what_is_built, named_trees_are_faultless};

@@ -1,0 +1,220 @@
+//! The groups and forms that a part of the stack has: each form is one of a group, and says what a part of it holds.
+ghost use Rattle.std.specs.Prelude.{◌≡◌, ◌∷◌, List, Option, OnOk, option_and_then};
+ghost use Rattle.module_grammar.specs.declared.parts.Part.{Part as PartOf};
+ghost use Rattle.module_grammar.specs.declared.parts.Part.TheVariants as part;
+ghost use Rattle.module_grammar.specs.Parts.{a_atom, a_flow, a_item, a_leaf, a_line, a_list, a_piece};
+ghost use Rattle.typed_grammars.specs.Typed as stack;
+
+use module_grammar::{Atom, Flow, Item, Leaf, Line, List, Part, Piece};
+use std::alloc::AllocError;
+use typed_grammars::Stack;
+
+/// A group of parts.
+pub trait Group: Drop {
+    /// What the part is, if it is of this group.
+    ghost within: { PartOf → Option Self };
+
+    /// The part that it is.
+    ghost whole: { Self → PartOf };
+
+    /// What the part is, if it is of this group; else it is dropped.
+    fn of(part: Part) -> Option<Self>
+        ensures { result ≡ within part };
+
+    /// The part that it is.
+    fn part(self) -> Part
+        ensures { result ≡ whole self };
+}
+
+/// A form of part.
+pub trait Form {
+    /// The group that the form is one of.
+    type Group: Group;
+
+    /// What a part of the form holds.
+    type Value: Drop;
+
+    /// What one of the group holds, if it is of this form.
+    ghost held: { Self.Group → Option Self.Value };
+
+    /// The one of the group that holds this.
+    ghost made: { Self.Value → Self.Group };
+
+    /// What one of the group holds, if it is of this form; else it is dropped.
+    fn of(group: Self::Group) -> Option<Self::Value>
+        ensures { result ≡ held group };
+
+    /// The one of the group that holds this.
+    fn make(value: Self::Value) -> Self::Group
+        ensures { result ≡ made value };
+}
+
+/// A stack of parts.
+pub trait Parts {
+    /// The parts, the one on top first.
+    ghost listed: { Self → List PartOf };
+
+    /// What the part on top holds, where it is of the form; else it is dropped.
+    fn take<F: Form>(&mut self) -> Option<F::Value>
+        ensures taken { result ≡ stack.top (λ p. option_and_then F.held (F.Group.within p)) (listed self.old) }
+        ensures below { listed self.new ≡ stack.below (listed self.old) };
+
+    /// A part of the form on top.
+    fn put<F: Form>(&mut self, value: F::Value) -> Result<(), AllocError>
+        ensures { OnOk result (listed self.new ≡ F.Group.whole (F.made value) ∷ listed self.old) };
+}
+
+impl Parts for Stack<Part> {
+    ghost listed = { λ s. s };
+
+    fn take<F: Form>(&mut self) -> Option<F::Value> {
+        match self.pop() {
+            Some(part) => F::of(F::Group::of(part)?),
+            None => None,
+        }
+    }
+
+    fn put<F: Form>(&mut self, value: F::Value) -> Result<(), AllocError> {
+        self.push(F::make(value).part())
+    }
+}
+
+impl Group for Atom {
+    ghost within = { a_atom };
+
+    ghost whole = { part.Atom };
+
+    fn of(part: Part) -> Option<Atom> {
+        match part {
+            Part::Atom(atom) => Some(atom),
+            other => {
+                drop(other);
+                None
+            }
+        }
+    }
+
+    fn part(self) -> Part {
+        Part::Atom(self)
+    }
+}
+
+impl Group for Flow {
+    ghost within = { a_flow };
+
+    ghost whole = { part.Flow };
+
+    fn of(part: Part) -> Option<Flow> {
+        match part {
+            Part::Flow(flow) => Some(flow),
+            other => {
+                drop(other);
+                None
+            }
+        }
+    }
+
+    fn part(self) -> Part {
+        Part::Flow(self)
+    }
+}
+
+impl Group for Item {
+    ghost within = { a_item };
+
+    ghost whole = { part.Item };
+
+    fn of(part: Part) -> Option<Item> {
+        match part {
+            Part::Item(item) => Some(item),
+            other => {
+                drop(other);
+                None
+            }
+        }
+    }
+
+    fn part(self) -> Part {
+        Part::Item(self)
+    }
+}
+
+impl Group for Leaf {
+    ghost within = { a_leaf };
+
+    ghost whole = { part.Leaf };
+
+    fn of(part: Part) -> Option<Leaf> {
+        match part {
+            Part::Leaf(leaf) => Some(leaf),
+            other => {
+                drop(other);
+                None
+            }
+        }
+    }
+
+    fn part(self) -> Part {
+        Part::Leaf(self)
+    }
+}
+
+impl Group for Line {
+    ghost within = { a_line };
+
+    ghost whole = { part.Line };
+
+    fn of(part: Part) -> Option<Line> {
+        match part {
+            Part::Line(line) => Some(line),
+            other => {
+                drop(other);
+                None
+            }
+        }
+    }
+
+    fn part(self) -> Part {
+        Part::Line(self)
+    }
+}
+
+impl Group for List {
+    ghost within = { a_list };
+
+    ghost whole = { part.List };
+
+    fn of(part: Part) -> Option<List> {
+        match part {
+            Part::List(list) => Some(list),
+            other => {
+                drop(other);
+                None
+            }
+        }
+    }
+
+    fn part(self) -> Part {
+        Part::List(self)
+    }
+}
+
+impl Group for Piece {
+    ghost within = { a_piece };
+
+    ghost whole = { part.Piece };
+
+    fn of(part: Part) -> Option<Piece> {
+        match part {
+            Part::Piece(piece) => Some(piece),
+            other => {
+                drop(other);
+                None
+            }
+        }
+    }
+
+    fn part(self) -> Part {
+        Part::Piece(self)
+    }
+}

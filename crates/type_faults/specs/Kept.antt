@@ -1,0 +1,45 @@
+-- Words of private functions: what is kept beside the heads of a module, so that it is found without a walk.
+use Rattle.std.specs.Prelude.{◌≡◌, List, map, Option, Some}
+use Rattle.std.specs.Borrow.{Bor}
+use Rattle.std.specs.Option.{option_map}
+use Rattle.indexmap.specs.IndexMap.{get_by}
+use Rattle.ir_core.specs.declared.functions.Function.{Function}
+use Rattle.ir_core.specs.declared.modules.Declaration.{Declaration}
+use Rattle.ir_core.specs.Typing.{Signature, contents_of, declared_signature, defined_signature}
+use Rattle.ir_types.specs.declared.names.Name.{Name}
+use Rattle.ir_types.specs.Same.{same_name}
+use Rattle.name_index.specs.Among.{is_among}
+use Rattle.named_modules.specs.Faults.{Heads, signature_in, type_names}
+use Rattle.shape_kinds.specs.declared.lent_types.LentTypes.{LentTypes}
+use Rattle.shape_kinds.specs.Kept.{type_in}
+use Rattle.type_faults.specs.declared.callees.Callee.{Callee}
+use Rattle.type_faults.specs.declared.callees.Callee.TheVariants.{Defined, Declared}
+use Rattle.type_faults.specs.declared.callees.Callees.{Callees}
+
+-- ---- functions
+
+abbrev pub signature_of : Callee → Signature
+signature_of (Defined f) = defined_signature f.now
+signature_of (Declared d) = declared_signature d.now
+
+-- the functions of a list, each with what a call of it asks
+abbrev pub defined : List Function → List (Name × Signature)
+defined = map (λ (f : Function). (f.name, defined_signature f))
+
+abbrev pub declared : List Declaration → List (Name × Signature)
+declared = map (λ (d : Declaration). (d.name, declared_signature d))
+
+abbrev pub callee_in : Callees → Name → Option Callee
+callee_in callees name = get_by (λ (key : Bor Name). same_name name key.now) callees.first
+
+-- what a call of the function that is kept for that name asks
+unfoldable pub signature_by : Callees → Name → Option Signature
+signature_by callees name = option_map signature_of (callee_in callees name)
+
+-- ---- heads
+
+-- beside them the names of their types are kept, the types of their globals' contents and their functions, each as the first of its name
+pub record IsKept (h : Heads) (names : List Name) (contents : LentTypes) (functions : Callees) : Type 0 where
+  pub types : (x : Name) → is_among x names ≡ is_among x (type_names h.types)
+  pub globals : (x : Name) → type_in contents x ≡ option_map Some (contents_of h.globals x)
+  pub callees : (x : Name) → signature_by functions x ≡ signature_in h.signatures x
