@@ -1,5 +1,5 @@
 -- Whether a name is a function's.
-use Rattle.std.proofs.Common.{◌≡◌, ◌∙◌, ◌||◌, Bool, true, false, cond, List, [], ◌∷◌, Option, None, Some, refl, sym, ap}
+use Rattle.std.proofs.Common.{◌≡◌, ◌∙◌, ◌||◌, Bool, true, false, cond, List, [], ◌∷◌, Option, None, Some, refl, ap}
 use Rattle.std.specs.List.{list_any}
 use Rattle.std.specs.Option.{is_some, option_map}
 use Rattle.ir_core.specs.Typing.{Signature}

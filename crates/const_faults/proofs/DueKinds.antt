@@ -1,5 +1,5 @@
 -- What is due at each kind of type.
-use Rattle.std.proofs.Common.{◌≡◌, ◌+◌, ◌<◌, ◌≤◌, ℕ, zero, suc, ◌&&◌, Bool, false, cond, List, [], ◌∷◌, map, replicate, Option, None, Some, refl, ap, arith}
+use Rattle.std.proofs.Common.{◌≡◌, ◌<◌, ◌≤◌, ℕ, zero, suc, ◌&&◌, false, cond, List, map, replicate, None, Some, refl, ap, arith}
 use Rattle.std.proofs.lemmas.Option.{slice_get-map}
 use Rattle.std.specs.List.{slice_get}
 use Rattle.std.specs.Option.{option_map}

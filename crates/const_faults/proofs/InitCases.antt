@@ -1,7 +1,7 @@
 -- What is noted of each kind of initialiser.
-use Rattle.std.proofs.Common.{◌≡◌, ◌∙◌, ◌+◌, ◌-◌, ◌<◌, ℕ, zero, suc, Bool, List, [], ◌∷◌, ◌++◌, add-one, drop, get_or, length, map, Option, None, Some, refl, sym, ap}
+use Rattle.std.proofs.Common.{◌≡◌, ◌∙◌, ◌+◌, ◌-◌, ◌<◌, ℕ, zero, suc, List, [], ◌∷◌, ◌++◌, add-one, drop, get_or, length, Option, None, Some, refl, sym, ap}
 use Rattle.std.proofs.lemmas.List.{drop_more}
-use Rattle.std.specs.List.{flat_map, slice_get}
+use Rattle.std.specs.List.{slice_get}
 use Rattle.std.specs.Option.{option_map}
 use Rattle.std.specs.Prelude.{nat_eq}
 use Rattle.ir_core.specs.Typing.{is_bytes, parts_of_array, parts_of_struct}
@@ -15,7 +15,7 @@ use Rattle.module_grammar.specs.declared.places.Placed.{Placed}
 use Rattle.module_grammar.specs.declared.types.TypeText.{TypeText}
 use Rattle.name_claims.specs.declared.claims.Fault.{Fault}
 use Rattle.name_claims.specs.declared.claims.Reason.TheVariants as reason
-use Rattle.named_modules.specs.Faults.{Heads, const_faults, fields_faults, from, further_faults, init_at_level, init_faults, list_faults, type_faults, unless}
+use Rattle.named_modules.specs.Faults.{Heads, const_faults, fields_faults, from, init_at_level, init_faults, list_faults, type_faults, unless}
 use Rattle.named_modules.specs.Types.{type_of}
 use Rattle.named_modules.proofs.ConstKinds as kind
 use Rattle.type_faults.specs.Noted.{noted}

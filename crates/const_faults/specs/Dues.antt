@@ -1,5 +1,5 @@
 -- Words of private functions: the types that are due for the parts of an initialiser.
-use Rattle.std.specs.Prelude.{ℕ, ◌++◌, Bool, false, cond, nat_eq, List, [], ◌∷◌, length, map, replicate, Option, None, Some}
+use Rattle.std.specs.Prelude.{ℕ, ◌++◌, Bool, false, cond, nat_eq, List, [], length, map, replicate, Option, None, Some}
 use Rattle.std.specs.Borrow.{Bor}
 use Rattle.std.specs.List.{flat_map, slice_get}
 use Rattle.ir_lexer.specs.declared.token.Number.{Number}

@@ -2,7 +2,6 @@
 ghost use Rattle.std.specs.Prelude.{◌≡◌};
 ghost use Rattle.std.specs.List.{flat_map};
 ghost use Rattle.ir_core.specs.Typing as typing;
-ghost use Rattle.named_modules.specs.Constants as constants;
 ghost use Rattle.named_modules.specs.Faults as meaning;
 ghost use Rattle.named_modules.specs.Types.{type_of};
 ghost use Rattle.const_faults.specs.Parts as told;
@@ -10,22 +9,13 @@ ghost use Rattle.type_faults.specs.Noted.{noted};
 
 use crate::addresses::leads_to;
 use ir_core::Name;
-use module_grammar::{ConstText, GlobalNameText, Placed, TypeText};
+use module_grammar::{ConstText, Placed, TypeText};
 use name_claims::{Fault, Reason};
 use type_faults::{
     Lent, Sight, alike, at, from, is_pointer, note, note_int, note_type, note_unless,
     note_value_type, points_to,
 };
-
-/// The name of a global or a function.
-pub fn global_name(name: &GlobalNameText) -> &Placed<Name>
-    ensures { result.now ≡ constants.global_name name.now }
-{
-    match name {
-        GlobalNameText::Plain(name) => name,
-        GlobalNameText::Debug(name) => name,
-    }
-}
+use value_building::global_name;
 
 /// Whether it is the name of a function.
 pub fn is_function(sight: &Sight, name: &Name) -> bool

@@ -9,6 +9,6 @@ mod entering;
 mod inits;
 
 pub use addresses::{may_be, number_of};
-pub use constants::{global_name, is_function, note_const};
+pub use constants::{is_function, note_const};
 pub use entering::{entered, is_integer};
 pub use inits::note_init;

@@ -1,4 +1,4 @@
-use Rattle.std.proofs.Common.{◌∙◌, Option, sym, ap}
+use Rattle.std.proofs.Common.{◌∙◌, sym, ap}
 use Rattle.module_grammar.specs.declared.constants.ConstText.{ConstText}
 use Rattle.named_modules.specs.Faults.{const_faults}
 use Rattle.named_modules.specs.Types.{type_of}
