@@ -6,7 +6,7 @@ use Rattle.predictive.specs.declared.symbol.Symbol.{Symbol}
 use Rattle.predictive.specs.declared.symbol.Symbol.TheVariants.{Kind, Non}
 use Rattle.typed_grammars.proofs.Sound.{divided}
 use Rattle.typed_grammars.specs.Made.{Made}
-use Rattle.typed_grammars.specs.Meaning.{Meaning, State, shifted, IsLawful}
+use Rattle.typed_grammars.specs.Meaning.{Meaning, State, begun, shifted, IsLawful}
 use Rattle.typed_grammars.specs.Meaning as typed
 use Rattle.gap_grammars.specs.Gapped.{Gapped, IsGapped, IsTyped, Writes, is_gap, opened, opened_kind}
 use Rattle.gap_grammars.proofs.Loose as loose
@@ -21,7 +21,7 @@ module _ (m : Meaning) (lawful : IsLawful m) (x : Gapped m) (is : IsGapped m x) 
 
   -- as if the gap were a token
   abbrev plain_run : Forest → State m → State m
-  plain_run h s = after_trees (shifted m) (typed.reduced m) h s
+  plain_run h s = after_trees (begun m) (shifted m) (typed.reduced m) h s
 
   -- a forest of the tokens that does what the forest of what is written does
   pub record Filled (h : Forest) (s : List Symbol) (ws ts : List m.Token) : Type 0 where

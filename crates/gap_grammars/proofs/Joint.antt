@@ -4,7 +4,7 @@ use Rattle.std.proofs.lemmas.List.{append-nil}
 use Rattle.predictive.specs.Grammar.{Forest, Forms, yield, after_trees, Derives, Agree, IsFirstFault, IsUnambiguous}
 use Rattle.predictive.specs.declared.symbol.Symbol.TheVariants.{Non}
 use Rattle.typed_grammars.specs.Made.{Made}
-use Rattle.typed_grammars.specs.Meaning.{Meaning, State, shifted, IsLawful}
+use Rattle.typed_grammars.specs.Meaning.{Meaning, State, begun, shifted, IsLawful}
 use Rattle.typed_grammars.specs.Unexpected.{GoesNowhere, IsUnexpected}
 use Rattle.gap_grammars.specs.Gapped.{Gapped, IsGapped, Text, Writes, reduced}
 use Rattle.gap_grammars.proofs.Filling.{grown}
@@ -55,14 +55,14 @@ module _ (m : Meaning) (lawful : IsLawful m) (x : Gapped m) (is : IsGapped m x) 
       let same : g.forest ≡ h.forest = one g.forest h.forest g.forms h.forms (g.yields ∙ sym h.yields) in
       ap (λ (st : State m). st.parts) (
       sym (g.runs [] [])
-      ∙ ap (λ f. after_trees (shifted m) (reduced m x) f (record { tokens = ts ++ []; parts = [] })) same
+      ∙ ap (λ f. after_trees (begun m) (shifted m) (reduced m x) f (record { tokens = ts ++ []; parts = [] })) same
       ∙ h.runs [] [])
 
   -- what a whole run leaves
   pub leaves :
       (f : Forest) → Forms x.grammar f (Non n ∷ []) → (ts : List m.Token) → yield f ≡ map m.kind_of ts
       → (v : m.Value n) × Writes m x (m.written n v) ts
-      × (after_trees (shifted m) (reduced m x) f (record { tokens = ts; parts = [] }) ≡ record { tokens = []; parts = m.part n v ∷ [] })
+      × (after_trees (begun m) (shifted m) (reduced m x) f (record { tokens = ts; parts = [] }) ≡ record { tokens = []; parts = m.part n v ∷ [] })
   leaves f formed ts e =
       let r = reads m lawful x is f (Non n ∷ []) (small, tt) formed ts (sym e) in
-      (r.0.0, r.1, ap (λ l. after_trees (shifted m) (reduced m x) f (record { tokens = l; parts = [] })) (sym (append-nil ts)) ∙ r.2 [] [])
+      (r.0.0, r.1, ap (λ l. after_trees (begun m) (shifted m) (reduced m x) f (record { tokens = l; parts = [] })) (sym (append-nil ts)) ∙ r.2 [] [])

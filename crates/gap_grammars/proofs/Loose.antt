@@ -5,7 +5,7 @@ use Rattle.predictive.specs.Grammar.{Forest, End, Leaf, Node, Forms, yield, afte
 use Rattle.predictive.specs.declared.symbol.Symbol.{Symbol}
 use Rattle.predictive.specs.declared.symbol.Symbol.TheVariants.{Kind, Non}
 use Rattle.typed_grammars.proofs.Sound.{divided}
-use Rattle.typed_grammars.specs.Meaning.{Meaning, EachOf, State, shifted, IsLawful}
+use Rattle.typed_grammars.specs.Meaning.{Meaning, EachOf, State, begun, shifted, IsLawful}
 use Rattle.gap_grammars.specs.Gapped.{Gapped, IsGapped, IsLoose, pushed, reduced}
 
 module _ (m : Meaning) (lawful : IsLawful m) (x : Gapped m) (is : IsGapped m x) where
@@ -13,7 +13,7 @@ module _ (m : Meaning) (lawful : IsLawful m) (x : Gapped m) (is : IsGapped m x) 
   state ts ps = record { tokens = ts; parts = ps }
 
   abbrev pub run : Forest → State m → State m
-  run f s = after_trees (shifted m) (reduced m x) f s
+  run f s = after_trees (begun m) (shifted m) (reduced m x) f s
 
   abbrev pub drop_rule : ℕ → State m → State m
   drop_rule p s = reduced m x s p

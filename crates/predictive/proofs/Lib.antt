@@ -1,4 +1,6 @@
 pub mod Selects
+pub mod Happening
+pub mod Keeping
 mod Stacks
 mod Moving
 mod Advancing

@@ -5,7 +5,7 @@ use Rattle.predictive.specs.declared.symbol.Symbol.{Symbol}
 use Rattle.predictive.specs.declared.symbol.Symbol.TheVariants.{Kind, Non}
 use Rattle.predictive.specs.declared.item.Item.{Item}
 use Rattle.predictive.specs.declared.item.Item.TheVariants as item
-use Rattle.predictive.specs.Grammar.{Grammar, Forest, End, Leaf, Node, Forms, yield, Derives, after_trees}
+use Rattle.predictive.specs.Grammar.{Grammar, Forest, End, Leaf, Node, Forms, yield, Derives, Begin, Shift, Reduce, events}
 use Rattle.predictive.specs.Predictive.{Sets, nullable_row, first_row, select, IsFollowed, IsPredictive, RanksBelow, cost_row}
 use Rattle.predictive.specs.Moves.{opened, wanted, acts}
 
@@ -37,41 +37,41 @@ followed_row s (Non n ∷ row) rest next wide h a b =
     (a.0, (λ k e. a.1 k (weaker s row rest next wide h k e)), followed_row s row rest next wide h a.2 b)
 
 -- trees of what is put on the stack
-pub record Parts {S : Type 0} (g : Grammar) (shifted reduced : S → ℕ → S) (row : List Symbol) (items : List Item) (f : Forest) : Type 0 where
+pub record Parts (g : Grammar) (row : List Symbol) (items : List Item) (f : Forest) : Type 0 where
   pub kids : Forest
   pub rest : Forest
   pub formed : Forms g kids row
   pub others : Forms g rest (wanted items)
   pub yields : yield kids ++ yield rest ≡ yield f
-  pub acted : (s : S) → acts shifted reduced (opened row items) f s ≡ acts shifted reduced items rest (after_trees shifted reduced kids s)
+  pub acted : acts (opened row items) f ≡ events kids ++ acts items rest
 
-pub parted :
-    {S : Type 0} (g : Grammar) (shifted reduced : S → ℕ → S) (row : List Symbol) (items : List Item) (f : Forest)
-    → Forms g f (wanted (opened row items)) → Parts g shifted reduced row items f
-parted g shifted reduced [] items f formed = record { kids = End; rest = f; formed = tt; others = formed; yields = refl; acted = λ s. refl }
-parted g shifted reduced (Kind c ∷ row) items End formed = absurd formed
-parted g shifted reduced (Kind c ∷ row) items (Node p kids f) formed = absurd formed
-parted g shifted reduced (Kind c ∷ row) items (Leaf k f) formed =
-    let more = parted g shifted reduced row items f formed.1 in
+pub parted : (g : Grammar) (row : List Symbol) (items : List Item) (f : Forest) → Forms g f (wanted (opened row items)) → Parts g row items f
+parted g [] items f formed = record { kids = End; rest = f; formed = tt; others = formed; yields = refl; acted = refl }
+parted g (Kind c ∷ row) items End formed = absurd formed
+parted g (Kind c ∷ row) items (Node p kids f) formed = absurd formed
+parted g (Kind c ∷ row) items (Leaf k f) formed =
+    let more = parted g row items f formed.1 in
     record {
       kids = Leaf k more.kids;
       rest = more.rest;
       formed = (formed.0, more.formed);
       others = more.others;
       yields = ap (λ l. k ∷ l) more.yields;
-      acted = λ s. more.acted (shifted s k);
+      acted = ap (λ es. Shift k ∷ es) more.acted;
     }
-parted g shifted reduced (Non n ∷ row) items End formed = absurd formed
-parted g shifted reduced (Non n ∷ row) items (Leaf k f) formed = absurd formed
-parted g shifted reduced (Non n ∷ row) items (Node p kids f) formed =
-    let more = parted g shifted reduced row items f formed.3 in
+parted g (Non n ∷ row) items End formed = absurd formed
+parted g (Non n ∷ row) items (Leaf k f) formed = absurd formed
+parted g (Non n ∷ row) items (Node p kids f) formed =
+    let more = parted g row items f formed.3 in
     record {
       kids = Node p kids more.kids;
       rest = more.rest;
       formed = (formed.0, formed.1, formed.2, more.formed);
       others = more.others;
       yields = append_assoc (yield kids) (yield more.kids) (yield more.rest) ∙ ap (λ l. yield kids ++ l) more.yields;
-      acted = λ s. more.acted (reduced (after_trees shifted reduced kids s) p);
+      acted =
+          ap (λ es. Begin p ∷ (events kids ++ (Reduce p ∷ es))) more.acted
+          ∙ ap (λ es. Begin p ∷ es) (sym (append_assoc (events kids) (Reduce p ∷ events more.kids) (acts items more.rest)));
     }
 
 pub joined :

@@ -1,6 +1,6 @@
 -- Context-free grammars over numbered kinds of tokens and numbered nonterminals, their derivation trees, and the first fault of a
 -- text. A text is here the list of its tokens' kinds.
-use Rattle.std.specs.Prelude.{◌≡◌, ◌<◌, ◌≤◌, ℕ, List, [], ◌∷◌, ◌++◌, length, take, drop}
+use Rattle.std.specs.Prelude.{◌≡◌, ◌<◌, ◌≤◌, ℕ, zero, suc, List, [], ◌∷◌, ◌++◌, length, take, drop}
 use Rattle.predictive.specs.declared.symbol.Symbol.{Symbol}
 use Rattle.predictive.specs.declared.symbol.Symbol.TheVariants.{Kind, Non}
 
@@ -41,11 +41,41 @@ IsFirstFault g s ks place =
     × ((more : List ℕ) × Derives g s (take place ks ++ more))
     × ((more : List ℕ) → Agree more (drop place ks) → Derives g s (take place ks ++ more) → ⊥)
 
-abbrev pub after_trees : {S : Type 0} → (S → ℕ → S) → (S → ℕ → S) → Forest → S → S
-after_trees shifted reduced End s = s
-after_trees shifted reduced (Leaf k f) s = after_trees shifted reduced f (shifted s k)
-after_trees shifted reduced (Node p kids f) s =
-    after_trees shifted reduced f (reduced (after_trees shifted reduced kids s) p)
+-- what a parser does: it begins a rule, shifts a token of a kind, or reduces a rule whose right side is there
+pub data Event : Type 0 where
+  Begin : ℕ → Event
+  Shift : ℕ → Event
+  Reduce : ℕ → Event
+
+-- what it does along trees, in order
+abbrev pub events : Forest → List Event
+events End = []
+events (Leaf k f) = Shift k ∷ events f
+events (Node p kids f) = Begin p ∷ (events kids ++ (Reduce p ∷ events f))
+
+-- what comes up to the shift of so many tokens, with nothing behind the last of them
+abbrev pub until_shifted : ℕ → List Event → List Event
+until_shifted zero es = []
+until_shifted (suc n) [] = []
+until_shifted (suc n) (Begin p ∷ es) = Begin p ∷ until_shifted (suc n) es
+until_shifted (suc n) (Shift k ∷ es) = Shift k ∷ until_shifted n es
+until_shifted (suc n) (Reduce p ∷ es) = Reduce p ∷ until_shifted (suc n) es
+
+abbrev pub after_events : {S : Type 0} → (S → ℕ → S) → (S → ℕ → S) → (S → ℕ → S) → List Event → S → S
+after_events begun shifted reduced [] s = s
+after_events begun shifted reduced (Begin p ∷ es) s = after_events begun shifted reduced es (begun s p)
+after_events begun shifted reduced (Shift k ∷ es) s = after_events begun shifted reduced es (shifted s k)
+after_events begun shifted reduced (Reduce p ∷ es) s = after_events begun shifted reduced es (reduced s p)
+
+abbrev pub after_trees : {S : Type 0} → (S → ℕ → S) → (S → ℕ → S) → (S → ℕ → S) → Forest → S → S
+after_trees begun shifted reduced End s = s
+after_trees begun shifted reduced (Leaf k f) s = after_trees begun shifted reduced f (shifted s k)
+after_trees begun shifted reduced (Node p kids f) s =
+    after_trees begun shifted reduced f (reduced (after_trees begun shifted reduced kids (begun s p)) p)
+
+-- after the first tokens of trees, so many
+abbrev pub after_some : {S : Type 0} → (S → ℕ → S) → (S → ℕ → S) → (S → ℕ → S) → ℕ → Forest → S → S
+after_some begun shifted reduced n f s = after_events begun shifted reduced (until_shifted n (events f)) s
 
 -- what the engine's crate proves of a predictive grammar
 abbrev pub IsUnambiguous : Grammar → List Symbol → Type 0

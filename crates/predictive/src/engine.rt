@@ -1,5 +1,5 @@
-ghost use Rattle.std.specs.Prelude.{◌≡◌, ◌<◌, [], ◌∷◌, IfOk, MatchBool, MatchOption};
-ghost use Rattle.predictive.specs.Grammar.{Forest, Forms, yield, after_trees, IsFirstFault};
+ghost use Rattle.std.specs.Prelude.{◌≡◌, ◌<◌, ℕ, List, [], ◌∷◌, ◌++◌, take, IfOk, IfSome, MatchBool, MatchOption};
+ghost use Rattle.predictive.specs.Grammar.{Forest, Forms, yield, after_some, after_trees, IsFirstFault};
 ghost use Rattle.predictive.specs.Moves.{IsMet, IsStuck, wanted};
 ghost use Rattle.predictive.specs.Predictive.{IsFollowed, MayEnd, at_end};
 ghost use Rattle.predictive.specs.declared.symbol.Symbol.TheVariants.{Non};
@@ -21,8 +21,8 @@ fn advance<'a, G: Table, A: Action>(
 ) -> Result<bool, AllocError>
     requires { IsFollowed (G.sets table.now) (wanted items.old) at_end }
     ensures { IfOk result (λ met. MatchBool met
-        (IsMet (G.grammar table.now) (G.sets table.now) A.shifted A.reduced ahead items.old (A.state actions.old) items.new (A.state actions.new))
-        (IsStuck (G.grammar table.now) ahead items.old)) }
+        (IsMet (G.grammar table.now) (G.sets table.now) A.begun A.shifted A.reduced ahead items.old (A.state actions.old) items.new (A.state actions.new))
+        (IsStuck (G.grammar table.now) ahead items.old × (A.mark (A.state actions.new) ≡ A.mark (A.state actions.old)))) }
 {
     while let Some(item) = items.pop() {
         match item {
@@ -30,7 +30,10 @@ fn advance<'a, G: Table, A: Action>(
             Item::Kind(kind) => return Ok(u16::from(kind) + 1 == ahead),
             Item::Non(non) => match table.choose(non, ahead) {
                 None => return Ok(false),
-                Some(rule) => items.open(table.right(rule), rule)?,
+                Some(rule) => {
+                    actions.begin(alloc, rule)?;
+                    items.open(table.right(rule), rule)?;
+                }
             },
         }
     }
@@ -38,7 +41,8 @@ fn advance<'a, G: Table, A: Action>(
 }
 
 /// None where the kinds are a text of the start symbol, whose tree's acts are then done, one after another; else the place of the first
-/// kind that no text goes on with (their number, where none ends there). Fails where memory does.
+/// kind that no text goes on with (their number, where none ends there), and the mark is then that of the tokens before it. Fails where
+/// memory does.
 pub fn parse<G: Table, A: Action>(
     alloc: Global,
     table: &G,
@@ -47,9 +51,12 @@ pub fn parse<G: Table, A: Action>(
     kinds: &[u8],
 ) -> Result<Option<usize>, AllocError>
     requires { MayEnd (G.sets table.now) start }
-    ensures { IfOk result (λ fault. MatchOption fault
-        ((f : Forest) × Forms (G.grammar table.now) f (Non start ∷ []) × (yield f ≡ kinds.now) × (A.state actions.new ≡ after_trees A.shifted A.reduced f (A.state actions.old)))
+    ensures answer { IfOk result (λ fault. MatchOption fault
+        ((f : Forest) × Forms (G.grammar table.now) f (Non start ∷ []) × (yield f ≡ kinds.now) × (A.state actions.new ≡ after_trees A.begun A.shifted A.reduced f (A.state actions.old)))
         (λ place. IsFirstFault (G.grammar table.now) (Non start ∷ []) kinds.now place)) }
+    ensures mark { IfOk result (λ fault. IfSome fault (λ place.
+        (more : List ℕ) (f : Forest) → Forms (G.grammar table.now) f (Non start ∷ []) → yield f ≡ take place kinds.now ++ more
+        → A.mark (after_some A.begun A.shifted A.reduced place f (A.state actions.old)) ≡ A.mark (A.state actions.new))) }
 {
     let mut items = Items::new(alloc, start);
     for (place, kind) in kinds.iter().enumerate() {

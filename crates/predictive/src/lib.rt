@@ -1,5 +1,5 @@
-//! A predictive parser over grammars as data (LL(1), Aho, Sethi and Ullman): an explicit stack, and acts that are called as tokens are
-//! shifted and rules reduced.
+//! A predictive parser over grammars as data (LL(1), Aho, Sethi and Ullman): an explicit stack, and acts that are called as rules begin,
+//! tokens are shifted and rules reduced.
 //!
 //! A grammar is an `impl Table`. The easy way to one is a list of rules with their LL(1) sets (`specs/Listed.antt`, and an example in
 //! `specs/Examples.antt`): that it is predictive is then computed, `by_test grammar refl`, and `choice` and `side` read its arrays, which

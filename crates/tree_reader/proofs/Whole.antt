@@ -16,7 +16,7 @@ use Rattle.tree_reader.specs.Reading.{IsReading, IsRun}
 use Rattle.tree_reader.specs.Tables.{sets}
 use Rattle.typed_grammars.proofs.Joint.{leaves, unexpected, written_once}
 use Rattle.typed_grammars.specs.Made.{Made}
-use Rattle.typed_grammars.specs.Meaning.{State, shifted, reduced}
+use Rattle.typed_grammars.specs.Meaning.{State, begun, shifted, reduced}
 use Rattle.typed_grammars.specs.Typed.{top}
 
 pub kinds_are : (language : Language) (text : List ℕ) (tokens : List Token) → map (kind_in language text) tokens ≡ map kind_of (map (symbol_in language text) tokens)
@@ -27,15 +27,15 @@ pub left :
     (start : ℕ) (symbols : List Symbol) (kinds : List ℕ) → kinds ≡ map kind_of symbols → (before after : State meaning)
     → before ≡ record { tokens = symbols; parts = [] } → (o : Option ℕ) (Q : ℕ → Type 0) → o ≡ None
     → MatchOption o
-    ((f : Forest) × Forms grammar f (Non start ∷ []) × (yield f ≡ kinds) × (after ≡ after_trees (shifted meaning) (reduced meaning) f before))
+    ((f : Forest) × Forms grammar f (Non start ∷ []) × (yield f ≡ kinds) × (after ≡ after_trees (begun meaning) (shifted meaning) (reduced meaning) f before))
     Q
     → (v : meaning.Value start) × (written_at start v ≡ symbols) × (after.parts ≡ vocabulary.part start v ∷ [])
 left start symbols kinds e before after at o Q none match =
     let run = subst
-    (λ o. MatchOption o ((f : Forest) × Forms grammar f (Non start ∷ []) × (yield f ≡ kinds) × (after ≡ after_trees (shifted meaning) (reduced meaning) f before)) Q)
+    (λ o. MatchOption o ((f : Forest) × Forms grammar f (Non start ∷ []) × (yield f ≡ kinds) × (after ≡ after_trees (begun meaning) (shifted meaning) (reduced meaning) f before)) Q)
     none match in
     let l = leaves meaning lawful start run.0 run.1 symbols (run.2 ∙ e) in
-    (l.0, l.1, ap (λ (s : State meaning). s.parts) (run.3 ∙ ap (λ s. after_trees (shifted meaning) (reduced meaning) run.0 s) at ∙ l.2))
+    (l.0, l.1, ap (λ (s : State meaning). s.parts) (run.3 ∙ ap (λ s. after_trees (begun meaning) (shifted meaning) (reduced meaning) run.0 s) at ∙ l.2))
 
 -- the fault where there is one
 pub fault :

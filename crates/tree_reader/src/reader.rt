@@ -64,6 +64,7 @@ impl<'a> Reading<'a> {
 }
 
 impl<'a> Action for Reading<'a> {
+    ghost use Rattle.std.specs.Prelude.{refl};
     ghost use Rattle.ir_grammar.specs.Rules.{meaning};
     ghost use Rattle.typed_grammars.specs.Meaning as meaning_acts;
 
@@ -71,9 +72,20 @@ impl<'a> Action for Reading<'a> {
 
     ghost state = { λ it. it };
 
+    type Mark = ();
+
+    ghost mark = { λ s. tt };
+
+    ghost begun = { meaning_acts.begun meaning };
+
     ghost shifted = { meaning_acts.shifted meaning };
 
     ghost reduced = { meaning_acts.reduced meaning };
+
+    #[inline(always)]
+    fn begin(&mut self, _alloc: Global, _rule: u16) -> Result<(), AllocError> {
+        Ok(())
+    }
 
     fn shift(&mut self, alloc: Global, _kind: u8) -> Result<(), AllocError> {
         let Some((token, rest)) = self.tokens.split_first() else {
@@ -86,6 +98,10 @@ impl<'a> Action for Reading<'a> {
     fn reduce(&mut self, alloc: Global, rule: u16) -> Result<(), AllocError> {
         reduce(&mut self.parts, alloc, rule)
     }
+
+    ghost begun_unmarked = { λ s rule. refl };
+
+    ghost reduced_unmarked = { λ s rule. refl };
 }
 
 /// What is on the stack after the tokens, of these kinds, are read as a nonterminal, or the place of the first unexpected token.

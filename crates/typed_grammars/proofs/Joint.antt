@@ -3,7 +3,7 @@ use Rattle.std.proofs.Common.{◌≡◌, ℕ, List, [], ◌∷◌, ◌++◌, map
 use Rattle.std.proofs.lemmas.List.{append-nil}
 use Rattle.predictive.specs.Grammar.{Forest, Forms, yield, after_trees, Derives, Agree, IsFirstFault, IsUnambiguous}
 use Rattle.predictive.specs.declared.symbol.Symbol.TheVariants.{Non}
-use Rattle.typed_grammars.specs.Meaning.{Meaning, State, shifted, reduced, IsLawful}
+use Rattle.typed_grammars.specs.Meaning.{Meaning, State, begun, shifted, reduced, IsLawful}
 use Rattle.typed_grammars.specs.Unexpected.{GoesNowhere, IsUnexpected}
 use Rattle.typed_grammars.specs.Made.{Made}
 use Rattle.typed_grammars.proofs.Sound.{reads}
@@ -46,13 +46,13 @@ written_once m lawful n one made v w e =
     let same : g.forest ≡ h.forest = one g.forest h.forest g.forms h.forms (g.yields ∙ ap (λ l. map m.kind_of l) e ∙ sym h.yields) in
     ap (λ (st : State m). st.parts) (
     sym (g.runs [] [])
-    ∙ ap (λ f. after_trees (shifted m) (reduced m) f (record { tokens = m.written n v ++ []; parts = [] })) same
-    ∙ ap (λ l. after_trees (shifted m) (reduced m) h.forest (record { tokens = l ++ []; parts = [] })) e
+    ∙ ap (λ f. after_trees (begun m) (shifted m) (reduced m) f (record { tokens = m.written n v ++ []; parts = [] })) same
+    ∙ ap (λ l. after_trees (begun m) (shifted m) (reduced m) h.forest (record { tokens = l ++ []; parts = [] })) e
     ∙ h.runs [] [])
 
 -- what a whole run leaves
 pub leaves : (m : Meaning) → IsLawful m → (n : ℕ) (f : Forest) → Forms m.grammar f (Non n ∷ []) → (ts : List m.Token) → yield f ≡ map m.kind_of ts
-    → (v : m.Value n) × (m.written n v ≡ ts) × (after_trees (shifted m) (reduced m) f (record { tokens = ts; parts = [] }) ≡ record { tokens = []; parts = m.part n v ∷ [] })
+    → (v : m.Value n) × (m.written n v ≡ ts) × (after_trees (begun m) (shifted m) (reduced m) f (record { tokens = ts; parts = [] }) ≡ record { tokens = []; parts = m.part n v ∷ [] })
 leaves m lawful n f formed ts e =
     let r = reads m lawful f (Non n ∷ []) formed ts (sym e) in
-    (r.0.0, r.1, ap (λ l. after_trees (shifted m) (reduced m) f (record { tokens = l; parts = [] })) (sym (append-nil ts)) ∙ r.2 [] [])
+    (r.0.0, r.1, ap (λ l. after_trees (begun m) (shifted m) (reduced m) f (record { tokens = l; parts = [] })) (sym (append-nil ts)) ∙ r.2 [] [])

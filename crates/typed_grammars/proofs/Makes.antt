@@ -5,7 +5,7 @@ use Rattle.std.proofs.lemmas.List.{map-append}
 use Rattle.predictive.specs.Grammar.{Forest, End, Leaf, Node, Forms, yield, after_trees}
 use Rattle.predictive.specs.declared.symbol.Symbol.{Symbol}
 use Rattle.predictive.specs.declared.symbol.Symbol.TheVariants.{Kind, Non}
-use Rattle.typed_grammars.specs.Meaning.{Meaning, Each, row, onto, State, shifted, reduced, IsLawful}
+use Rattle.typed_grammars.specs.Meaning.{Meaning, Each, row, onto, State, begun, shifted, reduced, IsLawful}
 use Rattle.typed_grammars.specs.Made.{Made, MadeEach}
 use Rattle.typed_grammars.proofs.Sound.{Runs, joined_is}
 
@@ -33,9 +33,9 @@ with_node m n s v vs made g = record {
       ∙ sym (map-append m.kind_of (m.written n v) (row m s vs))
       ∙ ap (λ l. map m.kind_of l) (sym (joined_is m n v s vs));
   runs = λ rest below.
-      ap (λ l. after_trees (shifted m) (reduced m) g.forest (reduced m (after_trees (shifted m) (reduced m) made.kids (record { tokens = l ++ rest; parts = below })) made.rule)) (joined_is m n v s vs)
-      ∙ ap (λ l. after_trees (shifted m) (reduced m) g.forest (reduced m (after_trees (shifted m) (reduced m) made.kids (record { tokens = l; parts = below })) made.rule)) (append_assoc (m.written n v) (row m s vs) rest)
-      ∙ ap (λ (st : State m). after_trees (shifted m) (reduced m) g.forest st) (made.runs (row m s vs ++ rest) below)
+      ap (λ l. after_trees (begun m) (shifted m) (reduced m) g.forest (reduced m (after_trees (begun m) (shifted m) (reduced m) made.kids (record { tokens = l ++ rest; parts = below })) made.rule)) (joined_is m n v s vs)
+      ∙ ap (λ l. after_trees (begun m) (shifted m) (reduced m) g.forest (reduced m (after_trees (begun m) (shifted m) (reduced m) made.kids (record { tokens = l; parts = below })) made.rule)) (append_assoc (m.written n v) (row m s vs) rest)
+      ∙ ap (λ (st : State m). after_trees (begun m) (shifted m) (reduced m) g.forest st) (made.runs (row m s vs ++ rest) below)
       ∙ g.runs rest (m.part n v ∷ below);
 }
 
@@ -60,7 +60,7 @@ node m lawful p inside vs v acts writes made =
       forms = g.forms;
       yields = g.yields ∙ ap (λ l. map m.kind_of l) (sym writes);
       runs = λ rest below.
-          ap (λ l. reduced m (after_trees (shifted m) (reduced m) g.forest (record { tokens = l ++ rest; parts = below })) p) writes
+          ap (λ l. reduced m (after_trees (begun m) (shifted m) (reduced m) g.forest (record { tokens = l ++ rest; parts = below })) p) writes
           ∙ ap (λ (st : State m). reduced m st p) (g.runs rest below)
           ∙ ap (λ l. record { tokens = rest; parts = l }) (acts below);
     }

@@ -4,12 +4,12 @@ use Rattle.std.proofs.lemmas.List.{append-nil}
 use Rattle.predictive.specs.Grammar.{Forest, End, Leaf, Node, Forms, yield, after_trees}
 use Rattle.predictive.specs.declared.symbol.Symbol.{Symbol}
 use Rattle.predictive.specs.declared.symbol.Symbol.TheVariants.{Kind, Non}
-use Rattle.typed_grammars.specs.Meaning.{Meaning, Each, joined, row, onto, State, shifted, reduced, Law, IsLawful}
+use Rattle.typed_grammars.specs.Meaning.{Meaning, Each, joined, row, onto, State, begun, shifted, reduced, Law, IsLawful}
 
 abbrev pub Runs : (m : Meaning) → (f : Forest) → (s : List Symbol) → Each m s → List m.Token → Type 0
 Runs m f s vs ts =
     (rest : List m.Token) (below : List m.Part)
-    → after_trees (shifted m) (reduced m) f (record { tokens = ts ++ rest; parts = below })
+    → after_trees (begun m) (shifted m) (reduced m) f (record { tokens = ts ++ rest; parts = below })
     ≡ record { tokens = rest; parts = onto m s vs below }
 
 abbrev pub Reads : (m : Meaning) → Forest → List Symbol → List m.Token → Type 0
@@ -42,9 +42,9 @@ with_node m p law kids f s ts us inner outer =
       (v.0, outer.0),
       joined_is m (m.grammar.left p) v.0 s outer.0 ∙ ap (λ l. l ++ row m s outer.0) (v.2 ∙ inner.1) ∙ ap (λ l. ts ++ l) outer.1,
       λ rest below.
-          ap (λ l. after_trees (shifted m) (reduced m) f (reduced m (after_trees (shifted m) (reduced m) kids (record { tokens = l; parts = below })) p)) (append_assoc ts us rest)
-          ∙ ap (λ (st : State m). after_trees (shifted m) (reduced m) f (reduced m st p)) (inner.2 (us ++ rest) below)
-          ∙ ap (λ l. after_trees (shifted m) (reduced m) f (record { tokens = us ++ rest; parts = l })) (v.1 below)
+          ap (λ l. after_trees (begun m) (shifted m) (reduced m) f (reduced m (after_trees (begun m) (shifted m) (reduced m) kids (record { tokens = l; parts = below })) p)) (append_assoc ts us rest)
+          ∙ ap (λ (st : State m). after_trees (begun m) (shifted m) (reduced m) f (reduced m st p)) (inner.2 (us ++ rest) below)
+          ∙ ap (λ l. after_trees (begun m) (shifted m) (reduced m) f (record { tokens = us ++ rest; parts = l })) (v.1 below)
           ∙ outer.2 rest (m.part (m.grammar.left p) v.0 ∷ below),
     )
 

@@ -4,7 +4,7 @@ use Rattle.std.specs.Prelude.{◌≡◌, ◌<◌, ℕ, List, [], ◌∷◌, ◌+
 use Rattle.predictive.specs.Grammar.{Forest, Forms, yield, after_trees}
 use Rattle.predictive.specs.declared.symbol.Symbol.{Symbol}
 use Rattle.predictive.specs.declared.symbol.Symbol.TheVariants.{Kind, Non}
-use Rattle.typed_grammars.specs.Meaning.{Meaning, Each, shifted, reduced}
+use Rattle.typed_grammars.specs.Meaning.{Meaning, Each, begun, shifted, reduced}
 
 pub record Made (m : Meaning) (n : ℕ) (v : m.Value n) : Type 0 where
   pub rule : ℕ
@@ -15,7 +15,7 @@ pub record Made (m : Meaning) (n : ℕ) (v : m.Value n) : Type 0 where
   pub yields : yield kids ≡ map m.kind_of (m.written n v)
   pub runs :
       (rest : List m.Token) (below : List m.Part)
-      → reduced m (after_trees (shifted m) (reduced m) kids (record { tokens = m.written n v ++ rest; parts = below })) rule
+      → reduced m (after_trees (begun m) (shifted m) (reduced m) kids (record { tokens = m.written n v ++ rest; parts = below })) rule
       ≡ record { tokens = rest; parts = m.part n v ∷ below }
 
 -- a derivation of each nonterminal's value

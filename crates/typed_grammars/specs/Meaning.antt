@@ -57,6 +57,10 @@ pub record State (m : Meaning) : Type 0 where
   pub tokens : List m.Token
   pub parts : List m.Part
 
+-- a rule begins: nothing is done
+abbrev pub begun : (m : Meaning) → State m → ℕ → State m
+begun m s p = s
+
 -- a token is shifted: the next one goes onto the stack
 abbrev pub shifted : (m : Meaning) → State m → ℕ → State m
 shifted m s k = go s.tokens

@@ -4,4 +4,4 @@ use Rattle.predictive.proofs.engine.parse.Given as goal
 
 abbrev pub invariant-loop-place : goal.invariant-loop-place
 invariant-loop-place g l =
-    Holds (g.G.Table.grammar l.table) (g.G.Table.sets l.table) g.A.Action.shifted g.A.Action.reduced l.start (g.A.Action.state l.fn.actions) (take l.place l.kinds) l.items (g.A.Action.state l.actions)
+    Holds (g.G.Table.grammar l.table) (g.G.Table.sets l.table) g.A.Action.begun g.A.Action.shifted g.A.Action.reduced l.start (g.A.Action.state l.fn.actions) (take l.place l.kinds) l.items (g.A.Action.state l.actions)

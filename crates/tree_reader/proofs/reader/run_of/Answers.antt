@@ -10,11 +10,11 @@ pub returns-in-Some : goal.returns-in-Some
 returns-in-Some c =
     fault c.args.start (map (symbol_in c.args.language c.args.text.now) c.args.tokens.now) c.args.kinds.now
     (c.requires.kinds ∙ kinds_are c.args.language c.args.text.now c.args.tokens.now)
-    c.in_ok-place.field-0 _ c.in-Some.place c.in-Some.is c.in_ok-place.ensures
+    c.in_ok-place.field-0 _ c.in-Some.place c.in-Some.is c.in_ok-place.ensures.answer
 
 pub returns-in-None : goal.returns-in-None
 returns-in-None c =
     let l = left c.args.start (map (symbol_in c.args.language c.args.text.now) c.args.tokens.now) c.args.kinds.now
     (c.requires.kinds ∙ kinds_are c.args.language c.args.text.now c.args.tokens.now)
-    c.new-reading.result c.parse.new.actions c.new-reading.ensures c.in_ok-place.field-0 _ c.in-None.is c.in_ok-place.ensures in
+    c.new-reading.result c.parse.new.actions c.new-reading.ensures c.in_ok-place.field-0 _ c.in-None.is c.in_ok-place.ensures.answer in
     (c.is_unambiguous.ensures grammar sets lawful c.args.start c.requires.ends, (l.0, l.1, c.into_parts.ensures ∙ l.2))
