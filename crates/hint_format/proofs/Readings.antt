@@ -9,8 +9,8 @@ use Rattle.ir_types.specs.declared.names.Sigil.{Sigil}
 use Rattle.ir_core.specs.Expressions.{Expr0}
 use Rattle.ir_naming.specs.Expressions.{IsNameOf, NamesExpression}
 use Rattle.expression_printer.specs.Printed.{printed_name}
-use Rattle.ir_spelling.specs.declared.fault.TextFault.{TextFault}
-use Rattle.ir_spelling.specs.declared.fault.TextFault.TheVariants as text_fault
+use Rattle.text_faults.specs.declared.fault.TextFault.{TextFault}
+use Rattle.text_faults.specs.declared.fault.TextFault.TheVariants as text_fault
 use Rattle.ir_spelling.specs.Faults.{IsShort, IsTextFault}
 use Rattle.ir_spelling.specs.Forms as forms
 use Rattle.ir_spelling.specs.Spells.{IsSpelled, SpellsExpression, SpellsName}

@@ -23,7 +23,7 @@ use Rattle.ir_naming.specs.Spells.{NamesModule}
 use Rattle.ir_naming_laws.specs.Laws.{IsFaultless, IsFaultlessExpression}
 use Rattle.ir_naming_laws.proofs.Expressions.{expression_built}
 use Rattle.ir_naming_laws.proofs.Named.{module_named}
-use Rattle.ir_spelling.specs.declared.fault.TextFault.{TextFault}
+use Rattle.text_faults.specs.declared.fault.TextFault.{TextFault}
 use Rattle.ir_spelling.specs.Faults.{HasTokens, IsTextFault}
 use Rattle.ir_spelling.specs.Forms.{Form, module_form}
 use Rattle.ir_spelling.specs.Spells.{IsSpelled, Spells, symbols_cut}

@@ -4,6 +4,4 @@
 //! These are definitions. The reader's functions stand in `ir_reader`, and the laws of what is spelled in `spelling_laws`.
 #![tactic(auto)]
 
-mod fault;
-
-pub use fault::TextFault;
+pub use text_faults::TextFault;

@@ -17,8 +17,8 @@ use Rattle.name_claims.specs.declared.claims.Reason.TheVariants as reason
 use Rattle.name_claims.specs.Faults.{HasFault, IsFirst, rank}
 use Rattle.typed_grammars.specs.Unexpected.{Begins, IsUnexpected}
 use Rattle.tree_reader.proofs.Single.{none_longer, none_where_written, one_place}
-use Rattle.ir_spelling.specs.declared.fault.TextFault.{TextFault}
-use Rattle.ir_spelling.specs.declared.fault.TextFault.TheVariants as fault
+use Rattle.text_faults.specs.declared.fault.TextFault.{TextFault}
+use Rattle.text_faults.specs.declared.fault.TextFault.TheVariants as fault
 use Rattle.ir_spelling.specs.Faults.{HasLexFault, HasNameFault, HasTokens, IsGrammarFault, IsShort, IsTextFault, PassesLines, is_left_out_at, name_fault, place_at}
 use Rattle.ir_spelling.specs.Forms.{Form}
 use Rattle.ir_spelling.specs.Spells.{IsSpelled, symbols_cut, symbols_of}

@@ -14,8 +14,8 @@ use Rattle.ir_grammar.proofs.Tokens.{kinds_in, symbols_in}
 use Rattle.tree_reader.specs.LeftOut.{is_left_out}
 use Rattle.tree_reader.specs.Reading.{IsReading}
 use Rattle.typed_grammars.specs.Unexpected.{IsUnexpected}
-use Rattle.ir_spelling.specs.declared.fault.TextFault.{TextFault}
-use Rattle.ir_spelling.specs.declared.fault.TextFault.TheVariants as fault
+use Rattle.text_faults.specs.declared.fault.TextFault.{TextFault}
+use Rattle.text_faults.specs.declared.fault.TextFault.TheVariants as fault
 use Rattle.ir_spelling.specs.Faults.{HasTokens, IsGrammarFault, IsPastLines, IsStuck, IsTextFault, PassesLines, is_left_out_at, place_at}
 use Rattle.ir_spelling.specs.Forms.{Form}
 use Rattle.spelling_laws.specs.Told.{HaveBytes, IsFirstPastOf, IsTreeFault, of_grammar, of_place, of_stuck}

@@ -15,8 +15,8 @@ use Rattle.name_claims.specs.Indexes.{first_of}
 use Rattle.name_claims.proofs.First.{none_if, some_if}
 use Rattle.tree_reader.specs.LeftOut.{is_left_out}
 use Rattle.typed_grammars.specs.Unexpected.{IsUnexpected}
-use Rattle.ir_spelling.specs.declared.fault.TextFault.{TextFault}
-use Rattle.ir_spelling.specs.declared.fault.TextFault.TheVariants as fault
+use Rattle.text_faults.specs.declared.fault.TextFault.{TextFault}
+use Rattle.text_faults.specs.declared.fault.TextFault.TheVariants as fault
 use Rattle.ir_spelling.specs.Faults.{HasTokens, IsGrammarFault, IsShort, IsStuck, PassesLines}
 use Rattle.ir_spelling.specs.Forms.{Form}
 use Rattle.ir_spelling.specs.Spells.{symbols_cut}

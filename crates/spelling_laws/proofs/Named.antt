@@ -4,7 +4,7 @@ use Rattle.name_claims.specs.declared.claims.Fault.{Fault}
 use Rattle.name_claims.specs.declared.claims.Reason.{Reason}
 use Rattle.name_claims.specs.declared.claims.Reason.TheVariants as reason
 use Rattle.name_claims.specs.Faults.{IsFirst}
-use Rattle.ir_spelling.specs.declared.fault.TextFault.{TextFault}
+use Rattle.text_faults.specs.declared.fault.TextFault.{TextFault}
 use Rattle.ir_spelling.specs.Faults.{HasNameFault, IsTextFault}
 use Rattle.ir_spelling.specs.Forms.{Form}
 use Rattle.spelling_laws.specs.Told.{HasSpans, IsTreeNameFault, IsTreeOf, of_names, of_reason}

@@ -9,8 +9,8 @@ use Rattle.ir_core.specs.Order.{IsInOrder}
 use Rattle.ir_core.specs.Ranges.{AreBytes, IsInRange}
 use Rattle.ir_core.specs.WellFormed.{HasShape}
 use Rattle.ir_shape.specs.Shape.{first_fault}
-use Rattle.ir_spelling.specs.declared.fault.TextFault.{TextFault}
-use Rattle.ir_spelling.specs.declared.fault.TextFault.TheVariants as fault
+use Rattle.text_faults.specs.declared.fault.TextFault.{TextFault}
+use Rattle.text_faults.specs.declared.fault.TextFault.TheVariants as fault
 use Rattle.ir_spelling.specs.Faults.{IsTextFault}
 use Rattle.ir_spelling.specs.Forms.{Form}
 use Rattle.ir_spelling.specs.Spells.{IsSpelled, Spells, SpellsExpression, SpellsName}

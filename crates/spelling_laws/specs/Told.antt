@@ -11,8 +11,8 @@ use Rattle.name_claims.specs.declared.claims.Reason.{Reason}
 use Rattle.name_claims.specs.declared.claims.Reason.TheVariants as reason
 use Rattle.name_claims.specs.Faults.{HasFault, IsFirst}
 use Rattle.tree_reader.specs.LeftOut.{is_left_out}
-use Rattle.ir_spelling.specs.declared.fault.TextFault.{TextFault}
-use Rattle.ir_spelling.specs.declared.fault.TextFault.TheVariants as fault
+use Rattle.text_faults.specs.declared.fault.TextFault.{TextFault}
+use Rattle.text_faults.specs.declared.fault.TextFault.TheVariants as fault
 use Rattle.ir_spelling.specs.Faults.{HasTokens, IsGrammarFault, IsPastLines, PassesLines}
 use Rattle.ir_spelling.specs.Forms.{Form}
 

@@ -1,5 +1,5 @@
 ghost use Rattle.std.specs.Prelude.{◌≡◌};
-ghost use Rattle.ir_spelling.specs.declared.fault.TextFault.TheVariants.{Memory};
+ghost use Rattle.text_faults.specs.declared.fault.TextFault.TheVariants.{Memory};
 
 use ir_core::Limit;
 use std::alloc::{AllocError, AllocFailed};
