@@ -5,7 +5,7 @@ use Rattle.ir_lexer.specs.Cut.{Placed as PlacedToken, cut}
 use Rattle.ir_types.specs.declared.names.Name.{Name}
 use Rattle.module_grammar.specs.Sorts.{Called, DeclaredParams, Module as ModuleSort}
 use Rattle.module_grammar.specs.Spelled.{symbol}
-use Rattle.module_grammar.specs.Symbols.{Debug, Global, Symbol, close_paren, kind_of, open_paren}
+use Rattle.module_grammar.specs.Symbols.{Debug, Global, Symbol, close_paren, kind_of, open_paren, unnamed_addr, void}
 use Rattle.module_grammar.specs.Texts.{IsWritten}
 use Rattle.module_grammar.specs.Tokens.{token_grammar}
 use Rattle.module_grammar.specs.declared.functions.DeclaredText.{DeclaredText}
@@ -21,20 +21,20 @@ use Rattle.module_spelling.specs.Blocks.{large_places}
 use Rattle.module_spelling.specs.Context.{StandFor}
 use Rattle.module_spelling.specs.Opened.{IsWithin}
 
--- the types between the parentheses before a name; no parenthesis stands in types
+-- the types between the parentheses behind `void` and before a name; no parenthesis stands in types
 pub record StatesTypes (symbols : List Symbol) (x : Placed Name) (c : CalledText) : Type 0 where
   pub before : List Symbol
   pub types : List Symbol
   pub behind : List Symbol
-  pub same : symbols ≡ before ++ (open_paren ∷ (types ++ (close_paren ∷ Global x ∷ behind)))
+  pub same : symbols ≡ before ++ (void ∷ open_paren ∷ (types ++ (close_paren ∷ Global x ∷ behind)))
   pub written : IsWritten Called c types
 
--- the parameters between the parentheses behind a name
+-- the parameters between the parentheses behind a name of debugging and before `unnamed_addr`
 pub record StatesParams (symbols : List Symbol) (x : Placed Name) (c : DeclaredText) : Type 0 where
   pub before : List Symbol
   pub params : List Symbol
   pub behind : List Symbol
-  pub same : symbols ≡ before ++ (Debug x ∷ open_paren ∷ (params ++ (close_paren ∷ behind)))
+  pub same : symbols ≡ before ++ (Debug x ∷ open_paren ∷ (params ++ (close_paren ∷ unnamed_addr ∷ behind)))
   pub written : IsWritten DeclaredParams c params
 
 -- The text is cut into tokens; what they stand for is written of a tree, within the limits on depths and lines; the tree names this module,

@@ -1,0 +1,11 @@
+pub mod Order
+pub mod Own
+pub mod Pairs
+pub mod Parens
+pub mod Parts
+pub mod Plain
+pub mod Read
+pub mod Reading
+pub mod Stated
+pub mod Told
+pub mod Unique

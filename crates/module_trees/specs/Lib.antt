@@ -1,0 +1,4 @@
+pub mod Acts
+pub mod Reading
+pub mod Runs
+pub mod Unmarked

@@ -1,0 +1,10 @@
+pub mod Runs
+pub mod Classes
+pub mod Held
+pub mod Slices
+pub mod Readings
+pub mod Seen
+pub mod Contexts
+pub mod Steps
+pub mod Lineless
+pub mod Watched

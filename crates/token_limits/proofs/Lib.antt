@@ -1,0 +1,9 @@
+mod Counting
+mod Depths
+mod Facts
+mod Firsts
+mod Listed
+pub mod Marks
+mod Seen
+mod Standing
+mod Tokens

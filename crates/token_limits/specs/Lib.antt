@@ -1,0 +1,4 @@
+pub mod Laws
+pub mod Nested
+pub mod Roles
+pub mod Watched

@@ -1,0 +1,126 @@
+ghost use Rattle.std.specs.Prelude.{◌≡◌, IfOk, OnOk};
+ghost use Rattle.token_limits.specs.Watched as watched;
+
+use crate::nesting::{Nesting, one_more};
+use crate::role::Role;
+use crate::roles::role;
+use ir_core::Limit;
+use predictive::Action;
+use std::alloc::{AllocError, Global};
+
+/// A watch over the limits on depths and on the lines of a function. It is told the rules that begin, the tokens that are shifted and the
+/// rules that are reduced, and marks the limit that is passed first. From then on nothing of it changes.
+#[derive(Drop)]
+pub struct Watch {
+    nesting: Nesting,
+    lines: u32,
+    mark: Option<Limit>,
+}
+
+/// The limit that a token passes there.
+fn mark_at(level: u32, lines: u32) -> Option<Limit>
+    ensures { result ≡ watched.mark_at level lines }
+{
+    if u64::from(level) > Limit::Depth.number() {
+        Some(Limit::Depth)
+    } else if u64::from(lines) > Limit::Lines.number() {
+        Some(Limit::Lines)
+    } else {
+        None
+    }
+}
+
+/// How many lines have begun, where another rule begins.
+#[inline(always)]
+fn lines_begun(lines: u32, role: Role) -> Result<u32, AllocError>
+    ensures { IfOk result (λ more. more ≡ watched.lines_begun lines role) }
+{
+    match role {
+        Role::Line => one_more(lines),
+        _ => Ok(lines),
+    }
+}
+
+/// How many lines of the function have begun, where a rule is reduced.
+#[inline(always)]
+fn lines_reduced(lines: u32, role: Role) -> u32
+    ensures { result ≡ watched.lines_reduced lines role }
+{
+    match role {
+        Role::Definition => 0,
+        _ => lines,
+    }
+}
+
+impl Watch {
+    pub fn new(alloc: Global) -> Watch
+        ensures { result ≡ watched.fresh }
+    {
+        Watch {
+            nesting: Nesting::new(alloc),
+            lines: 0,
+            mark: None,
+        }
+    }
+
+    /// The limit that was passed first.
+    #[inline(always)]
+    pub fn limit(&self) -> Option<Limit>
+        ensures { result ≡ self.now.mark }
+    {
+        self.mark
+    }
+}
+
+impl Action for Watch {
+    ghost use Rattle.std.specs.Prelude.{Option};
+    ghost use Rattle.ir_core.specs.declared.limits.Limit.{Limit};
+
+    type State = Watch;
+
+    ghost state = { λ it. it };
+
+    type Mark = Option<Limit>;
+
+    ghost mark = { λ s. s.mark };
+
+    ghost begun = { watched.begun };
+
+    ghost shifted = { watched.shifted };
+
+    ghost reduced = { watched.reduced };
+
+    #[inline(always)]
+    fn begin(&mut self, _alloc: Global, rule: u16) -> Result<(), AllocError> {
+        if self.mark.is_some() {
+            return Ok(());
+        }
+        let role = role(rule);
+        self.nesting.begin(role)?;
+        self.lines = lines_begun(self.lines, role)?;
+        Ok(())
+    }
+
+    #[inline(always)]
+    fn shift(&mut self, _alloc: Global, _kind: u8) -> Result<(), AllocError> {
+        if self.mark.is_none() {
+            self.nesting.shift();
+            self.mark = mark_at(self.nesting.level(), self.lines);
+        }
+        Ok(())
+    }
+
+    #[inline(always)]
+    fn reduce(&mut self, _alloc: Global, rule: u16) -> Result<(), AllocError> {
+        if self.mark.is_none() {
+            let role = role(rule);
+            self.nesting.reduce(role);
+            self.lines = lines_reduced(self.lines, role);
+        }
+        Ok(())
+    }
+
+    ghost begun_unmarked = { watched.begun_unmarked };
+
+    ghost reduced_unmarked = { watched.reduced_unmarked };
+}
