@@ -1,0 +1,3 @@
+pub mod Got
+pub mod Powers
+pub mod Operations
