@@ -1,0 +1,16 @@
+pub mod Lists
+pub mod Needs
+pub mod Starts
+pub mod Stood
+pub mod Plain
+pub mod Stating
+pub mod Looked
+pub mod OneModule
+pub mod Prefixes
+pub mod Excluded
+pub mod Rises
+pub mod Kept
+pub mod Resting
+pub mod OneLimit
+pub mod OneRead
+pub mod OneFault

@@ -1,0 +1,11 @@
+pub mod Depths
+pub mod Fits
+pub mod FitsMade
+pub mod Claimed
+pub mod ShallowTrees
+pub mod ShallowModules
+pub mod Parameters
+pub mod Declared
+pub mod SmallConstants
+pub mod SmallModules
+pub mod Within

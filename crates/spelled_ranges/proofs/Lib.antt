@@ -1,0 +1,14 @@
+pub mod CallRanges
+pub mod ConstantRanges
+pub mod FlowRanges
+pub mod FunctionRanges
+pub mod InitRanges
+pub mod LineRanges
+pub mod Lists
+pub mod ModuleRanges
+pub mod NumberRanges
+pub mod RightRanges
+pub mod SymbolRanges
+pub mod TokenRanges
+pub mod TypeRanges
+pub mod ValueRanges

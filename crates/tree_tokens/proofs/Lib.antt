@@ -1,0 +1,12 @@
+pub mod Lists
+pub mod RestOnThese
+pub mod Splits
+pub mod Rows
+pub mod NamesStand
+pub mod Acts
+pub mod Counted
+pub mod Weights
+pub mod RuleTests
+pub mod Shown
+pub mod BuiltLines
+pub mod ShortTrees
