@@ -2,7 +2,6 @@
 use Rattle.std.proofs.Common.{◌≡◌, ◌⊎◌, ◌≤◌, ◌<◌, ℕ, List, [], length, Option, None, Some, refl, sym, ap, ◌∙◌, subst, inl, inr, arith}
 use Rattle.erhl_assert.specs.declared.verdict.ModuleVerdict.{ModuleVerdict}
 use Rattle.erhl_assert.specs.Steps.{Rules}
-use Rattle.module_input.specs.Laws.{FaultsExcludeModules}
 use Rattle.crell_io.specs.Count.{HasRisen}
 use Rattle.crell_io.specs.Shelf.{StaysWell}
 use Rattle.crell_io.specs.MemShelf.{ShelfState, held}
@@ -12,6 +11,7 @@ use Rattle.command_line.specs.Words.{Command}
 use Rattle.crell_program.specs.Command.{files_of}
 use Rattle.crell_answers.specs.VerdictText.{verdict_status, verdict_answer}
 use Rattle.crell_program.specs.Due.{ShelfSeen, shelf_seen, IsDue, DueOfTexts, checked}
+use Rattle.crell_program.specs.Grammar.{FaultsExcludeModules}
 use Rattle.crell_program.specs.Delivery.{SinkSeen, sink_seen, IsDelivered}
 use Rattle.crell_program.specs.Rows.{Run, IsAnswered, KeepsRows, NoFault}
 use Rattle.crell_program.specs.Statuses.{HasVerdict, AreJudged, IsRefinementOfBytes}

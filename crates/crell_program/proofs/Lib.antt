@@ -3,6 +3,7 @@ pub mod Causes
 pub mod Completeness
 pub mod FaultStatus
 pub mod Fetches
+pub mod Grammars
 pub mod InMemory
 pub mod Inner
 pub mod Rows

@@ -1,12 +1,9 @@
 -- Which answer is due: the words, then the files in their order, then their forms in their order, then the work. The first
 -- cause decides.
-use Rattle.std.specs.Prelude.{◌≡◌, ◌≢◌, ◌⊎◌, ◌≤◌, ◌<◌, ℕ, List, [], ◌∷◌, length, Option, None, Some, Ok, Err}
+use Rattle.std.specs.Prelude.{◌≡◌, ◌⊎◌, ◌≤◌, ◌<◌, ℕ, List, [], ◌∷◌, length, Option, None, Some, Ok, Err}
 use Rattle.ir_core.specs.declared.modules.Module.{Module}
 use Rattle.ir_core.specs.declared.limits.Limit.TheVariants as limit
-use Rattle.ir_spelling.specs.Spells.{Spells, SpellsWellFormed}
 use Rattle.module_input.specs.declared.fault.ModuleFault.{ModuleFault}
-use Rattle.module_input.specs.declared.fault.ModuleFault.TheVariants as faults
-use Rattle.module_input.specs.Faults.{IsModuleFault}
 use Rattle.json_forms.specs.declared.failure.Fault.{Fault}
 use Rattle.json_forms.specs.Forms.{Reading}
 use Rattle.hint_format.specs.Form.{IsHintReading}
@@ -20,7 +17,10 @@ use Rattle.crell_io.specs.Shelf.Told.{NoSuch}
 use Rattle.command_line.specs.declared.request.Listing.{Listing}
 use Rattle.command_line.specs.declared.request.Listing.TheVariants.{Definitions, ModuleItself, NamedModule}
 use Rattle.command_line.specs.Words.{CheckFiles, Command, Check, Print}
+use Rattle.crell_program.specs.declared.command.Grammar.{Grammar}
+use Rattle.crell_program.specs.declared.command.Grammar.TheVariants.{Small, Whole}
 use Rattle.crell_program.specs.Command.{File, limit_of, most_bytes, files_of}
+use Rattle.crell_program.specs.Grammar.{IsAtFault, SpellsOnly}
 use Rattle.crell_answers.specs.declared.answer.Answer.{Answer}
 use Rattle.crell_answers.specs.Answer.{usage, module_fault, at_fault, printed, read_failed, past_limit, absent}
 use Rattle.crell_answers.specs.VerdictText.{verdict_answer}
@@ -73,22 +73,15 @@ DueOfFiles shelf [] answer next = next []
 DueOfFiles shelf (file ∷ files) answer next =
     DueOfFile shelf file answer (λ bytes. DueOfFiles shelf files answer (λ more. next (bytes ∷ more)))
 
--- the text spells this module, which is well-formed, and no other
-abbrev pub SpellsOnly : List ℕ → Module → Type 0
-SpellsOnly text m = SpellsWellFormed text m × ((other : Module) → Spells text other → other ≡ m)
-
--- the first fault of a module's text, which is more than want of memory
-abbrev pub IsAtFault : List ℕ → ModuleFault → Type 0
-IsAtFault text fault = IsModuleFault text fault × (fault ≢ faults.Memory)
-
 -- a hint file's text is read as these hints, or as this first fault, and as nothing else
 abbrev pub IsReadOnlyAs : List ℕ → Reading Hints → Type 0
 IsReadOnlyAs text due = IsHintReading text due × ((other : Reading Hints) → IsHintReading text other → other ≡ due)
 
--- a module's text is judged: its first fault is the answer's cause, and its module leads on
-abbrev pub DueOfModule : List ℕ → List ℕ → Answer → (Module → Type 0) → Type 0
-DueOfModule name text answer next =
-    ((fault : ModuleFault) × IsAtFault text fault × (answer ≡ module_fault fault text name)) ⊎ ((m : Module) × SpellsOnly text m × next m)
+-- a module's text is judged by that grammar: its first fault is the answer's cause, and its module leads on
+abbrev pub DueOfModule : Grammar → List ℕ → List ℕ → Answer → (Module → Type 0) → Type 0
+DueOfModule grammar name text answer next =
+    ((fault : ModuleFault) × IsAtFault grammar text fault × (answer ≡ module_fault fault text name))
+    ⊎ ((m : Module) × SpellsOnly grammar text m × next m)
 
 -- a hint file's text is judged: its first fault is the answer's cause, and its hints lead on
 abbrev pub DueOfHints : List ℕ → List ℕ → Answer → (Hints → Type 0) → Type 0
@@ -100,11 +93,11 @@ abbrev pub checked : Option ModuleVerdict → List ℕ → Answer
 checked (Some v) source = verdict_answer v
 checked None source = past_limit limit.Facts source
 
--- the three texts of `check` are judged, and then the pair
+-- the three texts of `check` are judged, those of modules by the smaller grammar, and then the pair
 abbrev pub DueOfCheck : Rules → CheckFiles → Answer → List ℕ → List ℕ → List ℕ → Type 0
 DueOfCheck rules names answer source target hints =
-    DueOfModule names.source source answer (λ s.
-    DueOfModule names.target target answer (λ t.
+    DueOfModule Small names.source source answer (λ s.
+    DueOfModule Small names.target target answer (λ t.
     DueOfHints names.hints hints answer (λ h. answer ≡ checked (module_answer rules s t h) names.source)))
 
 -- The text is what is listed of the module: for each block of its functions what is defined at its start; or the module itself, or with
@@ -118,9 +111,9 @@ Lists NamedModule m text = text ≡ printed_module (named_all m)
 abbrev pub IsListing : Listing → Module → Answer → Type 0
 IsListing listing m answer = (text : List ℕ) × Lists listing m text × (answer ≡ printed text)
 
--- the text of `defs` or `fmt` is judged, and then what is listed of its module is printed
+-- the text of `defs` or `fmt` is judged by the whole grammar, and then what is listed of its module is printed
 abbrev pub DueOfListing : Listing → List ℕ → Answer → List ℕ → Type 0
-DueOfListing listing file answer text = DueOfModule file text answer (λ m. IsListing listing m answer)
+DueOfListing listing file answer text = DueOfModule Whole file text answer (λ m. IsListing listing m answer)
 
 -- the texts of a command's files are there, one for each
 abbrev pub DueOfTexts : Rules → Command → Answer → List (List ℕ) → Type 0

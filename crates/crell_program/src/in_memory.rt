@@ -5,8 +5,8 @@ ghost use Rattle.command_line.specs.Words.{command_of};
 ghost use Rattle.crell_program.specs.InMemory.{new_shelf, new_sink, memory_run, EndsWell};
 
 use crate::crell_with_shipped_rules;
+use crate::laws::first_faults_agree;
 use crell_io::{Entry, MemShelf, MemSink};
-use module_input::first_faults_agree;
 use std::alloc::{AllocError, Global};
 
 /// A run over texts in memory, as it ended.

@@ -5,6 +5,7 @@ mod command;
 mod delivery;
 mod fetch;
 mod in_memory;
+mod laws;
 mod program;
 
 pub use in_memory::{MemoryRun, crell_in_memory};

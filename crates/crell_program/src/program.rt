@@ -7,15 +7,18 @@ ghost use Rattle.rule_base.specs.Rows.{shipped_rules};
 ghost use Rattle.crell_io.specs.Shelf.{StaysWell};
 ghost use Rattle.crell_answers.specs.Answer.{usage};
 ghost use Rattle.command_line.specs.Words.{Print, command_of, shown_names, shown_request};
+ghost use Rattle.crell_program.specs.declared.command.Grammar.TheVariants.{Whole};
 ghost use Rattle.crell_program.specs.Command.{files_of, shown_command};
 ghost use Rattle.crell_program.specs.Due.{checked, shelf_seen, DueOfFiles, DueOfCheck, DueOfListing, DueOfTexts, IsListing, Lists};
 ghost use Rattle.crell_program.specs.Delivery.{sink_seen, IsDelivered};
+ghost use Rattle.crell_program.specs.Grammar.{SpellsOne};
 ghost use Rattle.crell_program.specs.Rows.{IsAnswered, KeepsRows};
-ghost use Rattle.crell_program.specs.Statuses.{AreRefined, IsRefinement, IsRefinementOfBytes, SpellsOne};
+ghost use Rattle.crell_program.specs.Statuses.{AreRefined, IsRefinement, IsRefinementOfBytes};
 
-use crate::command::{Form, Wanted, files_of_check};
+use crate::command::{files_of_check, files_of_listing};
 use crate::delivery::deliver;
 use crate::fetch::{Stop, gather};
+use crate::laws::first_faults_agree;
 use command_line::{FileNames, Listing, Request, WordsEnd, read_words};
 use crell_answers::{Answer, module_fault, past_limit, printed, unfit, verdict_answer};
 use crell_io::{Shelf, Sink};
@@ -27,10 +30,11 @@ use hint_format::{HintFault, read_hints};
 use ir_core::{Limit, Module};
 use ir_printer::print_module;
 use ir_rename::name_all;
-use module_input::{first_faults_agree, read_input};
+use module_input::read_input;
 use rule_base::{InferRule, LentBook, Pass, RuleBook, RuleSet, ShippedRules};
 use std::alloc::{AllocError, Global};
 use std::marker::PhantomData;
+use whole_input::read_whole;
 
 /// The status where the words are no command's.
 const USAGE: u8 = 2;
@@ -39,7 +43,8 @@ const USAGE: u8 = 2;
 pub const WANT_OF_MEMORY: u8 = 8;
 
 /// Runs the command that the words name, over this shelf and these sinks, and gives the status: `check SRC TGT HINTS`,
-/// `defs FILE` or `fmt FILE [--names]`. The first word is the program's name. The passes are those that later commands run; these call none.
+/// `defs FILE` or `fmt FILE [--names]`. The first word is the program's name. `check` reads modules by the smaller grammar, `defs` and `fmt` by the whole
+/// one. The passes are those that later commands run; these call none.
 pub fn crell<S: Shelf, O: Sink, E: Sink>(
     alloc: Global,
     words: &[String],
@@ -237,11 +242,7 @@ fn list_file<R: RuleSet, S: Shelf>(
     ensures faults { S.faults shelf.old ≤ S.faults shelf.new }
     ensures taken { S.taken shelf.old ≤ S.taken shelf.new }
 {
-    let wanted = Wanted {
-        name: file,
-        form: Form::ModuleText,
-    };
-    match gather(alloc, shelf, &[wanted]) {
+    match gather(alloc, shelf, &files_of_listing(listing, file)) {
         Ok(texts) => {
             let [text] = texts.as_slice() else {
                 unreachable!()
@@ -253,12 +254,12 @@ fn list_file<R: RuleSet, S: Shelf>(
     }
 }
 
-/// The answer that is due to the text of `defs` or `fmt`.
+/// The answer that is due to the text of `defs` or `fmt`, which is read by the whole grammar.
 fn list_text(alloc: Global, listing: Listing, file: &str, text: &[u8]) -> Result<Answer, AllocError>
     ensures due { IfOk result (λ answer. DueOfListing listing file.now answer text.now) }
-    ensures spelled { IfOk result (λ answer. answer.status ≡ 0 → SpellsOne text.now) }
+    ensures spelled { IfOk result (λ answer. answer.status ≡ 0 → SpellsOne Whole text.now) }
 {
-    match read_input(alloc, text) {
+    match read_whole(alloc, text) {
         Ok(module) => listed(alloc, listing, &module),
         Err(fault) => module_fault(alloc, &fault, text, file),
     }
@@ -324,7 +325,7 @@ fn check_files<R: RuleSet, S: Shelf>(
     }
 }
 
-/// The answer that is due to the three texts.
+/// The answer that is due to the three texts, those of modules by the smaller grammar.
 fn check_texts<R: RuleSet>(
     alloc: Global,
     files: &FileNames<'_>,

@@ -8,8 +8,8 @@ use Rattle.ir_core.specs.Limits.{text_limit}
 use Rattle.ir_shape.specs.declared.fault.ShapeFault.{ShapeFault}
 use Rattle.shape_laws.specs.Laws.{ShapelyModulesAreFaultless}
 use Rattle.ir_shape.specs.Shape.{first_fault}
-use Rattle.ir_spelling.specs.declared.fault.TextFault.{TextFault}
-use Rattle.ir_spelling.specs.declared.fault.TextFault.TheVariants as text
+use Rattle.text_faults.specs.declared.fault.TextFault.{TextFault}
+use Rattle.text_faults.specs.declared.fault.TextFault.TheVariants as text
 use Rattle.ir_naming.specs.Spells.{NamesModule}
 use Rattle.ir_spelling.specs.Faults.{IsTextFault}
 use Rattle.ir_spelling.specs.Forms.{module_form}

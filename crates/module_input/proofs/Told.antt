@@ -1,16 +1,15 @@
 -- What is said of a module that is spelled is said of the text.
-use Rattle.std.proofs.Common.{◌≡◌, ◌∙◌, ◌<◌, ◌^◌, ℕ, suc, List, [], ◌∷◌, get_or, Fits, w8, Result, None, Ok, Err, IfOk, IfErr, subst, sym, arith}
+use Rattle.std.proofs.Common.{◌≡◌, ◌<◌, ◌^◌, ℕ, suc, List, [], ◌∷◌, get_or, Fits, w8, Result, None, Ok, Err, IfOk, IfErr, subst, sym, arith}
 use Rattle.std.specs.List.{AllByRecursion}
 use Rattle.ir_core.specs.declared.modules.Module.{Module}
 use Rattle.ir_core.specs.declared.limits.Limit.{Limit}
 use Rattle.ir_core.specs.declared.limits.Limit.TheVariants as limit
 use Rattle.ir_core.specs.Ranges.{AreBytes, IsInRange}
 use Rattle.ir_core.specs.WellFormed.{IsFunctionDefined, IsWellFormed}
-use Rattle.ir_shape.specs.declared.fault.ShapeFault.{ShapeFault}
 use Rattle.ir_shape.specs.Shape.{first_fault}
 use Rattle.module_limits.specs.Passed.{IsPassed, IsWithin}
-use Rattle.ir_spelling.specs.declared.fault.TextFault.{TextFault}
-use Rattle.ir_spelling.specs.declared.fault.TextFault.TheVariants as text
+use Rattle.text_faults.specs.declared.fault.TextFault.{TextFault}
+use Rattle.text_faults.specs.declared.fault.TextFault.TheVariants as text
 use Rattle.ir_spelling.specs.Faults.{IsTextFault}
 use Rattle.ir_spelling.specs.Forms.{module_form}
 use Rattle.ir_spelling.specs.Spells.{Spells}
@@ -18,7 +17,7 @@ use Rattle.spelling_laws.specs.Laws.{ModulesHaveShape}
 use Rattle.module_input.specs.declared.fault.ModuleFault.{ModuleFault}
 use Rattle.module_input.specs.declared.fault.ModuleFault.TheVariants as fault
 use Rattle.module_input.specs.Faults.{IsModuleFault}
-use Rattle.module_input.specs.Private.{HasFault, ShapeAmong, UndefinedAmong, of_text}
+use Rattle.module_input.specs.Found.{HasFault, ShapeAmong, UndefinedAmong, of_text}
 
 below_byte : (b : ℕ) → Fits w8 b → b < 2 ^ 8
 below_byte b fit = omega (arith, fit)

@@ -7,7 +7,7 @@ use Rattle.ir_core.specs.declared.modules.Module.{Module}
 use Rattle.ir_core.specs.WellFormed.{IsFunctionDefined}
 use Rattle.ir_shape.specs.Shape.{first_fault}
 use Rattle.definedness.specs.Undefined.{IsFirstUndefined}
-use Rattle.ir_spelling.specs.declared.fault.TextFault.TheVariants as text
+use Rattle.text_faults.specs.declared.fault.TextFault.TheVariants as text
 use Rattle.ir_spelling.specs.Faults.{IsTextFault}
 use Rattle.ir_spelling.specs.Forms.{module_form}
 use Rattle.ir_spelling.specs.Spells.{Spells}

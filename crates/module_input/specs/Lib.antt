@@ -1,3 +1,3 @@
 pub mod Faults
 pub mod Laws
-pub mod Private
+pub mod Found

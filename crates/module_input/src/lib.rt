@@ -7,4 +7,4 @@ mod read;
 
 pub use fault::ModuleFault;
 pub use laws::first_faults_agree;
-pub use read::read_input;
+pub use read::{fits, of_text, read_input};

@@ -1,13 +1,13 @@
 ghost use Rattle.std.specs.Prelude.{◌≡◌, [], map, None, IfOk, IfErr, IsTrue, true};
 ghost use Rattle.std.specs.List.{AllByRecursion};
 ghost use Rattle.ir_core.specs.declared.modules.Module.{Module};
-ghost use Rattle.ir_core.specs.WellFormed.{HasFunctionShape, HasShape, IsFunctionDefined, IsWellFormed};
+ghost use Rattle.ir_core.specs.WellFormed.{HasFunctionShape, IsFunctionDefined, IsWellFormed};
 ghost use Rattle.ir_shape.specs.Shape.{first_fault};
 ghost use Rattle.module_limits.specs.Passed.{IsWithin};
 ghost use Rattle.shape_kinds.specs.Names.{are_new};
 ghost use Rattle.ir_spelling.specs.Spells.{Spells, SpellsWellFormed};
 ghost use Rattle.module_input.specs.Faults.{IsModuleFault};
-ghost use Rattle.module_input.specs.Private.{HasFault, ShapeAmong, UndefinedAmong, of_text};
+ghost use Rattle.module_input.specs.Found.{HasFault, ShapeAmong, UndefinedAmong, of_text};
 
 use crate::ModuleFault;
 use contents::Exact;
@@ -17,6 +17,7 @@ use ir_reader::{TextFault, read_module};
 use ir_shape::{ShapeEnd, shape};
 use module_limits::ranges_lie_within;
 use shape_kinds::LentNames;
+use shape_laws::faultless_modules_have_shape;
 use spelling_laws::spelled_modules_fit;
 use std::alloc::{AllocError, Global};
 use whole_functions::is_whole_and_defined;
@@ -98,10 +99,10 @@ fn is_seen(alloc: Global, module: &Module) -> Result<bool, AllocError>
     are_seen(alloc, module, module.functions.as_slice())
 }
 
-/// Whether a module that is spelled is well-formed; if not, its first fault. Nearly all are, which is seen at once.
-fn fits(alloc: Global, module: &Module) -> Result<(), ModuleFault>
-    requires shape { first_fault «module».now ≡ None → HasShape «module».now }
-    requires within { IsWithin «module».now }
+/// Whether a module within the limits is without fault of shape, and all its functions are defined; if not, its first fault. Nearly all
+/// are, which is seen at once.
+pub fn fits(alloc: Global, module: &Module) -> Result<(), ModuleFault>
+    requires { IsWithin «module».now }
     ensures faultless { IfOk result (λ _. first_fault «module».now ≡ None) }
     ensures defined { IfOk result (λ _. AllByRecursion IsFunctionDefined «module».now.functions) }
     ensures fault { IfErr result (HasFault «module».now) }
@@ -109,6 +110,7 @@ fn fits(alloc: Global, module: &Module) -> Result<(), ModuleFault>
     if is_seen(alloc, module)? {
         return Ok(());
     }
+    faultless_modules_have_shape();
     shaped(alloc, module)?;
     all_defined(alloc, module, module.functions.as_slice())
 }
@@ -125,7 +127,7 @@ fn well_formed(alloc: Global, text: &[u8], module: &Module) -> Result<(), Module
 }
 
 /// A text's fault, as a module's.
-fn of_text(fault: TextFault) -> ModuleFault
+pub fn of_text(fault: TextFault) -> ModuleFault
     ensures { result ≡ of_text fault }
 {
     match fault {

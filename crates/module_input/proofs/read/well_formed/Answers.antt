@@ -12,11 +12,8 @@ returns-clause-well_formed c =
 pub returns-clause-fault : goal.returns-clause-fault
 returns-clause-fault c = told_of_text c.args.text.now c.args.module.now c.requires c.fits.result c.fits.ensures.fault
 
-pub fits-requires-clause-shape : goal.fits-requires-clause-shape
-fits-requires-clause-shape c faultless = c.spelled_modules_fit.ensures.shape c.args.text.now c.args.module.now c.requires faultless
-
-pub fits-requires-clause-within : goal.fits-requires-clause-within
-fits-requires-clause-within c =
+pub fits-requires : goal.fits-requires
+fits-requires c =
     let m = c.args.module.now in
     let range = c.spelled_modules_fit.ensures.range c.args.text.now m (are_bytes c.args.text.now c.type_inv.text) c.requires in
     let limits = c.ranges_lie_within.ensures m range (c.spelled_modules_fit.ensures.integers c.args.text.now m c.requires) in
