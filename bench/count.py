@@ -5,12 +5,12 @@ usage: bench/count.py [--program PATH] [--only WORD] [--write FILE]
 
 A row of budgets.tsv has, between tabs: its name, an input, a command, a unit (byte or line), a budget (instructions a unit), the peak of
 memory in MB, whether the count has to grow linearly (yes or no), and which part counts: all of it, `judging` (what the calls take that ask
-whether the modules are well-formed), `reading` (what getting them from their texts takes, but for that) or `printing` (what putting a module
-into a text takes). Where a unit is neither byte nor line it is what N counts. A budget or
+whether the modules are well-formed), `reading` (what getting them from their texts takes, but for that), `whole` (the same by the whole
+grammar) or `printing` (what putting a module into a text takes). Where a unit is neither byte nor line it is what N counts. A budget or
 a peak that isn't set yet is inf. In a command {} stands for the input's file, HINTS for the hints that belong to it, NONE for hints that
 say nothing, STEP for one step before the first line, with which facts are kept along the block, BASE for a module of one line. An input is
 made by rule: chain:N is a function of N lines of i32, mixed:N one of all operators over integers of several widths, flow:N one of N blocks
-that branch, join and loop, steps:N a hint file of N steps, blocks:N one of N blocks. Two have HINTS, under which they are valid against
+that branch, join and loop, clang:N a module of N functions as clang writes them (which `check` doesn't read), steps:N a hint file of N steps, blocks:N one of N blocks. Two have HINTS, under which they are valid against
 themselves: edges:N, a function of N blocks with a phi each, at whose starts 60 facts are known; ghosts:N, one of N blocks with two ghost
 and two same steps each.
 
@@ -91,6 +91,33 @@ def flow(count):
     return "\n".join(lines + [f"h{groups + 1}:", f"  ret i32 %p{groups}", "}", ""])
 
 
+def clang(count):
+    """A module of so many functions over memory, structs and calls, with attributes, debugging and metadata, as clang 3.7 writes it."""
+    lines = ["; ModuleID = 'input.c'", 'target datalayout = "e-m:e-i64:64-f80:128-n8:16:32:64-S128"', 'target triple = "x86_64-unknown-linux-gnu"', "",
+             "%struct.node = type { i32, i8*, %struct.node* }", "", '@.str = private unnamed_addr constant [7 x i8] c"%d %s\\0A\\00", align 1',
+             "@head = common global %struct.node* null, align 8", ""]
+    for k in range(count):
+        lines += ["; Function Attrs: nounwind uwtable", f"define i32 @walk{k}(%struct.node* %start, i32 %limit) #0 {{", "entry:",
+                  "  %start.addr = alloca %struct.node*, align 8", "  %sum = alloca i32, align 4", "  store %struct.node* %start, %struct.node** %start.addr, align 8, !tbaa !1",
+                  f"  store i32 {k}, i32* %sum, align 4, !tbaa !5", "  br label %while.cond", "",
+                  "while.cond:                                       ; preds = %while.body, %entry", "  %0 = load %struct.node*, %struct.node** %start.addr, align 8, !tbaa !1",
+                  "  %tobool = icmp ne %struct.node* %0, null", "  br i1 %tobool, label %while.body, label %while.end", "",
+                  "while.body:                                       ; preds = %while.cond",
+                  "  %value = getelementptr inbounds %struct.node, %struct.node* %0, i32 0, i32 0", "  %1 = load i32, i32* %value, align 8, !tbaa !7",
+                  "  %name = getelementptr inbounds %struct.node, %struct.node* %0, i32 0, i32 1", "  %2 = load i8*, i8** %name, align 8, !tbaa !9",
+                  "  %call = call i32 (i8*, ...) @printf(i8* getelementptr inbounds ([7 x i8], [7 x i8]* @.str, i32 0, i32 0), i32 %1, i8* %2) #2",
+                  "  call void @llvm.dbg.value(metadata i32 %1, i64 0, metadata !12, metadata !13), !dbg !14", "  %3 = load i32, i32* %sum, align 4, !tbaa !5",
+                  "  %add = add nsw i32 %3, %1", "  store i32 %add, i32* %sum, align 4, !tbaa !5",
+                  "  %next = getelementptr inbounds %struct.node, %struct.node* %0, i32 0, i32 2", "  %4 = load %struct.node*, %struct.node** %next, align 8, !tbaa !10",
+                  "  store %struct.node* %4, %struct.node** %start.addr, align 8, !tbaa !1", "  br label %while.cond, !dbg !15", "",
+                  "while.end:                                        ; preds = %while.cond", "  %5 = load i32, i32* %sum, align 4, !tbaa !5", "  ret i32 %5, !dbg !16", "}", ""]
+    lines += ["declare i32 @printf(i8* nocapture readonly, ...) #1", "", "; Function Attrs: nounwind readnone", "declare void @llvm.dbg.value(metadata, i64, metadata, metadata) #3", "",
+              'attributes #0 = { nounwind uwtable "disable-tail-calls"="false" "less-precise-fpmad"="false" }', 'attributes #1 = { nounwind "target-cpu"="x86-64" }',
+              "attributes #2 = { nounwind }", "attributes #3 = { nounwind readnone }", "", "!llvm.ident = !{!0}", '!0 = !{!"clang version 3.7.0"}', "!1 = !{!2, !2, i64 0}",
+              '!2 = !{!"any pointer", !3, i64 0}', '!3 = !{!"omnipotent char", !4, i64 0}', '!4 = !{!"Simple C/C++ TBAA"}', ""]
+    return "\n".join(lines)
+
+
 def edges(count):
     """A function of so many blocks in a row, each with a phi, behind a first one whose lines give the facts."""
     lines = ["define i32 @f(i32 %x) {", "b0:"] + [f"  %v{j} = add i32 %x, {j}" for j in range(15)] + ["  %p0 = add i32 %x, 15"]
@@ -135,7 +162,7 @@ def blocks(count):
 
 ONE_STEP = hints(['{"at":"%entry","steps":[{"at":0,"rule":"undef_const","side":"src","from":[],"to":["ge","i32 undef","i32 7"]}]}'])
 RETURN = "define i32 @f() {\n  ret i32 0\n}\n"
-MAKERS = {"chain": chain, "mixed": mixed, "flow": flow, "edges": edges, "ghosts": ghosts, "steps": steps, "blocks": blocks}
+MAKERS = {"chain": chain, "mixed": mixed, "flow": flow, "clang": clang, "edges": edges, "ghosts": ghosts, "steps": steps, "blocks": blocks}
 HINTS = {"edges": edge_hints, "ghosts": ghost_hints}
 EMPTY = {"steps": steps(0), "blocks": blocks(0)}
 
@@ -174,11 +201,15 @@ def reading(path):
     return in_calls(path, lambda caller: caller == "crell_program", lambda callee: callee == "module_input") - judging(path)
 
 
+def whole(path):
+    return in_calls(path, lambda caller: caller in {"crell", "crell_program", "whole_input"}, lambda callee: callee == "module_reader")
+
+
 def printing(path):
     return in_calls(path, lambda caller: caller == "crell_program", lambda callee: callee in {"ir_printer", "expression_printer"})
 
 
-PARTS = {"judging": judging, "reading": reading, "printing": printing}
+PARTS = {"judging": judging, "reading": reading, "whole": whole, "printing": printing}
 
 
 class Bench:
