@@ -41,7 +41,7 @@ each P Q step (f ∷ fs) all = (step f all.0, each P Q step fs all.1)
 pub names_in : (m : Module) → IsInRange m → HasNamesInRange m
 names_in m range = each IsFunctionInRange InRange (λ f is. is.names) m.functions range.functions
 
-apart_in : (m : Module) → AllByRecursion (HasFunctionShape m) m.functions → HasNamesApart m
+pub apart_in : (m : Module) → AllByRecursion (HasFunctionShape m) m.functions → HasNamesApart m
 apart_in m shape = each (HasFunctionShape m) AllNew (λ f has. has.names) m.functions shape
 
 -- ---- range
@@ -109,7 +109,7 @@ uncounted [] texts = refl
 uncounted (Text bytes ∷ names) texts = (0, refl, uncounted names texts.1)
 uncounted (Number n ∷ names) texts = absurd texts.0
 
-in_order : (fs : List Function) → AllByRecursion AllNew fs → AllByRecursion AllTexts fs → AllByRecursion (λ f. AreInOrder (names_of f)) fs
+pub in_order : (fs : List Function) → AllByRecursion AllNew fs → AllByRecursion AllTexts fs → AllByRecursion (λ f. AreInOrder (names_of f)) fs
 in_order [] new texts = tt
 in_order (f ∷ fs) new texts = ((new.0, 0, uncounted (names_of f) texts.0), in_order fs new.1 texts.1)
 

@@ -5,3 +5,4 @@ pub mod Kept
 pub mod Given
 pub mod Fits
 pub mod Again
+pub mod Whole

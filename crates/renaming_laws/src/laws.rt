@@ -1,12 +1,15 @@
 ghost use Rattle.ir_rename.specs.Named.{named_all};
 ghost use Rattle.ir_rename.specs.Numbered.{numbered_in_order};
 ghost use Rattle.renaming_laws.specs.Kept.{DefinednessStays, FunctionNamesStay, IntegersStay, LimitsStay, NamesStayApart, RangeStays, ShapeStays, WellFormednessStays};
+ghost use Rattle.renaming_laws.specs.Whole.{IsReadAgain, SpelledIsReadAgain};
 ghost use Rattle.renaming_laws.specs.Laws.{CanBeRead, CanBeRun, GivesOrder, KeepsDefined, KeepsIntegers, KeepsNamesInRange, KeepsRange, KeepsShape, KeepsWellFormed, NamedHaveNoNumbers, NamingAgainChangesNothing, NumberingAgainChangesNothing, SpelledCanBeRead, SpelledCanBeRun, TextsStay};
 
 use ir_rename::{
     named_functions_are_renamed, numbered_functions_are_renamed, renamed_functions_keep_their_shape,
 };
 use printer_laws::{printed_modules_are_read, spelled_modules_are_printed};
+use spelled_limits::spelled_modules_are_within;
+use spelled_ranges::spelled_modules_are_in_range;
 use spelling_laws::spelled_modules_fit;
 
 /// The body calls a law alone, since the clauses are laws.
@@ -109,4 +112,24 @@ pub fn renaming_again_changes_nothing()
     ensures both { NamedHaveNoNumbers }
 {
     named_functions_are_renamed();
+}
+
+/// The body calls laws alone, since the clauses are laws.
+///
+/// A module of shape is named, or numbered, and printed as a text that spells what was named, or numbered, over the whole grammar: where its
+/// named types, globals and functions have their names in order and it passes no limit, and whatever such module a text spells.
+pub fn renamed_modules_are_read_again()
+    ensures named { IsReadAgain named_all }
+    ensures numbered { IsReadAgain numbered_in_order }
+    ensures spelled_named { SpelledIsReadAgain named_all }
+    ensures spelled_numbered { SpelledIsReadAgain numbered_in_order }
+{
+    named_functions_are_renamed();
+    numbered_functions_are_renamed();
+    renamed_modules_stay_well_formed();
+    named_modules_stay_well_formed();
+    numbered_modules_stay_well_formed();
+    printed_modules::printed_modules_are_read();
+    spelled_modules_are_in_range();
+    spelled_modules_are_within();
 }

@@ -5,6 +5,6 @@ mod laws;
 
 pub use laws::{
     named_modules_can_be_run, named_modules_stay_well_formed, numbered_modules_can_be_run,
-    numbered_modules_stay_well_formed, renamed_modules_stay_well_formed,
-    renaming_again_changes_nothing, spelled_modules_are_renamed,
+    numbered_modules_stay_well_formed, renamed_modules_are_read_again,
+    renamed_modules_stay_well_formed, renaming_again_changes_nothing, spelled_modules_are_renamed,
 };

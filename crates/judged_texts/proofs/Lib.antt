@@ -1,0 +1,10 @@
+pub mod Decided
+pub mod Cut
+pub mod Least
+pub mod Contexts
+pub mod Limits
+pub mod Framed
+pub mod Around
+pub mod Told
+pub mod Named
+pub mod Judging

@@ -1,0 +1,24 @@
+ghost use Rattle.judged_texts.specs.Laws.{EachTextIsJudged};
+
+use module_grammar::written_once;
+use named_modules::faultless_trees_name_what_is_built;
+use token_limits::marks_the_first;
+use tree_tokens::{
+    called_names_stand, declared_names_stand, names_rest_on_these_alone, within_trees_are_short,
+};
+
+/// The body calls laws alone, since the clause is a law.
+///
+/// Each text is at most 2 to the 24 bytes long and spells a module, or something is first at fault in it that can be told, and is no want of
+/// memory. With `module_texts::faults_and_spelling_exclude` it is one of both alone.
+pub fn each_text_is_judged()
+    ensures { EachTextIsJudged }
+{
+    written_once();
+    marks_the_first();
+    faultless_trees_name_what_is_built();
+    within_trees_are_short();
+    called_names_stand();
+    declared_names_stand();
+    names_rest_on_these_alone();
+}

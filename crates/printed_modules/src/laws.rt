@@ -1,0 +1,27 @@
+ghost use Rattle.printed_modules.specs.Laws.{PrintedModulesAreRead, PrintingAgainChangesNothing, SpelledModulesAreApart, SpelledModulesArePrinted};
+
+use module_texts::texts_spell_one;
+use spelled_limits::spelled_modules_are_within;
+use spelled_ranges::spelled_modules_are_in_range;
+
+/// Empty on purpose: its contract is the law.
+///
+/// A printed module is read as that module, however long its text is: one whose names are in the order of the file, that has shape, is in
+/// range and passes no limit.
+pub fn printed_modules_are_read()
+    ensures { PrintedModulesAreRead }
+{}
+
+/// The body calls laws alone, since the clauses are laws.
+///
+/// Each module of shape that is read of a text is printed as a text that is read as that module. So printing it again gives the same bytes,
+/// and no two such modules are printed alike.
+pub fn spelled_modules_are_printed()
+    ensures read { SpelledModulesArePrinted }
+    ensures again { PrintingAgainChangesNothing }
+    ensures apart { SpelledModulesAreApart }
+{
+    texts_spell_one();
+    spelled_modules_are_in_range();
+    spelled_modules_are_within();
+}
