@@ -4,8 +4,14 @@
 #[cfg(test)]
 mod copies;
 #[cfg(test)]
+mod expressions;
+#[cfg(test)]
 mod printing;
 #[cfg(test)]
 mod reading;
 #[cfg(test)]
 mod tokens;
+#[cfg(test)]
+mod told;
+#[cfg(test)]
+mod types;

@@ -1,0 +1,2 @@
+pub mod Aligns
+pub mod Led

@@ -1,0 +1,4 @@
+pub mod Ranges
+pub mod Expressions
+pub mod Laws
+pub mod Told

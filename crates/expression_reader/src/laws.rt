@@ -1,0 +1,21 @@
+ghost use Rattle.expression_reader.specs.Laws.{ExpressionsAreOne, FaultsExclude};
+
+use module_grammar::written_once;
+
+/// The body calls laws alone, since the clause is a law.
+///
+/// A text spells one expression.
+pub fn texts_spell_one_expression()
+    ensures { ExpressionsAreOne }
+{
+    written_once();
+}
+
+/// The body calls laws alone, since the clause is a law.
+///
+/// A text of at most 2 to the 24 bytes that has a fault spells no expression.
+pub fn faults_and_expressions_exclude()
+    ensures { FaultsExclude }
+{
+    written_once();
+}
