@@ -18,7 +18,8 @@ Exit status:
   7   standard output or standard error can't be written to
   8   memory was refused
   9   a limit is passed: 16 MiB a module, 64 MiB the hints, 16 MiB a name or an expression in them,
-      1048576 lines a function, 65536 facts at a place
+      1048576 lines a function, 65536 facts at a place, 64 types or constants in one another,
+      2147483648 bytes of memory at once
   10  there is no such file";
 
 /// The commands, one of which must be named.

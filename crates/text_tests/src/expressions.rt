@@ -20,10 +20,15 @@ i32 ghost %\"a b\"~i32 ghost %\"a b\"
 %pair old %7~%pair old %7
 i8 -1~i8 -1
 i8 255~i8 -1
+i8 127~i8 127
+i8 200~i8 -56
 i8 -128~i8 -128
 i1 true~i1 true
 i1 1~i1 true
 i1 -1~i1 true
+i1 0~i1 false
+i32 2147483647~i32 2147483647
+i64 0~i64 0
 i64 18446744073709551615~i64 -1
 i8 null~i8 null
 i8* null~i8* null
@@ -36,6 +41,21 @@ add nsw nuw nsw i32 old %x, -1~add nuw nsw i32 old %x, -1
 udiv exact i8 ghost %x, 200~udiv exact i8 ghost %x, -56
 xor i1 %a, false~xor i1 %a, false
 shl {} %a, undef~shl {} %a, undef
+add nuw nsw i32 old %0, 0~add nuw nsw i32 old %0, 0
+mul i8 %0, 3~mul i8 %0, 3
+shl nuw nsw i8 %0, 3~shl nuw nsw i8 %0, 3
+udiv exact i8 %0, 3~udiv exact i8 %0, 3
+srem i8 %0, 3~srem i8 %0, 3
+xor i8 %0, 3~xor i8 %0, 3
+icmp ne i8 %0, 255~icmp ne i8 %0, -1
+icmp ult i8 %0, -1~icmp ult i8 %0, -1
+icmp sge i8 %0, 255~icmp sge i8 %0, -1
+zext i1 %0 to i8~zext i1 %0 to i8
+sext i8 %0 to i64~sext i8 %0 to i64
+trunc i16 %0 to i1~trunc i16 %0 to i1
+bitcast i8 %0 to i8~bitcast i8 %0 to i8
+select i1 %0, i8 1, i8 %1~select i1 %0, i8 1, i8 %1
+select i1 %0, i1 1, i1 %2~select i1 %0, i1 true, i1 %2
 icmp ule i8* %p, null~icmp ule i8* %p, null
 trunc i8 %x to i64~trunc i8 %x to i64
 bitcast {i8*} old %s to [2 x %t]~bitcast { i8* } old %s to [2 x %t]
@@ -124,7 +144,7 @@ fn rows(rt: HostRuntime) {
             count = count.saturating_add(1);
         }
     }
-    assert!(rt; count == 98);
+    assert!(rt; count == 118);
 }
 
 /// Texts of addresses, and behind a `~` the type that is kept of each: it follows where no name has fields.

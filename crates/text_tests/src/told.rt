@@ -2,7 +2,7 @@ use std::alloc::{AllocError, Global};
 use text_faults::TextFault;
 
 /// The word of a fault, and behind it its places.
-pub fn told(alloc: Global, fault: TextFault) -> Result<Vec<u8>, AllocError> {
+pub(crate) fn told(alloc: Global, fault: TextFault) -> Result<Vec<u8>, AllocError> {
     let text = match fault {
         TextFault::BadByte(place) => format!(in alloc; "BadByte {place}")?,
         TextFault::BadString(place) => format!(in alloc; "BadString {place}")?,
@@ -32,7 +32,7 @@ pub fn told(alloc: Global, fault: TextFault) -> Result<Vec<u8>, AllocError> {
 }
 
 /// Whether this was shown.
-pub fn is(shown: Result<Vec<u8>, AllocError>, wanted: &[u8]) -> bool {
+pub(crate) fn is(shown: Result<Vec<u8>, AllocError>, wanted: &[u8]) -> bool {
     match shown {
         Ok(shown) => shown.as_slice() == wanted,
         Err(_) => false,
@@ -40,7 +40,7 @@ pub fn is(shown: Result<Vec<u8>, AllocError>, wanted: &[u8]) -> bool {
 }
 
 /// The text with so many stars behind it, and then this.
-pub fn starred(
+pub(crate) fn starred(
     alloc: Global,
     text: &[u8],
     stars: usize,
