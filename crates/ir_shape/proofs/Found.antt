@@ -1,16 +1,10 @@
 -- The first fault of a list of parts stands in the first part that has one.
-use Rattle.std.proofs.Common.{◌≡◌, ◌∙◌, ℕ, ◌+◌, ◌<◌, Bool, true, false, List, [], ◌∷◌, ◌++◌, length, drop, get_or, Option, None, Some, Result, Ok, Err, IfOk, IfErr, refl, ap, sym, subst}
+use Rattle.std.proofs.Common.{◌≡◌, ◌∙◌, ℕ, ◌+◌, ◌<◌, List, [], ◌∷◌, ◌++◌, length, drop, get_or, Some, Result, Ok, Err, IfOk, IfErr, ap, sym, subst}
 use Rattle.std.proofs.lemmas.List.{drop_more}
-use Rattle.ir_core.specs.declared.functions.Function.{Function}
-use Rattle.ir_core.specs.declared.modules.Module.{Module}
-use Rattle.ir_types.specs.declared.names.Name.{Name}
 use Rattle.ir_shape.specs.declared.fault.ShapeEnd.{ShapeEnd}
 use Rattle.ir_shape.specs.declared.fault.ShapeEnd.TheVariants as end
 use Rattle.ir_shape.specs.declared.fault.ShapeFault.{ShapeFault}
-use Rattle.shape_kinds.specs.declared.kind.ShapeKind.{ShapeKind}
-use Rattle.shape_kinds.specs.Kinds.{least}
-use Rattle.ir_shape.specs.Shape.{IsEndWithin, IsFirstOf, fault_at, first_of}
-use Rattle.line_shapes.specs.Told.{header_kind}
+use Rattle.ir_shape.specs.Shape.{IsEndWithin, IsFirstOf, first_of}
 
 first_joined : (xs ys : List ShapeFault) (f : ShapeFault) → first_of xs ≡ Some f → first_of (xs ++ ys) ≡ Some f
 first_joined [] ys f e = cc
@@ -57,12 +51,3 @@ end_of shallow short small faults within (Err e) is = end_by shallow short small
 pub always_ok : {A E : Type 0} (r : Result A E) (P : Type 0) → P → IfOk r (λ _. P)
 always_ok (Ok a) P p = p
 always_ok (Err e) P p = tt
-
--- parameters without fault have new names
-some_fault : (f : Name) (k : ShapeKind) (other : Option ShapeKind) → fault_at f None (least (Some k) other) ≡ [] → ⊥
-some_fault f k None e = cc
-some_fault f k (Some o) e = cc
-
-pub new_where_fits : (m : Module) (f : Function) (new : Bool) → fault_at f.name None (header_kind m new f) ≡ [] → new ≡ true
-new_where_fits m f true e = refl
-new_where_fits m f false e = absurd (some_fault f.name _ _ e)

@@ -1,13 +1,12 @@
 -- In a function of whose names none stands twice each name is new where it comes.
-use Rattle.std.proofs.Common.{◌≡◌, ◌∙◌, ◌&&◌, ◌+◌, ℕ, suc, Bool, true, false, not, List, [], ◌∷◌, ◌++◌, ◌<◌, drop, get_or, length, map, Option, None, Some, append_assoc, arith, refl, sym, ap, subst, inl, inr}
-use Rattle.std.proofs.lemmas.List.{drop_more}
+use Rattle.std.proofs.Common.{◌≡◌, ◌∙◌, ◌&&◌, ◌+◌, ℕ, suc, true, false, not, List, [], ◌∷◌, ◌++◌, length, map, Option, None, Some, append_assoc, arith, refl, sym, ap, subst, inl, inr}
 use Rattle.std.specs.List.{Contains, flat_map}
 use Rattle.ir_core.specs.declared.functions.Block.{Block}
 use Rattle.ir_core.specs.declared.functions.Function.{Function}
 use Rattle.ir_core.specs.declared.functions.Instr.{Instr}
 use Rattle.ir_core.specs.declared.functions.Phi.{Phi}
 use Rattle.ir_core.specs.declared.modules.Module.{Module}
-use Rattle.ir_core.specs.Functions.{block_names, edges_into, name_set, names_in, phi_registers, set_by}
+use Rattle.ir_core.specs.Functions.{block_names, edges_into, name_set, names_in, names_of, params_of, phi_registers, set_by}
 use Rattle.ir_core.proofs.Lines.{names_more, names_one}
 use Rattle.ir_types.specs.declared.names.Name.{Name}
 use Rattle.line_shapes.specs.Told.{end_kind, line_kind, phi_kind}
@@ -23,11 +22,7 @@ use Rattle.ir_shape.specs.Shape.{in_block, in_blocks, in_body, in_kinds, in_line
 
 -- ---- names, one after the other
 
-pub new_lines : (taken : List Name) (l : Instr) (ls : List Instr)
-    → are_new taken (names_in (set_by (l ∷ ls))) ≡ (are_new taken (names_in (set_by (l ∷ []))) && are_new (with_lines taken (l ∷ [])) (names_in (set_by ls)))
-new_lines taken l ls = ap (are_new taken) (names_more l ls) ∙ new_joined taken (names_in (set_by (l ∷ []))) (names_in (set_by ls))
-
-pub new_block : (taken : List Name) (b : Block)
+new_block : (taken : List Name) (b : Block)
     → are_new taken (block_names b)
     ≡ (not (is_among b.name taken) && (are_new (with_name taken b.name) (names_in (phi_registers b.phis)) && are_new (with_phis (with_name taken b.name) b.phis) (names_in (set_by b.body))))
 new_block taken b =
@@ -40,21 +35,11 @@ taken_then taken b =
     ap (with_names (with_name taken b.name)) (registers_joined (phi_registers b.phis) (set_by b.body))
     ∙ names_joined (with_name taken b.name) (names_in (phi_registers b.phis)) (names_in (set_by b.body))
 
-pub new_blocks : (taken : List Name) (b : Block) (bs : List Block)
+new_blocks : (taken : List Name) (b : Block) (bs : List Block)
     → are_new taken (flat_map block_names (b ∷ bs)) ≡ (are_new taken (block_names b) && are_new (with_block taken b) (flat_map block_names bs))
 new_blocks taken b bs =
     new_joined taken (block_names b) (flat_map block_names bs)
     ∙ ap (λ ns. are_new taken (block_names b) && are_new ns (flat_map block_names bs)) (taken_then taken b)
-
--- where those of the next block are new, the others decide
-pub blocks_left : (taken after : List Name) (bs : List Block) (k : ℕ) (b : Block) (whole : Bool) → k < length bs → b ≡ get_or bs k b → are_new taken (block_names b) ≡ true → after ≡ with_block taken b
-    → are_new taken (flat_map block_names (drop k bs)) ≡ whole → are_new after (flat_map block_names (drop (k + 1) bs)) ≡ whole
-blocks_left taken after bs k b whole within at new then so_far =
-    let rest = flat_map block_names (drop (k + 1) bs) in
-    ap (λ ns. are_new ns rest) then
-    ∙ sym (new_blocks taken b (drop (k + 1) bs) ∙ ap (λ t. t && are_new (with_block taken b) rest) new)
-    ∙ sym (ap (λ cs. are_new taken (flat_map block_names cs)) (drop_more bs k b within ∙ ap (λ (y : Block). y ∷ drop (k + 1) bs) (sym at)))
-    ∙ so_far
 
 -- ---- kinds
 
@@ -184,6 +169,12 @@ module _ (m : Module) (labels : List Name) (types : Types) where
       → in_body m f labels types params bs ≡ in_new_body m f labels types bs
   body_new f params [] new = refl
   body_new f params (b ∷ bs) new = blocks_new f b.name [] params (λ n there. absurd (omega (arith, there.1))) (b ∷ bs) new
+
+-- where all names of a function are new, those of its blocks are
+pub behind_params : (f : Function) → are_new [] (names_of f) ≡ true → are_new (with_names [] (names_in (params_of f))) (flat_map block_names f.blocks) ≡ true
+behind_params f new =
+    let ps = names_in (params_of f) in
+    both_right (are_new [] ps) (are_new (with_names [] ps) (flat_map block_names f.blocks)) (sym (new_joined [] ps (flat_map block_names f.blocks)) ∙ new)
 
 -- as it is found of what is kept
 pub body_is : (m n : Module) (labels ls : List Name) (types ts : Types) (f : Function) (params : List Name) (bs cs : List Block) → n ≡ m → ls ≡ labels → ts ≡ types → cs ≡ bs

@@ -1,100 +1,20 @@
 //! Functions of whose names none stands twice, as in most: whether a name is new isn't asked again at each line.
-ghost use Rattle.std.specs.Prelude.{◌≡◌, ◌<◌, ◌+◌, [], ◌∷◌, true, length, IfOk, IfErr};
-ghost use Rattle.std.specs.List.{AllByRecursion, flat_map};
+ghost use Rattle.std.specs.Prelude.{◌≡◌, ◌<◌, [], length, IfOk, IfErr};
+ghost use Rattle.std.specs.List.{AllByRecursion};
 ghost use Rattle.std.specs.Option.{option_copied};
 ghost use Rattle.ir_core.specs.Functions as functions;
 ghost use Rattle.shape_kinds.specs.Kept.{type_in};
-ghost use Rattle.shape_kinds.specs.Names.{are_new};
 ghost use Rattle.shape_tests.specs.Counted.{count_in, counts_of};
 ghost use Rattle.shape_tests.specs.Edges.{HasEdges, named, row_kept, rows_of};
 ghost use Rattle.ir_shape.specs.Apart as apart;
-ghost use Rattle.ir_shape.specs.Shape.{IsFirstOf, with_block, with_lines, with_phis};
+ghost use Rattle.ir_shape.specs.Shape.{IsFirstOf};
 
 use crate::ShapeEnd;
 use crate::first::line_fits;
 use ir_core::{Block, Function, Instr, Name, Phi};
 use line_shapes::{Scope, end_kind, line_kind, phi_kind};
-use shape_kinds::LentNames;
 use shape_tests::{Counts, Row, counts_of, row_of};
 use std::alloc::{AllocError, Global};
-
-/// Takes the names of phis, and says whether none was taken. The others are left where one was.
-fn take_phis<'a>(names: &mut LentNames<'a>, phis: &'a [Phi]) -> Result<bool, AllocError>
-    ensures new { IfOk result
-        (λ new. new ≡ true → are_new names.old (functions.names_in (functions.phi_registers phis.now)) ≡ true) }
-    ensures names { IfOk result
-        (λ new. new ≡ true → names.new ≡ with_phis names.old phis.now) }
-{
-    for phi in phis {
-        if names.take(&phi.name)? {
-            return Ok(false);
-        }
-    }
-    Ok(true)
-}
-
-/// Takes the name of the register that a line sets, if it sets one, and says whether it was new.
-#[tactic(auto, using(ir_core::proofs::Lines::names_one, ir_core::proofs::Lines::names_none))]
-fn take_new<'a>(names: &mut LentNames<'a>, line: &'a Instr) -> Result<bool, AllocError>
-    ensures new { IfOk result
-        (λ new. new ≡ true → are_new names.old (functions.names_in (functions.set_by (line.now ∷ []))) ≡ true) }
-    ensures names { IfOk result
-        (λ new. new ≡ true → names.new ≡ with_lines names.old (line.now ∷ [])) }
-{
-    match line.name() {
-        Some(name) => {
-            let taken = names.take(name)?;
-            Ok(!taken)
-        }
-        None => Ok(true),
-    }
-}
-
-/// The same of lines.
-#[tactic(auto, using(crate::proofs::NewNames::new_lines, crate::proofs::Kept::lines_joined))]
-fn take_lines<'a>(names: &mut LentNames<'a>, lines: &'a [Instr]) -> Result<bool, AllocError>
-    ensures new { IfOk result
-        (λ new. new ≡ true → are_new names.old (functions.names_in (functions.set_by lines.now)) ≡ true) }
-    ensures names { IfOk result
-        (λ new. new ≡ true → names.new ≡ with_lines names.old lines.now) }
-{
-    for line in lines {
-        if !take_new(names, line)? {
-            return Ok(false);
-        }
-    }
-    Ok(true)
-}
-
-/// The same of a block's own name and those of its registers.
-#[tactic(auto, using(crate::proofs::NewNames::new_block))]
-fn take_block<'a>(names: &mut LentNames<'a>, block: &'a Block) -> Result<bool, AllocError>
-    ensures new { IfOk result (λ new. new ≡ true → are_new names.old (functions.block_names block.now) ≡ true) }
-    ensures names { IfOk result (λ new. new ≡ true → names.new ≡ with_block names.old block.now) }
-{
-    if names.take(&block.name)? {
-        return Ok(false);
-    }
-    if !take_phis(names, block.phis.as_slice())? {
-        return Ok(false);
-    }
-    take_lines(names, block.body.as_slice())
-}
-
-/// Whether none of the names of blocks and their registers stands twice, nor is one of these.
-#[tactic(auto, using(crate::proofs::NewNames::new_blocks))]
-pub(crate) fn are_apart<'a>(params: LentNames<'a>, blocks: &'a [Block]) -> Result<bool, AllocError>
-    ensures { IfOk result
-        (λ new. new ≡ true → are_new params.entry (flat_map functions.block_names blocks.now) ≡ true) }
-{
-    let mut names = params;
-    for block in blocks {
-        if !take_block(&mut names, block)? {
-            return Ok(false);
-        }
-    }
-    Ok(true)
-}
 
 /// Whether phis have no fault, which edges enter, so many of each block.
 fn counted_fit(

@@ -1,4 +1,4 @@
-ghost use Rattle.std.specs.Prelude.{◌≡◌, ◌<◌, ◌++◌, [], ◌∷◌, None, Some, IfOk, IfErr, OnOk, length};
+ghost use Rattle.std.specs.Prelude.{◌≡◌, ◌<◌, ◌++◌, [], ◌∷◌, true, None, Some, IfOk, IfErr, OnOk, length};
 ghost use Rattle.std.specs.List.{AllByRecursion};
 ghost use Rattle.std.specs.Option.{option_copied};
 ghost use Rattle.ir_core.specs.Functions as functions;
@@ -12,14 +12,14 @@ ghost use Rattle.ir_shape.specs.Shape as meaning;
 ghost use Rattle.ir_shape.specs.Shape.{IsFirstOf};
 ghost use Rattle.line_shapes.specs.Told as told;
 
-use crate::apart::{are_apart, new_body_fits};
+use crate::apart::new_body_fits;
 use crate::{LinePlace, ShapeEnd, ShapeFault};
 use contents::Exact;
 use ir_core::{BitType, Block, Function, Instr, Name, Phi, Sigil};
 use line_shapes::{Scope, end_kind, header_kind, line_kind, phi_kind, scope_of};
 use operand_tests::Beside;
 use shape_kinds::{LentNames, ShapeKind, least};
-use shape_tests::{Counts, Row, block_kind, counts_of, name_kind, row_of, take_params};
+use shape_tests::{Counts, Row, block_kind, counts_of, name_kind, row_of};
 use std::alloc::{AllocError, Global};
 
 fn fault_in_line(
@@ -330,15 +330,14 @@ fn body_fits<'a>(
     }
 }
 
-/// Whether a function's header has no fault, and it has a block; gives its parameters' names.
-#[tactic(auto, using(crate::proofs::Found::new_where_fits))]
-fn params_fit<'a>(
+/// Whether a function's header has no fault, and it has a block.
+fn params_fit(
     alloc: Global,
     beside: &Beside,
-    function: &'a Function,
-) -> Result<LentNames<'a>, ShapeEnd>
-    ensures names { IfOk result
-        (λ names. names ≡ with_names [] (functions.names_in (functions.params_of «function».now))) }
+    params_differ: bool,
+    function: &Function,
+) -> Result<(), ShapeEnd>
+    requires { params_differ ≡ are_new [] (functions.names_in (functions.params_of «function».now)) }
     ensures fits { IfOk result
         (λ _. meaning.fault_at «function».now.name None
         (told.header_kind beside.now (are_new [] (functions.names_in (functions.params_of «function».now))) «function».now)
@@ -348,10 +347,11 @@ fn params_fit<'a>(
         (meaning.fault_at «function».now.name None
         (told.header_kind beside.now (are_new [] (functions.names_in (functions.params_of «function».now))) «function».now))) }
 {
-    let mut names = LentNames::for_function(alloc, function)?;
-    let new = take_params(&mut names, function.params.as_slice())?;
-    header_fits(alloc, &function.name, header_kind(beside, new, function))?;
-    Ok(names)
+    header_fits(
+        alloc,
+        &function.name,
+        header_kind(beside, params_differ, function),
+    )
 }
 
 /// The names of a function's parameters.
@@ -365,28 +365,32 @@ fn param_names<'a>(alloc: Global, function: &'a Function) -> Result<LentNames<'a
     Ok(names)
 }
 
-/// Whether the blocks of a function have no fault, behind its parameters of these names.
+/// Whether the blocks of a function have no fault, of which this is known.
 fn all_blocks_fit<'a>(
     alloc: Global,
-    beside: &'a Beside<'a>,
+    beside: &Beside,
+    scope: &Scope,
     function: &'a Function,
-    params: LentNames<'a>,
 ) -> Result<(), ShapeEnd>
-    requires { params ≡ with_names [] (functions.names_in (functions.params_of «function».now)) }
+    requires beside { scope.now.beside.now ≡ beside.now }
+    requires labels { scope.now.labels ≡ fitting.labels_of «function».now }
+    requires types { type_in scope.now.types ≡ fitting.types_of beside.now «function».now }
+    requires edges { AllByRecursion (HasEdges scope.now.labels (rows_of scope.now.edges.items) «function».now.blocks) «function».now.blocks }
+    requires names { scope.now.names_differ ≡ true → are_new [] (functions.names_of «function».now) ≡ true }
     ensures fits { IfOk result
-        (λ _. meaning.in_body beside.now «function».now (fitting.labels_of «function».now) (fitting.types_of beside.now «function».now) params.entry «function».now.blocks ≡ []) }
+        (λ _. meaning.in_body beside.now «function».now (fitting.labels_of «function».now) (fitting.types_of beside.now «function».now)
+        (with_names [] (functions.names_in (functions.params_of «function».now))) «function».now.blocks ≡ []) }
     ensures fault { IfErr result
         (IsFirstOf
-        (meaning.in_body beside.now «function».now (fitting.labels_of «function».now) (fitting.types_of beside.now «function».now) params.entry «function».now.blocks)) }
+        (meaning.in_body beside.now «function».now (fitting.labels_of «function».now) (fitting.types_of beside.now «function».now)
+        (with_names [] (functions.names_in (functions.params_of «function».now))) «function».now.blocks)) }
 {
-    let bit = BitType::new();
-    let scope = scope_of(alloc, &bit, beside, function)?;
     let blocks = function.blocks.as_slice();
-    if are_apart(params, blocks)? {
-        return new_body_fits(alloc, function, &scope, blocks);
+    if scope.names_differ {
+        return new_body_fits(alloc, function, scope, blocks);
     }
     let names = param_names(alloc, function)?;
-    body_fits(alloc, function, &scope, names, blocks)
+    body_fits(alloc, function, scope, names, blocks)
 }
 
 /// Whether a function's or a declaration's name has no fault, which may be taken.
@@ -408,6 +412,8 @@ pub(crate) fn function_fits(
     ensures fault { IfErr result (IsFirstOf (meaning.in_function beside.now taken «function».now)) }
 {
     name_fits(alloc, taken, &function.name)?;
-    let params = params_fit(alloc, beside, function)?;
-    all_blocks_fit(alloc, beside, function, params)
+    let bit = BitType::new();
+    let scope = scope_of(alloc, &bit, beside, function)?;
+    params_fit(alloc, beside, scope.params_differ, function)?;
+    all_blocks_fit(alloc, beside, &scope, function)
 }

@@ -1,1 +1,3 @@
 pub mod LeastKinds
+pub mod Scopes
+pub mod Untold

@@ -1,5 +1,5 @@
-//! The types of a function's registers, and what is wrong with what names them.
-ghost use Rattle.std.specs.Prelude.{◌≡◌, None, Some, cond, map, IfOk, OnOk};
+//! The types of a function's registers, and whether their names differ.
+ghost use Rattle.std.specs.Prelude.{◌≡◌, ◌&&◌, None, Some, cond, map, IfOk, OnOk};
 ghost use Rattle.std.specs.List.{flat_map};
 ghost use Rattle.std.specs.Option.{option_copied};
 ghost use Rattle.ir_core.specs.declared.functions.Param.{Param};
@@ -7,29 +7,50 @@ ghost use Rattle.ir_core.specs.Functions as functions;
 ghost use Rattle.shape_kinds.specs.Kept.{type_in};
 ghost use Rattle.shape_kinds.specs.Typed.{with_types};
 ghost use Rattle.shape_tests.specs.Kinds as fitting;
+ghost use Rattle.line_shapes.specs.Untold.{are_untold, have_own_names};
 
 use ir_core::{BitType, Block, Expr, Function, Instr, Name, Param, Phi, Ty};
 use operand_tests::{Beside, leads_somewhere};
 use shape_kinds::LentTypes;
 use std::alloc::{AllocError, Global};
 
-fn put_params<'a>(types: &mut LentTypes<'a>, params: &'a [Param]) -> Result<(), AllocError>
-    ensures { OnOk result
-        (type_in types.new ≡ with_types (type_in types.old) (fitting.typed (map (λ (p : Param). (p.name, p.ty)) params.now))) }
+/// Whether both hold.
+#[inline(always)]
+pub(crate) fn both(one: bool, other: bool) -> bool
+    ensures { result ≡ (one && other) }
 {
-    for param in params {
-        types.put(&param.name, Some(&param.ty))?;
-    }
-    Ok(())
+    one && other
 }
 
-fn put_phis<'a>(types: &mut LentTypes<'a>, phis: &'a [Phi]) -> Result<(), AllocError>
-    ensures { OnOk result (type_in types.new ≡ with_types (type_in types.old) (fitting.typed (functions.phi_registers phis.now))) }
+/// Tells the types of parameters, and says whether each is told for the first time.
+pub(crate) fn put_params<'a>(
+    types: &mut LentTypes<'a>,
+    params: &'a [Param],
+) -> Result<bool, AllocError>
+    ensures new { IfOk result
+        (λ new. new ≡ are_untold (type_in types.old) (fitting.typed (map (λ (p : Param). (p.name, p.ty)) params.now))) }
+    ensures types { OnOk result
+        (type_in types.new ≡ with_types (type_in types.old) (fitting.typed (map (λ (p : Param). (p.name, p.ty)) params.now))) }
 {
-    for phi in phis {
-        types.put(&phi.name, Some(&phi.ty))?;
+    let mut new = true;
+    for param in params {
+        let first = types.put_first(&param.name, Some(&param.ty))?;
+        new = both(new, first);
     }
-    Ok(())
+    Ok(new)
+}
+
+fn put_phis<'a>(types: &mut LentTypes<'a>, phis: &'a [Phi]) -> Result<bool, AllocError>
+    ensures new { IfOk result
+        (λ new. new ≡ are_untold (type_in types.old) (fitting.typed (functions.phi_registers phis.now))) }
+    ensures types { OnOk result (type_in types.new ≡ with_types (type_in types.old) (fitting.typed (functions.phi_registers phis.now))) }
+{
+    let mut new = true;
+    for phi in phis {
+        let first = types.put_first(&phi.name, Some(&phi.ty))?;
+        new = both(new, first);
+    }
+    Ok(new)
 }
 
 fn right_gives_type(beside: &Beside, right: &Expr<Name>) -> bool
@@ -68,12 +89,13 @@ fn put_line<'a>(
     beside: &Beside,
     bit: &'a BitType,
     line: &'a Instr,
-) -> Result<(), AllocError>
-    ensures { OnOk result (type_in types.new ≡ with_types (type_in types.old) (fitting.told_of beside.now.types line.now)) }
+) -> Result<bool, AllocError>
+    ensures new { IfOk result (λ new. new ≡ are_untold (type_in types.old) (fitting.told_of beside.now.types line.now)) }
+    ensures types { OnOk result (type_in types.new ≡ with_types (type_in types.old) (fitting.told_of beside.now.types line.now)) }
 {
     match line.register(bit) {
-        Some((name, ty)) => types.put(name, told(beside, line, ty)),
-        None => Ok(()),
+        Some((name, ty)) => types.put_first(name, told(beside, line, ty)),
+        None => Ok(true),
     }
 }
 
@@ -82,55 +104,61 @@ fn put_lines<'a>(
     beside: &Beside,
     bit: &'a BitType,
     lines: &'a [Instr],
-) -> Result<(), AllocError>
-    ensures { OnOk result (type_in types.new ≡ with_types (type_in types.old) (flat_map (fitting.told_of beside.now.types) lines.now)) }
+) -> Result<bool, AllocError>
+    ensures new { IfOk result
+        (λ new. new ≡ are_untold (type_in types.old) (flat_map (fitting.told_of beside.now.types) lines.now)) }
+    ensures types { OnOk result (type_in types.new ≡ with_types (type_in types.old) (flat_map (fitting.told_of beside.now.types) lines.now)) }
 {
+    let mut new = true;
     for line in lines {
-        put_line(types, beside, bit, line)?;
+        let first = put_line(types, beside, bit, line)?;
+        new = both(new, first);
     }
-    Ok(())
+    Ok(new)
 }
 
-#[tactic(auto, using(shape_tests::proofs::Typed::types_joined))]
+#[tactic(auto, using(shape_tests::proofs::Typed::types_joined, crate::proofs::Untold::untold_joined))]
 fn put_block<'a>(
     types: &mut LentTypes<'a>,
     beside: &Beside,
     bit: &'a BitType,
     block: &'a Block,
-) -> Result<(), AllocError>
-    ensures { OnOk result (type_in types.new ≡ with_types (type_in types.old) (fitting.told_in beside.now.types block.now)) }
+) -> Result<bool, AllocError>
+    ensures new { IfOk result (λ new. new ≡ are_untold (type_in types.old) (fitting.told_in beside.now.types block.now)) }
+    ensures types { OnOk result (type_in types.new ≡ with_types (type_in types.old) (fitting.told_in beside.now.types block.now)) }
 {
-    put_phis(types, block.phis.as_slice())?;
-    put_lines(types, beside, bit, block.body.as_slice())
+    let phis = put_phis(types, block.phis.as_slice())?;
+    let lines = put_lines(types, beside, bit, block.body.as_slice())?;
+    Ok(both(phis, lines))
 }
 
-#[tactic(auto, using(shape_tests::proofs::Typed::types_joined))]
-fn put_blocks<'a>(
+/// Tells the types of the registers that blocks set, and says whether each is told for the first time.
+pub(crate) fn put_blocks<'a>(
     types: &mut LentTypes<'a>,
     beside: &Beside,
     bit: &'a BitType,
     blocks: &'a [Block],
-) -> Result<(), AllocError>
-    ensures { OnOk result (type_in types.new ≡ with_types (type_in types.old) (flat_map (fitting.told_in beside.now.types) blocks.now)) }
+) -> Result<bool, AllocError>
+    ensures new { IfOk result
+        (λ new. new ≡ are_untold (type_in types.old) (flat_map (fitting.told_in beside.now.types) blocks.now)) }
+    ensures types { OnOk result (type_in types.new ≡ with_types (type_in types.old) (flat_map (fitting.told_in beside.now.types) blocks.now)) }
 {
+    let mut new = true;
     for block in blocks {
-        put_block(types, beside, bit, block)?;
+        let first = put_block(types, beside, bit, block)?;
+        new = both(new, first);
     }
-    Ok(())
+    Ok(new)
 }
 
-/// The types of the function's registers.
-#[tactic(auto, using(shape_tests::proofs::Typed::types_joined))]
-pub(crate) fn types_of<'a>(
-    alloc: Global,
-    beside: &Beside,
-    bit: &'a BitType,
-    function: &'a Function,
-) -> Result<LentTypes<'a>, AllocError>
-    ensures { IfOk result (λ types. type_in types ≡ fitting.types_of beside.now «function».now) }
+/// Whether no block has the name of a register.
+pub(crate) fn have_own_names(types: &LentTypes, blocks: &[Block]) -> bool
+    ensures { result ≡ have_own_names (type_in types.now) blocks.now }
 {
-    let mut types = LentTypes::for_function(alloc, function)?;
-    put_params(&mut types, function.params.as_slice())?;
-    put_blocks(&mut types, beside, bit, function.blocks.as_slice())?;
-    Ok(types)
+    for block in blocks {
+        if types.get(&block.name).is_some() {
+            return false;
+        }
+    }
+    true
 }

@@ -2,41 +2,43 @@
 ghost use Rattle.std.specs.Prelude.{◌≡◌};
 ghost use Rattle.shape_kinds.specs.Kept.{found_in, type_in};
 
+use crate::held_types::HeldTypes;
 use crate::room::names_at_most;
-use indexmap::IndexMap;
 use ir_core::{Function, Name, Ty};
 use std::alloc::{AllocError, Global};
 
 /// The type of each name, or that it has none, as it is first told.
 pub struct LentTypes<'a> {
-    first: IndexMap<&'a Name, Option<&'a Ty>>,
+    held: HeldTypes<'a>,
 }
 
 impl<'a> Drop for LentTypes<'a> {
     fn drop(self) {
-        let LentTypes { first: _ } = self;
+        let LentTypes { held: _ } = self;
     }
 }
 
 impl<'a> LentTypes<'a> {
-    ghost use Rattle.std.specs.Prelude.{IfOk, OnOk};
-    ghost use Rattle.std.specs.Option.{option_copied, option_map};
+    ghost use Rattle.std.specs.Prelude.{not, IfOk, OnOk};
+    ghost use Rattle.std.specs.Option.{is_some, option_copied, option_map};
     ghost use Rattle.shape_kinds.specs.Typed.{none_typed, with_type};
 
+    #[tactic(auto, using(crate::proofs::Types::none_kept))]
     pub fn new(alloc: Global) -> LentTypes<'a>
         ensures { type_in result ≡ none_typed }
     {
         LentTypes {
-            first: IndexMap::new(alloc),
+            held: HeldTypes::new(alloc),
         }
     }
 
-    /// There is room for so many.
+    /// There is room for so many. Where few are told and more come, each is found by a walk.
+    #[tactic(auto, using(crate::proofs::Types::none_kept))]
     pub fn with_room(alloc: Global, names: usize) -> Result<LentTypes<'a>, AllocError>
         ensures { IfOk result (λ types. type_in types ≡ none_typed) }
     {
         Ok(LentTypes {
-            first: IndexMap::with_capacity(alloc, names)?,
+            held: HeldTypes::with_room(alloc, names)?,
         })
     }
 
@@ -50,7 +52,7 @@ impl<'a> LentTypes<'a> {
     fn found(&self, name: &Name) -> Option<Option<&'a Ty>>
         ensures { result ≡ found_in self.now name.now }
     {
-        self.first.get(&name).copied()
+        self.held.get(name)
     }
 
     /// What is told of the name, if it is there: its type, or that it has none.
@@ -61,16 +63,18 @@ impl<'a> LentTypes<'a> {
         self.found(name)
     }
 
+    /// Tells the type of a name where it is new, and says whether it is.
+    pub fn put_first(&mut self, name: &'a Name, ty: Option<&'a Ty>) -> Result<bool, AllocError>
+        ensures new { IfOk result (λ new. new ≡ not (is_some (type_in self.old name.now))) }
+        ensures types { OnOk result (type_in self.new ≡ with_type (type_in self.old) name.now (option_copied ty.entry)) }
+    {
+        self.held.put(name, ty)
+    }
+
     pub fn put(&mut self, name: &'a Name, ty: Option<&'a Ty>) -> Result<(), AllocError>
         ensures { OnOk result (type_in self.new ≡ with_type (type_in self.old) name.now (option_copied ty.entry)) }
     {
-        // A name that is there keeps its place and what was told of it first.
-        match self.first.insert(name, ty)? {
-            None => Ok(()),
-            Some(first) => {
-                self.first.insert(name, first)?;
-                Ok(())
-            }
-        }
+        self.put_first(name, ty)?;
+        Ok(())
     }
 }

@@ -2,6 +2,7 @@
 #![tactic(auto)]
 
 mod held;
+mod held_types;
 mod kind;
 mod kinds;
 mod lent;

@@ -126,15 +126,15 @@ fewer_new [] taken fewer among new = tt
 fewer_new (x ∷ xs) taken fewer among new =
     (λ there. new.0 (among x there), fewer_new xs (taken ++ x ∷ []) (fewer ++ x ∷ []) (one_more_among fewer taken x among) new.1)
 
-new_front : (xs ys taken : List Name) → AreNew taken (xs ++ ys) → AreNew taken xs
+pub new_front : (xs ys taken : List Name) → AreNew taken (xs ++ ys) → AreNew taken xs
 new_front [] ys taken new = tt
 new_front (x ∷ xs) ys taken new = (new.0, new_front xs ys (taken ++ x ∷ []) new.1)
 
-new_behind : (xs ys taken : List Name) → AreNew taken (xs ++ ys) → AreNew (taken ++ xs) ys
+pub new_behind : (xs ys taken : List Name) → AreNew taken (xs ++ ys) → AreNew (taken ++ xs) ys
 new_behind [] ys taken new = subst (λ ts. AreNew ts ys) (sym (append-nil taken)) new
 new_behind (x ∷ xs) ys taken new = subst (λ ts. AreNew ts ys) (append_assoc taken (x ∷ []) xs) (new_behind xs ys (taken ++ x ∷ []) new.1)
 
-both_new : (xs ys taken : List Name) → AreNew taken xs → AreNew (taken ++ xs) ys → AreNew taken (xs ++ ys)
+pub both_new : (xs ys taken : List Name) → AreNew taken xs → AreNew (taken ++ xs) ys → AreNew taken (xs ++ ys)
 both_new [] ys taken this that = subst (λ ts. AreNew ts ys) (append-nil taken) that
 both_new (x ∷ xs) ys taken this that =
     (this.0, both_new xs ys (taken ++ x ∷ []) this.1 (subst (λ ts. AreNew ts ys) (sym (append_assoc taken (x ∷ []) xs)) that))

@@ -15,7 +15,7 @@ pub use counts::Counts;
 pub use ends::{branch_fits, cases_fit, leads_to, return_fits};
 pub use incoming::{edges_of, have_phis, put_at, row_of};
 pub use kinds::{block_kind, is_result, name_kind, right_kind};
-pub use names::{entries_are_labels, labels_of, leads_to_labels, take_params};
+pub use names::{entries_are_labels, leads_to_labels};
 pub use phis::{counts_of, fits_edges};
 pub use row::Row;
 pub use shape_kinds::{LentNames, ShapeKind};

@@ -1,10 +1,9 @@
-use Rattle.std.proofs.Common.{◌≡◌, List, [], None, IfErr, IfOk, rules, subst}
+use Rattle.std.proofs.Common.{[], None, rules}
 use Rattle.ir_core.specs.Functions.{names_in, params_of}
-use Rattle.ir_types.specs.declared.names.Name.{Name}
 use Rattle.line_shapes.specs.Told.{header_kind}
 use Rattle.shape_kinds.specs.Names.{are_new}
-use Rattle.shape_tests.specs.Kinds.{labels_of, name_kind, types_of}
-use Rattle.ir_shape.specs.Shape.{IsFirstOf, fault_at, in_body, in_function}
+use Rattle.shape_tests.specs.Kinds.{name_kind}
+use Rattle.ir_shape.specs.Shape.{IsFirstOf, fault_at, in_function}
 use Rattle.ir_shape.proofs.Found.{behind, further, others_decide, others_fit}
 use Rattle.ir_shape.proofs.first.function_fits.Goals as goal
 
@@ -15,14 +14,14 @@ returns-in_err-name_fits-clause-fault c =
     let this : IsFirstOf (in_function c.args.beside.now c.args.taken f) e = further (fault_at f.name None (name_kind c.args.taken f.name)) _ e c.in_err-name_fits.ensures.fault in
     search (rules, this)
 
-pub returns-in_err-params-clause-fault : goal.returns-in_err-params-clause-fault
-returns-in_err-params-clause-fault c =
+pub returns-in_err-params_fit-clause-fault : goal.returns-in_err-params_fit-clause-fault
+returns-in_err-params_fit-clause-fault c =
     let m = c.args.beside.now in
     let f = c.args.function.now in
-    let e = c.in_err-params.field-0.0 in
+    let e = c.in_err-params_fit.field-0.0 in
     let header = fault_at f.name None (header_kind m (are_new [] (names_in (params_of f))) f) in
     let this : IsFirstOf (in_function m c.args.taken f) e =
-    behind (fault_at f.name None (name_kind c.args.taken f.name)) _ c.in_ok-name_fits.ensures.fits e (further header _ e c.in_err-params.ensures.fault) in
+    behind (fault_at f.name None (name_kind c.args.taken f.name)) _ c.in_ok-name_fits.ensures.fits e (further header _ e c.in_err-params_fit.ensures.fault) in
     search (rules, this)
 
 pub returns-clause-fits : goal.returns-clause-fits
@@ -31,8 +30,7 @@ returns-clause-fits c =
     let f = c.args.function.now in
     let r = c.all_blocks_fit.result in
     let header = fault_at f.name None (header_kind m (are_new [] (names_in (params_of f))) f) in
-    let body = subst (λ (ns : List Name). IfOk r (λ _. in_body m f (labels_of f) (types_of m f) ns f.blocks ≡ [])) c.in_ok-params.ensures.names c.all_blocks_fit.ensures.fits in
-    others_fit (fault_at f.name None (name_kind c.args.taken f.name)) _ c.in_ok-name_fits.ensures.fits r (others_fit header _ c.in_ok-params.ensures.fits r body)
+    others_fit (fault_at f.name None (name_kind c.args.taken f.name)) _ c.in_ok-name_fits.ensures.fits r (others_fit header _ c.in_ok-params_fit.ensures.fits r c.all_blocks_fit.ensures.fits)
 
 pub returns-clause-fault : goal.returns-clause-fault
 returns-clause-fault c =
@@ -40,5 +38,5 @@ returns-clause-fault c =
     let f = c.args.function.now in
     let r = c.all_blocks_fit.result in
     let header = fault_at f.name None (header_kind m (are_new [] (names_in (params_of f))) f) in
-    let body = subst (λ (ns : List Name). IfErr r (IsFirstOf (in_body m f (labels_of f) (types_of m f) ns f.blocks))) c.in_ok-params.ensures.names c.all_blocks_fit.ensures.fault in
-    others_decide (fault_at f.name None (name_kind c.args.taken f.name)) _ c.in_ok-name_fits.ensures.fits r (others_decide header _ c.in_ok-params.ensures.fits r body)
+    others_decide (fault_at f.name None (name_kind c.args.taken f.name)) _ c.in_ok-name_fits.ensures.fits r
+    (others_decide header _ c.in_ok-params_fit.ensures.fits r c.all_blocks_fit.ensures.fault)

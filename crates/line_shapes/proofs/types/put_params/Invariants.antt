@@ -1,10 +1,12 @@
-use Rattle.std.proofs.Common.{◌≡◌, drop, map}
+use Rattle.std.proofs.Common.{◌≡◌, ◌&&◌, drop, map}
 use Rattle.ir_core.specs.declared.functions.Param.{Param}
+use Rattle.shape_tests.specs.Kinds.{typed}
 use Rattle.shape_kinds.specs.Kept.{type_in}
 use Rattle.shape_kinds.specs.Typed.{with_types}
-use Rattle.shape_tests.specs.Kinds.{typed}
+use Rattle.line_shapes.specs.Untold.{are_untold}
 use Rattle.line_shapes.proofs.types.put_params.Given as goal
 
 abbrev pub invariant-loop-param : goal.invariant-loop-param
 invariant-loop-param l =
-    with_types (type_in l.types) (typed (map (λ (p : Param). (p.name, p.ty)) (drop l.param-index l.params))) ≡ with_types (type_in l.initial.types) (typed (map (λ (p : Param). (p.name, p.ty)) l.params))
+    (with_types (type_in l.types) (typed (map (λ (p : Param). (p.name, p.ty)) (drop l.param-index l.params))) ≡ with_types (type_in l.initial.types) (typed (map (λ (p : Param). (p.name, p.ty)) l.params)))
+    × ((l.new && are_untold (type_in l.types) (typed (map (λ (p : Param). (p.name, p.ty)) (drop l.param-index l.params)))) ≡ are_untold (type_in l.initial.types) (typed (map (λ (p : Param). (p.name, p.ty)) l.params)))
