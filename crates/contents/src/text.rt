@@ -1,4 +1,5 @@
-ghost use Rattle.std.specs.Prelude.{◌≡◌, IfOk};
+ghost use Rattle.std.specs.Prelude.{◌≡◌, nat_eq, IfOk};
+ghost use Rattle.std.specs.Cmp.Lexicographic.{pointwise};
 ghost use Rattle.contents.specs.Text.{bytes_held};
 
 use crate::in_place::InPlace;
@@ -52,6 +53,21 @@ fn shared(alloc: Global, bytes: &[u8]) -> Result<Held, AllocError>
     Ok(Held::Long(Rc::new(alloc, bytes)?))
 }
 
+/// Whether the bytes are the same. Most texts are short, so they are compared one by one.
+fn are_same(some: &[u8], others: &[u8]) -> bool
+    ensures { result ≡ pointwise nat_eq some.now others.now }
+{
+    if some.len() != others.len() {
+        return false;
+    }
+    for at in 0..some.len() {
+        if some[at] != others[at] {
+            return false;
+        }
+    }
+    true
+}
+
 impl Text {
     /// Takes memory for more than 14 bytes alone.
     pub fn from_slice(alloc: Global, bytes: &[u8]) -> Result<Text, AllocError>
@@ -79,7 +95,7 @@ impl Text {
 
 impl Exact for Text {
     fn is(&self, other: &Text) -> bool {
-        self.as_slice() == other.as_slice()
+        are_same(self.as_slice(), other.as_slice())
     }
 
     fn copy(&self, _alloc: Global) -> Result<Text, AllocError> {
@@ -99,7 +115,7 @@ impl PartialEq for Text {
     ghost laws = { cmp.partial_equiv_from_equiv nat_list_eq_equiv };
 
     fn eq(&self, other: &Text) -> bool {
-        self.as_slice() == other.as_slice()
+        are_same(self.as_slice(), other.as_slice())
     }
 }
 
