@@ -3,7 +3,7 @@ use Rattle.std.proofs.Common.{◌≡◌, ◌∙◌, ℕ, Bool, List, [], ◌∷�
 use Rattle.std.proofs.lemmas.List.Folds.{flat_map-map}
 use Rattle.std.specs.List.{flat_map}
 use Rattle.ir_core.specs.Types.{is_pointer}
-use Rattle.ir_core.specs.Typing.{Index, contents_of, element_type}
+use Rattle.ir_core.specs.Typing.{Index, contents_of}
 use Rattle.ir_types.specs.declared.named.NamedTy.{NamedTy}
 use Rattle.ir_types.specs.declared.ty.Ty.{Ty}
 use Rattle.ir_types.specs.Same.{same_ty}
@@ -14,6 +14,7 @@ use Rattle.module_grammar.specs.declared.types.TypeText.{TypeText}
 use Rattle.module_grammar.proofs.ConstFolds.{by_parts}
 use Rattle.name_claims.specs.declared.claims.Fault.{Fault}
 use Rattle.name_claims.specs.declared.claims.Reason.TheVariants as reason
+use Rattle.named_modules.specs.Addresses.{address_type}
 use Rattle.named_modules.specs.Constants.{global_name, may_be}
 use Rattle.named_modules.specs.Faults.{Heads, Told, const_at_level, const_faults, from, global_faults, index_told, int_faults, type_faults, unless}
 use Rattle.named_modules.specs.Faults as meaning
@@ -64,23 +65,23 @@ module _ (h : Heads) where
       → noted (const_faults h (Global g) t) told ≡ noted (global_faults h t (global_name g) (contents_of h.globals (global_name g).what)) told
   of_global g t told = ap (noted_at t told) (kind.at_global Told (const_at_level h) g)
 
-  abbrev led_wrong : ℕ → TypeText → Ty → List Index → List Fault
-  led_wrong start of t is = unless (may_be (element_type h.types (type_of of) is) t) (from start 13 reason.WrongType)
+  abbrev led_wrong : ℕ → TypeText → TypeText → Ty → List Index → List Fault
+  led_wrong start base of t is = unless (may_be (address_type h.types (type_of base) (type_of of) is) t) (from start 13 reason.WrongType)
 
   pub of_element : (start : ℕ) (inbounds : Bool) (e : TypeText × TypeText × ConstText × List (TypeText × ConstText)) (t : Ty) (told : Option Fault)
       → noted (const_faults h (Element start inbounds e) t) told
-      ≡ noted (unless (may_be (element_type h.types (type_of e.0) (map const_index e.3)) t) (from start 13 reason.WrongType))
+      ≡ noted (unless (may_be (address_type h.types (type_of e.1) (type_of e.0) (map const_index e.3)) t) (from start 13 reason.WrongType))
       (noted (flat_map (part_faults h) e.3) (noted (part_faults h (e.1, e.2)) (noted (type_faults h e.0) told)))
   of_element start inbounds e t told =
       let first = part_faults h (e.1, e.2) in
       let others = flat_map (meaning.part_faults h) (told_each told_of e.3) in
-      let wrong = led_wrong start e.0 t (map index_told (told_each told_of e.3)) in
+      let wrong = led_wrong start e.1 e.0 t (map index_told (told_each told_of e.3)) in
       let here = noted (type_faults h e.0) told in
       ap (noted_at t told) (kind.at_element Told (const_at_level h) start inbounds e.0 e.1 e.2 e.3)
       ∙ noted_joined (type_faults h e.0) ((first ++ others) ++ wrong) told
       ∙ noted_joined (first ++ others) wrong here
       ∙ ap (noted wrong) (noted_joined first others here ∙ ap (λ (fs : List Fault). noted fs (noted first here)) (parts_are e.3))
-      ∙ ap (λ (is : List Index). noted (led_wrong start e.0 t is) (noted (flat_map (part_faults h) e.3) (noted first here))) (indices_are e.3)
+      ∙ ap (λ (is : List Index). noted (led_wrong start e.1 e.0 t is) (noted (flat_map (part_faults h) e.3) (noted first here))) (indices_are e.3)
 
   pub of_cast : (start : ℕ) (c : TypeText × ConstText × TypeText) (t : Ty) (told : Option Fault)
       → noted (const_faults h (Cast start c) t) told
@@ -98,19 +99,19 @@ module _ (h : Heads) where
       (start : ℕ) (inbounds : Bool) (e f : TypeText × TypeText × ConstText × List (TypeText × ConstText)) (is : List (TypeText × ConstText)) (types : List NamedTy) (t : Ty) (fits : Bool) (fault : Fault)
       (told typed based parts now : Option Fault)
       → f ≡ e → is ≡ f.3 → types ≡ h.types → typed ≡ noted (type_faults h f.0) told → based ≡ noted (part_faults h (f.1, f.2)) typed → parts ≡ noted (flat_map (part_faults h) is) based
-      → fits ≡ may_be (element_type types (type_of f.0) (map const_index is)) t → fault ≡ from start 13 reason.WrongType → now ≡ noted (unless fits fault) parts
+      → fits ≡ may_be (address_type types (type_of f.1) (type_of f.0) (map const_index is)) t → fault ≡ from start 13 reason.WrongType → now ≡ noted (unless fits fault) parts
       → now ≡ noted (const_faults h (Element start inbounds e) t) told
   element_found start inbounds e f is types t fits fault told typed based parts now lent list named first second third fourth fifth sixth =
       let all : is ≡ e.3 = list ∙ ap (λ (g : TypeText × TypeText × ConstText × List (TypeText × ConstText)). g.3) lent in
       let one : typed ≡ noted (type_faults h e.0) told = first ∙ ap (λ (g : TypeText × TypeText × ConstText × List (TypeText × ConstText)). noted (type_faults h g.0) told) lent in
       let two : based ≡ noted (part_faults h (e.1, e.2)) typed = second ∙ ap (λ (g : TypeText × TypeText × ConstText × List (TypeText × ConstText)). noted (part_faults h (g.1, g.2)) typed) lent in
-      let four : fits ≡ may_be (element_type h.types (type_of e.0) (map const_index e.3)) t =
-      fourth ∙ ap (λ (ts : List NamedTy). may_be (element_type ts (type_of f.0) (map const_index is)) t) named
-      ∙ ap (λ (g : TypeText × TypeText × ConstText × List (TypeText × ConstText)). may_be (element_type h.types (type_of g.0) (map const_index is)) t) lent
-      ∙ ap (λ (qs : List (TypeText × ConstText)). may_be (element_type h.types (type_of e.0) (map const_index qs)) t) all in
+      let four : fits ≡ may_be (address_type h.types (type_of e.1) (type_of e.0) (map const_index e.3)) t =
+      fourth ∙ ap (λ (ts : List NamedTy). may_be (address_type ts (type_of f.1) (type_of f.0) (map const_index is)) t) named
+      ∙ ap (λ (g : TypeText × TypeText × ConstText × List (TypeText × ConstText)). may_be (address_type h.types (type_of g.1) (type_of g.0) (map const_index is)) t) lent
+      ∙ ap (λ (qs : List (TypeText × ConstText)). may_be (address_type h.types (type_of e.1) (type_of e.0) (map const_index qs)) t) all in
       sixth ∙ ap (λ (b : Bool). noted (unless b fault) parts) four
-      ∙ ap (λ (x : Fault). noted (unless (may_be (element_type h.types (type_of e.0) (map const_index e.3)) t) x) parts) fifth
-      ∙ ap (noted (unless (may_be (element_type h.types (type_of e.0) (map const_index e.3)) t) (from start 13 reason.WrongType)))
+      ∙ ap (λ (x : Fault). noted (unless (may_be (address_type h.types (type_of e.1) (type_of e.0) (map const_index e.3)) t) x) parts) fifth
+      ∙ ap (noted (unless (may_be (address_type h.types (type_of e.1) (type_of e.0) (map const_index e.3)) t) (from start 13 reason.WrongType)))
       (third ∙ ap (λ (qs : List (TypeText × ConstText)). noted (flat_map (part_faults h) qs) based) all ∙ ap (noted (flat_map (part_faults h) e.3)) (two ∙ ap (noted (part_faults h (e.1, e.2))) one))
       ∙ sym (of_element start inbounds e t told)
 

@@ -3,6 +3,7 @@ ghost use Rattle.std.specs.Prelude.{◌≡◌, map};
 ghost use Rattle.std.specs.Option.{option_map};
 ghost use Rattle.ir_core.specs.Typing as typing;
 ghost use Rattle.ir_types.specs.declared.ty.Ty.{Ptr};
+ghost use Rattle.named_modules.specs.Addresses.{address_type};
 ghost use Rattle.named_modules.specs.Constants as constants;
 ghost use Rattle.named_modules.specs.Types.{type_of};
 ghost use Rattle.const_faults.specs.Indices as meaning;
@@ -12,7 +13,7 @@ ghost use Rattle.type_faults.specs.Lent.{seen};
 use crate::entering::{entered, is_integer};
 use ir_core::NamedTypes;
 use module_grammar::{ConstText, TypeText};
-use type_faults::{Lent, int_of, points_to};
+use type_faults::{Lent, alike, int_of, points_to};
 
 /// The number that the constant is at the type, if it is one.
 #[tactic(auto, using(crate::proofs::NumberedKinds::of_int, crate::proofs::NumberedKinds::of_null, crate::proofs::NumberedKinds::of_undef, crate::proofs::NumberedKinds::of_global, crate::proofs::NumberedKinds::of_element, crate::proofs::NumberedKinds::of_cast))]
@@ -47,7 +48,7 @@ fn led<'a>(
     Some(ty)
 }
 
-/// What an address points to.
+/// What indices lead to.
 fn pointed<'a>(
     types: &'a NamedTypes,
     of: &'a TypeText,
@@ -80,11 +81,15 @@ pub fn may_be(pointed: Option<Lent>, text: &TypeText) -> bool
 /// Whether the address may be of the type that is written.
 pub(crate) fn leads_to(
     types: &NamedTypes,
+    base: &TypeText,
     of: &TypeText,
     indices: &[(TypeText, ConstText)],
     text: &TypeText,
 ) -> bool
-    ensures { result ≡ constants.may_be (typing.element_type types.now (type_of of.now) (map const_index indices.now)) (type_of text.now) }
+    ensures { result ≡ constants.may_be (address_type types.now (type_of base.now) (type_of of.now) (map const_index indices.now)) (type_of text.now) }
 {
-    may_be(pointed(types, of, indices), text)
+    match indices.split_first() {
+        None => alike(base, text),
+        Some(_) => may_be(pointed(types, of, indices), text),
+    }
 }

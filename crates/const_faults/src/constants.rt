@@ -71,7 +71,7 @@ pub fn note_const(sight: &Sight, constant: &ConstText, ty: &TypeText, fault: &mu
             note_part(sight, &element.1, &element.2, fault);
             let indices = element.3.as_slice();
             note_parts(sight, indices, fault);
-            let fits = leads_to(sight.types(), &element.0, indices, ty);
+            let fits = leads_to(sight.types(), &element.1, &element.0, indices, ty);
             note_unless(fault, fits, from(*start, 13, Reason::WrongType));
         }
         ConstText::Cast(start, cast) => {

@@ -11,7 +11,7 @@ use Rattle.ir_core.specs.declared.operands.Atom.TheVariants.{Constant, Register}
 use Rattle.ir_core.specs.declared.operands.Operand.{Operand}
 use Rattle.ir_core.specs.Expressions.{Expr0}
 use Rattle.ir_core.specs.Types.{is_first_class}
-use Rattle.ir_core.specs.Typing.{element_type, index_of}
+use Rattle.ir_core.specs.Typing.{index_of}
 use Rattle.ir_lexer.specs.declared.token.Number.{Number}
 use Rattle.ir_types.specs.declared.names.Name.{Name}
 use Rattle.ir_types.specs.declared.ty.Ty.{Ty, Ptr}
@@ -29,6 +29,7 @@ use Rattle.module_grammar.specs.declared.lines.OperationText.{OperationText}
 use Rattle.module_grammar.specs.declared.lines.OperationText.TheVariants as form
 use Rattle.module_grammar.specs.declared.places.Placed.{Placed}
 use Rattle.module_grammar.specs.Operators.{operator_op}
+use Rattle.named_modules.specs.Addresses.{address_type}
 use Rattle.named_modules.specs.Built as built
 use Rattle.named_modules.specs.Constants.{const_of}
 use Rattle.named_modules.specs.Lines.{cast_op, flags_of}
@@ -41,7 +42,7 @@ abbrev pub tagged : Tag → Name → Reg
 tagged Old x = reg.Old x
 tagged Ghost x = reg.Ghost x
 
--- The value at the type that is stated for it. A mere `%x` is the register as it is now; a number that is none of the type is built as 0.
+-- The value at the type that is stated for it. A mere `%x` is the register as it is now; a number that is none of the type is built as `undef`.
 abbrev pub value_at : Ty → ValueText → Atom Reg
 value_at t (text.Const w) = Constant (const_of w t)
 value_at t (text.Local w) = Register (reg.Now w.what)
@@ -72,11 +73,11 @@ operation_of (form.Select w) =
 
 -- ---- memory
 
--- The type to which indices lead where no name has fields; where they lead nowhere, a pointer to the first type. Without a module no named type
--- has fields: what lies behind an index that enters one has such a pointer here. The type follows from the other parts, so a reader that has a
--- module takes it anew, by the module's types.
-abbrev pub pointed : Ty → List (Operand Reg) → Ty
-pointed of indices = unwrap_or (element_type [] of (map index_of indices)) (Ptr of)
+-- The type to which indices lead where no name has fields; without index, the base's; where they lead nowhere, a pointer to the first type.
+-- Without a module no named type has fields: what lies behind an index that enters one has such a pointer here. The type follows from the other
+-- parts, so a reader that has a module takes it anew, by the module's types.
+abbrev pub pointed : Ty → Ty → List (Operand Reg) → Ty
+pointed base of indices = unwrap_or (address_type [] base of (map index_of indices)) (Ptr of)
 
 abbrev pub element_of : ElementText → Element Reg
 element_of w = record {
@@ -84,7 +85,7 @@ element_of w = record {
   of = type_of w.of;
   base = operand_of w.base;
   indices = map operand_of w.indices;
-  to = pointed (type_of w.of) (map operand_of w.indices);
+  to = pointed (type_of w.base.ty) (type_of w.of) (map operand_of w.indices);
 }
 
 -- The alignment of an integer or a pointer: of i8 1, of i17 4, of a pointer 8. No line loads another type, which has 1.

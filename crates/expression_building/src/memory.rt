@@ -1,5 +1,5 @@
 //! Addresses of elements, and loads.
-ghost use Rattle.std.specs.Prelude.{◌≡◌, [], map, IfOk};
+ghost use Rattle.std.specs.Prelude.{◌≡◌, [], map, unwrap_or, IfOk};
 ghost use Rattle.std.specs.Option.{option_copied, option_map};
 ghost use Rattle.ir_core.specs.Typing as typing;
 ghost use Rattle.ir_core.specs.Typing.{index_of};
@@ -40,7 +40,7 @@ fn led_to<'a>(types: &'a NamedTypes, of: &'a Ty, indices: &[Operand<Reg>]) -> Op
     Some(ty)
 }
 
-/// What an address points to.
+/// What indices lead to.
 fn pointed_to<'a>(types: &'a NamedTypes, of: &'a Ty, indices: &[Operand<Reg>]) -> Option<&'a Ty>
     ensures { option_map Ptr (option_copied result) ≡ typing.element_type types.now of.now (map index_of indices.now) }
 {
@@ -56,9 +56,9 @@ fn pointed_to<'a>(types: &'a NamedTypes, of: &'a Ty, indices: &[Operand<Reg>]) -
     }
 }
 
-/// The type of an address where no name has fields, or a pointer to the first type where the indices lead nowhere.
-fn pointed(alloc: Global, of: &Ty, indices: &[Operand<Reg>]) -> Result<Ty, AllocError>
-    ensures { IfOk result (λ ty. ty ≡ meaning.pointed of.now indices.now) }
+/// A pointer to what indices lead to where no name has fields, or to the first type where they lead nowhere.
+fn pointer_to(alloc: Global, of: &Ty, indices: &[Operand<Reg>]) -> Result<Ty, AllocError>
+    ensures { IfOk result (λ ty. ty ≡ unwrap_or (typing.element_type [] of.now (map index_of indices.now)) (Ptr of.now)) }
 {
     let types = NamedTypes::none(alloc);
     let target = match pointed_to(&types, of, indices) {
@@ -68,6 +68,17 @@ fn pointed(alloc: Global, of: &Ty, indices: &[Operand<Reg>]) -> Result<Ty, Alloc
     Ok(Ty::Ptr(Shared::new(alloc, target)?))
 }
 
+/// The type of an address where no name has fields, or a pointer to the first type where the indices lead nowhere.
+#[tactic(auto, using(crate::proofs::Led::address_behind))]
+fn pointed(alloc: Global, base: &Ty, of: &Ty, indices: &[Operand<Reg>]) -> Result<Ty, AllocError>
+    ensures { IfOk result (λ ty. ty ≡ meaning.pointed base.now of.now indices.now) }
+{
+    match indices.split_first() {
+        None => base.copy(alloc),
+        Some(_) => pointer_to(alloc, of, indices),
+    }
+}
+
 /// The address that is written.
 pub(crate) fn element_of(alloc: Global, element: &ElementText) -> Result<Element<Reg>, AllocError>
     ensures { IfOk result (λ built. built ≡ meaning.element_of element.now) }
@@ -75,7 +86,7 @@ pub(crate) fn element_of(alloc: Global, element: &ElementText) -> Result<Element
     let of = type_of(alloc, &element.of)?;
     let base = operand_of(alloc, &element.base)?;
     let indices = operands_of(alloc, &element.indices)?;
-    let to = pointed(alloc, &of, indices.as_slice())?;
+    let to = pointed(alloc, &base.ty, &of, indices.as_slice())?;
     Ok(Element {
         inbounds: element.inbounds,
         of,

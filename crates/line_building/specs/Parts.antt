@@ -70,7 +70,7 @@ element_of types w = record {
   of = type_of w.of;
   base = operand_of w.base;
   indices = map operand_of w.indices;
-  to = pointed types (type_of w.of) (map operand_of w.indices);
+  to = pointed types (type_of w.base.ty) (type_of w.of) (map operand_of w.indices);
 }
 
 abbrev pub alloca_of : Name → AllocaText → Alloca

@@ -1,5 +1,5 @@
 //! What the indices of an address lead to.
-ghost use Rattle.std.specs.Prelude.{◌≡◌, map, IfOk};
+ghost use Rattle.std.specs.Prelude.{◌≡◌, map, unwrap_or, IfOk};
 ghost use Rattle.std.specs.Option.{option_copied, option_map};
 ghost use Rattle.ir_core.specs.Typing as typing;
 ghost use Rattle.ir_core.specs.Typing.{index_of};
@@ -25,7 +25,7 @@ fn led_to<'a>(types: &'a NamedTypes, of: &'a Ty, indices: &[Operand<Name>]) -> O
     Some(ty)
 }
 
-/// What an address points to.
+/// What indices lead to.
 fn pointed_to<'a>(types: &'a NamedTypes, of: &'a Ty, indices: &[Operand<Name>]) -> Option<&'a Ty>
     ensures { option_map Ptr (option_copied result) ≡ typing.element_type types.now of.now (map index_of indices.now) }
 {
@@ -41,18 +41,34 @@ fn pointed_to<'a>(types: &'a NamedTypes, of: &'a Ty, indices: &[Operand<Name>]) 
     }
 }
 
-/// The type of an address, or a pointer to the first type where the indices lead nowhere.
-pub(crate) fn pointed(
+/// A pointer to what indices lead to, or to the first type where they lead nowhere.
+fn pointer_to(
     alloc: Global,
     types: &NamedTypes,
     of: &Ty,
     indices: &[Operand<Name>],
 ) -> Result<Ty, AllocError>
-    ensures { IfOk result (λ ty. ty ≡ meaning.pointed types.now of.now indices.now) }
+    ensures { IfOk result (λ ty. ty ≡ unwrap_or (typing.element_type types.now of.now (map index_of indices.now)) (Ptr of.now)) }
 {
     let target = match pointed_to(types, of, indices) {
         Some(target) => target.copy(alloc)?,
         None => of.copy(alloc)?,
     };
     Ok(Ty::Ptr(Shared::new(alloc, target)?))
+}
+
+/// The type of an address, or a pointer to the first type where the indices lead nowhere.
+pub(crate) fn pointed(
+    alloc: Global,
+    types: &NamedTypes,
+    base: &Ty,
+    of: &Ty,
+    indices: &[Operand<Name>],
+) -> Result<Ty, AllocError>
+    ensures { IfOk result (λ ty. ty ≡ meaning.pointed types.now base.now of.now indices.now) }
+{
+    match indices.split_first() {
+        None => base.copy(alloc),
+        Some(_) => pointer_to(alloc, types, of, indices),
+    }
 }

@@ -65,7 +65,7 @@ fn element_of(
     let of = type_of(alloc, &element.of)?;
     let base = operand_of(alloc, &element.base)?;
     let indices = operands_of(alloc, &element.indices)?;
-    let to = pointed(alloc, types, &of, indices.as_slice())?;
+    let to = pointed(alloc, types, &base.ty, &of, indices.as_slice())?;
     let element = Element {
         inbounds: element.inbounds,
         of,

@@ -19,6 +19,7 @@ use Rattle.module_grammar.specs.declared.lines.VoidCallText.{VoidCallText}
 use Rattle.module_grammar.specs.declared.lines.VoidCallText.TheVariants as of_void
 use Rattle.module_grammar.specs.declared.places.Placed.{Placed}
 use Rattle.module_grammar.specs.declared.types.TypeText.{TypeText}
+use Rattle.named_modules.specs.Addresses.{address_type}
 use Rattle.named_modules.specs.Built.{due_after_line, due_behind, line_at, name_due, operand_of, result_name}
 use Rattle.named_modules.specs.Faults.{Register', Things, register_thing, sets}
 use Rattle.named_modules.specs.Functions.{told_of}
@@ -58,6 +59,11 @@ known : (o : Option Ty) (t : Ty) → cond (is_some o) (Some (unwrap_or o t)) Non
 known None t = refl
 known (Some u) t = refl
 
+known_address : (types : List NamedTy) (base of : Ty) (is : List Index)
+    → cond (is_some (element_type types of is)) (Some (unwrap_or (address_type types base of is) (Ptr of))) None ≡ address_type types base of is
+known_address types base of [] = refl
+known_address types base of (i ∷ is) = known (element_type types of (i ∷ is)) (Ptr of)
+
 module _ (types : List NamedTy) (due : ℕ) (register : Option (Placed Name)) where
   abbrev IsTold : InstructionText → Type 0
   IsTold i = map register_thing (told_of types (line_at types due register i)) ≡ one (sets i) (name_due due register) (line_type types i)
@@ -71,8 +77,8 @@ module _ (types : List NamedTy) (due : ℕ) (register : Option (Placed Name)) wh
   element_told : (w : ElementText) → IsTold (instruction.Element w)
   element_told w =
       ap (λ (own : Option Ty). one true (name_due due register) own)
-      (known (element_type types (type_of w.of) (map index_of (map operand_of w.indices))) (Ptr (type_of w.of))
-      ∙ ap (λ (is : List Index). element_type types (type_of w.of) is) (indices_are w.indices))
+      (known_address types (type_of w.base.ty) (type_of w.of) (map index_of (map operand_of w.indices))
+      ∙ ap (λ (is : List Index). address_type types (type_of w.base.ty) (type_of w.of) is) (indices_are w.indices))
 
   void_told : (tail is_stated : Bool) (v : VoidCallText) → IsTold (call tail (body.Void (record { is_stated = is_stated; call = v })))
   void_told tail is_stated (of_void.Call x end) = refl

@@ -1,5 +1,5 @@
 -- What constants of constants and initialisers are built as, at each kind.
-use Rattle.std.proofs.Common.{◌≡◌, ◌∙◌, ℕ, Bool, List, [], ◌∷◌, map, unwrap_or, sym, ap}
+use Rattle.std.proofs.Common.{◌≡◌, ◌∙◌, ℕ, Bool, List, [], ◌∷◌, map, sym, ap}
 use Rattle.ir_core.specs.declared.modules.Init as start
 use Rattle.ir_core.specs.declared.modules.Init.{Init}
 use Rattle.ir_core.specs.declared.operands.Const as constant
@@ -18,7 +18,7 @@ use Rattle.module_grammar.specs.declared.constants.InitText.TheViews as init_vie
 use Rattle.module_grammar.specs.declared.constants.IntText.{IntText}
 use Rattle.module_grammar.specs.declared.places.Placed.{Placed}
 use Rattle.module_grammar.specs.declared.types.TypeText.{TypeText, Int, Ptr}
-use Rattle.named_modules.specs.Constants.{built_part, built_init_part, const_at_level, const_of, global_name, init_at_level, init_of}
+use Rattle.named_modules.specs.Constants.{built_part, built_init_part, const_at_level, const_of, global_name, init_at_level, init_of, number_or_undef}
 use Rattle.named_modules.specs.Types.{int_of, type_of}
 use Rattle.named_module_laws.proofs.Folds.{built_global, built_int, built_null, built_undef, of_int, ptr_to_int}
 
@@ -38,7 +38,7 @@ module _ (t : Ty) where
       ap const_there (ap const_of (sym (const_views.rolls-Element at inbounds (of, base_ty, base, indices))) ∙ fold-roll-ConstText (Ty → Const) const_at_level (const_level.Element at inbounds (of, base_ty, base, indices)))
 
 -- the number at its own type
-number_there : (u : TypeText) (v : Ty) (i : IntText) → type_of u ≡ v → const_of (const.Int i) (type_of u) ≡ constant.Number (unwrap_or (int_of v i) 0)
+number_there : (u : TypeText) (v : Ty) (i : IntText) → type_of u ≡ v → const_of (const.Int i) (type_of u) ≡ number_or_undef (int_of v i)
 number_there u v i is = ap (const_of (const.Int i)) is ∙ built_int v i
 
 cast_same : (to other : Ty) (from same : Ty) (c d : Const) → to ≡ other → from ≡ same → c ≡ d → constant.Cast (to, (from, c) ∷ []) ≡ constant.Cast (other, (same, d) ∷ [])
@@ -58,11 +58,11 @@ element_same inbounds of other base same index there b c i j d e f g h = cc
 -- `getelementptr (iU, iV* @x, iW N)`
 pub element_of_global : (t : Ty) (at star : ℕ) (inbounds : Bool) (of base index : Placed ℕ) (name : GlobalNameText) (i : IntText)
     → const_of (const.Element at inbounds (Int of, Ptr star (Int base), const.Global name, (Int index, const.Int i) ∷ [])) t
-    ≡ constant.Element (inbounds, ty.Int of.what, (ty.Ptr (ty.Int base.what), constant.Global (global_name name).what) ∷ (ty.Int index.what, constant.Number (unwrap_or (int_of (ty.Int index.what) i) 0)) ∷ [])
+    ≡ constant.Element (inbounds, ty.Int of.what, (ty.Ptr (ty.Int base.what), constant.Global (global_name name).what) ∷ (ty.Int index.what, number_or_undef (int_of (ty.Int index.what) i)) ∷ [])
 element_of_global t at star inbounds of base index name i =
     at_element t at inbounds (Int of) (Ptr star (Int base)) (const.Global name) ((Int index, const.Int i) ∷ [])
     ∙ element_same inbounds (type_of (Int of)) (ty.Int of.what) (type_of (Ptr star (Int base))) (ty.Ptr (ty.Int base.what)) (type_of (Int index)) (ty.Int index.what)
-    (const_of (const.Global name) (type_of (Ptr star (Int base)))) (constant.Global (global_name name).what) (const_of (const.Int i) (type_of (Int index))) (constant.Number (unwrap_or (int_of (ty.Int index.what) i) 0))
+    (const_of (const.Global name) (type_of (Ptr star (Int base)))) (constant.Global (global_name name).what) (const_of (const.Int i) (type_of (Int index))) (number_or_undef (int_of (ty.Int index.what) i))
     (of_int of) (ptr_to_int star base) (of_int index) (built_global (type_of (Ptr star (Int base))) name) (number_there (Int index) (ty.Int index.what) i (of_int index))
 
 -- ---- initialisers
@@ -89,11 +89,11 @@ struct_same a b c d i j k l e f g h = cc
 -- `{ iV N, iW undef }`
 pub start_of_fields : (t : Ty) (at : ℕ) (first second : Placed ℕ) (i : IntText)
     → init_of (init.Struct at ((Int first, init.Const (const.Int i)) ∷ (Int second, init.Const const.Undef) ∷ [])) t
-    ≡ start.Struct ((ty.Int first.what, start.Const (constant.Number (unwrap_or (int_of (ty.Int first.what) i) 0))) ∷ (ty.Int second.what, start.Const constant.Undef) ∷ [])
+    ≡ start.Struct ((ty.Int first.what, start.Const (number_or_undef (int_of (ty.Int first.what) i))) ∷ (ty.Int second.what, start.Const constant.Undef) ∷ [])
 start_of_fields t at first second i =
     at_struct t at ((Int first, init.Const (const.Int i)) ∷ (Int second, init.Const const.Undef) ∷ [])
     ∙ struct_same (type_of (Int first)) (ty.Int first.what) (type_of (Int second)) (ty.Int second.what)
-    (init_of (init.Const (const.Int i)) (type_of (Int first))) (start.Const (constant.Number (unwrap_or (int_of (ty.Int first.what) i) 0))) (init_of (init.Const const.Undef) (type_of (Int second))) (start.Const constant.Undef)
+    (init_of (init.Const (const.Int i)) (type_of (Int first))) (start.Const (number_or_undef (int_of (ty.Int first.what) i))) (init_of (init.Const const.Undef) (type_of (Int second))) (start.Const constant.Undef)
     (of_int first) (of_int second)
     (start_of_const (type_of (Int first)) (const.Int i) ∙ ap start.Const (number_there (Int first) (ty.Int first.what) i (of_int first)))
     (start_of_const (type_of (Int second)) const.Undef ∙ ap start.Const (built_undef (type_of (Int second))))

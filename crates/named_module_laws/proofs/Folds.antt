@@ -1,5 +1,5 @@
 -- What types, constants and initialisers name, and what is at fault in them, at each kind.
-use Rattle.std.proofs.Common.{◌≡◌, ◌∙◌, ℕ, Bool, List, [], ◌∷◌, None, map, unwrap_or, sym, ap, refl}
+use Rattle.std.proofs.Common.{◌≡◌, ◌∙◌, ℕ, Bool, List, [], ◌∷◌, None, map, sym, ap, refl}
 use Rattle.std.specs.List.{flat_map}
 use Rattle.ir_core.specs.declared.operands.Const as constant
 use Rattle.ir_core.specs.declared.operands.Const.{Const}
@@ -27,7 +27,7 @@ use Rattle.module_grammar.specs.declared.types.TypeText.{TypeText, TypeText-F, I
 use Rattle.module_grammar.specs.declared.types.TypeText.TheOpen as level
 use Rattle.module_grammar.specs.declared.types.TypeText.TheViews.{rolls-Int, rolls-Named, rolls-Ptr, rolls-Array, rolls-Struct}
 use Rattle.name_claims.specs.declared.claims.Fault.{Fault}
-use Rattle.named_modules.specs.Constants.{const_at_level as built_at_level, const_of, global_name}
+use Rattle.named_modules.specs.Constants.{const_at_level as built_at_level, const_of, global_name, number_or_undef}
 use Rattle.named_modules.specs.Faults.{Heads, Told, const_at_level, first_at_level, init_at_level, int_faults, type_faults_at_level}
 use Rattle.named_modules.specs.Types.{count_built, int_of, type_at_level, type_of}
 
@@ -227,7 +227,7 @@ module _ (t : Ty) where
   abbrev const_there : (Ty → Const) → Const
   const_there built = built t
 
-  pub built_int : (i : IntText) → const_of (const.Int i) t ≡ constant.Number (unwrap_or (int_of t i) 0)
+  pub built_int : (i : IntText) → const_of (const.Int i) t ≡ number_or_undef (int_of t i)
   built_int i = ap const_there (ap const_of (sym (const_views.rolls-Int i)) ∙ fold-roll-ConstText (Ty → Const) built_at_level (const_level.Int i))
 
   pub built_null : (at : ℕ) → const_of (const.Null at) t ≡ constant.Null

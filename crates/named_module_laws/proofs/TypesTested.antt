@@ -1,6 +1,6 @@
 -- The examples are computed.
 use Rattle.std.proofs.Common.{refl}
-use Rattle.named_module_laws.proofs.Folds.{constants_told, inits_started, pointed, trees}
+use Rattle.named_module_laws.proofs.Folds.{trees}
 use Rattle.named_module_laws.specs.TypesAtFault.{TypesAreTested, UnknownTypesAreTested}
 
 pub types_are_tested : TypesAreTested
@@ -36,7 +36,7 @@ pub unknown_types_are_tested : UnknownTypesAreTested
 unknown_types_are_tested = record {
   of_global = simp trees refl;
   of_field = simp trees refl;
-  of_addresses = simp (inits_started, constants_told) (simp pointed (simp trees refl));
+  of_addresses = simp trees refl;
   of_index = simp trees refl;
   of_recast = simp trees refl;
   of_initial_element = simp trees refl;

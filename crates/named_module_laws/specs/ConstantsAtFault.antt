@@ -9,7 +9,7 @@ use Rattle.module_grammar.specs.declared.functions.DeclaredNameText.TheVariants 
 use Rattle.module_grammar.specs.declared.items.ItemText.TheVariants as item
 use Rattle.module_grammar.specs.declared.items.TypeBodyText.TheVariants as type_body
 use Rattle.name_claims.specs.declared.claims.Reason.TheVariants.{LeftOut, Unknown, WrongType}
-use Rattle.named_module_laws.specs.Words.{f, x, y, named, positive, minus, yes, i1, i8, integer, of_name, pointer, array, struct, number, of_global, operand, bare, store, block, result, no_more, declare, of_blocks, of_lines, global, faults, fault}
+use Rattle.named_module_laws.specs.Words.{f, x, y, named, positive, negative, minus, yes, i1, i8, integer, of_name, pointer, array, struct, number, of_global, operand, bare, store, block, result, no_more, declare, of_blocks, of_lines, global, external, faults, fault}
 use Rattle.std.specs.Prelude.{◌≡◌, false, [], ◌∷◌, None, codes}
 
 -- What constants are of their types.
@@ -42,6 +42,12 @@ pub record ConstantsAreTested : Type 0 where
       (global 0 x (pointer 20 (array 12 (positive 3 13 14) (i8 17))) (init.Const (of_global (named 22 y)))
       ∷ global 25 y (array 37 (positive 2 38 39) (i8 42)) (init.Const const.Undef) ∷ [])
       ≡ fault 22 24 WrongType ∷ []
+  -- `@x = global [1 x i8]* @y @y = external global [-1 x i8]`
+  pub address_of_fewer_than_none :
+      faults
+      (global 0 x (pointer 20 (array 12 (positive 1 13 14) (i8 17))) (init.Const (of_global (named 22 y)))
+      ∷ external 25 y (array 46 (negative 1 47 49) (i8 52)) ∷ [])
+      ≡ fault 22 24 WrongType ∷ fault 47 49 WrongType ∷ []
   -- `%x = type { i8 } @x = global { i8 }* @y @y = global %x undef`
   pub address_of_named :
       faults
@@ -193,6 +199,14 @@ pub record ConstantsAreTested : Type 0 where
       (global 0 x (pointer 14 (i8 12)) (init.Const (const.Element 16 false (i8 31, pointer 37 (i8 35), of_global (named 39 y), [])))
       ∷ global 43 y (i1 55) (init.Const (number 0 58 59)) ∷ [])
       ≡ fault 39 41 WrongType ∷ []
+  -- `@x = global i1* getelementptr (i8, i1* null)`
+  pub base_alone :
+      faults (global 0 x (pointer 14 (i1 12)) (init.Const (const.Element 16 false (i8 31, pointer 37 (i1 35), const.Null 39, []))) ∷ [])
+      ≡ []
+  -- `@x = global i8* getelementptr (i8, i1* null)`
+  pub first_type_alone :
+      faults (global 0 x (pointer 14 (i8 12)) (init.Const (const.Element 16 false (i8 31, pointer 37 (i1 35), const.Null 39, []))) ∷ [])
+      ≡ fault 16 29 WrongType ∷ []
   -- `@x = global i8* getelementptr (i8, i8* null, i8 256)`
   pub index :
       faults

@@ -126,6 +126,22 @@ pub record RegistersAreTested : Type 0 where
       (operand (integer 64 73) (text.Const (number 0 77 78)) ∷ operand (i8 80) (text.Local (named 83 x)) ∷ []))
       ∷ setting (named 86 b) (load (i1 96) (operand (pointer 102 (i1 100)) (text.Local (named 104 z))) None) ∷ []))
       ≡ []
+  -- `define void @f(i8 %x, i8* %y) { %z = getelementptr { i8 }, { i8 }* null, i64 0, i32 4294967296 %b = load i1, i1* %z ret void }`
+  pub wrong_number :
+      faults
+      (of_lines
+      (setting (named 32 z)
+      (element 37 false (struct 51 (i8 53 ∷ [])) (operand (pointer 65 (struct 59 (i8 61 ∷ []))) (text.Const (const.Null 67)))
+      (operand (integer 64 73) (text.Const (number 0 77 78)) ∷ operand (integer 32 80) (text.Const (number 4294967296 84 94)) ∷ []))
+      ∷ setting (named 95 b) (load (i1 105) (operand (pointer 111 (i1 109)) (text.Local (named 113 z))) None) ∷ []))
+      ≡ fault 84 94 WrongType ∷ []
+  -- `define void @f(i8 %x, i8* %y) { %z = getelementptr i1, i8* %y %b = load i8, i8* %z ret void }`
+  pub base_alone :
+      faults
+      (of_lines
+      (setting (named 32 z) (element 37 false (i1 51) (operand (pointer 57 (i8 55)) (text.Local (named 59 y))) [])
+      ∷ setting (named 62 b) (load (i8 72) (operand (pointer 78 (i8 76)) (text.Local (named 80 z))) None) ∷ []))
+      ≡ []
   -- `define void @f(i8 %x, i8* %y) { %z = getelementptr i8, i8* %y, i8* %y %b = load i1, i1* %z ret void }`
   pub pointer_index :
       faults

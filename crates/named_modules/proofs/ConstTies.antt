@@ -6,7 +6,7 @@ use Rattle.std.specs.Option.{option_map}
 use Rattle.std.proofs.lemmas.Bool.{and_parts}
 use Rattle.ir_core.specs.declared.modules.Module.{Module}
 use Rattle.ir_core.specs.Types.{is_first_class, is_pointer}
-use Rattle.ir_core.specs.Typing.{Index, contents_of, element_type, is_due}
+use Rattle.ir_core.specs.Typing.{Index, contents_of, is_due}
 use Rattle.ir_types.specs.declared.names.Name.{Name}
 use Rattle.ir_types.specs.declared.ty.Ty.{Ty, Ptr}
 use Rattle.ir_types.specs.Same.{same_ty}
@@ -19,6 +19,7 @@ use Rattle.module_grammar.specs.declared.constants.IntText.{IntText}
 use Rattle.module_grammar.specs.declared.places.Placed.{Placed}
 use Rattle.module_grammar.specs.declared.types.TypeText.{TypeText}
 use Rattle.module_grammar.proofs.ConstFolds.{EachOf, by_parts}
+use Rattle.named_modules.specs.Addresses.{address_type}
 use Rattle.named_modules.specs.Constants.{Judged, const_fits, global_name, index_part, is_undef, is_undef_at_level, judged, judged_at_level, may_be, part_fits}
 use Rattle.named_modules.specs.Faults.{Told, at, const_at_level, const_faults, from, global_faults, heads_of, index_told, int_fault, is_function, part_faults, type_faults, unless, value_type_faults}
 use Rattle.named_modules.specs.Types.{int_of, is_type, is_value_type, type_of}
@@ -123,10 +124,10 @@ module _ (m : Module) where
       judged_parts : List (TypeText × Judged)
       judged_parts = told_each (judged m) ((base_ty, base) ∷ indices)
 
-      tied : (ty : Ty) → Ties (type_faults (heads_of m) of ++ (flat_map (part_faults (heads_of m)) told_parts ++ unless (may_be (element_type m.types (type_of of) (map index_told (told_each told indices))) ty) (from start 13 reason.WrongType))) ((is_type m of && list_all (part_fits m) judged_parts && may_be (element_type m.types (type_of of) (map index_part (told_each (judged m) indices))) ty) ≡ true)
+      tied : (ty : Ty) → Ties (type_faults (heads_of m) of ++ (flat_map (part_faults (heads_of m)) told_parts ++ unless (may_be (address_type m.types (type_of base_ty) (type_of of) (map index_told (told_each told indices))) ty) (from start 13 reason.WrongType))) ((is_type m of && list_all (part_fits m) judged_parts && may_be (address_type m.types (type_of base_ty) (type_of of) (map index_part (told_each (judged m) indices))) ty) ≡ true)
       tied ty =
           let f = from start 13 reason.WrongType in
-          let leads : List Index → Bool = λ is. may_be (element_type m.types (type_of of) is) ty in
+          let leads : List Index → Bool = λ is. may_be (address_type m.types (type_of base_ty) (type_of of) is) ty in
           let is_told = leads (map index_told (told_each told indices)) in
           let is_judged = leads (map index_part (told_each (judged m) indices)) in
           let same : is_told ≡ is_judged = ap leads (same_indices indices laws) in

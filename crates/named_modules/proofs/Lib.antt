@@ -23,3 +23,4 @@ pub mod OneLine
 pub mod OneName
 pub mod OneFunction
 pub mod OneModule
+pub mod Addresses

@@ -143,15 +143,16 @@ module _ (m : Module) (rs : Registers) where
     of = type_of w.of;
     base = operand_of w.base;
     indices = map operand_of w.indices;
-    to = pointed m.types (type_of w.of) (map operand_of w.indices);
+    to = pointed m.types (type_of w.base.ty) (type_of w.of) (map operand_of w.indices);
   }
 
   pub element_is : (w : ElementText) (e : Element Name) → IsElement m rs w e → e ≡ element_of w
   element_is w e is =
       let of : e.of ≡ type_of w.of = is.1.0 in
       let indices : e.indices ≡ map operand_of w.indices = zip_is (IsOperand m rs) operand_of operand_is w.indices e.indices is.3 in
-      let to : e.to ≡ pointed m.types (type_of w.of) (map operand_of w.indices) =
-      is.4 ∙ ap (λ t. pointed m.types t e.indices) of ∙ ap (pointed m.types (type_of w.of)) indices in
+      let to : e.to ≡ pointed m.types (type_of w.base.ty) (type_of w.of) (map operand_of w.indices) =
+      is.4 ∙ ap (λ t. pointed m.types t e.of e.indices) is.2.0.0 ∙ ap (λ t. pointed m.types (type_of w.base.ty) t e.indices) of
+      ∙ ap (pointed m.types (type_of w.base.ty) (type_of w.of)) indices in
       ap (λ b. record e { inbounds = b }) is.0
       ∙ ap (λ t. record e { inbounds = w.inbounds; of = t }) of
       ∙ ap (λ o. record e { inbounds = w.inbounds; of = type_of w.of; base = o }) (operand_is w.base e.base is.2)

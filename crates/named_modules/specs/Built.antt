@@ -25,7 +25,7 @@ use Rattle.ir_core.specs.declared.operands.Atom.{Atom}
 use Rattle.ir_core.specs.declared.operands.Atom.TheVariants.{Constant, Register}
 use Rattle.ir_core.specs.declared.operands.Operand.{Operand}
 use Rattle.ir_core.specs.Functions.{name_set}
-use Rattle.ir_core.specs.Typing.{element_type, index_of}
+use Rattle.ir_core.specs.Typing.{index_of}
 use Rattle.ir_lexer.specs.declared.token.Number.{Number}
 use Rattle.ir_types.specs.declared.named.NamedTy.{NamedTy}
 use Rattle.ir_types.specs.declared.names.Name.{Name}
@@ -71,6 +71,7 @@ use Rattle.module_grammar.specs.declared.lines.VoidCallText.TheVariants as of_vo
 use Rattle.module_grammar.specs.declared.places.Placed.{Placed}
 use Rattle.module_grammar.specs.declared.types.TypeText.{TypeText}
 use Rattle.module_grammar.specs.Operators.{operator_op}
+use Rattle.named_modules.specs.Addresses.{address_type}
 use Rattle.named_modules.specs.Constants.{const_of, global_name, init_of}
 use Rattle.named_modules.specs.Flow.{entries_in}
 use Rattle.named_modules.specs.Functions.{blocks_in, linkage_said, name_declared}
@@ -146,9 +147,9 @@ operation_of (form.Select w) =
 
 -- ---- lines
 
--- the type to which operands lead, beside these named types; where they lead nowhere a pointer to the first type
-abbrev pub pointed : List NamedTy → Ty → List (Operand Name) → Ty
-pointed types of indices = unwrap_or (element_type types of (map index_of indices)) (Ptr of)
+-- the type of an address, beside these named types; where operands lead nowhere a pointer to the first type
+abbrev pub pointed : List NamedTy → Ty → Ty → List (Operand Name) → Ty
+pointed types base of indices = unwrap_or (address_type types base of (map index_of indices)) (Ptr of)
 
 -- a count of 1 isn't kept
 abbrev pub count_kept : Ty → ℕ → Option (Ty × ℕ)
@@ -202,7 +203,7 @@ line_at types due register (instruction.Element w) = calm due register (expr.Ele
   of = type_of w.of;
   base = operand_of w.base;
   indices = map operand_of w.indices;
-  to = pointed types (type_of w.of) (map operand_of w.indices);
+  to = pointed types (type_of w.base.ty) (type_of w.of) (map operand_of w.indices);
 }))
 line_at types due register (instruction.Alloca w) = instr.Alloca (record {
   name = name_due due register;

@@ -1,5 +1,5 @@
 -- What constants and initialisers name (LangRef 3.7, Constants).
-use Rattle.std.specs.Prelude.{◌≡◌, ℕ, ◌&&◌, ◌||◌, Bool, true, false, List, [], ◌∷◌, length, map, Option, None, Some, is_some, unwrap_or}
+use Rattle.std.specs.Prelude.{◌≡◌, ℕ, ◌&&◌, ◌||◌, Bool, true, false, List, [], ◌∷◌, length, map, Option, None, Some, is_some}
 use Rattle.std.specs.List.{list_all}
 use Rattle.std.specs.Option.{option_map}
 use Rattle.ir_core.specs.declared.modules.Init.{Init}
@@ -8,7 +8,7 @@ use Rattle.ir_core.specs.declared.modules.Module.{Module}
 use Rattle.ir_core.specs.declared.operands.Const.{Const}
 use Rattle.ir_core.specs.declared.operands.Const as constant
 use Rattle.ir_core.specs.Types.{is_first_class, is_pointer}
-use Rattle.ir_core.specs.Typing.{Index, are_parts, contents_of, element_type, is_bytes, is_due, parts_of_array, parts_of_struct}
+use Rattle.ir_core.specs.Typing.{Index, are_parts, contents_of, is_bytes, is_due, parts_of_array, parts_of_struct}
 use Rattle.ir_types.specs.declared.names.Name.{Name}
 use Rattle.ir_types.specs.declared.ty.Ty.{Ty, Ptr, out-Ty}
 use Rattle.ir_types.specs.Same.{same_ty}
@@ -22,6 +22,7 @@ use Rattle.module_grammar.specs.declared.constants.InitText.TheOpen.{InitText-F}
 use Rattle.module_grammar.specs.declared.constants.InitText.TheOpen as held
 use Rattle.module_grammar.specs.declared.places.Placed.{Placed}
 use Rattle.module_grammar.specs.declared.types.TypeText.{TypeText}
+use Rattle.named_modules.specs.Addresses.{address_type}
 use Rattle.named_modules.specs.Types.{int_of, is_type, is_value_type, type_of}
 
 abbrev pub global_name : GlobalNameText → Placed Name
@@ -38,9 +39,13 @@ may_be (Some due) t = same_ty due t
 abbrev pub built_part : TypeText × (Ty → Const) → Ty × Const
 built_part p = (type_of p.0, p.1 (type_of p.0))
 
--- a number that is none of its type is built as 0
+-- A number that is none of its type is built as `undef`, which is no number: `i32 4294967296` leads to no field of `{ i8, i8 }`.
+abbrev pub number_or_undef : Option ℕ → Const
+number_or_undef None = constant.Undef
+number_or_undef (Some n) = constant.Number n
+
 abbrev pub const_at_level : ConstText-F (Ty → Const) → Ty → Const
-const_at_level (level.Int i) t = constant.Number (unwrap_or (int_of t i) 0)
+const_at_level (level.Int i) t = number_or_undef (int_of t i)
 const_at_level (level.Null at) t = constant.Null
 const_at_level level.Undef t = constant.Undef
 const_at_level (level.Global g) t = constant.Global (global_name g).what
@@ -69,8 +74,8 @@ abbrev pub index_part : TypeText × Judged → Index
 index_part p = record { ty = type_of p.0; number = p.1.number (type_of p.0) }
 
 -- A number is one of its type, `null` a pointer, `undef` any value, the name of a global a pointer to what it holds; a function's name is no
--- value. An address is of the type to which its indices lead; where they lead nowhere it has none, and none that is stated is wrong. A
--- `bitcast` is of the type behind its `to`.
+-- value. An address is of the type to which its indices lead, or without index of its base's; where they lead nowhere it has none, and none
+-- that is stated is wrong. A `bitcast` is of the type behind its `to`.
 abbrev pub judged_at_level : Module → ConstText-F Judged → Judged
 judged_at_level m (level.Int i) = record { number = λ t. int_of t i; fits = λ t. is_some (int_of t i) }
 judged_at_level m (level.Null at) = record { number = no_number; fits = is_pointer }
@@ -81,7 +86,7 @@ judged_at_level m (level.Element at inbounds (of, base_ty, base, indices)) = rec
   number = no_number;
   fits = λ t.
       is_type m of && list_all (part_fits m) ((base_ty, base) ∷ indices)
-      && may_be (element_type m.types (type_of of) (map index_part indices)) t;
+      && may_be (address_type m.types (type_of base_ty) (type_of of) (map index_part indices)) t;
 }
 judged_at_level m (level.Cast at (from, c, target)) = record {
   number = no_number;

@@ -9,7 +9,7 @@ use Rattle.ir_core.specs.declared.modules.GlobalVar.{GlobalVar}
 use Rattle.ir_core.specs.declared.modules.Module.{Module}
 use Rattle.ir_core.specs.Functions.{name_set}
 use Rattle.ir_core.specs.Types.{is_first_class, is_pointer}
-use Rattle.ir_core.specs.Typing.{Index, Signature, contents_of, element_type, is_bytes, parts_of_array, parts_of_struct, signatures_of}
+use Rattle.ir_core.specs.Typing.{Index, Signature, contents_of, is_bytes, parts_of_array, parts_of_struct, signatures_of}
 use Rattle.ir_lexer.specs.declared.token.Number.{Number}
 use Rattle.ir_types.specs.declared.named.NamedTy.{NamedTy}
 use Rattle.ir_types.specs.declared.names.Name.{Name}
@@ -68,6 +68,7 @@ use Rattle.module_grammar.specs.declared.types.CalledText.{CalledText}
 use Rattle.module_grammar.specs.declared.types.TypeText.{TypeText, fold-TypeText}
 use Rattle.module_grammar.specs.declared.types.TypeText.TheOpen.{TypeText-F}
 use Rattle.module_grammar.specs.declared.types.TypeText.TheOpen as types
+use Rattle.named_modules.specs.Addresses.{address_type}
 use Rattle.named_modules.specs.Built.{declared_params, due_after, due_behind, function_of, label_name, line_at, module_of, name_due}
 use Rattle.named_modules.specs.Constants.{global_name, may_be}
 use Rattle.named_modules.specs.Flow.{entries_in}
@@ -170,7 +171,7 @@ const_at_level h (level.Element start inbounds (of, base_ty, base, indices)) = r
   number = no_number;
   faults = λ t.
       type_faults h of ++ (flat_map (part_faults h) ((base_ty, base) ∷ indices)
-      ++ unless (may_be (element_type h.types (type_of of) (map index_told indices)) t) (from start 13 reason.WrongType));
+      ++ unless (may_be (address_type h.types (type_of base_ty) (type_of of) (map index_told indices)) t) (from start 13 reason.WrongType));
 }
 const_at_level h (level.Cast start (source, c, target)) = record {
   number = no_number;

@@ -1,4 +1,5 @@
 pub mod Types
+pub mod Addresses
 pub mod Constants
 pub mod Values
 pub mod Lines

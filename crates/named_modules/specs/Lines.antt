@@ -19,7 +19,7 @@ use Rattle.ir_core.specs.declared.modules.Module.{Module}
 use Rattle.ir_core.specs.declared.operands.CastOp.{CastOp}
 use Rattle.ir_core.specs.declared.operands.CastOp.TheVariants.{BitCast}
 use Rattle.ir_core.specs.declared.operands.Flags.{Flags}
-use Rattle.ir_core.specs.Typing.{Signature, element_type, index_of, signatures_of}
+use Rattle.ir_core.specs.Typing.{Signature, index_of, signatures_of}
 use Rattle.ir_types.specs.declared.names.Name.{Name}
 use Rattle.ir_types.specs.declared.ty.Ty.{Ty, Ptr, Void}
 use Rattle.module_grammar.specs.declared.attributes.ParamAttributeText.{ParamAttributeText}
@@ -53,6 +53,7 @@ use Rattle.module_grammar.specs.declared.places.Placed.{Placed}
 use Rattle.module_grammar.specs.declared.types.CalledText.{CalledText}
 use Rattle.module_grammar.specs.declared.types.TypeText.{TypeText}
 use Rattle.module_grammar.specs.Operators.{operator_op, resize_op}
+use Rattle.named_modules.specs.Addresses.{address_type}
 use Rattle.named_modules.specs.Constants.{global_name}
 use Rattle.named_modules.specs.Types.{int_of, type_of}
 use Rattle.named_modules.specs.Values.{IsAlign, IsNamed, IsOperand, IsType, IsValue, IsValueType, Registers, extensions_of}
@@ -102,11 +103,12 @@ module _ (m : Module) (rs : Registers) where
 
   -- ---- memory
 
-  -- The type that is kept is the one to which the indices lead; where they lead nowhere, a pointer to the first type.
+  -- The type that is kept is the one to which the indices lead, or without index the base's; where they lead nowhere, a pointer to the first
+  -- type.
   abbrev pub IsElement : ElementText → Element Name → Type 0
   IsElement w e =
       (e.inbounds ≡ w.inbounds) × IsType m w.of e.of × IsOperand m rs w.base e.base × AllZip (IsOperand m rs) w.indices e.indices
-      × (e.to ≡ unwrap_or (element_type m.types e.of (map index_of e.indices)) (Ptr e.of))
+      × (e.to ≡ unwrap_or (address_type m.types e.base.ty e.of (map index_of e.indices)) (Ptr e.of))
 
   abbrev pub IsLoad : LoadText → Load Name → Type 0
   IsLoad w l = IsValueType m w.ty l.of × IsOperand m rs w.address l.pointer × IsAlign w.align l.align

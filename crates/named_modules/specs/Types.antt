@@ -18,9 +18,13 @@ use Rattle.module_grammar.specs.declared.types.TypeText.TheOpen as level
 
 -- ---- types
 
--- a count that no type has is built as 0
+-- a count is a number from 0 to 2^64 - 1, `-0` too
+abbrev pub is_count : Number → Bool
+is_count n = nat_lt n.magnitude (2 ^ 64) && (not n.negative || nat_eq n.magnitude 0)
+
+-- a count that no type has is built as 0: the one of `[-1 x i8]`
 abbrev pub count_built : Number → ℕ
-count_built n = cond (nat_lt n.magnitude (2 ^ 64)) n.magnitude 0
+count_built n = cond (is_count n) n.magnitude 0
 
 abbrev pub type_at_level : TypeText-F Ty → Ty
 type_at_level (level.Int width) = ty.Int width.what
@@ -32,10 +36,6 @@ type_at_level (level.Struct at fields) = ty.Struct fields
 -- the type that is written: `[4 x %pair*]`
 abbrev pub type_of : TypeText → Ty
 type_of = fold-TypeText Ty type_at_level
-
--- a count is a number from 0 to 2^64 - 1, `-0` too
-abbrev pub is_count : Number → Bool
-is_count n = nat_lt n.magnitude (2 ^ 64) && (not n.negative || nat_eq n.magnitude 0)
 
 abbrev pub counted_at_level : TypeText-F Bool → Bool
 counted_at_level (level.Int width) = true

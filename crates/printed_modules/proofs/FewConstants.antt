@@ -1,6 +1,6 @@
 -- What is written of a constant or an initialiser of a module wants nothing large, where that wants nothing large.
 use Rattle.std.proofs.Common.{◌≡◌, ◌∙◌, ℕ, Bool, true, false, ◌&&◌, List, [], ◌∷◌, ◌++◌, length, map, Option, Some, None, refl, sym, ap, subst}
-use Rattle.std.specs.Prelude.{◌||◌, is_some, unwrap_or, Result, Ok, Err}
+use Rattle.std.specs.Prelude.{◌||◌, Result, Ok, Err}
 use Rattle.std.specs.List.{flat_map, list_all}
 use Rattle.std.proofs.lemmas.Bool.{and_parts}
 use Rattle.ir_core.specs.declared.modules.Init.{Init, fold-Init}
@@ -8,7 +8,7 @@ use Rattle.ir_core.specs.declared.modules.Module.{Module}
 use Rattle.ir_core.specs.declared.operands.Const.{Const, fold-Const}
 use Rattle.ir_core.specs.Sizes.{AreSmall, Blocks, indices_behind, one_of_each, stepped, wanted_at_level, wanted_by_constant, wanted_by_init_at, wanted_by_parts}
 use Rattle.ir_core.specs.Sizes.{Wanted as Counted}
-use Rattle.ir_core.specs.Typing.{Index, are_parts, element_type, is_bytes, parts_of_array, parts_of_struct}
+use Rattle.ir_core.specs.Typing.{Index, are_parts, is_bytes, parts_of_array, parts_of_struct}
 use Rattle.ir_core.proofs.Constants as constant
 use Rattle.ir_core.proofs.Inits as init
 use Rattle.ir_types.specs.declared.sizes.SizeFault.{SizeFault}
@@ -27,7 +27,8 @@ use Rattle.module_grammar.specs.declared.types.TypeText.{TypeText}
 use Rattle.module_grammar.proofs.ConstFolds.{EachOf, by_parts}
 use Rattle.module_grammar.proofs.InitFolds as held_folds
 use Rattle.module_spelling.specs.Blocks.{Asked, Wanted, asked_at_level, if_faultless, index_asked, init_at_level, is_large, is_too_large, wanted_by_const, wanted_by_init, wants, wants_along}
-use Rattle.named_modules.specs.Constants.{Judged, are_types, built_init_part, built_part, const_at_level, const_fits, const_of, fits_at_level, fitting_part, global_name, index_part, init_fits, init_of, is_undef, is_undef_at_level, judged, judged_at_level, may_be, part_fits}
+use Rattle.named_modules.specs.Addresses.{address_type}
+use Rattle.named_modules.specs.Constants.{Judged, are_types, built_init_part, built_part, const_at_level, const_fits, const_of, fits_at_level, fitting_part, global_name, index_part, init_fits, init_of, is_undef, is_undef_at_level, judged, judged_at_level, may_be, number_or_undef, part_fits}
 use Rattle.named_modules.specs.Constants as built
 use Rattle.name_claims.specs.declared.claims.Fault.{Fault}
 use Rattle.named_modules.specs.Faults.{Heads, first_of, heads_of, type_faults}
@@ -99,17 +100,19 @@ module _ (m : Module) where
   abbrev none_asked : Asked
   none_asked = record { number = λ t. None; wanted = [] }
 
-  of_number : (o : Option ℕ) → is_some o ≡ true → o ≡ Some (unwrap_or o 0)
-  of_number None e = cc
-  of_number (Some n) e = refl
+  abbrev numbered : Option ℕ → Counted
+  numbered o = record { number = o; blocks = [] }
+
+  number_counted : (o : Option ℕ) → counted (number_or_undef o) ≡ numbered o
+  number_counted None = constant.at_undef Counted (wanted_at_level m.types)
+  number_counted (Some n) = constant.at_number Counted (wanted_at_level m.types) n
 
   of_int : (i : IntText) → Agrees (Int i)
   of_int i =
-      formed (Int i) (record { number = λ t. int_of t i; wanted = [] }) (λ t. record { number = Some (unwrap_or (int_of t i) 0); blocks = [] })
+      formed (Int i) (record { number = λ t. int_of t i; wanted = [] }) (λ t. numbered (int_of t i))
       (ap is_undef_at_level (outs-Int i)) (kind.at_int Asked (asked_at_level h) i)
-      (λ t. ap (λ (f : Ty → Const). counted (f t)) (kind.at_int (Ty → Const) const_at_level i) ∙ constant.at_number Counted (wanted_at_level m.types) (unwrap_or (int_of t i) 0))
-      (λ t fits. of_number (int_of t i) (subst (λ (j : Judged). j.fits t ≡ true) (kind.at_int Judged (judged_at_level m) i) fits))
-      (λ t fits small. tt)
+      (λ t. ap (λ (f : Ty → Const). counted (f t)) (kind.at_int (Ty → Const) const_at_level i) ∙ number_counted (int_of t i))
+      (λ t fits. refl) (λ t fits small. tt)
 
   of_null : (start : ℕ) → Agrees (Null start)
   of_null start =
@@ -186,9 +189,9 @@ module _ (m : Module) where
       ∙ constant.at_element Counted (wanted_at_level m.types) inbounds (type_of of) (map built_part (told_each const_of whole)))
       (λ t fits. refl)
       (λ t fits small.
-      let judged_whole : (is_type m of && list_all (part_fits m) (told_each (judged m) whole) && may_be (element_type m.types (type_of of) (map index_part (told_each (judged m) indices))) t) ≡ true =
+      let judged_whole : (is_type m of && list_all (part_fits m) (told_each (judged m) whole) && may_be (address_type m.types (type_of base_ty) (type_of of) (map index_part (told_each (judged m) indices))) t) ≡ true =
       subst (λ (j : Judged). j.fits t ≡ true) (kind.at_element Judged (judged_at_level m) start inbounds of base_ty base indices) fits in
-      let judged_front = (and_parts (is_type m of && list_all (part_fits m) (told_each (judged m) whole)) (may_be (element_type m.types (type_of of) (map index_part (told_each (judged m) indices))) t) judged_whole).0 in
+      let judged_front = (and_parts (is_type m of && list_all (part_fits m) (told_each (judged m) whole)) (may_be (address_type m.types (type_of base_ty) (type_of of) (map index_part (told_each (judged m) indices))) t) judged_whole).0 in
       let fit = (and_parts (is_type m of) (list_all (part_fits m) (told_each (judged m) whole)) judged_front).1 in
       let inner = part_and_more (base_ty, base) indices fit in
       let along : AreSmall m.types (one_of_each (stepped m.types (type_of of) taken)) =

@@ -36,7 +36,7 @@ use Rattle.ir_core.specs.Limits.{depth_limit, line_limit}
 use Rattle.ir_core.specs.Order.{AreInOrder}
 use Rattle.ir_core.specs.Ranges.{IsAlignInRange, IsCountInRange, IsNameInRange, IsRightInRange, IsStartInRange, StandBehind, constant_written, init_written, is_written}
 use Rattle.ir_core.specs.StatedTypes.{stated_at_start, stated_by_count, stated_in}
-use Rattle.ir_core.specs.Typing.{Signature, declared_signature, element_type, index_of, is_constant_of, is_init_of, signatures_of}
+use Rattle.ir_core.specs.Typing.{Signature, declared_signature, index_of, is_constant_of, is_init_of, signatures_of}
 use Rattle.ir_core.specs.Types.{constant_fits, is_first_class}
 use Rattle.ir_core.specs.WellFormed.{IsNamedResult, IsTypeKnown}
 use Rattle.ir_types.specs.declared.named.NamedTy.{NamedTy}
@@ -45,6 +45,7 @@ use Rattle.ir_types.specs.declared.ty.Ty.{Ty}
 use Rattle.ir_types.specs.declared.ty.Ty.TheVariants as ty
 use Rattle.ir_types.specs.Named.{fields_or_none}
 use Rattle.ir_printer.specs.Printed.{called_in}
+use Rattle.named_modules.specs.Addresses.{address_type}
 use Rattle.named_modules.specs.Functions.{labels_of, registers_of}
 use Rattle.named_modules.specs.Modules.{global_names}
 use Rattle.named_modules.specs.Values.{IsRegister, Registers}
@@ -102,11 +103,11 @@ module _ (m : Module) where
 
     -- ---- lines
 
-    -- the kept type of a `getelementptr` is the one to which its indices lead; an operand alone is no line
+    -- the kept type of a `getelementptr` is that of the address; an operand alone is no line
     abbrev pub FitsOperator : Expr Name → Type 0
     FitsOperator (expr.Plain o) = ⊥
     FitsOperator (expr.Cast c) = FitsValueType c.to
-    FitsOperator (expr.Element e) = FitsType e.of × (element_type m.types e.of (map index_of e.indices) ≡ Some e.to)
+    FitsOperator (expr.Element e) = FitsType e.of × (address_type m.types e.base.ty e.of (map index_of e.indices) ≡ Some e.to)
     FitsOperator (expr.Load l) = FitsValueType l.of
     FitsOperator e = Unit {0}
 

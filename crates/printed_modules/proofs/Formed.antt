@@ -1,5 +1,5 @@
 -- Functions of shape, in order and in range can be written as text.
-use Rattle.std.proofs.Common.{◌≡◌, ◌<◌, true, List, [], ◌∷◌, ◌++◌, map, length, Option, None, Some}
+use Rattle.std.proofs.Common.{◌≡◌, ◌∙◌, ◌<◌, true, List, [], ◌∷◌, ◌++◌, map, length, Option, None, Some, ap}
 use Rattle.std.specs.List.{AllByRecursion, Contains, cons_option, flat_map}
 use Rattle.ir_core.specs.declared.expressions.Expr.{Expr}
 use Rattle.ir_core.specs.declared.expressions.Expr.TheVariants as expr
@@ -24,13 +24,15 @@ use Rattle.ir_core.specs.Functions.{registers_of as registers_in}
 use Rattle.ir_core.specs.Ranges.{IsAtomInRange, IsCaseInRange, IsLineInRange, IsNameInRange, IsOperandInRange, IsRightInRange, IsTypeInRange}
 use Rattle.ir_core.specs.StatedTypes.{stated_apart, stated_by_atom, stated_by_block, stated_by_line, stated_by_operand, stated_by_phi}
 use Rattle.ir_core.specs.Types.{is_first_class}
-use Rattle.ir_core.specs.Typing.{Signature, signatures_of}
+use Rattle.ir_core.specs.Typing.{Signature, index_of, signatures_of}
 use Rattle.ir_core.specs.WellFormed.{FitsEdges, HasBlockShape, HasType, IsCall, IsLine, IsOperator, IsTypeKnown}
 use Rattle.ir_types.specs.declared.names.Name.{Name}
 use Rattle.ir_types.specs.declared.ty.Ty.{Ty}
 use Rattle.ir_printer.specs.Printed.{called_in}
+use Rattle.named_modules.specs.Addresses.{address_type}
 use Rattle.named_modules.specs.Functions.{labels_of, registers_of}
 use Rattle.named_modules.specs.Values.{IsRegister}
+use Rattle.named_modules.proofs.Addresses.{from_pointer}
 use Rattle.named_modules.proofs.Lists.{all_left, all_right}
 use Rattle.printed_modules.proofs.Callable.{IsCallee}
 use Rattle.printed_modules.proofs.ConstantValues.{constant_values}
@@ -121,7 +123,10 @@ module _ (m : Module) (f : Function) (around : IsSurrounding m f) where
   fits_operator (expr.Icmp c) type values range known is = tt
   fits_operator (expr.Cast c) type values range known is = fits_value_type m c.to type known.0 values
   fits_operator (expr.Select s) type values range known is = tt
-  fits_operator (expr.Element e) type values range known is = (fits_type m e.of range known.0, is.2)
+  fits_operator (expr.Element e) type values range known is = (
+    fits_type m e.of range known.0,
+    ap (λ t. address_type m.types t e.of (map index_of e.indices)) is.0 ∙ from_pointer m.types e.of (map index_of e.indices) ∙ is.2,
+  )
   fits_operator (expr.Load l) type values range known is = fits_value_type m l.of type known.0 values
 
   -- the register that a line sets, if it sets one

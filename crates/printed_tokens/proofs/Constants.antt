@@ -1,6 +1,6 @@
 -- A printed constant is the symbols of a written constant that names it, at the type that is stated for it.
 use Rattle.std.proofs.Common.{◌≡◌, ◌∙◌, ℕ, ◌&&◌, Bool, true, false, List, [], ◌∷◌, ◌++◌, codes, map, Option, Some, None, refl, ap, sym, subst}
-use Rattle.std.specs.Prelude.{if◌then◌else◌, is_some, unwrap_or}
+use Rattle.std.specs.Prelude.{if◌then◌else◌, is_some}
 use Rattle.std.specs.List.{AllByRecursion, AllZip, flat_map, list_all}
 use Rattle.std.specs.Option.{option_map}
 use Rattle.std.proofs.lemmas.Bool.{and_from, and_parts}
@@ -8,8 +8,9 @@ use Rattle.std.proofs.lemmas.List.{append-nil}
 use Rattle.std.proofs.lemmas.List.Folds.{flat_map-map}
 use Rattle.ir_types.specs.declared.names.Name.{Name}
 use Rattle.ir_types.specs.declared.ty.Ty.{Ty, Ptr}
+use Rattle.ir_types.specs.Named.{is_sized}
 use Rattle.ir_types.specs.Same.{same_name, same_ty}
-use Rattle.ir_types.proofs.SameLaws.{same_name_true}
+use Rattle.ir_types.proofs.SameLaws.{same_name_true, same_ty_true}
 use Rattle.ir_core.specs.declared.modules.GlobalVar.{GlobalVar}
 use Rattle.ir_core.specs.declared.modules.Module.{Module}
 use Rattle.ir_core.specs.declared.operands.Const.{Const, Number, Undef, Null, Global, Element, Cast}
@@ -31,9 +32,11 @@ use Rattle.module_grammar.specs.Listed.{further}
 use Rattle.module_grammar.specs.Symbols.{Symbol, BitCast, close_paren, open_paren, to}
 use Rattle.module_grammar.specs.Symbols as symbols
 use Rattle.module_grammar.specs.Types.{ty}
+use Rattle.named_modules.specs.Addresses.{address_type}
 use Rattle.named_modules.specs.Constants.{IsConst, Judged, const_at_level, const_of, index_part, judged, judged_at_level, may_be, part_fits}
 use Rattle.named_modules.specs.Constants as naming
 use Rattle.named_modules.specs.Types.{is_type, type_of}
+use Rattle.named_modules.proofs.Addresses.{from_pointer}
 use Rattle.named_modules.proofs.ConstKinds as kind
 use Rattle.named_modules.proofs.ConstKinds.{told_each}
 use Rattle.named_modules.proofs.Lists.{all_left, all_right}
@@ -95,7 +98,7 @@ module _ (m : Module) (language : Language) (names : HasNames m) where
       of_parts t (Number n)
       (read_as language const (λ (w : ConstText). NamesConst m t w (Number n)) text.Int (λ i named. sym (tree.at_int i))
       (λ i named. record {
-        is = sym (ap (λ (f : Ty → Const). f t) (kind.at_int (Ty → Const) const_at_level i) ∙ ap (λ o. Number (unwrap_or o 0)) named);
+        is = sym (ap (λ (f : Ty → Const). f t) (kind.at_int (Ty → Const) const_at_level i) ∙ ap naming.number_or_undef named);
         fits = ap (λ (j : Judged). j.fits t) (kind.at_int Judged (judged_at_level m) i) ∙ ap is_some named;
         number = ap (λ (j : Judged). j.number t) (kind.at_int Judged (judged_at_level m) i) ∙ named ∙ sym (ap (λ (f : Fitting). f.number) (fold.at_number Fitting (fitting_at_level m.types m.globals) n));
       })
@@ -203,17 +206,20 @@ module _ (m : Module) (language : Language) (names : HasNames m) where
       → is_constant_of m t (Element (set, of, base ∷ indices)) ≡ true → NamesAddress of base indices w → NamesConst m t (element_tree set w) (Element (set, of, base ∷ indices))
   element_named t of set base indices w known typed named =
       let level_is = kind.at_element Judged (judged_at_level m) w.0.0 set w.0.1 w.1.0.0 w.1.0.1 w.1.1 in
-      let due = (and_parts _ (is_due (element_type m.types of (map index_at (fitted_parts m indices))) t)
-      (and_parts (are_typed (fitted_parts m (base ∷ indices))) _ (sym (element_typed m t set of (base ∷ indices)) ∙ typed)).1).1 in
-      let leads = ap (λ u. may_be (element_type m.types u (map index_part (judged_parts m w.1.1))) t) named.0.0
-      ∙ ap (λ is. may_be (element_type m.types of is) t) (same_indices m w.1.1 indices named.1.1)
-      ∙ due_may (element_type m.types of (map index_at (fitted_parts m indices))) t due in
+      let led = and_parts (same_ty base.0 (Ptr of) && is_sized m.types of) (is_due (element_type m.types of (map index_at (fitted_parts m indices))) t)
+      (and_parts (are_typed (fitted_parts m (base ∷ indices))) _ (sym (element_typed m t set of (base ∷ indices)) ∙ typed)).1 in
+      let based = same_ty_true base.0 (Ptr of) (and_parts (same_ty base.0 (Ptr of)) (is_sized m.types of) led.0).0 in
+      let leads = ap (λ u. may_be (address_type m.types u (type_of w.0.1) (map index_part (judged_parts m w.1.1))) t) (named.1.0.type ∙ based)
+      ∙ ap (λ u. may_be (address_type m.types (Ptr of) u (map index_part (judged_parts m w.1.1))) t) named.0.0
+      ∙ ap (λ is. may_be (address_type m.types (Ptr of) of is) t) (same_indices m w.1.1 indices named.1.1)
+      ∙ ap (λ o. may_be o t) (from_pointer m.types of (map index_at (fitted_parts m indices)))
+      ∙ due_may (element_type m.types of (map index_at (fitted_parts m indices))) t led.1 in
       record {
         is = sym (ap (λ (f : Ty → Const). f t) (kind.at_element (Ty → Const) const_at_level w.0.0 set w.0.1 w.1.0.0 w.1.0.1 w.1.1)
             ∙ ap (λ u. Element (set, u, map naming.built_part (told_each const_of (w.1.0 ∷ w.1.1)))) named.0.0
             ∙ ap (λ cs. Element (set, of, cs)) (parts_built m (w.1.0 ∷ w.1.1) (base ∷ indices) named.1));
         fits = ap (λ (j : Judged). j.fits t) level_is
-            ∙ and_from (is_type m w.0.1 && list_all (part_fits m) (judged_parts m (w.1.0 ∷ w.1.1))) (may_be (element_type m.types (type_of w.0.1) (map index_part (judged_parts m w.1.1))) t)
+            ∙ and_from (is_type m w.0.1 && list_all (part_fits m) (judged_parts m (w.1.0 ∷ w.1.1))) (may_be (address_type m.types (type_of w.1.0.0) (type_of w.0.1) (map index_part (judged_parts m w.1.1))) t)
             (and_from (is_type m w.0.1) (list_all (part_fits m) (judged_parts m (w.1.0 ∷ w.1.1))) (is_known m w.0.1 of named.0 known) (parts_fit m (w.1.0 ∷ w.1.1) (base ∷ indices) named.1)) leads;
         number = ap (λ (j : Judged). j.number t) level_is ∙ sym (ap (λ (f : Fitting). f.number) (fold.at_element Fitting (fitting_at_level m.types m.globals) set of (base ∷ indices)));
       }

@@ -68,7 +68,8 @@ width_word w is =
 count_kept : (n : ℕ) (w : Number) → n < 2 ^ 64 → w ≡ unsigned n → (count_built w ≡ n) × (is_count w ≡ true)
 count_kept n w small is =
     let below = lt-ltb n (2 ^ 64) small in
-    (ap count_built is ∙ cond-true _ _ _ below, ap is_count is ∙ and_from (nat_lt n (2 ^ 64)) true below refl)
+    let counts : is_count w ≡ true = ap is_count is ∙ and_from (nat_lt n (2 ^ 64)) true below refl in
+    (cond-true (is_count w) w.magnitude 0 counts ∙ ap (λ (k : Number). k.magnitude) is, counts)
 
 -- ---- lists of types
 

@@ -1,8 +1,7 @@
--- Which numbers constants and operands are built as, and what indices behind the first one lead to.
+-- Which numbers operands are built as, and what indices behind the first one lead to.
 use Rattle.std.proofs.Common.{◌≡◌, ◌∙◌, ◌+◌, ◌<◌, ℕ, zero, suc, add-one, Bool, false, cond, List, [], ◌∷◌, drop, length, map, Option, None, Some, refl, sym, ap, arith}
 use Rattle.std.specs.List.{slice_get}
 use Rattle.std.specs.Option.{option_and_then, option_map}
-use Rattle.std.specs.Prelude.{unwrap_or}
 use Rattle.ir_core.specs.declared.operands.Atom.{Atom}
 use Rattle.ir_core.specs.declared.operands.Atom.TheVariants.{Constant, Register}
 use Rattle.ir_core.specs.declared.operands.Const.{Const}
@@ -11,50 +10,31 @@ use Rattle.ir_core.specs.Typing.{Index, element_type, entered, index_of, led_to,
 use Rattle.ir_types.specs.declared.named.NamedTy.{NamedTy}
 use Rattle.ir_types.specs.declared.names.Name.{Name}
 use Rattle.ir_types.specs.declared.ty.Ty.{Ty, Ptr}
-use Rattle.module_grammar.specs.declared.constants.ConstText.{ConstText, Int, Null, Undef, Global, Element, Cast}
-use Rattle.module_grammar.specs.declared.constants.ConstText.TheOpen.{ConstText-F}
-use Rattle.module_grammar.specs.declared.constants.ConstText.TheViews.{outs-Int, outs-Null, outs-Undef, outs-Global, outs-Element, outs-Cast}
-use Rattle.module_grammar.specs.declared.constants.GlobalNameText.{GlobalNameText}
-use Rattle.module_grammar.specs.declared.constants.IntText.{IntText}
+use Rattle.module_grammar.specs.declared.constants.ConstText.{ConstText}
 use Rattle.module_grammar.specs.declared.constants.OperandText.{OperandText}
 use Rattle.module_grammar.specs.declared.constants.ValueText.{ValueText}
 use Rattle.module_grammar.specs.declared.constants.ValueText.TheVariants as text
-use Rattle.module_grammar.specs.declared.types.TypeText.{TypeText}
 use Rattle.module_grammar.proofs.ConstFolds.{by_parts}
+use Rattle.named_modules.specs.Addresses.{address_type}
 use Rattle.named_modules.specs.Built.{operand_of, value_at}
-use Rattle.named_modules.specs.Constants.{const_at_level, const_of}
+use Rattle.named_modules.specs.Constants.{const_at_level, const_of, number_or_undef}
 use Rattle.named_modules.specs.Types.{int_of, type_of}
 use Rattle.named_modules.proofs.ConstKinds as kind
-use Rattle.register_types.specs.Owned.{entered_got, index_built, led_from, number_at_level, number_built, value_number}
-
-module _ (t : Ty) where
-  abbrev by_level : ConstText-F ConstText → Option ℕ
-  by_level l = number_at_level l t
-
-  pub of_int : (i : IntText) → number_built (Int i) t ≡ Some (unwrap_or (int_of t i) 0)
-  of_int i = ap by_level (outs-Int i)
-
-  pub of_null : (start : ℕ) → number_built (Null start) t ≡ None
-  of_null start = ap by_level (outs-Null start)
-
-  pub of_undef : number_built Undef t ≡ None
-  of_undef = ap by_level outs-Undef
-
-  pub of_global : (name : GlobalNameText) → number_built (Global name) t ≡ None
-  of_global name = ap by_level (outs-Global name)
-
-  pub of_element : (start : ℕ) (inbounds : Bool) (e : TypeText × TypeText × ConstText × List (TypeText × ConstText)) → number_built (Element start inbounds e) t ≡ None
-  of_element start inbounds e = ap by_level (outs-Element start inbounds e)
-
-  pub of_cast : (start : ℕ) (c : TypeText × ConstText × TypeText) → number_built (Cast start c) t ≡ None
-  of_cast start c = ap by_level (outs-Cast start c)
+use Rattle.const_faults.specs.Indices.{number_at}
+use Rattle.const_faults.proofs.NumberedKinds.{of_cast, of_element, of_global, of_int, of_null, of_undef}
+use Rattle.register_types.specs.Owned.{entered_got, index_built, led_from, value_number}
 
 abbrev read_at : Ty → (Ty → Const) → Option ℕ
 read_at t f = atom_number {R = Name} (Constant (f t))
 
-number_is : (c : ConstText) → (t : Ty) → atom_number {R = Name} (Constant (const_of c t)) ≡ number_built c t
-number_is = by_parts (λ c. (t : Ty) → atom_number {R = Name} (Constant (const_of c t)) ≡ number_built c t)
-    (λ i t. ap (read_at t) (kind.at_int (Ty → Const) const_at_level i) ∙ sym (of_int t i))
+-- a number that is none of its type is built as none
+number_kept : (o : Option ℕ) → atom_number {R = Name} (Constant (number_or_undef o)) ≡ o
+number_kept None = refl
+number_kept (Some n) = refl
+
+number_is : (c : ConstText) → (t : Ty) → atom_number {R = Name} (Constant (const_of c t)) ≡ number_at c t
+number_is = by_parts (λ c. (t : Ty) → atom_number {R = Name} (Constant (const_of c t)) ≡ number_at c t)
+    (λ i t. ap (read_at t) (kind.at_int (Ty → Const) const_at_level i) ∙ number_kept (int_of t i) ∙ sym (of_int t i))
     (λ start t. ap (read_at t) (kind.at_null (Ty → Const) const_at_level start) ∙ sym (of_null t start))
     (λ t. ap (read_at t) (kind.at_undef (Ty → Const) const_at_level) ∙ sym (of_undef t))
     (λ g t. ap (read_at t) (kind.at_global (Ty → Const) const_at_level g) ∙ sym (of_global t g))
@@ -111,3 +91,9 @@ pointed_none types of (v ∷ vs) w e b =
     let same : w ≡ v = cc in
     let no : is_integer (type_of v.ty) ≡ false = sym (ap (λ (x : OperandText). is_integer (type_of x.ty)) same) ∙ sym b in
     sym (ap (λ (c : Bool). cond c (option_map Ptr (led_to types of (map index_built vs))) None) no)
+
+-- where there is an index
+pub led_own : (types : List NamedTy) (base of : Ty) (ws : List OperandText) (w : OperandText) → Some w ≡ slice_get ws 0
+    → element_type types of (map index_built ws) ≡ address_type types base of (map index_built ws)
+led_own types base of [] w e = cc
+led_own types base of (v ∷ vs) w e = refl

@@ -8,37 +8,22 @@ ghost use Rattle.register_types.specs.Owned as told;
 ghost use Rattle.function_names.specs.Seen.{own_type};
 ghost use Rattle.type_faults.specs.Lent.{seen};
 
-use const_faults::{entered, is_integer};
+use const_faults::{entered, is_integer, number_of};
 use function_names::Own;
 use ir_core::NamedTypes;
 use module_grammar::{
-    CallBodyText, ConstText, InstructionText, OperandText, OperationText, TypeText, ValueText,
+    CallBodyText, ElementText, InstructionText, OperandText, OperationText, TypeText, ValueText,
     VoidCallText,
 };
-use type_faults::{Lent, int_of};
+use type_faults::Lent;
 use typed_grammars::Stack;
 
-/// The number that a constant is built as, if it is one.
-#[tactic(auto, using(crate::proofs::OwnKinds::of_int, crate::proofs::OwnKinds::of_null, crate::proofs::OwnKinds::of_undef, crate::proofs::OwnKinds::of_global, crate::proofs::OwnKinds::of_element, crate::proofs::OwnKinds::of_cast))]
-fn number_built(constant: &ConstText, ty: &TypeText) -> Option<u64>
-    ensures { result ≡ told.number_built constant.now (type_of ty.now) }
-{
-    match constant {
-        ConstText::Int(int) => Some(int_of(ty, int).unwrap_or(0)),
-        ConstText::Null(_) => None,
-        ConstText::Undef => None,
-        ConstText::Global(_) => None,
-        ConstText::Element(_, _, _) => None,
-        ConstText::Cast(_, _) => None,
-    }
-}
-
-/// The number that an operand is built as, if it is one.
+/// The number that an operand is, if it is one.
 fn number_in(operand: &OperandText) -> Option<u64>
     ensures { result ≡ told.number_in operand.now }
 {
     match &operand.value {
-        ValueText::Const(constant) => number_built(constant, &operand.ty),
+        ValueText::Const(constant) => number_of(constant, &operand.ty),
         ValueText::Local(_) => None,
         ValueText::Tagged { tag: _, name: _ } => None,
     }
@@ -72,7 +57,7 @@ fn led<'a>(types: &'a NamedTypes, of: Lent<'a>, indices: &Stack<OperandText>) ->
     Some(ty)
 }
 
-/// What an address points to.
+/// What indices lead to.
 fn pointed<'a>(
     types: &'a NamedTypes,
     of: &'a TypeText,
@@ -147,15 +132,24 @@ fn pointer_to<'a>(pointed: Option<Lent<'a>>) -> Option<Own<'a>>
     }
 }
 
+/// The type of an address, if it has one.
+#[tactic(auto, using(crate::proofs::OwnKinds::led_own))]
+fn element_own<'a>(types: &'a NamedTypes, element: &'a ElementText) -> Option<Own<'a>>
+    ensures { option_map own_type result ≡ told.element_own types.now element.now }
+{
+    match element.indices.get(0) {
+        None => Some(Own::Is(Lent::Written(&element.base.ty))),
+        Some(_) => pointer_to(pointed(types, &element.of, &element.indices)),
+    }
+}
+
 /// The type of what a line sets, if it has one.
 pub fn line_own<'a>(types: &'a NamedTypes, instruction: &'a InstructionText) -> Option<Own<'a>>
     ensures { option_map own_type result ≡ told.line_type types.now instruction.now }
 {
     match instruction {
         InstructionText::Operation(operation) => Some(operation_own(operation)),
-        InstructionText::Element(element) => {
-            pointer_to(pointed(types, &element.of, &element.indices))
-        }
+        InstructionText::Element(element) => element_own(types, element),
         InstructionText::Alloca(alloca) => Some(Own::PointerTo(Lent::Written(&alloca.ty))),
         InstructionText::Load(load) => Some(Own::Is(Lent::Written(&load.ty))),
         InstructionText::Store(_) => None,

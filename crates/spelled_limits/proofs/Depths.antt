@@ -1,5 +1,5 @@
 -- How deep what is built of written types, constants and initialisers is.
-use Rattle.std.proofs.Common.{◌≡◌, ◌∙◌, ◌≤◌, ◌+◌, ℕ, Bool, List, [], ◌∷◌, length, map, refl, ap, arith}
+use Rattle.std.proofs.Common.{◌≡◌, ◌∙◌, ◌≤◌, ◌+◌, ℕ, Bool, List, [], ◌∷◌, length, map, Option, Some, None, refl, ap, arith}
 use Rattle.std.specs.Prelude.{max}
 use Rattle.std.specs.List.{AllByRecursion}
 use Rattle.ir_core.specs.Depths.{deepest, depth_at_level, depth_at_part, depth_of, depth_of_constant, depth_of_init, depth_of_init_at, depth_of_parts}
@@ -20,8 +20,8 @@ use Rattle.module_grammar.specs.declared.constants.IntText.{IntText}
 use Rattle.module_grammar.specs.declared.places.Placed.{Placed}
 use Rattle.module_grammar.specs.declared.types.TypeText.{TypeText, Int, Named, Ptr, Array, Struct}
 use Rattle.module_grammar.specs.Joined.{pointers_to}
-use Rattle.named_modules.specs.Constants.{built_init_part, built_part, const_at_level, const_of, global_name, init_at_level, init_of}
-use Rattle.named_modules.specs.Types.{count_built, type_at_level, type_of}
+use Rattle.named_modules.specs.Constants.{built_init_part, built_part, const_at_level, const_of, global_name, init_at_level, init_of, number_or_undef}
+use Rattle.named_modules.specs.Types.{count_built, int_of, type_at_level, type_of}
 use Rattle.named_modules.proofs.ConstKinds as kind
 use Rattle.named_modules.proofs.TypeKinds as type_kind
 
@@ -52,9 +52,13 @@ of_pointers t (at ∷ more) =
 
 -- ---- constants
 
+number_depth : (o : Option ℕ) → depth_of_constant (number_or_undef o) ≡ 1
+number_depth None = constant.at_undef ℕ depth_at_part
+number_depth (Some n) = constant.at_number ℕ depth_at_part n
+
 module _ (t : Ty) where
   pub of_number : (i : IntText) → depth_of_constant (const_of (text.Int i) t) ≡ 1
-  of_number i = ap (λ (f : Ty → Const). depth_of_constant (f t)) (kind.at_int (Ty → Const) const_at_level i) ∙ constant.at_number ℕ depth_at_part _
+  of_number i = ap (λ (f : Ty → Const). depth_of_constant (f t)) (kind.at_int (Ty → Const) const_at_level i) ∙ number_depth (int_of t i)
 
   pub of_null : (at : ℕ) → depth_of_constant (const_of (text.Null at) t) ≡ 1
   of_null at = ap (λ (f : Ty → Const). depth_of_constant (f t)) (kind.at_null (Ty → Const) const_at_level at) ∙ constant.at_null ℕ depth_at_part

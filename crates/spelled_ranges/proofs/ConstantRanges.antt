@@ -1,11 +1,10 @@
 -- A constant that is named is in range at its type where what is written of it is.
-use Rattle.std.proofs.Common.{◌≡◌, ◌∙◌, ℕ, Bool, true, ◌&&◌, List, [], ◌∷◌, ◌++◌, map, unwrap_or, refl, sym, ap, subst}
+use Rattle.std.proofs.Common.{◌≡◌, ◌∙◌, ℕ, Bool, true, ◌&&◌, List, [], ◌∷◌, ◌++◌, map, Option, Some, None, refl, sym, ap, subst}
 use Rattle.std.specs.List.{AllByRecursion, list_all}
 use Rattle.std.proofs.lemmas.Bool.{and_from, and_parts}
 use Rattle.ir_core.proofs.Constants as constants
 use Rattle.ir_core.proofs.Ranges as ranges
 use Rattle.ir_core.specs.Ranges.{IsAtomInRange, are_written, constant_at_level, constant_written, is_written}
-use Rattle.ir_core.specs.Typing.{element_type}
 use Rattle.ir_core.specs.declared.modules.Module.{Module}
 use Rattle.ir_core.specs.declared.operands.Atom.TheVariants.{Constant}
 use Rattle.ir_core.specs.declared.operands.Const as constant
@@ -25,10 +24,11 @@ use Rattle.module_grammar.specs.declared.types.TypeText.{TypeText}
 use Rattle.named_modules.proofs.ConstKinds as kind
 use Rattle.named_modules.proofs.ConstKinds.{told_each}
 use Rattle.named_modules.proofs.Lists.{all_append, all_left, all_right}
-use Rattle.named_modules.specs.Constants.{Judged, built_part, const_at_level, const_fits, const_of, global_name, index_part, judged, judged_at_level, may_be, part_fits}
+use Rattle.named_modules.specs.Addresses.{address_type}
+use Rattle.named_modules.specs.Constants.{Judged, built_part, const_at_level, const_fits, const_of, global_name, index_part, judged, judged_at_level, may_be, number_or_undef, part_fits}
 use Rattle.named_modules.specs.Types.{int_of, is_type, is_value_type, type_of}
 use Rattle.spelled_ranges.proofs.Lists.{further_each}
-use Rattle.spelled_ranges.proofs.NumberRanges.{number_fits}
+use Rattle.spelled_ranges.proofs.NumberRanges.{int_fits}
 use Rattle.spelled_ranges.proofs.SymbolRanges.{AllInRange, IsSymbolInRange}
 use Rattle.spelled_ranges.proofs.TypeRanges.{type_written}
 
@@ -47,11 +47,12 @@ module _ (m : Module) where
   built : (c : ConstText) (f : Ty → Const) (t : Ty) → const_of c ≡ f → constant_written t (f t) ≡ true → constant_written t (const_of c t) ≡ true
   built c f t e is = ap (λ (f : Ty → Const). constant_written t (f t)) e ∙ is
 
+  number_written : (t : Ty) (i : IntText) (o : Option ℕ) → int_of t i ≡ o → constant_written t (number_or_undef o) ≡ true
+  number_written t i None e = ranges.of_undef t
+  number_written t i (Some n) e = ranges.of_number t n ∙ int_fits i t n e
+
   at_int : (i : IntText) → IsFine (Int i)
-  at_int i t all fits =
-      let some = sym (ap (λ (j : Judged). j.fits t) (kind.at_int Judged (judged_at_level m) i)) ∙ fits in
-      built (Int i) _ t (kind.at_int (Ty → Const) const_at_level i)
-      (ranges.of_number t (unwrap_or (int_of t i) 0) ∙ number_fits t i (int_of t i) refl some)
+  at_int i t all fits = built (Int i) _ t (kind.at_int (Ty → Const) const_at_level i) (number_written t i (int_of t i) refl)
 
   at_null : (at : ℕ) → IsFine (Null at)
   at_null at t all fits = built (Null at) _ t (kind.at_null (Ty → Const) const_at_level at) (ranges.of_null t)
@@ -92,7 +93,7 @@ module _ (m : Module) where
       let typed : AllByRecursion IsTypedWritten ((base_ty, base) ∷ indices) = (all_append IsSymbolInRange (types.ty base_ty) (write.const base) base_there (all_left IsSymbolInRange (write.const base) end based), each) in
       let parts : List (TypeText × ConstText) = (base_ty, base) ∷ indices in
       let fit = sym (ap (λ (j : Judged). j.fits t) (kind.at_element Judged (judged_at_level m) at is_inbounds of base_ty base indices)) ∙ fits in
-      let known = and_parts (is_type m of && list_all (part_fits m) (told_each (judged m) parts)) (may_be (element_type m.types (type_of of) (map index_part (told_each (judged m) indices))) t) fit in
+      let known = and_parts (is_type m of && list_all (part_fits m) (told_each (judged m) parts)) (may_be (address_type m.types (type_of base_ty) (type_of of) (map index_part (told_each (judged m) indices))) t) fit in
       let each_fits = (and_parts (is_type m of) (list_all (part_fits m) (told_each (judged m) parts)) known.0).1 in
       built (Element at is_inbounds (of, base_ty, base, indices)) _ t (kind.at_element (Ty → Const) const_at_level at is_inbounds of base_ty base indices)
       (ranges.of_element t is_inbounds (type_of of) (parts_built parts)

@@ -1,5 +1,5 @@
 -- A number that is one of a type has no more bits than the type.
-use Rattle.std.proofs.Common.{◌≡◌, ◌∙◌, ℕ, ◌<◌, ◌^◌, ◌-◌, ◌%◌, Bool, true, false, cond, nat_eq, nat_le, nat_lt, Option, Some, None, is_some, unwrap_or, sym, ap, subst, lit<, lt-ltb, ltb-true}
+use Rattle.std.proofs.Common.{◌≡◌, ◌∙◌, ℕ, ◌<◌, ◌^◌, ◌-◌, ◌%◌, Bool, true, false, cond, nat_eq, nat_le, nat_lt, Option, Some, None, sym, ap, subst, lit<, lt-ltb, ltb-true}
 use Rattle.std.proofs.lemmas.Bool.{eqb-true}
 use Rattle.std.proofs.lemmas.Nat.{mod_below, pow_pos}
 use Rattle.ir_core.specs.Types.{constant_fits, is_width}
@@ -66,7 +66,3 @@ module _ (i : IntText) where
       (λ ts also n e. let none = at_level (ty.Struct ts) _ n (outs-Struct ts) e in cc)
       (λ x n e. let none = at_level (ty.Named x) _ n (outs-Named x) e in cc)
       (λ n e. let none = at_level ty.Void _ n outs-Void e in cc)
-
-pub number_fits : (t : Ty) (i : IntText) (o : Option ℕ) → int_of t i ≡ o → is_some o ≡ true → constant_fits t (const.Number (unwrap_or o 0)) ≡ true
-number_fits t i None e some = cc
-number_fits t i (Some n) e some = int_fits i t n e

@@ -112,7 +112,7 @@ module _ (m : Module) (rs : Registers) (named : AreNamedWritten m.types) where
       let base = operand_range m rs w.base e.base (all_left IsSymbolInRange (operand w.base) indices rest) is.2 in
       let each = further_each IsSymbolInRange operand w.indices (all_right IsSymbolInRange (operand w.base) indices rest) in
       let others = all_zipped (λ (o : OperandText). AllInRange (operand o)) (IsOperand m rs) IsOperandInRange (operand_range m rs) w.indices e.indices each is.3 in
-      let to = led_in_range m.types named e.of (map index_of e.indices) (written_in_range e.of of) in
+      let to = led_in_range m.types named e.base.ty e.of (map index_of e.indices) (written_in_range e.base.ty base.0) (written_in_range e.of of) in
       (subst IsTypeInRange (sym is.4) (type_in_range _ to), (base, others), of)
 
   load_range : (w : LoadText) (l : Load Name) → AllInRange (lines.load w) → IsLoad m rs w l → IsWholeRight (expr.Load l)

@@ -1,6 +1,6 @@
 -- A type that is named is in range where what is written of it is, and so is a type to which indices lead from it.
 use Rattle.std.proofs.Common.{◌≡◌, ◌∙◌, ℕ, ◌^◌, zero, suc, true, nat_lt, List, [], ◌∷◌, map, Option, Some, None, refl, sym, ap, subst}
-use Rattle.std.specs.Prelude.{slice_get, unwrap_or}
+use Rattle.std.specs.Prelude.{◌||◌, not, nat_eq, slice_get, unwrap_or}
 use Rattle.std.specs.List.{AllByRecursion, list_all}
 use Rattle.std.specs.Option.{option_and_then, option_map}
 use Rattle.std.proofs.lemmas.Bool.{and_from, and_parts, cond_both}
@@ -25,7 +25,8 @@ use Rattle.module_grammar.specs.declared.places.Placed.{Placed}
 use Rattle.module_grammar.specs.declared.types.TypeText.{TypeText, Int, Named, Ptr, Array, Struct}
 use Rattle.named_modules.proofs.Lists.{all_left}
 use Rattle.named_modules.proofs.TypeKinds as kind
-use Rattle.named_modules.specs.Types.{count_built, type_at_level, type_of}
+use Rattle.named_modules.specs.Addresses.{address_type}
+use Rattle.named_modules.specs.Types.{count_built, is_count, type_at_level, type_of}
 use Rattle.spelled_ranges.proofs.Lists.{listed_each}
 use Rattle.spelled_ranges.proofs.SymbolRanges.{AllInRange, IsSymbolInRange}
 
@@ -41,7 +42,9 @@ abbrev IsFine : TypeText → Type 0
 IsFine w = IsTypeWritten w → IsWritten (type_of w)
 
 count_small : (n : Number) → nat_lt (count_built n) (2 ^ 64) ≡ true
-count_small n = cond_both (nat_lt n.magnitude (2 ^ 64)) n.magnitude 0 (λ k. nat_lt k (2 ^ 64) ≡ true) (λ small. small) (λ large. refl)
+count_small n =
+    cond_both (is_count n) n.magnitude 0 (λ k. nat_lt k (2 ^ 64) ≡ true)
+    (λ counts. (and_parts (nat_lt n.magnitude (2 ^ 64)) (not n.negative || nat_eq n.magnitude 0) counts).0) (λ none. refl)
 
 at_int : (width : Placed ℕ) → IsFine (Int width)
 at_int width all = ap is_written (kind.at_int Ty type_at_level width) ∙ ranges.at_int width.what ∙ (subst AllInRange (folds.at_int width) all).0
@@ -182,6 +185,11 @@ module _ (types : List NamedTy) (named : AreNamedWritten types) where
   or_pointer None t is other = other
   or_pointer (Some u) t is other = is
 
-  -- the type to which indices lead, or a pointer to the first one
-  pub led_in_range : (t : Ty) (is : List Index) → IsWritten t → IsWritten (unwrap_or (element_type types t is) (ty.Ptr t))
-  led_in_range t is written = or_pointer (element_type types t is) (ty.Ptr t) (element_written t is written) (ranges.at_ptr t ∙ written)
+  address_written : (base t : Ty) (is : List Index) → IsWritten base → IsWritten t → IsOptionWritten (address_type types base t is)
+  address_written base t [] based written = based
+  address_written base t (i ∷ is) based written = element_written t (i ∷ is) written
+
+  -- the type of an address, or a pointer to the first one
+  pub led_in_range : (base t : Ty) (is : List Index) → IsWritten base → IsWritten t → IsWritten (unwrap_or (address_type types base t is) (ty.Ptr t))
+  led_in_range base t is based written =
+      or_pointer (address_type types base t is) (ty.Ptr t) (address_written base t is based written) (ranges.at_ptr t ∙ written)

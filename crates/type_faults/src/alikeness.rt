@@ -5,7 +5,7 @@ ghost use Rattle.ir_types.specs.Same as same;
 ghost use Rattle.named_modules.specs.Types.{count_built, type_of};
 ghost use Rattle.type_faults.specs.Alike as meaning;
 
-use crate::numbers::count_of;
+use crate::numbers::same_count;
 use ir_core::{Name, same_name};
 use ir_lexer::Number;
 use module_grammar::TypeText;
@@ -58,7 +58,7 @@ fn is_array_of(count: &Number, element: &TypeText, text: &TypeText) -> bool
     match text {
         TypeText::Array(_, own) => {
             let own = own.get();
-            count_of(count) == count_of(&own.0.what) && alike(element, &own.1)
+            same_count(count, &own.0.what) && alike(element, &own.1)
         }
         TypeText::Int(_) => false,
         TypeText::Named(_) => false,

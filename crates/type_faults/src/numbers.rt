@@ -1,5 +1,5 @@
 //! Numbers at the types that are written for them, and numbers of elements.
-ghost use Rattle.std.specs.Prelude.{◌≡◌};
+ghost use Rattle.std.specs.Prelude.{◌≡◌, nat_eq};
 ghost use Rattle.named_modules.specs.Faults as faults;
 ghost use Rattle.named_modules.specs.Types as meaning;
 ghost use Rattle.type_faults.specs.Noted.{noted};
@@ -25,12 +25,18 @@ pub(crate) fn is_count(number: &Number) -> bool
 pub fn count_of(number: &Number) -> u64
     ensures { result ≡ meaning.count_built number.now }
 {
-    let magnitude = number.magnitude.get();
-    if magnitude < COUNTS {
-        magnitude as u64
+    if is_count(number) {
+        number.magnitude.get() as u64
     } else {
         0
     }
+}
+
+/// Whether arrays of these counts have as many elements.
+pub(crate) fn same_count(one: &Number, other: &Number) -> bool
+    ensures { result ≡ nat_eq (meaning.count_built one.now) (meaning.count_built other.now) }
+{
+    count_of(one) == count_of(other)
 }
 
 /// The number that is written, if it is one of the type.

@@ -1,5 +1,5 @@
 -- The constant that is built, at each kind of constant.
-use Rattle.std.proofs.Common.{◌≡◌, ◌∙◌, ℕ, Bool, List, [], ◌∷◌, map, unwrap_or, ap, refl}
+use Rattle.std.proofs.Common.{◌≡◌, ◌∙◌, ℕ, Bool, List, [], ◌∷◌, map, ap, refl}
 use Rattle.ir_core.specs.declared.operands.Const as constant
 use Rattle.ir_core.specs.declared.operands.Const.{Const}
 use Rattle.ir_types.specs.declared.ty.Ty.{Ty}
@@ -7,7 +7,7 @@ use Rattle.module_grammar.specs.declared.constants.ConstText.{ConstText, Int, Nu
 use Rattle.module_grammar.specs.declared.constants.GlobalNameText.{GlobalNameText}
 use Rattle.module_grammar.specs.declared.constants.IntText.{IntText}
 use Rattle.module_grammar.specs.declared.types.TypeText.{TypeText}
-use Rattle.named_modules.specs.Constants.{built_part, const_at_level, const_of, global_name}
+use Rattle.named_modules.specs.Constants.{built_part, const_at_level, const_of, global_name, number_or_undef}
 use Rattle.named_modules.specs.Types.{int_of, type_of}
 use Rattle.named_modules.proofs.ConstKinds as kind
 use Rattle.value_building.specs.Parts.{part_of, parts_of}
@@ -17,7 +17,7 @@ parts [] = refl
 parts (p ∷ ps) = ap (λ qs. part_of p ∷ qs) (parts ps)
 
 module _ (t : Ty) where
-  pub of_int : (i : IntText) → const_of (Int i) t ≡ constant.Number (unwrap_or (int_of t i) 0)
+  pub of_int : (i : IntText) → const_of (Int i) t ≡ number_or_undef (int_of t i)
   of_int i = ap (λ (f : Ty → Const). f t) (kind.at_int (Ty → Const) const_at_level i)
 
   pub of_null : (at : ℕ) → const_of (Null at) t ≡ constant.Null

@@ -4,10 +4,10 @@ ghost use Rattle.named_modules.specs.Constants as meaning;
 ghost use Rattle.value_building.specs.Parts.{part_of, parts_of};
 
 use crate::names::global_name;
-use crate::numbers::{built, int_of};
+use crate::numbers::int_of;
 use crate::types::type_of;
 use contents::{Exact, Seq};
-use ir_core::{Const, Name, Shared, Ty, TypedConst};
+use ir_core::{Bits, Const, Name, Shared, Ty, TypedConst};
 use module_grammar::{ConstText, GlobalNameText, TypeText};
 use std::alloc::{AllocError, Global};
 
@@ -25,6 +25,16 @@ fn shared_name(alloc: Global, name: &GlobalNameText) -> Result<Shared<Name>, All
     Shared::new(alloc, global_name(name).what.copy(alloc)?)
 }
 
+/// The number, or `undef` where there is none.
+fn number_or_undef(number: Option<u64>) -> Const
+    ensures { result ≡ meaning.number_or_undef number }
+{
+    match number {
+        Some(number) => Const::Number(Bits::new(number)),
+        None => Const::Undef,
+    }
+}
+
 /// The constant at the type that is stated for it.
 #[cycle(constants)]
 #[tactic(auto, using(crate::proofs::ConstKinds::of_int, crate::proofs::ConstKinds::of_null, crate::proofs::ConstKinds::of_undef, crate::proofs::ConstKinds::of_global, crate::proofs::ConstKinds::of_element, crate::proofs::ConstKinds::of_cast, crate::proofs::Measures::in_element, crate::proofs::Measures::in_base, crate::proofs::Measures::in_cast, crate::proofs::Measures::in_nothing))]
@@ -32,7 +42,7 @@ pub fn const_of(alloc: Global, text: &ConstText, ty: &Ty) -> Result<Const, Alloc
     ensures { IfOk result (λ constant. constant ≡ meaning.const_of text.now ty.now) }
 {
     match text {
-        ConstText::Int(int) => Ok(Const::Number(built(int_of(ty, int)))),
+        ConstText::Int(int) => Ok(number_or_undef(int_of(ty, int))),
         ConstText::Null(_) => Ok(Const::Null),
         ConstText::Undef => Ok(Const::Undef),
         ConstText::Global(name) => Ok(Const::Global(shared_name(alloc, name)?)),

@@ -15,7 +15,7 @@ fn count_of(number: &Number) -> u64
     ensures { result ≡ meaning.count_built number.now }
 {
     let magnitude = number.magnitude.get();
-    if magnitude < 18_446_744_073_709_551_616 {
+    if magnitude < 18_446_744_073_709_551_616 && (!number.negative || magnitude == 0) {
         magnitude as u64
     } else {
         0
