@@ -1,11 +1,12 @@
 //! The heads of a module whose named types are judged once.
 ghost use Rattle.std.specs.Prelude.{◌≡◌, true};
 ghost use Rattle.std.specs.List.{AllByRecursion};
-ghost use Rattle.ir_types.specs.Named.{fields_or_none};
+ghost use Rattle.ir_types.specs.declared.ty.Ty.{Struct};
 ghost use Rattle.large_blocks.specs.Noted as meaning;
 ghost use Rattle.module_limits.specs.Small as small;
 
-use ir_core::{NamedTy, NamedTypes, Ty};
+use contents::Seq;
+use ir_core::{NamedTy, NamedTypes, Shared, Ty};
 use ir_types::{SizeFault, fits_block};
 use std::marker::Model;
 use type_faults::Sight;
@@ -56,11 +57,21 @@ fn are_clear(types: &NamedTypes, fields: &[Ty]) -> bool
     true
 }
 
+/// Whether the struct of these fields makes a block or has no size. Takes no memory.
+fn is_struct_small(types: &NamedTypes, fields: &Shared<Seq<Ty>>) -> bool
+    ensures { result ≡ true → small.is_small types.now (Struct fields.now, 1) ≡ true }
+{
+    match fields.share() {
+        Ok(fields) => is_small(types, &Ty::Struct(fields)),
+        Err(_) => false,
+    }
+}
+
 fn are_fields_clear(types: &NamedTypes, named: &NamedTy) -> bool
-    ensures { result ≡ true → AllByRecursion (small.IsClear types.now) (fields_or_none named.now.fields) }
+    ensures { result ≡ true → small.IsNamedClear types.now named.now.fields }
 {
     match &named.fields {
-        Some(fields) => are_clear(types, fields.get().as_slice()),
+        Some(fields) => are_clear(types, fields.get().as_slice()) && is_struct_small(types, fields),
         None => true,
     }
 }

@@ -1,3 +1,4 @@
 pub mod LeastKinds
 pub mod Scopes
 pub mod Untold
+pub mod AtOnce

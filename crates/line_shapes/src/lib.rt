@@ -2,6 +2,7 @@
 //! the types and names that it states, with its operands, and with itself.
 #![tactic(auto)]
 
+mod addressed;
 mod operands;
 mod scope;
 mod stated;

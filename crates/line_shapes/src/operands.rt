@@ -7,9 +7,9 @@ ghost use Rattle.shape_kinds.specs.Kept.{type_in};
 ghost use Rattle.shape_tests.specs.Typed.{operands_at};
 ghost use Rattle.line_shapes.specs.Told as meaning;
 
-use ir_core::{Argument, Atom, Entry, Expr, Instr, Name, Operand, Term, Ty, same_ty};
+use ir_core::{Argument, Atom, Element, Entry, Expr, Instr, Name, Operand, Term, Ty};
 use operand_tests::{Beside, constant_kind};
-use shape_kinds::{LentTypes, ShapeKind, fault_unless, least};
+use shape_kinds::{LentTypes, ShapeKind, fault_unless, is_same_ty, least};
 
 /// What is wrong with a register that is stated at that type, if anything is: it isn't there, or is of another type.
 fn register_kind(types: &LentTypes, ty: &Ty, name: &Name) -> Option<ShapeKind>
@@ -18,7 +18,7 @@ fn register_kind(types: &LentTypes, ty: &Ty, name: &Name) -> Option<ShapeKind>
     match types.get(name) {
         None => Some(ShapeKind::Name),
         Some(None) => None,
-        Some(Some(own)) => fault_unless(same_ty(own, ty), ShapeKind::OperandType),
+        Some(Some(own)) => fault_unless(is_same_ty(own, ty), ShapeKind::OperandType),
     }
 }
 
@@ -99,6 +99,21 @@ fn arguments_kind(beside: &Beside, types: &LentTypes, arguments: &[Argument]) ->
     found
 }
 
+/// What is wrong with the operands of an address.
+#[tactic(auto, using(operand_tests::proofs::Least::least_none))]
+pub(crate) fn address_operands_kind(
+    beside: &Beside,
+    types: &LentTypes,
+    element: &Element<Name>,
+) -> Option<ShapeKind>
+    ensures { result ≡ meaning.operands_kind beside.now (type_in types.now) (element.now.base ∷ element.now.indices) }
+{
+    least(
+        one_kind(beside, types, &element.base),
+        operands_kind(beside, types, element.indices.as_slice()),
+    )
+}
+
 /// What is wrong with the operands of a line's right side.
 #[tactic(auto, using(operand_tests::proofs::Least::least_none))]
 fn right_operands_kind(beside: &Beside, types: &LentTypes, right: &Expr<Name>) -> Option<ShapeKind>
@@ -119,13 +134,7 @@ fn right_operands_kind(beside: &Beside, types: &LentTypes, right: &Expr<Name>) -
                 &select.right,
             )
         }
-        Expr::Element(element) => {
-            let element = element.get();
-            least(
-                one_kind(beside, types, &element.base),
-                operands_kind(beside, types, element.indices.as_slice()),
-            )
-        }
+        Expr::Element(element) => address_operands_kind(beside, types, element.get()),
         Expr::Load(load) => one_kind(beside, types, &load.pointer),
     }
 }

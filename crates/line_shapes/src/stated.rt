@@ -1,5 +1,5 @@
 //! Whether the named types that lines, phis, terminators and headers state are the module's.
-ghost use Rattle.std.specs.Prelude.{◌≡◌, [], ◌∷◌, map, true};
+ghost use Rattle.std.specs.Prelude.{◌≡◌, ◌++◌, [], ◌∷◌, map, true};
 ghost use Rattle.std.specs.List.{flat_map};
 ghost use Rattle.ir_core.specs.declared.functions.Argument.{Argument};
 ghost use Rattle.ir_core.specs.declared.functions.Case.{Case};
@@ -12,8 +12,8 @@ ghost use Rattle.shape_tests.specs.Typed.{operands_at};
 ghost use Rattle.line_shapes.specs.Told as meaning;
 
 use ir_core::{
-    Argument, Atom, Bits, Call, Case, Declaration, DeclaredParam, Entry, Expr, Function, Instr,
-    Name, Operand, Param, Phi, Term, Ty,
+    Argument, Atom, Bits, Call, Case, Declaration, DeclaredParam, Element, Entry, Expr, Function,
+    Instr, Name, Operand, Param, Phi, Term, Ty,
 };
 use operand_tests::{Beside, is_constant_known, is_type_known};
 
@@ -50,6 +50,15 @@ fn are_operands_known(beside: &Beside, operands: &[Operand<Name>]) -> bool
         }
     }
     true
+}
+
+/// Of the operands of an address, but for the base's type.
+pub(crate) fn are_parts_known(beside: &Beside, element: &Element<Name>) -> bool
+    ensures { result
+        ≡ are_types_known beside.now (stated.stated_by_atom element.now.base.atom ++ flat_map stated.stated_by_operand element.now.indices) }
+{
+    is_atom_known(beside, &element.base.atom)
+        && are_operands_known(beside, element.indices.as_slice())
 }
 
 /// Of the operands of a line's right side.

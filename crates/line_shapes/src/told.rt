@@ -12,6 +12,7 @@ ghost use Rattle.shape_tests.specs.Edges.{named};
 ghost use Rattle.shape_tests.specs.Kinds as fitting;
 ghost use Rattle.line_shapes.specs.Told as meaning;
 
+use crate::addressed::{address_in, fitting_kind};
 use crate::operands::{end_operands_kind, entries_kind, line_operands_kind};
 use crate::scope::Scope;
 use crate::stated::{
@@ -21,7 +22,7 @@ use ir_core::{
     Alloca, BitType, Bits, Calm, Declaration, DeclaredParam, Expr, Function, Instr, Name, Param,
     Phi, Store, Term, Ty, is_first_class, is_integer,
 };
-use operand_tests::{Beside, call_kind, element_kind};
+use operand_tests::{Beside, call_kind, element_fits, element_kind};
 use shape_kinds::{LentTypes, ShapeKind, fault_unless, least, points_to};
 use shape_tests::{
     Counts, branch_fits, cases_fit, entries_are_labels, fits_edges, is_result, leads_to,
@@ -89,6 +90,22 @@ fn rest_kind(beside: &Beside, line: &Instr) -> Option<ShapeKind>
 
 /// What is wrong with a line whose register's name is new or not, if anything is.
 pub fn line_kind(beside: &Beside, types: &LentTypes, new: bool, line: &Instr) -> Option<ShapeKind>
+    ensures { result ≡ meaning.line_kind beside.now (type_in types.now) new line.now }
+{
+    match address_in(line) {
+        Some(element) => {
+            if element_fits(beside, element) {
+                fitting_kind(beside, types, new, element)
+            } else {
+                any_kind(beside, types, new, line)
+            }
+        }
+        None => any_kind(beside, types, new, line),
+    }
+}
+
+#[inline(always)]
+fn any_kind(beside: &Beside, types: &LentTypes, new: bool, line: &Instr) -> Option<ShapeKind>
     ensures { result ≡ meaning.line_kind beside.now (type_in types.now) new line.now }
 {
     let known = is_line_known(beside, line);

@@ -11,12 +11,16 @@ use Rattle.ir_types.specs.declared.ty.Ty.TheOpen as ty
 use Rattle.ir_types.specs.declared.ty.Ty.TheViews.{outs-Int, outs-Ptr, outs-Array, outs-Struct, outs-Named, outs-Void}
 use Rattle.ir_types.specs.Held.{Holds, IsPart, IsPartOf, part, within}
 use Rattle.ir_types.specs.Laws.{IsAt}
-use Rattle.ir_types.specs.Named.{fields_of, fields_or_none}
+use Rattle.ir_types.specs.declared.layout.Layout.{Layout}
+use Rattle.ir_types.specs.Layout.{layout_level}
+use Rattle.ir_types.specs.Named.{block_in, fields_of, fields_or_none, found_in, layout_of, layout_of_name}
+use Rattle.ir_types.proofs.Induction as fold
+use Rattle.ir_types.proofs.Rounds.{names_are_structs}
 use Rattle.ir_types.specs.Same.{same_name, same_ty}
 use Rattle.ir_core.specs.Sizes.{entered_along, entered_behind, one_of_each}
 use Rattle.ir_core.specs.Types.{is_integer}
 use Rattle.ir_core.specs.Typing.{Index, entered, entered_at_level, field_at}
-use Rattle.module_limits.specs.Small.{AreClear, IsClear, are_small, is_small, stepped_small}
+use Rattle.module_limits.specs.Small.{AreClear, IsClear, IsNamedClear, are_small, is_none_larger, is_small, stepped_small}
 
 some_is : {A : Type 0} (a b : A) → Some a ≡ Some b → a ≡ b
 some_is a b e = cc
@@ -79,14 +83,32 @@ module _ (types : List NamedTy) where
 
   -- ---- what is entered
 
-  or_fields : (is : Bool) (a b : Option (List Ty)) → AllByRecursion (IsClear types) (fields_or_none a) → AllByRecursion (IsClear types) (fields_or_none b)
-      → AllByRecursion (IsClear types) (fields_or_none (cond is a b))
+  or_fields : (is : Bool) (a b : Option (List Ty)) → IsNamedClear types a → IsNamedClear types b → IsNamedClear types (cond is a b)
   or_fields false a b one other = other
   or_fields true a b one other = one
 
+  one_clear : (named : List NamedTy) → AreClear types named → (x : Name) → IsNamedClear types (fields_of named x)
+  one_clear [] all x = tt
+  one_clear (n ∷ named) all x = or_fields (same_name n.name x) n.fields (fields_of named x) all.0 (one_clear named all.1 x)
+
+  its_fields : (o : Option (List Ty)) → IsNamedClear types o → AllByRecursion (IsClear types) (fields_or_none o)
+  its_fields None clear = tt
+  its_fields (Some fields) clear = clear.0
+
   fields_clear : (named : List NamedTy) → AreClear types named → (x : Name) → AllByRecursion (IsClear types) (fields_or_none (fields_of named x))
-  fields_clear [] all x = tt
-  fields_clear (n ∷ named) all x = or_fields (same_name n.name x) n.fields (fields_of named x) all.0 (fields_clear named all.1 x)
+  fields_clear named all x = its_fields (fields_of named x) (one_clear named all x)
+
+  -- a name lies as its struct does
+  name_is : (x : Name) → layout_of types (Named x) ≡ option_and_then (λ fields. layout_of types (Struct fields)) (fields_of types x)
+  name_is x = fold.at_named (Option Layout) (layout_level (layout_of_name (found_in types))) x ∙ names_are_structs types x
+
+  struct_small : (o : Option (List Ty)) → IsNamedClear types o → is_none_larger (block_in (option_and_then (λ fields. layout_of types (Struct fields)) o) 1) ≡ true
+  struct_small None clear = refl
+  struct_small (Some fields) clear = clear.1
+
+  pub name_clear : AreClear types types → (x : Name) → IsClear types (Named x)
+  name_clear all x =
+      leaf_clear (Named x) (inr (inr (inl (x, refl)))) (ap (λ o. is_none_larger (block_in o 1)) (name_is x) ∙ struct_small (fields_of types x) (one_clear types all x))
 
   module _ (named : AreClear types types) where
     level_clear : (level : Ty-F Ty) → ((u : Ty) → IsPartOf [] u level → IsClear types u) → (i : Index) (u : Ty) → entered_at_level types level i ≡ Some u → IsClear types u

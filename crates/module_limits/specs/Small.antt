@@ -1,12 +1,12 @@
 -- Words of private functions: whether what is wanted at once makes blocks.
-use Rattle.std.specs.Prelude.{◌≡◌, ℕ, Bool, false, true, List, [], ◌∷◌, ◌++◌, map, Result, Ok, Err}
+use Rattle.std.specs.Prelude.{◌≡◌, ℕ, Bool, false, true, List, [], ◌∷◌, ◌++◌, map, Option, None, Some, Result, Ok, Err}
 use Rattle.std.specs.List.{AllByRecursion, list_all}
 use Rattle.ir_types.specs.declared.named.NamedTy.{NamedTy}
 use Rattle.ir_types.specs.declared.sizes.SizeFault.{SizeFault}
 use Rattle.ir_types.specs.declared.sizes.SizeFault.TheVariants.{TooLarge, Unsized}
-use Rattle.ir_types.specs.declared.ty.Ty.{Ty}
+use Rattle.ir_types.specs.declared.ty.Ty.{Ty, Struct}
 use Rattle.ir_types.specs.Held.{Holds}
-use Rattle.ir_types.specs.Named.{block_of, fields_or_none}
+use Rattle.ir_types.specs.Named.{block_of}
 use Rattle.ir_core.specs.declared.expressions.Element.{Element}
 use Rattle.ir_core.specs.declared.expressions.Expr.{Expr}
 use Rattle.ir_core.specs.declared.functions.Phi.{Phi}
@@ -37,9 +37,14 @@ are_small types = list_all (is_small types)
 abbrev pub IsClear : List NamedTy → Ty → Type 0
 IsClear types t = (is_small types (t, 1) ≡ true) × ((u : Ty) → Holds [] t u → is_small types (u, 1) ≡ true)
 
--- so are the fields of each of these named types
+-- so are the fields of a named type, and their struct makes a block or has no size
+abbrev pub IsNamedClear : List NamedTy → Option (List Ty) → Type 0
+IsNamedClear types None = Unit {0}
+IsNamedClear types (Some fields) = AllByRecursion (IsClear types) fields × (is_small types (Struct fields, 1) ≡ true)
+
+-- each of these named types is so
 abbrev pub AreClear : List NamedTy → List NamedTy → Type 0
-AreClear types = AllByRecursion (λ (n : NamedTy). AllByRecursion (IsClear types) (fields_or_none n.fields))
+AreClear types = AllByRecursion (λ (n : NamedTy). IsNamedClear types n.fields)
 
 -- ---- indices
 

@@ -120,13 +120,26 @@ fn are_parts_within(parts: &[TypedInit], budget: u32) -> bool
 
 /// Whether the type is no deeper than the limit. Most have no parts.
 #[inline(always)]
-#[tactic(auto, using(crate::proofs::Within::int_within, crate::proofs::Within::name_within, crate::proofs::Within::void_within))]
+#[tactic(auto, using(crate::proofs::Within::int_within, crate::proofs::Within::ptr_within, crate::proofs::Within::name_within, crate::proofs::Within::void_within))]
 fn is_type_shallow(ty: &Ty) -> bool
     ensures { result ≡ within.is_shallow (depths.depth_of ty.now) }
 {
     match ty {
         Ty::Int(_) | Ty::Named(_) | Ty::Void => true,
-        Ty::Ptr(_) | Ty::Array(_, _) | Ty::Struct(_) => is_type_within(ty, DEPTH),
+        Ty::Ptr(target) => is_target_within(target.get()),
+        Ty::Array(_, _) | Ty::Struct(_) => is_type_within(ty, DEPTH),
+    }
+}
+
+/// The same of what a pointer leads to.
+#[inline(always)]
+#[tactic(auto, using(crate::proofs::Within::int_within, crate::proofs::Within::name_within, crate::proofs::Within::void_within))]
+fn is_target_within(ty: &Ty) -> bool
+    ensures { result ≡ within.type_within 63 ty.now }
+{
+    match ty {
+        Ty::Int(_) | Ty::Named(_) | Ty::Void => true,
+        Ty::Ptr(_) | Ty::Array(_, _) | Ty::Struct(_) => is_type_within(ty, DEPTH - 1),
     }
 }
 

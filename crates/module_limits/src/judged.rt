@@ -1,10 +1,11 @@
 //! A module whose named types are judged once.
 ghost use Rattle.std.specs.Prelude.{◌≡◌, true};
 ghost use Rattle.std.specs.List.{AllByRecursion};
-ghost use Rattle.ir_types.specs.Named.{fields_or_none};
+ghost use Rattle.ir_types.specs.declared.ty.Ty.{Struct};
 ghost use Rattle.module_limits.specs.Small as small;
 
-use ir_core::{Module, NamedTy, NamedTypes, SizeFault, Ty, fits_block};
+use contents::Seq;
+use ir_core::{Module, NamedTy, NamedTypes, Shared, SizeFault, Ty, fits_block};
 use std::marker::Model;
 
 /// Whether so many of the type take no more than a block may. A type without size passes.
@@ -45,11 +46,23 @@ fn are_clear(module: &Module, types: &[Ty]) -> bool
     true
 }
 
+/// Whether the struct of these fields makes a block or has no size. Takes no memory.
+fn is_struct_small(module: &Module, fields: &Shared<Seq<Ty>>) -> bool
+    ensures { result ≡ true → small.is_small «module».now.types (Struct fields.now, 1) ≡ true }
+{
+    match fields.share() {
+        Ok(fields) => makes_block(module, &Ty::Struct(fields), 1),
+        Err(_) => false,
+    }
+}
+
 fn are_fields_clear(module: &Module, named: &NamedTy) -> bool
-    ensures { result ≡ true → AllByRecursion (small.IsClear «module».now.types) (fields_or_none named.now.fields) }
+    ensures { result ≡ true → small.IsNamedClear «module».now.types named.now.fields }
 {
     match &named.fields {
-        Some(fields) => are_clear(module, fields.get().as_slice()),
+        Some(fields) => {
+            are_clear(module, fields.get().as_slice()) && is_struct_small(module, fields)
+        }
         None => true,
     }
 }
@@ -128,6 +141,13 @@ impl<'a> Judged<'a> {
     pub(crate) fn is_stepped_clear(&self, ty: &Ty) -> bool
         ensures { result ≡ true → (indices : List Index) → small.stepped_small self.now.types ty.now indices ≡ true }
     {
-        self.clear && is_clear(self.whole, ty)
+        if !self.clear {
+            return false;
+        }
+        match ty {
+            // Its struct is one of those that are judged.
+            Ty::Named(_) => true,
+            _ => is_clear(self.whole, ty),
+        }
     }
 }

@@ -14,3 +14,4 @@ pub mod InitParts
 pub mod Fits
 pub mod HasSize
 pub mod Plain
+pub mod AtOnce

@@ -1,7 +1,10 @@
 -- Words of private functions: addresses of typed constants.
-use Rattle.std.specs.Prelude.{ℕ, List, [], ◌∷◌, map, Option, None, Some, is_some}
+use Rattle.std.specs.Prelude.{◌≡◌, ℕ, true, List, [], ◌∷◌, map, Option, None, Some, is_some}
+use Rattle.ir_core.specs.declared.expressions.Element.{Element}
+use Rattle.ir_core.specs.declared.modules.Module.{Module}
 use Rattle.ir_core.specs.declared.operands.Const.{Const}
 use Rattle.ir_core.specs.declared.operands.Const.TheVariants as constant
+use Rattle.ir_core.specs.Types.{is_first_class}
 use Rattle.ir_core.specs.Typing.{Index, field_at}
 use Rattle.ir_types.specs.declared.named.NamedTy.{NamedTy}
 use Rattle.ir_types.specs.declared.names.Name.{Name}
@@ -10,7 +13,8 @@ use Rattle.ir_types.specs.Named.{fields_of, fields_or_none, is_sized}
 use Rattle.shape_kinds.specs.declared.kind.ShapeKind.{ShapeKind}
 use Rattle.shape_kinds.specs.declared.kind.ShapeKind.TheVariants as kind
 use Rattle.shape_kinds.specs.Kinds.{fault_unless, least, points_to}
-use Rattle.operand_tests.specs.Constants.{address_kind, may_be}
+use Rattle.operand_tests.specs.Constants.{address_kind, element_kind, may_be}
+use Rattle.operand_tests.specs.Known.{is_type_known}
 
 abbrev pub number_of : Const → Option ℕ
 number_of (constant.Number n) = Some n
@@ -32,3 +36,10 @@ pointing_kind types of base pointed to =
 abbrev pub address_told : List NamedTy → Ty → List (Ty × Const) → Ty → Option ShapeKind
 address_told types of [] to = Some kind.OperandType
 address_told types of (base ∷ indices) to = address_kind types of base.0 (map index_told indices) to
+
+-- Nothing is wrong with an address but for its operands, it is a value, and the types that are stated for it and its base are known.
+pub record FitsAtOnce (m : Module) (e : Element Name) : Type 0 where
+  pub fits : element_kind m e ≡ None
+  pub leads : is_first_class e.to ≡ true
+  pub known : is_type_known m e.of ≡ true
+  pub based : is_type_known m e.base.ty ≡ true

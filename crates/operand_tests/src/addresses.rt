@@ -1,5 +1,5 @@
 //! What is wrong with an address.
-ghost use Rattle.std.specs.Prelude.{◌≡◌, List, map};
+ghost use Rattle.std.specs.Prelude.{◌≡◌, true, List, map};
 ghost use Rattle.std.specs.Option.{is_some, option_copied, option_map, option_and_then};
 ghost use Rattle.std.specs.Prelude.{slice_get};
 ghost use Rattle.ir_core.specs.Typing as typing;
@@ -199,6 +199,26 @@ pub fn element_kind(beside: &Beside, element: &Element<Name>) -> Option<ShapeKin
 {
     let pointed = pointed_by_operands(beside.types(), &element.of, element.indices.as_slice());
     pointing_kind(beside, &element.of, &element.base.ty, pointed, &element.to)
+}
+
+/// Whether it is seen at once that nothing is wrong with an address, but for its operands, and that the types are known that are stated for
+/// it and its base: it leads to a field of a named type.
+pub fn element_fits(beside: &Beside, element: &Element<Name>) -> bool
+    ensures { result ≡ true → told.FitsAtOnce beside.now element.now }
+{
+    match (&element.of, element.indices.as_slice()) {
+        (Ty::Named(_), [_, _, ..]) => {
+            match pointed_by_operands(beside.types(), &element.of, element.indices.as_slice()) {
+                Some(pointed) => {
+                    points_to(&element.to, pointed)
+                        && points_to(&element.base.ty, &element.of)
+                        && beside.names_sized()
+                }
+                None => false,
+            }
+        }
+        _ => false,
+    }
 }
 
 /// The same where its operands are constants, the first one the base.

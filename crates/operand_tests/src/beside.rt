@@ -7,7 +7,7 @@ ghost use Rattle.shape_kinds.specs.Names.{with_names};
 ghost use Rattle.shape_kinds.specs.Typed.{none_typed, with_types};
 
 use crate::callees::{Callee, Callees};
-use crate::sized::has_size;
+use crate::sized::{are_sized, has_size};
 use ir_core::{GlobalVar, Module, Name, NamedTy, NamedTypes, Ty};
 use shape_kinds::{LentNames, LentTypes};
 use std::alloc::{AllocError, Global};
@@ -19,6 +19,7 @@ pub struct Beside<'a> {
     types: LentNames<'a>,
     globals: LentTypes<'a>,
     callees: Callees<'a>,
+    sized: bool,
 }
 
 impl<'a> Model for Beside<'a> {
@@ -35,7 +36,7 @@ impl<'a> Model for Beside<'a> {
 
     ghost view = { λ it. it.whole.now };
 
-    ghost invariant = { λ it. IsKept it.whole.now it.types it.globals it.callees };
+    ghost invariant = { λ it. IsKept it.whole.now it.types it.globals it.callees it.sized };
 }
 
 impl<'a> Drop for Beside<'a> {
@@ -45,6 +46,7 @@ impl<'a> Drop for Beside<'a> {
             types: _,
             globals: _,
             callees: _,
+            sized: _,
         } = self;
     }
 }
@@ -80,6 +82,10 @@ impl<'a> Beside<'a> {
     ghost use Rattle.ir_core.specs.Typing as typing;
     ghost use Rattle.operand_tests.specs.Calls.{signature_in};
     ghost use Rattle.operand_tests.specs.Kept.{signature_of};
+    ghost use Rattle.std.specs.Prelude.{true, is_some};
+    ghost use Rattle.ir_types.specs.declared.names.Name.{Name};
+    ghost use Rattle.ir_types.specs.declared.ty.Ty.{Named};
+    ghost use Rattle.ir_types.specs.Named.{fields_of};
 
     pub fn new(alloc: Global, module: &'a Module) -> Result<Beside<'a>, AllocError>
         ensures { IfOk result (λ it. it ≡ «module».now) }
@@ -93,6 +99,7 @@ impl<'a> Beside<'a> {
             types,
             globals,
             callees,
+            sized: are_sized(module, module.types.as_slice()),
         })
     }
 
@@ -101,6 +108,14 @@ impl<'a> Beside<'a> {
         ensures { result.now ≡ self.now.types }
     {
         &self.whole.types
+    }
+
+    /// Whether it is seen at once that each type has a size that the module names, and that has fields.
+    pub(crate) fn names_sized(&self) -> bool
+        ensures { result ≡ true → (x : Name) → is_some (fields_of self.now.types x) ≡ true → named.is_sized self.now.types (Named x) ≡ true }
+    {
+        let _ = &self.whole;
+        self.sized
     }
 
     /// Whether the module names a type so.

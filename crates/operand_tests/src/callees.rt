@@ -80,8 +80,9 @@ impl<'a> Callees<'a> {
         ensures { IfOk result (λ it. (x : Name) → signature_by it x
             ≡ signature_in (defined functions.now ++ declared declarations.now) x) }
     {
+        let count = functions.len().saturating_add(declarations.len());
         let mut callees = Callees {
-            first: IndexMap::new(alloc),
+            first: IndexMap::with_capacity(alloc, count)?,
         };
         callees.put_definitions(functions)?;
         callees.put_declarations(declarations)?;

@@ -10,9 +10,9 @@ ghost use Rattle.operand_tests.specs.Kept.{signature_of};
 use crate::Beside;
 use crate::callees::Callee;
 use ir_core::{
-    Argument, Call, Declaration, DeclaredParam, Function, Name, Param, Ty, is_first_class, same_ty,
+    Argument, Call, Declaration, DeclaredParam, Function, Name, Param, Ty, is_first_class,
 };
-use shape_kinds::{ShapeKind, fault_unless, least};
+use shape_kinds::{ShapeKind, fault_unless, is_same_ty, least};
 
 /// A parameter of a definition or of a declaration.
 trait Typed {
@@ -60,7 +60,7 @@ fn are_arguments<P: Typed>(variadic: bool, params: &[P], arguments: &[Argument])
         return false;
     }
     for (at, param) in params.iter().enumerate() {
-        if !same_ty(param.ty(), &arguments[at].operand.ty) {
+        if !is_same_ty(param.ty(), &arguments[at].operand.ty) {
             return false;
         }
     }
@@ -71,7 +71,7 @@ fn are_arguments<P: Typed>(variadic: bool, params: &[P], arguments: &[Argument])
 fn fits_definition(function: &Function, call: &Call) -> bool
     ensures { result ≡ meaning.fits_signature (typing.defined_signature «function».now) call.now }
 {
-    same_ty(&call.result, &function.result)
+    is_same_ty(&call.result, &function.result)
         && are_arguments(false, function.params.as_slice(), call.arguments.as_slice())
 }
 
@@ -79,7 +79,7 @@ fn fits_definition(function: &Function, call: &Call) -> bool
 fn fits_declaration(declaration: &Declaration, call: &Call) -> bool
     ensures { result ≡ meaning.fits_signature (typing.declared_signature declaration.now) call.now }
 {
-    same_ty(&call.result, &declaration.result)
+    is_same_ty(&call.result, &declaration.result)
         && are_arguments(
             declaration.variadic,
             declaration.params.as_slice(),

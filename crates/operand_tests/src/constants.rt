@@ -47,10 +47,21 @@ fn recast_kind(to: &Ty, parts: &[TypedConst]) -> Option<ShapeKind>
     }
 }
 
-/// What is wrong with a constant of that type, or in it, if anything is.
+/// What is wrong with a constant of that type, or in it, if anything is. Most constants are numbers.
+#[inline(always)]
+#[tactic(auto, using(crate::proofs::Judged::of_number))]
+pub fn constant_kind(beside: &Beside, ty: &Ty, constant: &Const) -> Option<ShapeKind>
+    ensures { result ≡ meaning.constant_kind beside.now ty.now constant.now }
+{
+    match constant {
+        Const::Number(_) => fault_unless(is_integer(ty), ShapeKind::OperandType),
+        _ => whole_kind(beside, ty, constant),
+    }
+}
+
 #[cycle(kinds)]
 #[tactic(auto, using(crate::proofs::Judged::of_number, crate::proofs::Judged::of_undef, crate::proofs::Judged::of_null, crate::proofs::Judged::of_global, crate::proofs::Judged::of_element, crate::proofs::Judged::of_cast, crate::proofs::Measures::in_element, crate::proofs::Measures::in_cast))]
-pub fn constant_kind(beside: &Beside, ty: &Ty, constant: &Const) -> Option<ShapeKind>
+fn whole_kind(beside: &Beside, ty: &Ty, constant: &Const) -> Option<ShapeKind>
     ensures { result ≡ meaning.constant_kind beside.now ty.now constant.now }
 {
     match constant {
@@ -82,7 +93,7 @@ fn parts_kind(beside: &Beside, parts: &[TypedConst]) -> Option<ShapeKind>
 {
     let mut kind = None;
     for part in parts {
-        kind = least(kind, constant_kind(beside, &part.0, &part.1));
+        kind = least(kind, whole_kind(beside, &part.0, &part.1));
     }
     kind
 }

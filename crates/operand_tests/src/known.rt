@@ -8,10 +8,23 @@ use crate::Beside;
 use crate::numbers::is_number;
 use ir_core::{Const, Init, Ty, TypedConst, TypedInit};
 
-/// Whether each named type that stands in the type, also behind pointers, is one of the module's. Most types are integers.
+/// Whether each named type that stands in the type, also behind pointers, is one of the module's. Most types are integers, or point to
+/// them.
+#[inline(always)]
+#[tactic(auto, using(crate::proofs::TypeNames::int_known, crate::proofs::TypeNames::ptr_known))]
+pub fn is_type_known(beside: &Beside, ty: &Ty) -> bool
+    ensures { result ≡ meaning.is_type_known beside.now ty.now }
+{
+    match ty {
+        Ty::Int(_) => true,
+        Ty::Ptr(target) => is_target_known(beside, target.get()),
+        _ => has_known(beside, ty),
+    }
+}
+
 #[inline(always)]
 #[tactic(auto, using(crate::proofs::TypeNames::int_known))]
-pub fn is_type_known(beside: &Beside, ty: &Ty) -> bool
+fn is_target_known(beside: &Beside, ty: &Ty) -> bool
     ensures { result ≡ meaning.is_type_known beside.now ty.now }
 {
     match ty {
@@ -47,10 +60,21 @@ pub fn are_types_known(beside: &Beside, types: &[Ty]) -> bool
     true
 }
 
-/// Whether the types that a constant states are known.
+/// Whether the types that a constant states are known. Most constants are numbers.
+#[inline(always)]
+#[tactic(auto, using(crate::proofs::Stated::number_known))]
+pub fn is_constant_known(beside: &Beside, constant: &Const) -> bool
+    ensures { result ≡ meaning.are_types_known beside.now (stated_in constant.now) }
+{
+    match constant {
+        Const::Number(_) => true,
+        _ => has_types_known(beside, constant),
+    }
+}
+
 #[cycle(constants)]
 #[tactic(auto, using(crate::proofs::Stated::number_known, crate::proofs::Stated::undef_known, crate::proofs::Stated::null_known, crate::proofs::Stated::global_known, crate::proofs::Measures::in_element, crate::proofs::Measures::in_cast))]
-pub fn is_constant_known(beside: &Beside, constant: &Const) -> bool
+fn has_types_known(beside: &Beside, constant: &Const) -> bool
     ensures { result ≡ meaning.are_types_known beside.now (stated_in constant.now) }
 {
     match constant {
@@ -72,7 +96,7 @@ fn are_constants_known(beside: &Beside, constants: &[TypedConst]) -> bool
     ensures { result ≡ told.are_constants_known beside.now constants.now }
 {
     for constant in constants {
-        if !is_type_known(beside, &constant.0) || !is_constant_known(beside, &constant.1) {
+        if !is_type_known(beside, &constant.0) || !has_types_known(beside, &constant.1) {
             return false;
         }
     }
@@ -86,7 +110,7 @@ fn is_init_known(beside: &Beside, init: &Init) -> bool
     ensures { result ≡ told.is_init_known beside.now init.now }
 {
     match init {
-        Init::Const(constant) => is_constant_known(beside, constant),
+        Init::Const(constant) => has_types_known(beside, constant),
         Init::Array(elements) => are_inits_known(beside, elements.get().as_slice()),
         Init::Struct(fields) => are_inits_known(beside, fields.get().as_slice()),
         Init::Zero | Init::Bytes(_) => true,

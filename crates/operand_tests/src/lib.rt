@@ -13,7 +13,7 @@ mod known;
 mod numbers;
 mod sized;
 
-pub use addresses::{element_kind, entered, leads_somewhere, number_in, number_of};
+pub use addresses::{element_fits, element_kind, entered, leads_somewhere, number_in, number_of};
 pub use beside::Beside;
 pub use calls::call_kind;
 pub use constants::constant_kind;

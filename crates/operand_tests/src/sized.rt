@@ -2,8 +2,9 @@
 ghost use Rattle.std.specs.Prelude.{◌≡◌};
 ghost use Rattle.std.specs.List.{list_all};
 ghost use Rattle.ir_types.specs.Named as named;
+ghost use Rattle.operand_tests.specs.Kept.{are_named_sized};
 
-use ir_core::{Module, Ty, fits_block};
+use ir_core::{Module, NamedTy, Ty, fits_block};
 
 /// Whether the type has a size. Of a name it is asked whether none of its type makes a block, which takes no room.
 #[cycle(sized)]
@@ -26,6 +27,28 @@ fn have_sizes(module: &Module, types: &[Ty]) -> bool
 {
     for ty in types {
         if !has_size(module, ty) {
+            return false;
+        }
+    }
+    true
+}
+
+/// Whether the fields of a named type have sizes, where it isn't opaque.
+fn fields_sized(module: &Module, ty: &NamedTy) -> bool
+    ensures { result ≡ list_all (named.is_sized «module».now.types) (named.fields_or_none ty.now.fields) }
+{
+    match &ty.fields {
+        Some(fields) => have_sizes(module, fields.get().as_slice()),
+        None => true,
+    }
+}
+
+/// Whether the fields of each of these named types have sizes.
+pub(crate) fn are_sized(module: &Module, types: &[NamedTy]) -> bool
+    ensures { result ≡ are_named_sized «module».now.types types.now }
+{
+    for one in types {
+        if !fields_sized(module, one) {
             return false;
         }
     }

@@ -2,3 +2,4 @@ mod Borrowed
 pub mod Entries
 pub mod Types
 mod Pointers
+mod Places

@@ -1,5 +1,5 @@
 -- Words of private functions: the types of names as they are kept.
-use Rattle.std.specs.Prelude.{List, map, Option}
+use Rattle.std.specs.Prelude.{ℕ, List, map, Option, slice_get}
 use Rattle.std.specs.Borrow.{Bor}
 use Rattle.std.specs.Map.{lookup}
 use Rattle.std.specs.Option.{option_copied, option_map}
@@ -18,6 +18,10 @@ Entry = Bor Name × Option (Bor Ty)
 
 abbrev pub entries_told : List Told → List Entry
 entries_told = map (λ (t : Told). (t.marked.name, t.ty))
+
+-- what is told at a place, if there is one
+abbrev pub told_at : List Told → ℕ → Option (Option (Bor Ty))
+told_at row place = option_map (λ (t : Told). t.ty) (slice_get row place)
 
 abbrev pub entries_held : HeldTypes → List Entry
 entries_held (Few row) = entries_told row.items

@@ -1,7 +1,7 @@
 //! The types of names that are lent: few in a row, each name with a mark, and many with their hashes.
 ghost use Rattle.std.specs.Prelude.{◌≡◌, not, IfOk, OnOk};
 ghost use Rattle.std.specs.Option.{is_some, option_copied};
-ghost use Rattle.shape_kinds.specs.Kept.{entries_told, found_among, types_among};
+ghost use Rattle.shape_kinds.specs.Kept.{entries_told, found_among, told_at, types_among};
 ghost use Rattle.shape_kinds.specs.Marks as marks;
 ghost use Rattle.shape_kinds.specs.Typed.{with_type};
 
@@ -34,17 +34,34 @@ impl<'a> Drop for HeldTypes<'a> {
     }
 }
 
+/// The place of the name of that mark, or how many there are where it isn't one of them.
+#[inline(always)]
+fn place_in(row: &[Told], mark: u32, name: &Name) -> usize
+    requires { mark ≡ marks.mark_of name.now }
+    ensures { told_at row.now result ≡ found_among (entries_told row.now) name.now }
+{
+    for place in 0..row.len() {
+        let told = &row[place];
+        if is_it(&told.marked, mark, name) {
+            return place;
+        }
+    }
+    row.len()
+}
+
 /// What is told of the name of that mark, if it is there.
+#[inline(always)]
 fn told_of<'a>(row: &[Told<'a>], mark: u32, name: &Name) -> Option<Option<&'a Ty>>
     requires { mark ≡ marks.mark_of name.now }
     ensures { result ≡ found_among (entries_told row.now) name.now }
 {
-    for told in row {
-        if is_it(&told.marked, mark, name) {
-            return Some(told.ty);
-        }
+    let place = place_in(row, mark, name);
+    if place < row.len() {
+        let told = &row[place];
+        Some(told.ty)
+    } else {
+        None
     }
-    None
 }
 
 fn put_few<'a>(
@@ -57,7 +74,7 @@ fn put_few<'a>(
         (types_among (entries_told row.new.items) ≡ with_type (types_among (entries_told row.old.items)) name.now (option_copied ty.entry)) }
 {
     let mark = mark_of(name);
-    if told_of(row.as_slice(), mark, name).is_some() {
+    if place_in(row.as_slice(), mark, name) < row.len() {
         return Ok(false);
     }
     let marked = Marked::new(mark, name);

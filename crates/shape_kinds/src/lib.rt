@@ -11,6 +11,6 @@ mod marked;
 mod room;
 
 pub use kind::ShapeKind;
-pub use kinds::{fault_unless, least, points_to};
+pub use kinds::{fault_unless, is_same_ty, least, points_to};
 pub use lent::LentNames;
 pub use lent_types::LentTypes;

@@ -1,9 +1,9 @@
 //! Names with marks, by which most are seen to differ.
-ghost use Rattle.std.specs.Prelude.{◌≡◌, nat_eq};
+ghost use Rattle.std.specs.Prelude.{◌≡◌};
 ghost use Rattle.ir_types.specs.Same as same;
 ghost use Rattle.shape_kinds.specs.Marks as marks;
 
-use ir_core::Name;
+use ir_core::{Name, same_name};
 
 /// A name with its mark.
 #[derive(Drop, Clone, Copy)]
@@ -44,39 +44,11 @@ pub(crate) fn mark_of(name: &Name) -> u32
     }
 }
 
-/// Whether the bytes are the same. Most are few.
-fn are_same_bytes(some: &[u8], others: &[u8]) -> bool
-    ensures { result ≡ same.same_list nat_eq some.now others.now }
-{
-    if some.len() != others.len() {
-        return false;
-    }
-    for at in 0..some.len() {
-        if some[at] != others[at] {
-            return false;
-        }
-    }
-    true
-}
-
-/// Whether the names are the same, where most that differ are known to.
-fn are_same(name: &Name, other: &Name) -> bool
-    ensures { result ≡ same.same_name name.now other.now }
-{
-    match (name, other) {
-        (Name::Text(bytes), Name::Text(others)) => {
-            are_same_bytes(bytes.as_slice(), others.as_slice())
-        }
-        (Name::Number(number), Name::Number(others)) => *number == *others,
-        _ => false,
-    }
-}
-
 /// Whether it is the name of that mark.
 #[inline(always)]
 pub(crate) fn is_it(one: &Marked, mark: u32, name: &Name) -> bool
     requires { mark ≡ marks.mark_of name.now }
     ensures { result ≡ same.same_name name.now one.now.name.now }
 {
-    one.mark == mark && are_same(name, one.name)
+    one.mark == mark && same_name(name, one.name)
 }

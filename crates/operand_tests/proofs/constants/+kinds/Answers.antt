@@ -8,15 +8,15 @@ use Rattle.operand_tests.proofs.Judged.{cast_found, element_found}
 use Rattle.operand_tests.proofs.Least.{one_more}
 use Rattle.operand_tests.proofs.constants.+kinds.Goals as goal
 
-pub constant_kind-returns-in-Element : goal.constant_kind-returns-in-Element
-constant_kind-returns-in-Element t c =
+pub whole_kind-returns-in-Element : goal.whole_kind-returns-in-Element
+whole_kind-returns-in-Element t c =
     let m = c.args.beside.now in
     let ty = c.args.ty.now in
     element_found m ty c.in-Element.element c.get-element.result.now c.as_slice-parts.result.now _ _ _ c.get-element.ensures c.as_slice-parts.ensures
     c.parts_kind-inside.ensures c.address_kind.ensures c.least.ensures ∙ sym (ap (constant_kind m ty) c.in-Element.is)
 
-pub constant_kind-returns-in-Cast : goal.constant_kind-returns-in-Cast
-constant_kind-returns-in-Cast t c =
+pub whole_kind-returns-in-Cast : goal.whole_kind-returns-in-Cast
+whole_kind-returns-in-Cast t c =
     let m = c.args.beside.now in
     let ty = c.args.ty.now in
     cast_found m ty c.in-Cast.cast c.get-cast.result.now c.as_slice-parts-in-Cast.result.now _ _ _ _ _ c.get-cast.ensures c.as_slice-parts-in-Cast.ensures
@@ -26,4 +26,4 @@ constant_kind-returns-in-Cast t c =
 pub parts_kind-loop-part-preserved : goal.parts_kind-loop-part-preserved
 parts_kind-loop-part-preserved t c =
     one_more (λ (p : Ty × Const). constant_kind c.args.beside.now p.0 p.1) c.loop-part.kind _ _ _ c.args.parts.now c.loop-part.part-index c.part-item.result c.loop-part-test.true
-    c.part-item.is c.constant_kind.ensures c.least-kind.ensures c.loop-part.invariant
+    c.part-item.is c.whole_kind.ensures c.least-kind.ensures c.loop-part.invariant

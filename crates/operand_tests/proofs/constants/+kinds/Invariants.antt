@@ -4,8 +4,8 @@ use Rattle.operand_tests.specs.Parts.{parts_kind}
 use Rattle.operand_tests.proofs.Measures.{of_constant, of_constants}
 use Rattle.operand_tests.proofs.constants.+kinds.Given as goal
 
-abbrev pub decreases-constant_kind : goal.decreases-constant_kind
-decreases-constant_kind l = of_constant l.constant.now
+abbrev pub decreases-whole_kind : goal.decreases-whole_kind
+decreases-whole_kind l = of_constant l.constant.now
 
 abbrev pub decreases-parts_kind : goal.decreases-parts_kind
 decreases-parts_kind l = of_constants l.parts.now

@@ -3,8 +3,8 @@ use Rattle.operand_tests.specs.Stated.{are_constants_known}
 use Rattle.operand_tests.proofs.Measures.{of_constant, of_constants}
 use Rattle.operand_tests.proofs.known.+constants.Given as goal
 
-abbrev pub decreases-is_constant_known : goal.decreases-is_constant_known
-decreases-is_constant_known l = of_constant l.constant.now
+abbrev pub decreases-has_types_known : goal.decreases-has_types_known
+decreases-has_types_known l = of_constant l.constant.now
 
 abbrev pub decreases-are_constants_known : goal.decreases-are_constants_known
 decreases-are_constants_known l = of_constants l.constants.now

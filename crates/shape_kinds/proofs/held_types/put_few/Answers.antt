@@ -1,13 +1,26 @@
-use Rattle.std.proofs.Common.{◌≡◌, true, refl, rules}
-use Rattle.std.specs.Option.{is_some, option_copied}
-use Rattle.shape_kinds.specs.Kept.{entries_told, found_among}
+use Rattle.std.proofs.Common.{◌≡◌, ◌<◌, ◌≤◌, ◌∙◌, List, length, not, refl, sym, ap, subst, arith}
+use Rattle.std.specs.Option.{option_copied}
+use Rattle.shape_kinds.specs.declared.held_types.Told.{Told}
+use Rattle.shape_kinds.specs.Kept.{entries_told, found_among, told_at}
+use Rattle.shape_kinds.proofs.Places.{is_new, is_there}
 use Rattle.shape_kinds.proofs.Types.{told_before, told_new}
 use Rattle.shape_kinds.proofs.held_types.put_few.Goals as goal
 
-pub returns-then-is_some-clause-types : goal.returns-then-is_some-clause-types
-returns-then-is_some-clause-types c =
-    let there : is_some (found_among (entries_told c.args.row.now.items) c.args.name.now) ≡ true = search rules in
-    told_before c.args.row.now.items c.args.name.now (option_copied c.args.ty) there
+pub returns-then-place_in-len-clause-types : goal.returns-then-place_in-len-clause-types
+returns-then-place_in-len-clause-types c =
+    let row = c.args.row.now.items in
+    let name = c.args.name.now in
+    let at = subst (λ (ts : List Told). told_at ts c.place_in.result ≡ found_among (entries_told ts) name) c.as_slice.ensures.value c.place_in.ensures in
+    let within : c.place_in.result < length row = subst (λ (ts : List Told). c.place_in.result < length ts) c.as_slice.ensures.value (omega arith) in
+    told_before row name (option_copied c.args.ty) (is_there row name c.place_in.result within at)
+
+pub returns-clause-new : goal.returns-clause-new
+returns-clause-new c =
+    let row = c.args.row.now.items in
+    let name = c.args.name.now in
+    let at = subst (λ (ts : List Told). told_at ts c.place_in.result ≡ found_among (entries_told ts) name) c.as_slice.ensures.value c.place_in.ensures in
+    let past : length row ≤ c.place_in.result = subst (λ (ts : List Told). length ts ≤ c.place_in.result) c.as_slice.ensures.value (omega arith) in
+    sym (ap not (is_new row name c.place_in.result past at))
 
 pub returns-clause-types : goal.returns-clause-types
 returns-clause-types c =

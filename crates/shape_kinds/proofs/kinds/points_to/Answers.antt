@@ -6,4 +6,4 @@ use Rattle.shape_kinds.proofs.kinds.points_to.Goals as goal
 
 pub returns-in-Ptr : goal.returns-in-Ptr
 returns-in-Ptr c =
-    c.same_ty.ensures ∙ ap (λ (t : Ty). same_ty t c.args.ty.now) c.get.ensures ∙ same_pointers _ c.args.ty.now ∙ sym (ap (λ (t : Ty). same_ty t (Ptr c.args.ty.now)) c.in-Ptr.is)
+    c.is_same_ty.ensures ∙ ap (λ (t : Ty). same_ty t c.args.ty.now) c.get.ensures ∙ same_pointers _ c.args.ty.now ∙ sym (ap (λ (t : Ty). same_ty t (Ptr c.args.ty.now)) c.in-Ptr.is)

@@ -1,4 +1,4 @@
-use Rattle.std.proofs.Common.{◌∙◌, ◌++◌, [], List, Some, ap, map}
+use Rattle.std.proofs.Common.{◌≡◌, ◌∙◌, ◌++◌, [], true, List, Some, ap, map, subst, sym}
 use Rattle.ir_core.specs.declared.functions.Function.{Function}
 use Rattle.ir_core.specs.declared.modules.Declaration.{Declaration}
 use Rattle.ir_core.specs.declared.modules.GlobalVar.{GlobalVar}
@@ -8,7 +8,7 @@ use Rattle.name_index.specs.Among.{is_among}
 use Rattle.shape_kinds.specs.Names.{with_names}
 use Rattle.shape_kinds.specs.Typed.{Types, none_typed, with_types}
 use Rattle.operand_tests.specs.Calls.{signature_in}
-use Rattle.operand_tests.specs.Kept.{declared, defined}
+use Rattle.operand_tests.specs.Kept.{are_named_sized, declared, defined}
 use Rattle.operand_tests.proofs.Firsts.{among_collected, contents_collected}
 use Rattle.operand_tests.proofs.beside.Beside.new.Goals as goal
 
@@ -23,4 +23,5 @@ invariant_of-result c =
       callees = λ x.
           c.in_ok-callees.ensures x ∙ ap (λ (fs : List Function). signature_in (defined fs ++ declared c.as_slice-3.result.now) x) c.as_slice-functions.ensures
           ∙ ap (λ (ds : List Declaration). signature_in (defined m.functions ++ declared ds) x) c.as_slice-3.ensures;
+      sizes = λ yes. subst (λ (ts : List NamedTy). are_named_sized m.types ts ≡ true) c.as_slice-4.ensures (sym c.are_sized.ensures ∙ yes);
     }
