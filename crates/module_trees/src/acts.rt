@@ -131,6 +131,8 @@ impl<'a> Reading<'a> {
 impl<'a> Action for Reading<'a> {
     ghost use Rattle.std.specs.Prelude.{Option};
     ghost use Rattle.ir_core.specs.declared.limits.Limit.{Limit};
+    ghost use Rattle.module_grammar.specs.Sets as sets_of_tokens;
+    ghost use Rattle.module_grammar.specs.Tokens as grammar;
     ghost use Rattle.module_trees.specs.Acts as acts;
     ghost use Rattle.module_trees.specs.Unmarked as unmarked;
 
@@ -148,6 +150,10 @@ impl<'a> Action for Reading<'a> {
 
     ghost reduced = { acts.reduced };
 
+    ghost chosen = { sets_of_tokens.sets.table };
+
+    ghost sides = { grammar.token_grammar.right };
+
     #[inline(always)]
     fn begin(&mut self, alloc: Global, rule: u16) -> Result<(), AllocError> {
         self.watch.begin(alloc, rule)
@@ -163,6 +169,11 @@ impl<'a> Action for Reading<'a> {
     fn reduce(&mut self, alloc: Global, rule: u16) -> Result<(), AllocError> {
         self.watch.reduce(alloc, rule)?;
         self.reduce_unmarked(alloc, rule)
+    }
+
+    #[inline(always)]
+    fn jump(&mut self, _alloc: Global, _non: u8, _kinds: &[u8]) -> Result<usize, AllocError> {
+        Ok(0)
     }
 
     ghost begun_unmarked = { unmarked.begun_unmarked };

@@ -160,7 +160,7 @@ module _ {S : Type 0} (g : Grammar) (s : Sets) (is : IsPredictive g s) (begun sh
 
   module _ {M : Type 0} (mark : S → M) (begins : (s : S) (p : ℕ) → mark (begun s p) ≡ mark s) (reduces : (s : S) (p : ℕ) → mark (reduced s p) ≡ mark s) where
     -- the mark is that after these tokens, in each text that goes on as they do
-    marked :
+    pub marked :
         MayEnd s start → (done : List ℕ) (items : List Item) (st after : S) → Holds g s begun shifted reduced start first done items st
         → mark after ≡ mark st → (more : List ℕ) (h : Forest) → Forms g h (Non start ∷ []) → yield h ≡ done ++ more
         → mark (after_some begun shifted reduced (length done) h first) ≡ mark after

@@ -3,8 +3,11 @@ pub mod Happening
 pub mod Keeping
 mod Stacks
 mod Moving
+mod Framing
 mod Advancing
 mod Holding
+mod Going
+mod Standing
 pub mod ByTest
-mod Laid
+pub mod Laid
 pub mod Faults

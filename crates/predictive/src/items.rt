@@ -1,42 +1,17 @@
-ghost use Rattle.std.specs.Prelude.{◌≡◌, [], ◌∷◌, MatchOption, None, OnOk};
-ghost use Rattle.predictive.specs.Frames.{started, with_top};
+ghost use Rattle.std.specs.Prelude.{◌≡◌, [], ◌∷◌, MatchOption, OnOk};
+ghost use Rattle.predictive.specs.Frames.{framed};
 ghost use Rattle.predictive.specs.Moves.{opened};
 ghost use Rattle.predictive.specs.Moves as moves;
-ghost use Rattle.predictive.specs.declared.item.Item.TheVariants.{Done, Non};
+ghost use Rattle.predictive.specs.declared.item.Item.TheVariants.{Done};
 
+use crate::frames::Frame;
 use crate::item::Item;
 use crate::stack::Stack;
 use crate::symbol::Symbol;
-use std::alloc::{AllocError, Global};
-use std::marker::Model;
-
-/// A rule that is begun: what is still wanted of its right side.
-#[derive(Drop, Clone, Copy)]
-pub struct Frame<'a> {
-    pub rest: &'a [Symbol],
-    pub rule: u16,
-}
-
-/// What the engine has yet to do, which contracts see as a list, what is next first. The rule that was begun last stands apart from the
-/// others, and nothing is moved as its symbols are taken.
-#[derive(Drop)]
-pub struct Items<'a> {
-    start: Option<u8>,
-    below: Stack<Frame<'a>>,
-    top: Option<Frame<'a>>,
-}
-
-impl<'a> Model for Items<'a> {
-    ghost use Rattle.std.specs.Prelude.{List};
-    ghost use Rattle.predictive.specs.Frames.{all_framed, started, with_top};
-    ghost use Rattle.predictive.specs.declared.item.Item.{Item};
-
-    ghost Value = { List Item };
-
-    ghost view = { λ it. all_framed (with_top it.top it.below) (started it.start) };
-}
+use std::alloc::AllocError;
 
 /// What a symbol has the engine do.
+#[inline(always)]
 fn item_of(symbol: Symbol) -> Item
     ensures { result ≡ moves.item_of symbol }
 {
@@ -46,69 +21,57 @@ fn item_of(symbol: Symbol) -> Item
     }
 }
 
-/// Takes the rule that was begun last, if there is one.
+/// The first symbol of a row and the others, if there is one.
 #[inline(always)]
-fn take_frame<'a>(top: &mut Option<Frame<'a>>, below: &mut Stack<Frame<'a>>) -> Option<Frame<'a>>
-    ensures frame { MatchOption result ((with_top top.old below.old ≡ []) × (below.new ≡ [])) (λ frame. with_top top.old below.old ≡ frame ∷ below.new) }
-    ensures none { top.new ≡ None }
+fn split(row: &[Symbol]) -> Option<(Symbol, &[Symbol])>
+    ensures { MatchOption result (row.now ≡ []) (λ parts. row.now ≡ parts.0 ∷ parts.1.now) }
 {
-    match top.take() {
-        Some(frame) => Some(frame),
-        None => below.pop(),
-    }
-}
-
-/// Takes the nonterminal with which all begins, if it is there.
-fn take_start(start: &mut Option<u8>) -> Option<Item>
-    ensures { MatchOption result ((started start.old ≡ []) × (started start.new ≡ [])) (λ item. started start.old ≡ item ∷ started start.new) }
-{
-    match start.take() {
-        Some(non) => Some(Item::Non(non)),
+    match row.split_first() {
         None => None,
+        Some((symbol, others)) => Some((*symbol, others)),
     }
 }
 
-impl<'a> Items<'a> {
-    /// A text of the nonterminal is wanted.
-    pub fn new(alloc: Global, start: u8) -> Items<'a>
-        ensures { result ≡ Non start ∷ [] }
-    {
-        Items {
-            start: Some(start),
-            below: Stack::new(alloc),
-            top: None,
-        }
-    }
-
-    /// Takes what is next, if there is anything.
-    #[inline(always)]
-    pub fn pop(&mut self) -> Option<Item>
-        ensures { MatchOption result ((self.old ≡ []) × (self.new ≡ [])) (λ top. self.old ≡ top ∷ self.new) }
-    {
-        let Some(frame) = take_frame(&mut self.top, &mut self.below) else {
-            return take_start(&mut self.start);
-        };
-        match frame.rest.split_first() {
-            None => Some(Item::Done(frame.rule)),
-            Some((symbol, rest)) => {
-                self.top = Some(Frame {
-                    rest,
-                    rule: frame.rule,
-                });
-                Some(item_of(*symbol))
+/// Takes what is next, if there is anything. The rule that was begun last stands apart from those below it, and nothing is moved as its
+/// symbols are taken.
+#[inline(always)]
+#[tactic(auto, using(crate::proofs::Framing::symbol_framed, crate::proofs::Framing::done_framed, crate::proofs::Framing::none_framed))]
+pub fn pop<'a>(top: &mut Frame<'a>, below: &mut Stack<Frame<'a>>) -> Option<Item>
+    ensures { MatchOption result
+        ((framed top.old.rest.now top.old.rule below.old ≡ []) × (framed top.new.rest.now top.new.rule below.new ≡ []))
+        (λ item. framed top.old.rest.now top.old.rule below.old ≡ item ∷ framed top.new.rest.now top.new.rule below.new) }
+{
+    match split(top.rest) {
+        None => match below.pop() {
+            None => None,
+            Some(frame) => {
+                let rule = top.rule as u16;
+                *top = frame;
+                Some(Item::Done(rule))
             }
+        },
+        Some((symbol, others)) => {
+            top.rest = others;
+            Some(item_of(symbol))
         }
     }
+}
 
-    /// Wants the right side of a rule, and then the rule is done.
-    #[inline(always)]
-    pub fn open(&mut self, right: &'a [Symbol], rule: u16) -> Result<(), AllocError>
-        ensures { OnOk result (self.new ≡ opened right.now (Done rule ∷ self.old)) }
-    {
-        if let Some(frame) = self.top.take() {
-            self.below.push(frame)?;
-        }
-        self.top = Some(Frame { rest: right, rule });
-        Ok(())
-    }
+/// Wants the right side of a rule, and then the rule is done.
+#[inline(always)]
+#[tactic(auto, using(crate::proofs::Framing::opened_framed))]
+pub fn open<'a>(
+    top: &mut Frame<'a>,
+    below: &mut Stack<Frame<'a>>,
+    right: &'a [Symbol],
+    rule: u16,
+) -> Result<(), AllocError>
+    ensures { OnOk result (framed top.new.rest.now top.new.rule below.new ≡ opened right.now (Done rule ∷ framed top.old.rest.now top.old.rule below.old)) }
+{
+    below.push(*top)?;
+    *top = Frame {
+        rest: right,
+        rule: usize::from(rule),
+    };
+    Ok(())
 }

@@ -9,9 +9,11 @@
 mod action;
 mod dense;
 mod engine;
+mod frames;
 mod item;
 mod items;
 mod laws;
+mod next;
 mod stack;
 mod symbol;
 mod table;

@@ -4,6 +4,7 @@ mod Facts
 mod Firsts
 mod Listed
 pub mod Marks
+mod Plain
 mod Seen
 mod Standing
 mod Tokens

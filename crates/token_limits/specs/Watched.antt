@@ -47,14 +47,30 @@ abbrev pub unless_marked : Option Limit → Watch → Watch → Watch
 unless_marked None next w = next
 unless_marked (Some l) next w = w
 
+-- a rule of this role begins
+abbrev pub begun_as : Role → Watch → Watch
+begun_as r w = unless_marked w.mark (begun_by r w) w
+
 abbrev pub begun : Watch → ℕ → Watch
-begun w p = unless_marked w.mark (begun_by (role_of p) w) w
+begun w p = begun_as (role_of p) w
 
 abbrev pub shifted : Watch → ℕ → Watch
 shifted w k = unless_marked w.mark (marked w) w
 
+-- a rule of this role is reduced
+abbrev pub reduced_as : Role → Watch → Watch
+reduced_as r w = unless_marked w.mark (reduced_by r w) w
+
 abbrev pub reduced : Watch → ℕ → Watch
-reduced w p = unless_marked w.mark (reduced_by (role_of p) w) w
+reduced w p = reduced_as (role_of p) w
+
+-- a type of one token stands there, and no token passed a limit, nor does this one
+pub record IsWithin (w : Watch) : Type 0 where
+  pub unmarked : w.mark ≡ None
+  pub within : mark_at (w.nesting.level + 1) w.lines ≡ None
+
+abbrev pub touched : Watch → Watch
+touched w = record { nesting = nested.touched w.nesting (w.nesting.level + 1); lines = w.lines; mark = w.mark }
 
 same_mark : (m : Option Limit) (next w : Watch) → next.mark ≡ w.mark → (unless_marked m next w).mark ≡ w.mark
 same_mark None next w e = e

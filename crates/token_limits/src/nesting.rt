@@ -85,7 +85,9 @@ impl Nesting {
     pub fn shift(&mut self)
         ensures { self.new ≡ nested.shifted self.old }
     {
-        self.deepest = self.deepest.max(self.level);
+        if self.level > self.deepest {
+            self.deepest = self.level;
+        }
     }
 
     /// A base ends as deep as its deepest token: the first star stands one deeper.
@@ -99,5 +101,13 @@ impl Nesting {
             Role::Part => self.level = self.level.saturating_sub(1),
             Role::Plain | Role::Line | Role::Definition => {}
         }
+    }
+
+    /// A token stands inside, as deep as this, and what began with it ends again.
+    #[inline(always)]
+    pub fn touch(&mut self, inner: u32)
+        ensures { self.new ≡ nested.touched self.old inner }
+    {
+        self.deepest = self.level.max(inner).max(self.deepest);
     }
 }

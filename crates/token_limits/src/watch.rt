@@ -1,4 +1,4 @@
-ghost use Rattle.std.specs.Prelude.{◌≡◌, IfOk, OnOk};
+ghost use Rattle.std.specs.Prelude.{◌≡◌, IfOk, OnOk, MatchBool};
 ghost use Rattle.token_limits.specs.Watched as watched;
 
 use crate::nesting::{Nesting, one_more};
@@ -18,6 +18,7 @@ pub struct Watch {
 }
 
 /// The limit that a token passes there.
+#[inline(always)]
 fn mark_at(level: u32, lines: u32) -> Option<Limit>
     ensures { result ≡ watched.mark_at level lines }
 {
@@ -70,10 +71,57 @@ impl Watch {
     {
         self.mark
     }
+
+    /// Whether a type of one token may stand there: no token passed a limit, nor does that one. Then all is told of it, from where the type
+    /// begins to where it ends.
+    #[inline(always)]
+    pub fn touch(&mut self) -> bool
+        ensures { MatchBool result (watched.IsWithin self.old × (self.new ≡ watched.touched self.old)) (self.new ≡ self.old) }
+    {
+        if self.mark.is_some() {
+            return false;
+        }
+        let Some(inner) = self.nesting.level().checked_add(1) else {
+            return false;
+        };
+        if mark_at(inner, self.lines).is_some() {
+            return false;
+        }
+        self.nesting.touch(inner);
+        true
+    }
+}
+
+impl Watch {
+    /// A rule of this role begins.
+    #[inline(always)]
+    fn begin_as(&mut self, role: Role) -> Result<(), AllocError>
+        ensures { OnOk result (self.new ≡ watched.begun_as role self.old) }
+    {
+        if self.mark.is_some() {
+            return Ok(());
+        }
+        self.nesting.begin(role)?;
+        self.lines = lines_begun(self.lines, role)?;
+        Ok(())
+    }
+
+    /// A rule of this role is reduced.
+    #[inline(always)]
+    fn reduce_as(&mut self, role: Role)
+        ensures { self.new ≡ watched.reduced_as role self.old }
+    {
+        if self.mark.is_none() {
+            self.nesting.reduce(role);
+            self.lines = lines_reduced(self.lines, role);
+        }
+    }
 }
 
 impl Action for Watch {
     ghost use Rattle.std.specs.Prelude.{Option};
+    ghost use Rattle.module_grammar.specs.Sets as sets_of_tokens;
+    ghost use Rattle.module_grammar.specs.Tokens as tokens;
     ghost use Rattle.ir_core.specs.declared.limits.Limit.{Limit};
 
     type State = Watch;
@@ -90,34 +138,42 @@ impl Action for Watch {
 
     ghost reduced = { watched.reduced };
 
+    ghost chosen = { sets_of_tokens.sets.table };
+
+    ghost sides = { tokens.token_grammar.right };
+
     #[inline(always)]
+    #[tactic(auto, using(crate::proofs::Plain::plain_begun))]
     fn begin(&mut self, _alloc: Global, rule: u16) -> Result<(), AllocError> {
-        if self.mark.is_some() {
-            return Ok(());
+        match role(rule) {
+            Role::Plain => Ok(()),
+            role => self.begin_as(role),
         }
-        let role = role(rule);
-        self.nesting.begin(role)?;
-        self.lines = lines_begun(self.lines, role)?;
-        Ok(())
     }
 
     #[inline(always)]
     fn shift(&mut self, _alloc: Global, _kind: u8) -> Result<(), AllocError> {
         if self.mark.is_none() {
             self.nesting.shift();
-            self.mark = mark_at(self.nesting.level(), self.lines);
+            if let Some(limit) = mark_at(self.nesting.level(), self.lines) {
+                self.mark = Some(limit);
+            }
         }
         Ok(())
     }
 
     #[inline(always)]
+    #[tactic(auto, using(crate::proofs::Plain::plain_reduced))]
     fn reduce(&mut self, _alloc: Global, rule: u16) -> Result<(), AllocError> {
-        if self.mark.is_none() {
-            let role = role(rule);
-            self.nesting.reduce(role);
-            self.lines = lines_reduced(self.lines, role);
+        match role(rule) {
+            Role::Plain => {}
+            role => self.reduce_as(role),
         }
         Ok(())
+    }
+
+    fn jump(&mut self, _alloc: Global, _non: u8, _kinds: &[u8]) -> Result<usize, AllocError> {
+        Ok(0)
     }
 
     ghost begun_unmarked = { watched.begun_unmarked };

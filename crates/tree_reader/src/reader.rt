@@ -66,6 +66,8 @@ impl<'a> Reading<'a> {
 impl<'a> Action for Reading<'a> {
     ghost use Rattle.std.specs.Prelude.{refl};
     ghost use Rattle.ir_grammar.specs.Rules.{meaning};
+    ghost use Rattle.ir_grammar.specs.Rules as rules;
+    ghost use Rattle.tree_reader.specs.Tables as tables;
     ghost use Rattle.typed_grammars.specs.Meaning as meaning_acts;
 
     type State = Reading<'a>;
@@ -82,6 +84,10 @@ impl<'a> Action for Reading<'a> {
 
     ghost reduced = { meaning_acts.reduced meaning };
 
+    ghost chosen = { tables.sets.table };
+
+    ghost sides = { rules.grammar.right };
+
     #[inline(always)]
     fn begin(&mut self, _alloc: Global, _rule: u16) -> Result<(), AllocError> {
         Ok(())
@@ -97,6 +103,11 @@ impl<'a> Action for Reading<'a> {
 
     fn reduce(&mut self, alloc: Global, rule: u16) -> Result<(), AllocError> {
         reduce(&mut self.parts, alloc, rule)
+    }
+
+    #[inline(always)]
+    fn jump(&mut self, _alloc: Global, _non: u8, _kinds: &[u8]) -> Result<usize, AllocError> {
+        Ok(0)
     }
 
     ghost begun_unmarked = { λ s rule. refl };
