@@ -37,6 +37,10 @@ pub fn ret<P: Parts>(parts: &mut P, alloc: Global) -> Result<(), AllocError>
     let Some(returned) = parts.take::<ReturnedPart>() else {
         return Ok(());
     };
+    let returned = match returned {
+        Some(operand) => Some(operand.into_inner()),
+        None => None,
+    };
     parts.put::<TermPart>(Boxed::new(alloc, TermText::Ret(returned))?)
 }
 
@@ -101,7 +105,7 @@ pub fn returned<P: Parts>(parts: &mut P) -> Result<(), AllocError>
     let Some(operand) = parts.take::<OperandPart>() else {
         return Ok(());
     };
-    parts.put::<ReturnedPart>(Some(operand.into_inner()))
+    parts.put::<ReturnedPart>(Some(operand))
 }
 
 /// `label LOCAL`

@@ -15,6 +15,7 @@ use std::alloc::{AllocError, Global};
 use typed_grammars::Stack;
 
 /// What stands behind an address, of what stands behind a comma there.
+#[inline(always)]
 fn align_from(next: NextAlignText) -> Result<AlignBehindText, AllocError>
     ensures { IfOk result (λ behind. behind ≡ joined.align_from next) }
 {
@@ -61,23 +62,23 @@ pub fn no_align_behind<P: Parts>(parts: &mut P, alloc: Global) -> Result<(), All
         align: None,
         attachments: Stack::new(alloc),
     };
-    parts.put::<AlignBehindPart>(Boxed::new(alloc, behind)?)
+    parts.put::<AlignBehindPart>(behind)
 }
 
 /// An alignment or metadata behind a comma.
 #[inline(never)]
-pub fn align_behind<P: Parts>(parts: &mut P, alloc: Global) -> Result<(), AllocError>
+pub fn align_behind<P: Parts>(parts: &mut P) -> Result<(), AllocError>
     ensures { OnOk result (P.listed parts.new ≡ action vocabulary rule.align_behind (P.listed parts.old)) }
 {
     let Some(next) = parts.take::<NextAlignPart>() else {
         return Ok(());
     };
-    parts.put::<AlignBehindPart>(Boxed::new(alloc, align_from(next.into_inner())?)?)
+    parts.put::<AlignBehindPart>(align_from(next)?)
 }
 
 /// `align N` and metadata
 #[inline(never)]
-pub fn align_next<P: Parts>(parts: &mut P, alloc: Global) -> Result<(), AllocError>
+pub fn align_next<P: Parts>(parts: &mut P) -> Result<(), AllocError>
     ensures { OnOk result (P.listed parts.new ≡ action vocabulary rule.align_next (P.listed parts.old)) }
 {
     let Some(attachments) = parts.take::<AttachmentsPart>() else {
@@ -90,12 +91,12 @@ pub fn align_next<P: Parts>(parts: &mut P, alloc: Global) -> Result<(), AllocErr
         number,
         attachments,
     };
-    parts.put::<NextAlignPart>(Boxed::new(alloc, next)?)
+    parts.put::<NextAlignPart>(next)
 }
 
 /// Metadata in place of an alignment.
 #[inline(never)]
-pub fn align_attachment<P: Parts>(parts: &mut P, alloc: Global) -> Result<(), AllocError>
+pub fn align_attachment<P: Parts>(parts: &mut P) -> Result<(), AllocError>
     ensures { OnOk result (P.listed parts.new ≡ action vocabulary rule.align_attachment (P.listed parts.old)) }
 {
     let Some(others) = parts.take::<AttachmentsPart>() else {
@@ -104,7 +105,7 @@ pub fn align_attachment<P: Parts>(parts: &mut P, alloc: Global) -> Result<(), Al
     let Some(first) = parts.take::<MetaPart>() else {
         return Ok(());
     };
-    parts.put::<NextAlignPart>(Boxed::new(alloc, NextAlignText::Attachment { first, others })?)
+    parts.put::<NextAlignPart>(NextAlignText::Attachment { first, others })
 }
 
 /// No count, no alignment and no metadata.
@@ -149,7 +150,6 @@ pub fn count_next<P: Parts>(parts: &mut P, alloc: Global) -> Result<(), AllocErr
         return Ok(());
     };
     let count = CountText { ty, number };
-    let behind = behind.into_inner();
     parts.put::<NextCountPart>(Boxed::new(alloc, NextCountText::Count { count, behind })?)
 }
 
@@ -161,5 +161,5 @@ pub fn no_next_count<P: Parts>(parts: &mut P, alloc: Global) -> Result<(), Alloc
     let Some(next) = parts.take::<NextAlignPart>() else {
         return Ok(());
     };
-    parts.put::<NextCountPart>(Boxed::new(alloc, NextCountText::Other(next.into_inner()))?)
+    parts.put::<NextCountPart>(Boxed::new(alloc, NextCountText::Other(next))?)
 }

@@ -42,32 +42,32 @@ pub fn items<P: Parts>(parts: &mut P) -> Result<(), AllocError>
     let Some(item) = parts.take::<ItemPart>() else {
         return Ok(());
     };
-    rest.items.push(item)?;
+    rest.items.push(item.into_inner())?;
     parts.put::<ModulePart>(rest)
 }
 
 /// `target PROPERTY = STRING`
 #[inline(never)]
-pub fn target<P: Parts>(parts: &mut P) -> Result<(), AllocError>
+pub fn target<P: Parts>(parts: &mut P, alloc: Global) -> Result<(), AllocError>
     ensures { OnOk result (P.listed parts.new ≡ action vocabulary rule.target (P.listed parts.old)) }
 {
-    parts.put::<ItemPart>(ItemText::Target)
+    parts.put::<ItemPart>(Boxed::new(alloc, ItemText::Target)?)
 }
 
 /// `attributes #N = { .. }`
 #[inline(never)]
-pub fn attributes<P: Parts>(parts: &mut P) -> Result<(), AllocError>
+pub fn attributes<P: Parts>(parts: &mut P, alloc: Global) -> Result<(), AllocError>
     ensures { OnOk result (P.listed parts.new ≡ action vocabulary rule.attributes (P.listed parts.old)) }
 {
     let Some(at) = parts.take::<AtPart>() else {
         return Ok(());
     };
-    parts.put::<ItemPart>(ItemText::Attributes(at))
+    parts.put::<ItemPart>(Boxed::new(alloc, ItemText::Attributes(at))?)
 }
 
 /// `!RUN = [distinct] META`
 #[inline(never)]
-pub fn metadata<P: Parts>(parts: &mut P) -> Result<(), AllocError>
+pub fn metadata<P: Parts>(parts: &mut P, alloc: Global) -> Result<(), AllocError>
     ensures { OnOk result (P.listed parts.new ≡ action vocabulary rule.metadata (P.listed parts.old)) }
 {
     let Some(meta) = parts.take::<MetaPart>() else {
@@ -77,7 +77,7 @@ pub fn metadata<P: Parts>(parts: &mut P) -> Result<(), AllocError>
         return Ok(());
     };
     let item = ItemText::Metadata { is_distinct, meta };
-    parts.put::<ItemPart>(item)
+    parts.put::<ItemPart>(Boxed::new(alloc, item)?)
 }
 
 /// `declare result declared`
@@ -96,12 +96,12 @@ pub fn declaration<P: Parts>(parts: &mut P, alloc: Global) -> Result<(), AllocEr
         declared: declared.into_inner(),
     };
     let declaration = Boxed::new(alloc, declaration)?;
-    parts.put::<ItemPart>(ItemText::Declaration(declaration))
+    parts.put::<ItemPart>(Boxed::new(alloc, ItemText::Declaration(declaration))?)
 }
 
 /// `LOCAL = type body`
 #[inline(never)]
-pub fn named_type<P: Parts>(parts: &mut P) -> Result<(), AllocError>
+pub fn named_type<P: Parts>(parts: &mut P, alloc: Global) -> Result<(), AllocError>
     ensures { OnOk result (P.listed parts.new ≡ action vocabulary rule.named_type (P.listed parts.old)) }
 {
     let Some(body) = parts.take::<TypeBodyPart>() else {
@@ -110,12 +110,12 @@ pub fn named_type<P: Parts>(parts: &mut P) -> Result<(), AllocError>
     let Some(name) = parts.take::<LocalPart>() else {
         return Ok(());
     };
-    parts.put::<ItemPart>(ItemText::Type { name, body })
+    parts.put::<ItemPart>(Boxed::new(alloc, ItemText::Type { name, body })?)
 }
 
 /// `GLOBAL = body`
 #[inline(never)]
-pub fn global<P: Parts>(parts: &mut P) -> Result<(), AllocError>
+pub fn global<P: Parts>(parts: &mut P, alloc: Global) -> Result<(), AllocError>
     ensures { OnOk result (P.listed parts.new ≡ action vocabulary rule.global (P.listed parts.old)) }
 {
     let Some(body) = parts.take::<GlobalBodyPart>() else {
@@ -124,7 +124,7 @@ pub fn global<P: Parts>(parts: &mut P) -> Result<(), AllocError>
     let Some(name) = parts.take::<GlobalNamePart>() else {
         return Ok(());
     };
-    parts.put::<ItemPart>(ItemText::Global { name, body })
+    parts.put::<ItemPart>(Boxed::new(alloc, ItemText::Global { name, body })?)
 }
 
 /// What stands before the brace of a definition taken from the stack, and the definition put on top.
@@ -157,7 +157,7 @@ fn define<P: Parts>(
         others,
     };
     let definition = Boxed::new(alloc, definition)?;
-    parts.put::<ItemPart>(ItemText::Definition(definition))
+    parts.put::<ItemPart>(Boxed::new(alloc, ItemText::Definition(definition))?)
 }
 
 /// `define linkage head attachment { block blocks }`

@@ -22,13 +22,14 @@ impl Form for ModulePart {
 
     ghost made = { item.Module };
 
-    fn of(item: Item) -> Option<ModuleText> {
+    fn is(item: &Item) -> bool {
+        matches!(item, Item::Module(_))
+    }
+
+    fn of(item: Item) -> ModuleText {
         match item {
-            Item::Module(x) => Some(x),
-            other => {
-                drop(other);
-                None
-            }
+            Item::Module(x) => x,
+            _ => unreachable!(),
         }
     }
 
@@ -44,23 +45,24 @@ impl Form for ItemPart {
 
     type Group = Item;
 
-    type Value = ItemText;
+    type Value = Boxed<ItemText>;
 
     ghost held = { item_item };
 
     ghost made = { item.Item };
 
-    fn of(item: Item) -> Option<ItemText> {
+    fn is(item: &Item) -> bool {
+        matches!(item, Item::Item(_))
+    }
+
+    fn of(item: Item) -> Boxed<ItemText> {
         match item {
-            Item::Item(x) => Some(x),
-            other => {
-                drop(other);
-                None
-            }
+            Item::Item(x) => x,
+            _ => unreachable!(),
         }
     }
 
-    fn make(value: ItemText) -> Item {
+    fn make(value: Boxed<ItemText>) -> Item {
         Item::Item(value)
     }
 }
@@ -78,13 +80,14 @@ impl Form for TypeBodyPart {
 
     ghost made = { item.TypeBody };
 
-    fn of(item: Item) -> Option<TypeBodyText> {
+    fn is(item: &Item) -> bool {
+        matches!(item, Item::TypeBody(_))
+    }
+
+    fn of(item: Item) -> TypeBodyText {
         match item {
-            Item::TypeBody(x) => Some(x),
-            other => {
-                drop(other);
-                None
-            }
+            Item::TypeBody(x) => x,
+            _ => unreachable!(),
         }
     }
 
@@ -106,13 +109,14 @@ impl Form for GlobalBodyPart {
 
     ghost made = { item.GlobalBody };
 
-    fn of(item: Item) -> Option<Boxed<GlobalBodyText>> {
+    fn is(item: &Item) -> bool {
+        matches!(item, Item::GlobalBody(_))
+    }
+
+    fn of(item: Item) -> Boxed<GlobalBodyText> {
         match item {
-            Item::GlobalBody(x) => Some(x),
-            other => {
-                drop(other);
-                None
-            }
+            Item::GlobalBody(x) => x,
+            _ => unreachable!(),
         }
     }
 
@@ -134,13 +138,14 @@ impl Form for DeclaredPart {
 
     ghost made = { item.Declared };
 
-    fn of(item: Item) -> Option<Boxed<DeclaredNameText>> {
+    fn is(item: &Item) -> bool {
+        matches!(item, Item::Declared(_))
+    }
+
+    fn of(item: Item) -> Boxed<DeclaredNameText> {
         match item {
-            Item::Declared(x) => Some(x),
-            other => {
-                drop(other);
-                None
-            }
+            Item::Declared(x) => x,
+            _ => unreachable!(),
         }
     }
 
@@ -162,13 +167,14 @@ impl Form for DeclaredParamsPart {
 
     ghost made = { item.Params };
 
-    fn of(item: Item) -> Option<DeclaredText> {
+    fn is(item: &Item) -> bool {
+        matches!(item, Item::Params(_))
+    }
+
+    fn of(item: Item) -> DeclaredText {
         match item {
-            Item::Params(x) => Some(x),
-            other => {
-                drop(other);
-                None
-            }
+            Item::Params(x) => x,
+            _ => unreachable!(),
         }
     }
 
@@ -190,13 +196,14 @@ impl Form for NextDeclaredPart {
 
     ghost made = { item.NextDeclared };
 
-    fn of(item: Item) -> Option<Boxed<NextDeclaredText>> {
+    fn is(item: &Item) -> bool {
+        matches!(item, Item::NextDeclared(_))
+    }
+
+    fn of(item: Item) -> Boxed<NextDeclaredText> {
         match item {
-            Item::NextDeclared(x) => Some(x),
-            other => {
-                drop(other);
-                None
-            }
+            Item::NextDeclared(x) => x,
+            _ => unreachable!(),
         }
     }
 
@@ -218,13 +225,14 @@ impl Form for ResultPart {
 
     ghost made = { item.Result };
 
-    fn of(item: Item) -> Option<Boxed<ResultText>> {
+    fn is(item: &Item) -> bool {
+        matches!(item, Item::Result(_))
+    }
+
+    fn of(item: Item) -> Boxed<ResultText> {
         match item {
-            Item::Result(x) => Some(x),
-            other => {
-                drop(other);
-                None
-            }
+            Item::Result(x) => x,
+            _ => unreachable!(),
         }
     }
 
@@ -246,13 +254,14 @@ impl Form for HeadPart {
 
     ghost made = { item.Head };
 
-    fn of(item: Item) -> Option<Boxed<HeadText>> {
+    fn is(item: &Item) -> bool {
+        matches!(item, Item::Head(_))
+    }
+
+    fn of(item: Item) -> Boxed<HeadText> {
         match item {
-            Item::Head(x) => Some(x),
-            other => {
-                drop(other);
-                None
-            }
+            Item::Head(x) => x,
+            _ => unreachable!(),
         }
     }
 
@@ -274,13 +283,14 @@ impl Form for HeadEndPart {
 
     ghost made = { item.HeadEnd };
 
-    fn of(item: Item) -> Option<HeadEndText> {
+    fn is(item: &Item) -> bool {
+        matches!(item, Item::HeadEnd(_))
+    }
+
+    fn of(item: Item) -> HeadEndText {
         match item {
-            Item::HeadEnd(x) => Some(x),
-            other => {
-                drop(other);
-                None
-            }
+            Item::HeadEnd(x) => x,
+            _ => unreachable!(),
         }
     }
 
@@ -302,13 +312,14 @@ impl Form for ParamPart {
 
     ghost made = { item.Param };
 
-    fn of(item: Item) -> Option<Boxed<ParamText>> {
+    fn is(item: &Item) -> bool {
+        matches!(item, Item::Param(_))
+    }
+
+    fn of(item: Item) -> Boxed<ParamText> {
         match item {
-            Item::Param(x) => Some(x),
-            other => {
-                drop(other);
-                None
-            }
+            Item::Param(x) => x,
+            _ => unreachable!(),
         }
     }
 

@@ -22,13 +22,14 @@ impl Form for NamePart {
 
     ghost made = { atom.Name };
 
-    fn of(atom: Atom) -> Option<Option<Placed<Name>>> {
+    fn is(atom: &Atom) -> bool {
+        matches!(atom, Atom::Name(_))
+    }
+
+    fn of(atom: Atom) -> Option<Placed<Name>> {
         match atom {
-            Atom::Name(x) => Some(x),
-            other => {
-                drop(other);
-                None
-            }
+            Atom::Name(x) => x,
+            _ => unreachable!(),
         }
     }
 
@@ -50,13 +51,14 @@ impl Form for IsPart {
 
     ghost made = { atom.Is };
 
-    fn of(atom: Atom) -> Option<bool> {
+    fn is(atom: &Atom) -> bool {
+        matches!(atom, Atom::Is(_))
+    }
+
+    fn of(atom: Atom) -> bool {
         match atom {
-            Atom::Is(x) => Some(x),
-            other => {
-                drop(other);
-                None
-            }
+            Atom::Is(x) => x,
+            _ => unreachable!(),
         }
     }
 
@@ -78,13 +80,14 @@ impl Form for AlignPart {
 
     ghost made = { atom.Align };
 
-    fn of(atom: Atom) -> Option<Option<Placed<Number>>> {
+    fn is(atom: &Atom) -> bool {
+        matches!(atom, Atom::Align(_))
+    }
+
+    fn of(atom: Atom) -> Option<Placed<Number>> {
         match atom {
-            Atom::Align(x) => Some(x),
-            other => {
-                drop(other);
-                None
-            }
+            Atom::Align(x) => x,
+            _ => unreachable!(),
         }
     }
 
@@ -106,13 +109,14 @@ impl Form for LinkagePart {
 
     ghost made = { atom.Linkage };
 
-    fn of(atom: Atom) -> Option<LinkageText> {
+    fn is(atom: &Atom) -> bool {
+        matches!(atom, Atom::Linkage(_))
+    }
+
+    fn of(atom: Atom) -> LinkageText {
         match atom {
-            Atom::Linkage(x) => Some(x),
-            other => {
-                drop(other);
-                None
-            }
+            Atom::Linkage(x) => x,
+            _ => unreachable!(),
         }
     }
 
@@ -134,13 +138,14 @@ impl Form for WordPart {
 
     ghost made = { atom.Word };
 
-    fn of(atom: Atom) -> Option<Option<LinkageWord>> {
+    fn is(atom: &Atom) -> bool {
+        matches!(atom, Atom::Word(_))
+    }
+
+    fn of(atom: Atom) -> Option<LinkageWord> {
         match atom {
-            Atom::Word(x) => Some(x),
-            other => {
-                drop(other);
-                None
-            }
+            Atom::Word(x) => x,
+            _ => unreachable!(),
         }
     }
 
@@ -162,13 +167,14 @@ impl Form for MetaPart {
 
     ghost made = { atom.Meta };
 
-    fn of(atom: Atom) -> Option<MetaText> {
+    fn is(atom: &Atom) -> bool {
+        matches!(atom, Atom::Meta(_))
+    }
+
+    fn of(atom: Atom) -> MetaText {
         match atom {
-            Atom::Meta(x) => Some(x),
-            other => {
-                drop(other);
-                None
-            }
+            Atom::Meta(x) => x,
+            _ => unreachable!(),
         }
     }
 
@@ -190,13 +196,14 @@ impl Form for BangPart {
 
     ghost made = { atom.Bang };
 
-    fn of(atom: Atom) -> Option<BangText> {
+    fn is(atom: &Atom) -> bool {
+        matches!(atom, Atom::Bang(_))
+    }
+
+    fn of(atom: Atom) -> BangText {
         match atom {
-            Atom::Bang(x) => Some(x),
-            other => {
-                drop(other);
-                None
-            }
+            Atom::Bang(x) => x,
+            _ => unreachable!(),
         }
     }
 
@@ -218,13 +225,14 @@ impl Form for AttachedMetaPart {
 
     ghost made = { atom.Attached };
 
-    fn of(atom: Atom) -> Option<Option<MetaText>> {
+    fn is(atom: &Atom) -> bool {
+        matches!(atom, Atom::Attached(_))
+    }
+
+    fn of(atom: Atom) -> Option<MetaText> {
         match atom {
-            Atom::Attached(x) => Some(x),
-            other => {
-                drop(other);
-                None
-            }
+            Atom::Attached(x) => x,
+            _ => unreachable!(),
         }
     }
 
@@ -246,13 +254,14 @@ impl Form for IntPart {
 
     ghost made = { atom.Int };
 
-    fn of(atom: Atom) -> Option<IntText> {
+    fn is(atom: &Atom) -> bool {
+        matches!(atom, Atom::Int(_))
+    }
+
+    fn of(atom: Atom) -> IntText {
         match atom {
-            Atom::Int(x) => Some(x),
-            other => {
-                drop(other);
-                None
-            }
+            Atom::Int(x) => x,
+            _ => unreachable!(),
         }
     }
 
@@ -274,13 +283,14 @@ impl Form for GlobalNamePart {
 
     ghost made = { atom.Global };
 
-    fn of(atom: Atom) -> Option<GlobalNameText> {
+    fn is(atom: &Atom) -> bool {
+        matches!(atom, Atom::Global(_))
+    }
+
+    fn of(atom: Atom) -> GlobalNameText {
         match atom {
-            Atom::Global(x) => Some(x),
-            other => {
-                drop(other);
-                None
-            }
+            Atom::Global(x) => x,
+            _ => unreachable!(),
         }
     }
 

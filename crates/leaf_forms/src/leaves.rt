@@ -24,13 +24,14 @@ impl Form for LocalPart {
 
     ghost made = { leaf.Local };
 
-    fn of(leaf: Leaf) -> Option<Placed<Name>> {
+    fn is(leaf: &Leaf) -> bool {
+        matches!(leaf, Leaf::Local(_))
+    }
+
+    fn of(leaf: Leaf) -> Placed<Name> {
         match leaf {
-            Leaf::Local(x) => Some(x),
-            other => {
-                drop(other);
-                None
-            }
+            Leaf::Local(x) => x,
+            _ => unreachable!(),
         }
     }
 
@@ -52,13 +53,14 @@ impl Form for GlobalPart {
 
     ghost made = { leaf.Global };
 
-    fn of(leaf: Leaf) -> Option<Placed<Name>> {
+    fn is(leaf: &Leaf) -> bool {
+        matches!(leaf, Leaf::Global(_))
+    }
+
+    fn of(leaf: Leaf) -> Placed<Name> {
         match leaf {
-            Leaf::Global(x) => Some(x),
-            other => {
-                drop(other);
-                None
-            }
+            Leaf::Global(x) => x,
+            _ => unreachable!(),
         }
     }
 
@@ -80,13 +82,14 @@ impl Form for LabelPart {
 
     ghost made = { leaf.Label };
 
-    fn of(leaf: Leaf) -> Option<Placed<Name>> {
+    fn is(leaf: &Leaf) -> bool {
+        matches!(leaf, Leaf::Label(_))
+    }
+
+    fn of(leaf: Leaf) -> Placed<Name> {
         match leaf {
-            Leaf::Label(x) => Some(x),
-            other => {
-                drop(other);
-                None
-            }
+            Leaf::Label(x) => x,
+            _ => unreachable!(),
         }
     }
 
@@ -108,13 +111,14 @@ impl Form for NumberPart {
 
     ghost made = { leaf.Number };
 
-    fn of(leaf: Leaf) -> Option<Placed<Number>> {
+    fn is(leaf: &Leaf) -> bool {
+        matches!(leaf, Leaf::Number(_))
+    }
+
+    fn of(leaf: Leaf) -> Placed<Number> {
         match leaf {
-            Leaf::Number(x) => Some(x),
-            other => {
-                drop(other);
-                None
-            }
+            Leaf::Number(x) => x,
+            _ => unreachable!(),
         }
     }
 
@@ -136,13 +140,14 @@ impl Form for WidthPart {
 
     ghost made = { leaf.Width };
 
-    fn of(leaf: Leaf) -> Option<Placed<u32>> {
+    fn is(leaf: &Leaf) -> bool {
+        matches!(leaf, Leaf::Width(_))
+    }
+
+    fn of(leaf: Leaf) -> Placed<u32> {
         match leaf {
-            Leaf::Width(x) => Some(x),
-            other => {
-                drop(other);
-                None
-            }
+            Leaf::Width(x) => x,
+            _ => unreachable!(),
         }
     }
 
@@ -164,13 +169,14 @@ impl Form for TruthPart {
 
     ghost made = { leaf.Truth };
 
-    fn of(leaf: Leaf) -> Option<Placed<bool>> {
+    fn is(leaf: &Leaf) -> bool {
+        matches!(leaf, Leaf::Truth(_))
+    }
+
+    fn of(leaf: Leaf) -> Placed<bool> {
         match leaf {
-            Leaf::Truth(x) => Some(x),
-            other => {
-                drop(other);
-                None
-            }
+            Leaf::Truth(x) => x,
+            _ => unreachable!(),
         }
     }
 
@@ -192,13 +198,14 @@ impl Form for BytesPart {
 
     ghost made = { leaf.Bytes };
 
-    fn of(leaf: Leaf) -> Option<Placed<Text>> {
+    fn is(leaf: &Leaf) -> bool {
+        matches!(leaf, Leaf::Bytes(_))
+    }
+
+    fn of(leaf: Leaf) -> Placed<Text> {
         match leaf {
-            Leaf::Bytes(x) => Some(x),
-            other => {
-                drop(other);
-                None
-            }
+            Leaf::Bytes(x) => x,
+            _ => unreachable!(),
         }
     }
 
@@ -220,13 +227,14 @@ impl Form for OverflowPart {
 
     ghost made = { leaf.Overflow };
 
-    fn of(leaf: Leaf) -> Option<OverflowOp> {
+    fn is(leaf: &Leaf) -> bool {
+        matches!(leaf, Leaf::Overflow(_))
+    }
+
+    fn of(leaf: Leaf) -> OverflowOp {
         match leaf {
-            Leaf::Overflow(x) => Some(x),
-            other => {
-                drop(other);
-                None
-            }
+            Leaf::Overflow(x) => x,
+            _ => unreachable!(),
         }
     }
 
@@ -248,13 +256,14 @@ impl Form for ExactPart {
 
     ghost made = { leaf.Exact };
 
-    fn of(leaf: Leaf) -> Option<ExactOp> {
+    fn is(leaf: &Leaf) -> bool {
+        matches!(leaf, Leaf::Exact(_))
+    }
+
+    fn of(leaf: Leaf) -> ExactOp {
         match leaf {
-            Leaf::Exact(x) => Some(x),
-            other => {
-                drop(other);
-                None
-            }
+            Leaf::Exact(x) => x,
+            _ => unreachable!(),
         }
     }
 
@@ -276,13 +285,14 @@ impl Form for PlainPart {
 
     ghost made = { leaf.Plain };
 
-    fn of(leaf: Leaf) -> Option<PlainOp> {
+    fn is(leaf: &Leaf) -> bool {
+        matches!(leaf, Leaf::Plain(_))
+    }
+
+    fn of(leaf: Leaf) -> PlainOp {
         match leaf {
-            Leaf::Plain(x) => Some(x),
-            other => {
-                drop(other);
-                None
-            }
+            Leaf::Plain(x) => x,
+            _ => unreachable!(),
         }
     }
 
@@ -304,13 +314,14 @@ impl Form for ResizePart {
 
     ghost made = { leaf.Resize };
 
-    fn of(leaf: Leaf) -> Option<ResizeOp> {
+    fn is(leaf: &Leaf) -> bool {
+        matches!(leaf, Leaf::Resize(_))
+    }
+
+    fn of(leaf: Leaf) -> ResizeOp {
         match leaf {
-            Leaf::Resize(x) => Some(x),
-            other => {
-                drop(other);
-                None
-            }
+            Leaf::Resize(x) => x,
+            _ => unreachable!(),
         }
     }
 
@@ -332,13 +343,14 @@ impl Form for PredPart {
 
     ghost made = { leaf.Pred };
 
-    fn of(leaf: Leaf) -> Option<Pred> {
+    fn is(leaf: &Leaf) -> bool {
+        matches!(leaf, Leaf::Pred(_))
+    }
+
+    fn of(leaf: Leaf) -> Pred {
         match leaf {
-            Leaf::Pred(x) => Some(x),
-            other => {
-                drop(other);
-                None
-            }
+            Leaf::Pred(x) => x,
+            _ => unreachable!(),
         }
     }
 
@@ -360,13 +372,14 @@ impl Form for FlagPart {
 
     ghost made = { leaf.Flag };
 
-    fn of(leaf: Leaf) -> Option<FlagWord> {
+    fn is(leaf: &Leaf) -> bool {
+        matches!(leaf, Leaf::Flag(_))
+    }
+
+    fn of(leaf: Leaf) -> FlagWord {
         match leaf {
-            Leaf::Flag(x) => Some(x),
-            other => {
-                drop(other);
-                None
-            }
+            Leaf::Flag(x) => x,
+            _ => unreachable!(),
         }
     }
 
@@ -388,13 +401,14 @@ impl Form for LinkageWordPart {
 
     ghost made = { leaf.Linkage };
 
-    fn of(leaf: Leaf) -> Option<LinkageWord> {
+    fn is(leaf: &Leaf) -> bool {
+        matches!(leaf, Leaf::Linkage(_))
+    }
+
+    fn of(leaf: Leaf) -> LinkageWord {
         match leaf {
-            Leaf::Linkage(x) => Some(x),
-            other => {
-                drop(other);
-                None
-            }
+            Leaf::Linkage(x) => x,
+            _ => unreachable!(),
         }
     }
 
@@ -416,13 +430,14 @@ impl Form for ExtensionPart {
 
     ghost made = { leaf.Extension };
 
-    fn of(leaf: Leaf) -> Option<ExtensionWord> {
+    fn is(leaf: &Leaf) -> bool {
+        matches!(leaf, Leaf::Extension(_))
+    }
+
+    fn of(leaf: Leaf) -> ExtensionWord {
         match leaf {
-            Leaf::Extension(x) => Some(x),
-            other => {
-                drop(other);
-                None
-            }
+            Leaf::Extension(x) => x,
+            _ => unreachable!(),
         }
     }
 
@@ -444,13 +459,14 @@ impl Form for HoldingPart {
 
     ghost made = { leaf.Holding };
 
-    fn of(leaf: Leaf) -> Option<HoldingWord> {
+    fn is(leaf: &Leaf) -> bool {
+        matches!(leaf, Leaf::Holding(_))
+    }
+
+    fn of(leaf: Leaf) -> HoldingWord {
         match leaf {
-            Leaf::Holding(x) => Some(x),
-            other => {
-                drop(other);
-                None
-            }
+            Leaf::Holding(x) => x,
+            _ => unreachable!(),
         }
     }
 
@@ -472,13 +488,14 @@ impl Form for AtPart {
 
     ghost made = { leaf.At };
 
-    fn of(leaf: Leaf) -> Option<u32> {
+    fn is(leaf: &Leaf) -> bool {
+        matches!(leaf, Leaf::At(_))
+    }
+
+    fn of(leaf: Leaf) -> u32 {
         match leaf {
-            Leaf::At(x) => Some(x),
-            other => {
-                drop(other);
-                None
-            }
+            Leaf::At(x) => x,
+            _ => unreachable!(),
         }
     }
 

@@ -5,7 +5,7 @@ ghost use Rattle.module_grammar.specs.declared.parts.List.TheVariants as list;
 use contents::Boxed;
 use module_grammar::{
     ArgumentText, BlockText, CaseText, ConstText, FlagWord, FunctionAttributeText, InitText,
-    LineText, List, MetaText, OperandText, ParamAttributeText, ParamText, TypeText,
+    LineText, List, MetaText, OperandText, ParamAttributeText, ParamText, Stars, TypeText,
 };
 use part_groups::Form;
 use typed_grammars::Stack;
@@ -17,23 +17,24 @@ impl Form for StarsPart {
 
     type Group = List;
 
-    type Value = Stack<u32>;
+    type Value = Stars;
 
     ghost held = { list_stars };
 
     ghost made = { list.Stars };
 
-    fn of(list: List) -> Option<Stack<u32>> {
+    fn is(list: &List) -> bool {
+        matches!(list, List::Stars(_))
+    }
+
+    fn of(list: List) -> Stars {
         match list {
-            List::Stars(x) => Some(x),
-            other => {
-                drop(other);
-                None
-            }
+            List::Stars(x) => x,
+            _ => unreachable!(),
         }
     }
 
-    fn make(value: Stack<u32>) -> List {
+    fn make(value: Stars) -> List {
         List::Stars(value)
     }
 }
@@ -51,13 +52,14 @@ impl Form for TypesPart {
 
     ghost made = { list.Types };
 
-    fn of(list: List) -> Option<Stack<TypeText>> {
+    fn is(list: &List) -> bool {
+        matches!(list, List::Types(_))
+    }
+
+    fn of(list: List) -> Stack<TypeText> {
         match list {
-            List::Types(x) => Some(x),
-            other => {
-                drop(other);
-                None
-            }
+            List::Types(x) => x,
+            _ => unreachable!(),
         }
     }
 
@@ -79,13 +81,14 @@ impl Form for ConstsPart {
 
     ghost made = { list.Consts };
 
-    fn of(list: List) -> Option<Stack<(TypeText, ConstText)>> {
+    fn is(list: &List) -> bool {
+        matches!(list, List::Consts(_))
+    }
+
+    fn of(list: List) -> Stack<(TypeText, ConstText)> {
         match list {
-            List::Consts(x) => Some(x),
-            other => {
-                drop(other);
-                None
-            }
+            List::Consts(x) => x,
+            _ => unreachable!(),
         }
     }
 
@@ -107,13 +110,14 @@ impl Form for InitsPart {
 
     ghost made = { list.Inits };
 
-    fn of(list: List) -> Option<Stack<(TypeText, InitText)>> {
+    fn is(list: &List) -> bool {
+        matches!(list, List::Inits(_))
+    }
+
+    fn of(list: List) -> Stack<(TypeText, InitText)> {
         match list {
-            List::Inits(x) => Some(x),
-            other => {
-                drop(other);
-                None
-            }
+            List::Inits(x) => x,
+            _ => unreachable!(),
         }
     }
 
@@ -135,13 +139,14 @@ impl Form for OperandsPart {
 
     ghost made = { list.Operands };
 
-    fn of(list: List) -> Option<Stack<OperandText>> {
+    fn is(list: &List) -> bool {
+        matches!(list, List::Operands(_))
+    }
+
+    fn of(list: List) -> Stack<OperandText> {
         match list {
-            List::Operands(x) => Some(x),
-            other => {
-                drop(other);
-                None
-            }
+            List::Operands(x) => x,
+            _ => unreachable!(),
         }
     }
 
@@ -163,13 +168,14 @@ impl Form for ParamAttributesPart {
 
     ghost made = { list.ParamAttributes };
 
-    fn of(list: List) -> Option<Stack<ParamAttributeText>> {
+    fn is(list: &List) -> bool {
+        matches!(list, List::ParamAttributes(_))
+    }
+
+    fn of(list: List) -> Stack<ParamAttributeText> {
         match list {
-            List::ParamAttributes(x) => Some(x),
-            other => {
-                drop(other);
-                None
-            }
+            List::ParamAttributes(x) => x,
+            _ => unreachable!(),
         }
     }
 
@@ -191,13 +197,14 @@ impl Form for FunctionAttributesPart {
 
     ghost made = { list.FunctionAttributes };
 
-    fn of(list: List) -> Option<Stack<FunctionAttributeText>> {
+    fn is(list: &List) -> bool {
+        matches!(list, List::FunctionAttributes(_))
+    }
+
+    fn of(list: List) -> Stack<FunctionAttributeText> {
         match list {
-            List::FunctionAttributes(x) => Some(x),
-            other => {
-                drop(other);
-                None
-            }
+            List::FunctionAttributes(x) => x,
+            _ => unreachable!(),
         }
     }
 
@@ -219,13 +226,14 @@ impl Form for AttachmentsPart {
 
     ghost made = { list.Attachments };
 
-    fn of(list: List) -> Option<Stack<MetaText>> {
+    fn is(list: &List) -> bool {
+        matches!(list, List::Attachments(_))
+    }
+
+    fn of(list: List) -> Stack<MetaText> {
         match list {
-            List::Attachments(x) => Some(x),
-            other => {
-                drop(other);
-                None
-            }
+            List::Attachments(x) => x,
+            _ => unreachable!(),
         }
     }
 
@@ -247,13 +255,14 @@ impl Form for ArgumentsPart {
 
     ghost made = { list.Arguments };
 
-    fn of(list: List) -> Option<Stack<ArgumentText>> {
+    fn is(list: &List) -> bool {
+        matches!(list, List::Arguments(_))
+    }
+
+    fn of(list: List) -> Stack<ArgumentText> {
         match list {
-            List::Arguments(x) => Some(x),
-            other => {
-                drop(other);
-                None
-            }
+            List::Arguments(x) => x,
+            _ => unreachable!(),
         }
     }
 
@@ -275,13 +284,14 @@ impl Form for FlagsPart {
 
     ghost made = { list.Flags };
 
-    fn of(list: List) -> Option<Stack<FlagWord>> {
+    fn is(list: &List) -> bool {
+        matches!(list, List::Flags(_))
+    }
+
+    fn of(list: List) -> Stack<FlagWord> {
         match list {
-            List::Flags(x) => Some(x),
-            other => {
-                drop(other);
-                None
-            }
+            List::Flags(x) => x,
+            _ => unreachable!(),
         }
     }
 
@@ -303,13 +313,14 @@ impl Form for ParamsPart {
 
     ghost made = { list.Params };
 
-    fn of(list: List) -> Option<Stack<ParamText>> {
+    fn is(list: &List) -> bool {
+        matches!(list, List::Params(_))
+    }
+
+    fn of(list: List) -> Stack<ParamText> {
         match list {
-            List::Params(x) => Some(x),
-            other => {
-                drop(other);
-                None
-            }
+            List::Params(x) => x,
+            _ => unreachable!(),
         }
     }
 
@@ -331,13 +342,14 @@ impl Form for LinesPart {
 
     ghost made = { list.Lines };
 
-    fn of(list: List) -> Option<Stack<LineText>> {
+    fn is(list: &List) -> bool {
+        matches!(list, List::Lines(_))
+    }
+
+    fn of(list: List) -> Stack<LineText> {
         match list {
-            List::Lines(x) => Some(x),
-            other => {
-                drop(other);
-                None
-            }
+            List::Lines(x) => x,
+            _ => unreachable!(),
         }
     }
 
@@ -359,13 +371,14 @@ impl Form for CasesPart {
 
     ghost made = { list.Cases };
 
-    fn of(list: List) -> Option<Stack<CaseText>> {
+    fn is(list: &List) -> bool {
+        matches!(list, List::Cases(_))
+    }
+
+    fn of(list: List) -> Stack<CaseText> {
         match list {
-            List::Cases(x) => Some(x),
-            other => {
-                drop(other);
-                None
-            }
+            List::Cases(x) => x,
+            _ => unreachable!(),
         }
     }
 
@@ -387,13 +400,14 @@ impl Form for BlocksPart {
 
     ghost made = { list.Blocks };
 
-    fn of(list: List) -> Option<Stack<Boxed<BlockText>>> {
+    fn is(list: &List) -> bool {
+        matches!(list, List::Blocks(_))
+    }
+
+    fn of(list: List) -> Stack<Boxed<BlockText>> {
         match list {
-            List::Blocks(x) => Some(x),
-            other => {
-                drop(other);
-                None
-            }
+            List::Blocks(x) => x,
+            _ => unreachable!(),
         }
     }
 

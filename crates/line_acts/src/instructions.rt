@@ -21,6 +21,7 @@ use std::alloc::{AllocError, Global};
 use typed_grammars::Stack;
 
 /// An instruction and the metadata that is attached to it on top.
+#[inline(always)]
 fn put_attached<P: Parts>(
     parts: &mut P,
     alloc: Global,
@@ -116,7 +117,7 @@ pub fn load<P: Parts>(parts: &mut P, alloc: Global) -> Result<(), AllocError>
     let Some(ty) = parts.take::<TypePart>() else {
         return Ok(());
     };
-    let AlignBehindText { align, attachments } = behind.into_inner();
+    let AlignBehindText { align, attachments } = behind;
     let address = address.into_inner();
     let load = LoadText { ty, address, align };
     put_attached(parts, alloc, InstructionText::Load(load), attachments)
@@ -136,7 +137,7 @@ pub fn store<P: Parts>(parts: &mut P, alloc: Global) -> Result<(), AllocError>
     let Some(value) = parts.take::<OperandPart>() else {
         return Ok(());
     };
-    let AlignBehindText { align, attachments } = behind.into_inner();
+    let AlignBehindText { align, attachments } = behind;
     let store = StoreText {
         value: value.into_inner(),
         address: address.into_inner(),

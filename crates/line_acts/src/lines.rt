@@ -71,24 +71,25 @@ pub fn lines<P: Parts>(parts: &mut P) -> Result<(), AllocError>
 
 /// `T V` as an expression.
 #[inline(never)]
-pub fn expression_operand<P: Parts>(parts: &mut P) -> Result<(), AllocError>
+pub fn expression_operand<P: Parts>(parts: &mut P, alloc: Global) -> Result<(), AllocError>
     ensures { OnOk result (P.listed parts.new ≡ action vocabulary rule.expression_operand (P.listed parts.old)) }
 {
     let Some(operand) = parts.take::<OperandPart>() else {
         return Ok(());
     };
-    parts.put::<ExprPart>(ExprText::Plain(operand.into_inner()))
+    let expr = ExprText::Plain(operand.into_inner());
+    parts.put::<ExprPart>(Boxed::new(alloc, expr)?)
 }
 
 /// An operation as an expression.
 #[inline(never)]
-pub fn expression_operation<P: Parts>(parts: &mut P) -> Result<(), AllocError>
+pub fn expression_operation<P: Parts>(parts: &mut P, alloc: Global) -> Result<(), AllocError>
     ensures { OnOk result (P.listed parts.new ≡ action vocabulary rule.expression_operation (P.listed parts.old)) }
 {
     let Some(operation) = parts.take::<OperationPart>() else {
         return Ok(());
     };
-    parts.put::<ExprPart>(ExprText::Operation(operation))
+    parts.put::<ExprPart>(Boxed::new(alloc, ExprText::Operation(operation))?)
 }
 
 /// `getelementptr [inbounds] T, T V` and indices as an expression.
@@ -119,7 +120,7 @@ pub fn expression_element<P: Parts>(parts: &mut P, alloc: Global) -> Result<(), 
         indices,
     };
     let element = Boxed::new(alloc, element)?;
-    parts.put::<ExprPart>(ExprText::Element(element))
+    parts.put::<ExprPart>(Boxed::new(alloc, ExprText::Element(element))?)
 }
 
 /// `load T, T V` and an alignment as an expression.
@@ -139,7 +140,7 @@ pub fn expression_load<P: Parts>(parts: &mut P, alloc: Global) -> Result<(), All
     let address = address.into_inner();
     let load = LoadText { ty, address, align };
     let load = Boxed::new(alloc, load)?;
-    parts.put::<ExprPart>(ExprText::Load(load))
+    parts.put::<ExprPart>(Boxed::new(alloc, ExprText::Load(load))?)
 }
 
 /// A LOCAL alone.

@@ -22,13 +22,14 @@ impl Form for BlockPart {
 
     ghost made = { flow.Block };
 
-    fn of(flow: Flow) -> Option<Boxed<BlockText>> {
+    fn is(flow: &Flow) -> bool {
+        matches!(flow, Flow::Block(_))
+    }
+
+    fn of(flow: Flow) -> Boxed<BlockText> {
         match flow {
-            Flow::Block(x) => Some(x),
-            other => {
-                drop(other);
-                None
-            }
+            Flow::Block(x) => x,
+            _ => unreachable!(),
         }
     }
 
@@ -50,13 +51,14 @@ impl Form for BodyPart {
 
     ghost made = { flow.Body };
 
-    fn of(flow: Flow) -> Option<BodyText> {
+    fn is(flow: &Flow) -> bool {
+        matches!(flow, Flow::Body(_))
+    }
+
+    fn of(flow: Flow) -> BodyText {
         match flow {
-            Flow::Body(x) => Some(x),
-            other => {
-                drop(other);
-                None
-            }
+            Flow::Body(x) => x,
+            _ => unreachable!(),
         }
     }
 
@@ -78,13 +80,14 @@ impl Form for BehindPart {
 
     ghost made = { flow.Behind };
 
-    fn of(flow: Flow) -> Option<BehindText> {
+    fn is(flow: &Flow) -> bool {
+        matches!(flow, Flow::Behind(_))
+    }
+
+    fn of(flow: Flow) -> BehindText {
         match flow {
-            Flow::Behind(x) => Some(x),
-            other => {
-                drop(other);
-                None
-            }
+            Flow::Behind(x) => x,
+            _ => unreachable!(),
         }
     }
 
@@ -106,13 +109,14 @@ impl Form for NodePart {
 
     ghost made = { flow.Node };
 
-    fn of(flow: Flow) -> Option<Boxed<NodeText>> {
+    fn is(flow: &Flow) -> bool {
+        matches!(flow, Flow::Node(_))
+    }
+
+    fn of(flow: Flow) -> Boxed<NodeText> {
         match flow {
-            Flow::Node(x) => Some(x),
-            other => {
-                drop(other);
-                None
-            }
+            Flow::Node(x) => x,
+            _ => unreachable!(),
         }
     }
 
@@ -134,13 +138,14 @@ impl Form for EntriesBehindPart {
 
     ghost made = { flow.EntriesBehind };
 
-    fn of(flow: Flow) -> Option<EntriesBehindText> {
+    fn is(flow: &Flow) -> bool {
+        matches!(flow, Flow::EntriesBehind(_))
+    }
+
+    fn of(flow: Flow) -> EntriesBehindText {
         match flow {
-            Flow::EntriesBehind(x) => Some(x),
-            other => {
-                drop(other);
-                None
-            }
+            Flow::EntriesBehind(x) => x,
+            _ => unreachable!(),
         }
     }
 
@@ -162,13 +167,14 @@ impl Form for NextEntryPart {
 
     ghost made = { flow.NextEntry };
 
-    fn of(flow: Flow) -> Option<Boxed<NextEntryText>> {
+    fn is(flow: &Flow) -> bool {
+        matches!(flow, Flow::NextEntry(_))
+    }
+
+    fn of(flow: Flow) -> Boxed<NextEntryText> {
         match flow {
-            Flow::NextEntry(x) => Some(x),
-            other => {
-                drop(other);
-                None
-            }
+            Flow::NextEntry(x) => x,
+            _ => unreachable!(),
         }
     }
 
@@ -190,13 +196,14 @@ impl Form for EntryPart {
 
     ghost made = { flow.Entry };
 
-    fn of(flow: Flow) -> Option<Boxed<EntryText>> {
+    fn is(flow: &Flow) -> bool {
+        matches!(flow, Flow::Entry(_))
+    }
+
+    fn of(flow: Flow) -> Boxed<EntryText> {
         match flow {
-            Flow::Entry(x) => Some(x),
-            other => {
-                drop(other);
-                None
-            }
+            Flow::Entry(x) => x,
+            _ => unreachable!(),
         }
     }
 
@@ -218,13 +225,14 @@ impl Form for EndPart {
 
     ghost made = { flow.End };
 
-    fn of(flow: Flow) -> Option<Boxed<EndText>> {
+    fn is(flow: &Flow) -> bool {
+        matches!(flow, Flow::End(_))
+    }
+
+    fn of(flow: Flow) -> Boxed<EndText> {
         match flow {
-            Flow::End(x) => Some(x),
-            other => {
-                drop(other);
-                None
-            }
+            Flow::End(x) => x,
+            _ => unreachable!(),
         }
     }
 
@@ -246,13 +254,14 @@ impl Form for TermPart {
 
     ghost made = { flow.Term };
 
-    fn of(flow: Flow) -> Option<Boxed<TermText>> {
+    fn is(flow: &Flow) -> bool {
+        matches!(flow, Flow::Term(_))
+    }
+
+    fn of(flow: Flow) -> Boxed<TermText> {
         match flow {
-            Flow::Term(x) => Some(x),
-            other => {
-                drop(other);
-                None
-            }
+            Flow::Term(x) => x,
+            _ => unreachable!(),
         }
     }
 
@@ -268,23 +277,24 @@ impl Form for ReturnedPart {
 
     type Group = Flow;
 
-    type Value = Option<OperandText>;
+    type Value = Option<Boxed<OperandText>>;
 
     ghost held = { flow_returned };
 
     ghost made = { flow.Returned };
 
-    fn of(flow: Flow) -> Option<Option<OperandText>> {
+    fn is(flow: &Flow) -> bool {
+        matches!(flow, Flow::Returned(_))
+    }
+
+    fn of(flow: Flow) -> Option<Boxed<OperandText>> {
         match flow {
-            Flow::Returned(x) => Some(x),
-            other => {
-                drop(other);
-                None
-            }
+            Flow::Returned(x) => x,
+            _ => unreachable!(),
         }
     }
 
-    fn make(value: Option<OperandText>) -> Flow {
+    fn make(value: Option<Boxed<OperandText>>) -> Flow {
         Flow::Returned(value)
     }
 }
@@ -302,13 +312,14 @@ impl Form for BranchPart {
 
     ghost made = { flow.Branch };
 
-    fn of(flow: Flow) -> Option<Boxed<BranchText>> {
+    fn is(flow: &Flow) -> bool {
+        matches!(flow, Flow::Branch(_))
+    }
+
+    fn of(flow: Flow) -> Boxed<BranchText> {
         match flow {
-            Flow::Branch(x) => Some(x),
-            other => {
-                drop(other);
-                None
-            }
+            Flow::Branch(x) => x,
+            _ => unreachable!(),
         }
     }
 
@@ -330,13 +341,14 @@ impl Form for CasePart {
 
     ghost made = { flow.Case };
 
-    fn of(flow: Flow) -> Option<Boxed<CaseText>> {
+    fn is(flow: &Flow) -> bool {
+        matches!(flow, Flow::Case(_))
+    }
+
+    fn of(flow: Flow) -> Boxed<CaseText> {
         match flow {
-            Flow::Case(x) => Some(x),
-            other => {
-                drop(other);
-                None
-            }
+            Flow::Case(x) => x,
+            _ => unreachable!(),
         }
     }
 

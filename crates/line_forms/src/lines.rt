@@ -23,13 +23,14 @@ impl Form for OperatorPart {
 
     ghost made = { line.Operator };
 
-    fn of(line: Line) -> Option<OperatorText> {
+    fn is(line: &Line) -> bool {
+        matches!(line, Line::Operator(_))
+    }
+
+    fn of(line: Line) -> OperatorText {
         match line {
-            Line::Operator(x) => Some(x),
-            other => {
-                drop(other);
-                None
-            }
+            Line::Operator(x) => x,
+            _ => unreachable!(),
         }
     }
 
@@ -51,13 +52,14 @@ impl Form for OperationPart {
 
     ghost made = { line.Operation };
 
-    fn of(line: Line) -> Option<Boxed<OperationText>> {
+    fn is(line: &Line) -> bool {
+        matches!(line, Line::Operation(_))
+    }
+
+    fn of(line: Line) -> Boxed<OperationText> {
         match line {
-            Line::Operation(x) => Some(x),
-            other => {
-                drop(other);
-                None
-            }
+            Line::Operation(x) => x,
+            _ => unreachable!(),
         }
     }
 
@@ -79,13 +81,14 @@ impl Form for AttachedPart {
 
     ghost made = { line.Attached };
 
-    fn of(line: Line) -> Option<Boxed<AttachedText>> {
+    fn is(line: &Line) -> bool {
+        matches!(line, Line::Attached(_))
+    }
+
+    fn of(line: Line) -> Boxed<AttachedText> {
         match line {
-            Line::Attached(x) => Some(x),
-            other => {
-                drop(other);
-                None
-            }
+            Line::Attached(x) => x,
+            _ => unreachable!(),
         }
     }
 
@@ -101,23 +104,24 @@ impl Form for AlignBehindPart {
 
     type Group = Line;
 
-    type Value = Boxed<AlignBehindText>;
+    type Value = AlignBehindText;
 
     ghost held = { line_align_behind };
 
     ghost made = { line.AlignBehind };
 
-    fn of(line: Line) -> Option<Boxed<AlignBehindText>> {
+    fn is(line: &Line) -> bool {
+        matches!(line, Line::AlignBehind(_))
+    }
+
+    fn of(line: Line) -> AlignBehindText {
         match line {
-            Line::AlignBehind(x) => Some(x),
-            other => {
-                drop(other);
-                None
-            }
+            Line::AlignBehind(x) => x,
+            _ => unreachable!(),
         }
     }
 
-    fn make(value: Boxed<AlignBehindText>) -> Line {
+    fn make(value: AlignBehindText) -> Line {
         Line::AlignBehind(value)
     }
 }
@@ -129,23 +133,24 @@ impl Form for NextAlignPart {
 
     type Group = Line;
 
-    type Value = Boxed<NextAlignText>;
+    type Value = NextAlignText;
 
     ghost held = { line_next_align };
 
     ghost made = { line.NextAlign };
 
-    fn of(line: Line) -> Option<Boxed<NextAlignText>> {
+    fn is(line: &Line) -> bool {
+        matches!(line, Line::NextAlign(_))
+    }
+
+    fn of(line: Line) -> NextAlignText {
         match line {
-            Line::NextAlign(x) => Some(x),
-            other => {
-                drop(other);
-                None
-            }
+            Line::NextAlign(x) => x,
+            _ => unreachable!(),
         }
     }
 
-    fn make(value: Boxed<NextAlignText>) -> Line {
+    fn make(value: NextAlignText) -> Line {
         Line::NextAlign(value)
     }
 }
@@ -163,13 +168,14 @@ impl Form for CountBehindPart {
 
     ghost made = { line.CountBehind };
 
-    fn of(line: Line) -> Option<Boxed<CountBehindText>> {
+    fn is(line: &Line) -> bool {
+        matches!(line, Line::CountBehind(_))
+    }
+
+    fn of(line: Line) -> Boxed<CountBehindText> {
         match line {
-            Line::CountBehind(x) => Some(x),
-            other => {
-                drop(other);
-                None
-            }
+            Line::CountBehind(x) => x,
+            _ => unreachable!(),
         }
     }
 
@@ -191,13 +197,14 @@ impl Form for NextCountPart {
 
     ghost made = { line.NextCount };
 
-    fn of(line: Line) -> Option<Boxed<NextCountText>> {
+    fn is(line: &Line) -> bool {
+        matches!(line, Line::NextCount(_))
+    }
+
+    fn of(line: Line) -> Boxed<NextCountText> {
         match line {
-            Line::NextCount(x) => Some(x),
-            other => {
-                drop(other);
-                None
-            }
+            Line::NextCount(x) => x,
+            _ => unreachable!(),
         }
     }
 
@@ -219,13 +226,14 @@ impl Form for IndicesBehindPart {
 
     ghost made = { line.IndicesBehind };
 
-    fn of(line: Line) -> Option<IndicesBehindText> {
+    fn is(line: &Line) -> bool {
+        matches!(line, Line::IndicesBehind(_))
+    }
+
+    fn of(line: Line) -> IndicesBehindText {
         match line {
-            Line::IndicesBehind(x) => Some(x),
-            other => {
-                drop(other);
-                None
-            }
+            Line::IndicesBehind(x) => x,
+            _ => unreachable!(),
         }
     }
 
@@ -247,13 +255,14 @@ impl Form for NextIndexPart {
 
     ghost made = { line.NextIndex };
 
-    fn of(line: Line) -> Option<Boxed<NextIndexText>> {
+    fn is(line: &Line) -> bool {
+        matches!(line, Line::NextIndex(_))
+    }
+
+    fn of(line: Line) -> Boxed<NextIndexText> {
         match line {
-            Line::NextIndex(x) => Some(x),
-            other => {
-                drop(other);
-                None
-            }
+            Line::NextIndex(x) => x,
+            _ => unreachable!(),
         }
     }
 
@@ -275,13 +284,14 @@ impl Form for CallBodyPart {
 
     ghost made = { line.CallBody };
 
-    fn of(line: Line) -> Option<Boxed<CallBodyText>> {
+    fn is(line: &Line) -> bool {
+        matches!(line, Line::CallBody(_))
+    }
+
+    fn of(line: Line) -> Boxed<CallBodyText> {
         match line {
-            Line::CallBody(x) => Some(x),
-            other => {
-                drop(other);
-                None
-            }
+            Line::CallBody(x) => x,
+            _ => unreachable!(),
         }
     }
 
@@ -303,13 +313,14 @@ impl Form for CalleePart {
 
     ghost made = { line.Callee };
 
-    fn of(line: Line) -> Option<Boxed<CalleeText>> {
+    fn is(line: &Line) -> bool {
+        matches!(line, Line::Callee(_))
+    }
+
+    fn of(line: Line) -> Boxed<CalleeText> {
         match line {
-            Line::Callee(x) => Some(x),
-            other => {
-                drop(other);
-                None
-            }
+            Line::Callee(x) => x,
+            _ => unreachable!(),
         }
     }
 
@@ -331,13 +342,14 @@ impl Form for VoidCalleePart {
 
     ghost made = { line.VoidCallee };
 
-    fn of(line: Line) -> Option<Boxed<VoidCalleeText>> {
+    fn is(line: &Line) -> bool {
+        matches!(line, Line::VoidCallee(_))
+    }
+
+    fn of(line: Line) -> Boxed<VoidCalleeText> {
         match line {
-            Line::VoidCallee(x) => Some(x),
-            other => {
-                drop(other);
-                None
-            }
+            Line::VoidCallee(x) => x,
+            _ => unreachable!(),
         }
     }
 
@@ -359,13 +371,14 @@ impl Form for VoidCallPart {
 
     ghost made = { line.VoidCall };
 
-    fn of(line: Line) -> Option<Boxed<VoidCallText>> {
+    fn is(line: &Line) -> bool {
+        matches!(line, Line::VoidCall(_))
+    }
+
+    fn of(line: Line) -> Boxed<VoidCallText> {
         match line {
-            Line::VoidCall(x) => Some(x),
-            other => {
-                drop(other);
-                None
-            }
+            Line::VoidCall(x) => x,
+            _ => unreachable!(),
         }
     }
 
@@ -387,13 +400,14 @@ impl Form for CallEndPart {
 
     ghost made = { line.CallEnd };
 
-    fn of(line: Line) -> Option<CallEndText> {
+    fn is(line: &Line) -> bool {
+        matches!(line, Line::CallEnd(_))
+    }
+
+    fn of(line: Line) -> CallEndText {
         match line {
-            Line::CallEnd(x) => Some(x),
-            other => {
-                drop(other);
-                None
-            }
+            Line::CallEnd(x) => x,
+            _ => unreachable!(),
         }
     }
 
@@ -415,13 +429,14 @@ impl Form for ArgumentPart {
 
     ghost made = { line.Argument };
 
-    fn of(line: Line) -> Option<Boxed<ArgumentText>> {
+    fn is(line: &Line) -> bool {
+        matches!(line, Line::Argument(_))
+    }
+
+    fn of(line: Line) -> Boxed<ArgumentText> {
         match line {
-            Line::Argument(x) => Some(x),
-            other => {
-                drop(other);
-                None
-            }
+            Line::Argument(x) => x,
+            _ => unreachable!(),
         }
     }
 
@@ -443,13 +458,14 @@ impl Form for LinePart {
 
     ghost made = { line.Line };
 
-    fn of(line: Line) -> Option<LineText> {
+    fn is(line: &Line) -> bool {
+        matches!(line, Line::Line(_))
+    }
+
+    fn of(line: Line) -> LineText {
         match line {
-            Line::Line(x) => Some(x),
-            other => {
-                drop(other);
-                None
-            }
+            Line::Line(x) => x,
+            _ => unreachable!(),
         }
     }
 
@@ -465,23 +481,24 @@ impl Form for ExprPart {
 
     type Group = Line;
 
-    type Value = ExprText;
+    type Value = Boxed<ExprText>;
 
     ghost held = { line_expr };
 
     ghost made = { line.Expr };
 
-    fn of(line: Line) -> Option<ExprText> {
+    fn is(line: &Line) -> bool {
+        matches!(line, Line::Expr(_))
+    }
+
+    fn of(line: Line) -> Boxed<ExprText> {
         match line {
-            Line::Expr(x) => Some(x),
-            other => {
-                drop(other);
-                None
-            }
+            Line::Expr(x) => x,
+            _ => unreachable!(),
         }
     }
 
-    fn make(value: ExprText) -> Line {
+    fn make(value: Boxed<ExprText>) -> Line {
         Line::Expr(value)
     }
 }

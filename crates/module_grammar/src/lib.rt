@@ -13,6 +13,7 @@ mod lines;
 mod operators;
 mod parts;
 mod places;
+mod stars;
 mod types;
 mod words;
 
@@ -43,5 +44,6 @@ pub use lines::{
 pub use operators::{ExactOp, ExtensionWord, FlagWord, LinkageWord, OverflowOp, PlainOp, ResizeOp};
 pub use parts::{Atom, Flow, Item, Leaf, Line, List, Part, Piece};
 pub use places::Placed;
+pub use stars::Stars;
 pub use types::{CalledText, NextCalledText, TypeText};
 pub use words::{KeyWord, Language, Word};

@@ -22,6 +22,7 @@ use crate::operators::{
     ExactOp, ExtensionWord, FlagWord, LinkageWord, OverflowOp, PlainOp, ResizeOp,
 };
 use crate::places::Placed;
+use crate::stars::Stars;
 use crate::types::{CalledText, NextCalledText, TypeText};
 use contents::{Boxed, Text};
 use ir_core::{Name, Pred};
@@ -68,7 +69,7 @@ pub enum Atom {
 /// Things of one form, the first one on top.
 #[derive(Drop)]
 pub enum List {
-    Stars(Stack<u32>),
+    Stars(Stars),
     Types(Stack<TypeText>),
     Consts(Stack<TypedConst>),
     Inits(Stack<TypedInit>),
@@ -90,7 +91,7 @@ pub enum Piece {
     Type(TypeText),
     Result(Option<TypeText>),
     Called(CalledText),
-    NextCalled(NextCalledText),
+    NextCalled(Boxed<NextCalledText>),
     FunctionType(Option<CalledText>),
     Const(ConstText),
     Init(InitText),
@@ -106,8 +107,8 @@ pub enum Line {
     Operator(OperatorText),
     Operation(Boxed<OperationText>),
     Attached(Boxed<AttachedText>),
-    AlignBehind(Boxed<AlignBehindText>),
-    NextAlign(Boxed<NextAlignText>),
+    AlignBehind(AlignBehindText),
+    NextAlign(NextAlignText),
     CountBehind(Boxed<CountBehindText>),
     NextCount(Boxed<NextCountText>),
     IndicesBehind(IndicesBehindText),
@@ -119,7 +120,7 @@ pub enum Line {
     CallEnd(CallEndText),
     Argument(Boxed<ArgumentText>),
     Line(LineText),
-    Expr(ExprText),
+    Expr(Boxed<ExprText>),
 }
 
 /// What a block is read as, or a part of one.
@@ -134,7 +135,7 @@ pub enum Flow {
     Entry(Boxed<EntryText>),
     End(Boxed<EndText>),
     Term(Boxed<TermText>),
-    Returned(Option<OperandText>),
+    Returned(Option<Boxed<OperandText>>),
     Branch(Boxed<BranchText>),
     Case(Boxed<CaseText>),
 }
@@ -143,7 +144,7 @@ pub enum Flow {
 #[derive(Drop)]
 pub enum Item {
     Module(ModuleText),
-    Item(ItemText),
+    Item(Boxed<ItemText>),
     TypeBody(TypeBodyText),
     GlobalBody(Boxed<GlobalBodyText>),
     Declared(Boxed<DeclaredNameText>),

@@ -1,5 +1,5 @@
 //! The groups and forms that a part of the stack has: each form is one of a group, and says what a part of it holds.
-ghost use Rattle.std.specs.Prelude.{◌≡◌, ◌∷◌, List, Option, OnOk, option_and_then};
+ghost use Rattle.std.specs.Prelude.{◌≡◌, ◌∷◌, ◌↔◌, List, Option, Some, IsSome, IsTrue, OnOk, option_and_then, option_copied};
 ghost use Rattle.module_grammar.specs.declared.parts.Part.{Part as PartOf};
 ghost use Rattle.module_grammar.specs.declared.parts.Part.TheVariants as part;
 ghost use Rattle.module_grammar.specs.Parts.{a_atom, a_flow, a_item, a_leaf, a_line, a_list, a_piece};
@@ -17,9 +17,14 @@ pub trait Group: Drop {
     /// The part that it is.
     ghost whole: { Self → PartOf };
 
-    /// What the part is, if it is of this group; else it is dropped.
-    fn of(part: Part) -> Option<Self>
-        ensures { result ≡ within part };
+    /// What the part is, if it is of this group.
+    fn seen(part: &Part) -> Option<&Self>
+        ensures { option_copied result ≡ within part.now };
+
+    /// What the part is, which is of this group.
+    fn of(part: Part) -> Self
+        requires { IsSome (within part) }
+        ensures { within part ≡ Some result };
 
     /// The part that it is.
     fn part(self) -> Part
@@ -40,9 +45,14 @@ pub trait Form {
     /// The one of the group that holds this.
     ghost made: { Self.Value → Self.Group };
 
-    /// What one of the group holds, if it is of this form; else it is dropped.
-    fn of(group: Self::Group) -> Option<Self::Value>
-        ensures { result ≡ held group };
+    /// Whether one of the group is of this form.
+    fn is(group: &Self::Group) -> bool
+        ensures { IsTrue result ↔ IsSome (held group.now) };
+
+    /// What one of the group holds, which is of this form.
+    fn of(group: Self::Group) -> Self::Value
+        requires { IsSome (held group) }
+        ensures { held group ≡ Some result };
 
     /// The one of the group that holds this.
     fn make(value: Self::Value) -> Self::Group
@@ -64,13 +74,41 @@ pub trait Parts {
         ensures { OnOk result (listed self.new ≡ F.Group.whole (F.made value) ∷ listed self.old) };
 }
 
+/// Whether a part of the form is on top. What is taken is looked at first, so that no other part is moved.
+#[inline(always)]
+fn is_top<F: Form>(parts: &Stack<Part>) -> bool
+    ensures { IsTrue result ↔ IsSome (stack.top (λ p. option_and_then F.held (F.Group.within p)) parts.now) }
+{
+    match parts.get(0) {
+        Some(part) => match F::Group::seen(part) {
+            Some(group) => F::is(group),
+            None => false,
+        },
+        None => false,
+    }
+}
+
+/// The part on top dropped.
+#[inline(never)]
+fn drop_top(parts: &mut Stack<Part>)
+    ensures { parts.new ≡ stack.below parts.old }
+{
+    parts.pop();
+}
+
 impl Parts for Stack<Part> {
     ghost listed = { λ s. s };
 
+    #[inline(always)]
     fn take<F: Form>(&mut self) -> Option<F::Value> {
-        match self.pop() {
-            Some(part) => F::of(F::Group::of(part)?),
-            None => None,
+        if is_top::<F>(self) {
+            match self.pop() {
+                Some(part) => Some(F::of(F::Group::of(part))),
+                None => None,
+            }
+        } else {
+            drop_top(self);
+            None
         }
     }
 
@@ -84,13 +122,17 @@ impl Group for Atom {
 
     ghost whole = { part.Atom };
 
-    fn of(part: Part) -> Option<Atom> {
+    fn seen(part: &Part) -> Option<&Atom> {
         match part {
             Part::Atom(atom) => Some(atom),
-            other => {
-                drop(other);
-                None
-            }
+            _ => None,
+        }
+    }
+
+    fn of(part: Part) -> Atom {
+        match part {
+            Part::Atom(atom) => atom,
+            _ => unreachable!(),
         }
     }
 
@@ -104,13 +146,17 @@ impl Group for Flow {
 
     ghost whole = { part.Flow };
 
-    fn of(part: Part) -> Option<Flow> {
+    fn seen(part: &Part) -> Option<&Flow> {
         match part {
             Part::Flow(flow) => Some(flow),
-            other => {
-                drop(other);
-                None
-            }
+            _ => None,
+        }
+    }
+
+    fn of(part: Part) -> Flow {
+        match part {
+            Part::Flow(flow) => flow,
+            _ => unreachable!(),
         }
     }
 
@@ -124,13 +170,17 @@ impl Group for Item {
 
     ghost whole = { part.Item };
 
-    fn of(part: Part) -> Option<Item> {
+    fn seen(part: &Part) -> Option<&Item> {
         match part {
             Part::Item(item) => Some(item),
-            other => {
-                drop(other);
-                None
-            }
+            _ => None,
+        }
+    }
+
+    fn of(part: Part) -> Item {
+        match part {
+            Part::Item(item) => item,
+            _ => unreachable!(),
         }
     }
 
@@ -144,13 +194,17 @@ impl Group for Leaf {
 
     ghost whole = { part.Leaf };
 
-    fn of(part: Part) -> Option<Leaf> {
+    fn seen(part: &Part) -> Option<&Leaf> {
         match part {
             Part::Leaf(leaf) => Some(leaf),
-            other => {
-                drop(other);
-                None
-            }
+            _ => None,
+        }
+    }
+
+    fn of(part: Part) -> Leaf {
+        match part {
+            Part::Leaf(leaf) => leaf,
+            _ => unreachable!(),
         }
     }
 
@@ -164,13 +218,17 @@ impl Group for Line {
 
     ghost whole = { part.Line };
 
-    fn of(part: Part) -> Option<Line> {
+    fn seen(part: &Part) -> Option<&Line> {
         match part {
             Part::Line(line) => Some(line),
-            other => {
-                drop(other);
-                None
-            }
+            _ => None,
+        }
+    }
+
+    fn of(part: Part) -> Line {
+        match part {
+            Part::Line(line) => line,
+            _ => unreachable!(),
         }
     }
 
@@ -184,13 +242,17 @@ impl Group for List {
 
     ghost whole = { part.List };
 
-    fn of(part: Part) -> Option<List> {
+    fn seen(part: &Part) -> Option<&List> {
         match part {
             Part::List(list) => Some(list),
-            other => {
-                drop(other);
-                None
-            }
+            _ => None,
+        }
+    }
+
+    fn of(part: Part) -> List {
+        match part {
+            Part::List(list) => list,
+            _ => unreachable!(),
         }
     }
 
@@ -204,13 +266,17 @@ impl Group for Piece {
 
     ghost whole = { part.Piece };
 
-    fn of(part: Part) -> Option<Piece> {
+    fn seen(part: &Part) -> Option<&Piece> {
         match part {
             Part::Piece(piece) => Some(piece),
-            other => {
-                drop(other);
-                None
-            }
+            _ => None,
+        }
+    }
+
+    fn of(part: Part) -> Piece {
+        match part {
+            Part::Piece(piece) => piece,
+            _ => unreachable!(),
         }
     }
 

@@ -22,13 +22,14 @@ impl Form for TypePart {
 
     ghost made = { piece.Type };
 
-    fn of(piece: Piece) -> Option<TypeText> {
+    fn is(piece: &Piece) -> bool {
+        matches!(piece, Piece::Type(_))
+    }
+
+    fn of(piece: Piece) -> TypeText {
         match piece {
-            Piece::Type(x) => Some(x),
-            other => {
-                drop(other);
-                None
-            }
+            Piece::Type(x) => x,
+            _ => unreachable!(),
         }
     }
 
@@ -50,13 +51,14 @@ impl Form for ResultTypePart {
 
     ghost made = { piece.Result };
 
-    fn of(piece: Piece) -> Option<Option<TypeText>> {
+    fn is(piece: &Piece) -> bool {
+        matches!(piece, Piece::Result(_))
+    }
+
+    fn of(piece: Piece) -> Option<TypeText> {
         match piece {
-            Piece::Result(x) => Some(x),
-            other => {
-                drop(other);
-                None
-            }
+            Piece::Result(x) => x,
+            _ => unreachable!(),
         }
     }
 
@@ -78,13 +80,14 @@ impl Form for CalledPart {
 
     ghost made = { piece.Called };
 
-    fn of(piece: Piece) -> Option<CalledText> {
+    fn is(piece: &Piece) -> bool {
+        matches!(piece, Piece::Called(_))
+    }
+
+    fn of(piece: Piece) -> CalledText {
         match piece {
-            Piece::Called(x) => Some(x),
-            other => {
-                drop(other);
-                None
-            }
+            Piece::Called(x) => x,
+            _ => unreachable!(),
         }
     }
 
@@ -100,23 +103,24 @@ impl Form for NextCalledPart {
 
     type Group = Piece;
 
-    type Value = NextCalledText;
+    type Value = Boxed<NextCalledText>;
 
     ghost held = { piece_next_called };
 
     ghost made = { piece.NextCalled };
 
-    fn of(piece: Piece) -> Option<NextCalledText> {
+    fn is(piece: &Piece) -> bool {
+        matches!(piece, Piece::NextCalled(_))
+    }
+
+    fn of(piece: Piece) -> Boxed<NextCalledText> {
         match piece {
-            Piece::NextCalled(x) => Some(x),
-            other => {
-                drop(other);
-                None
-            }
+            Piece::NextCalled(x) => x,
+            _ => unreachable!(),
         }
     }
 
-    fn make(value: NextCalledText) -> Piece {
+    fn make(value: Boxed<NextCalledText>) -> Piece {
         Piece::NextCalled(value)
     }
 }
@@ -134,13 +138,14 @@ impl Form for FunctionTypePart {
 
     ghost made = { piece.FunctionType };
 
-    fn of(piece: Piece) -> Option<Option<CalledText>> {
+    fn is(piece: &Piece) -> bool {
+        matches!(piece, Piece::FunctionType(_))
+    }
+
+    fn of(piece: Piece) -> Option<CalledText> {
         match piece {
-            Piece::FunctionType(x) => Some(x),
-            other => {
-                drop(other);
-                None
-            }
+            Piece::FunctionType(x) => x,
+            _ => unreachable!(),
         }
     }
 
@@ -162,13 +167,14 @@ impl Form for ConstPart {
 
     ghost made = { piece.Const };
 
-    fn of(piece: Piece) -> Option<ConstText> {
+    fn is(piece: &Piece) -> bool {
+        matches!(piece, Piece::Const(_))
+    }
+
+    fn of(piece: Piece) -> ConstText {
         match piece {
-            Piece::Const(x) => Some(x),
-            other => {
-                drop(other);
-                None
-            }
+            Piece::Const(x) => x,
+            _ => unreachable!(),
         }
     }
 
@@ -190,13 +196,14 @@ impl Form for InitPart {
 
     ghost made = { piece.Init };
 
-    fn of(piece: Piece) -> Option<InitText> {
+    fn is(piece: &Piece) -> bool {
+        matches!(piece, Piece::Init(_))
+    }
+
+    fn of(piece: Piece) -> InitText {
         match piece {
-            Piece::Init(x) => Some(x),
-            other => {
-                drop(other);
-                None
-            }
+            Piece::Init(x) => x,
+            _ => unreachable!(),
         }
     }
 
@@ -218,13 +225,14 @@ impl Form for ValuePart {
 
     ghost made = { piece.Value };
 
-    fn of(piece: Piece) -> Option<ValueText> {
+    fn is(piece: &Piece) -> bool {
+        matches!(piece, Piece::Value(_))
+    }
+
+    fn of(piece: Piece) -> ValueText {
         match piece {
-            Piece::Value(x) => Some(x),
-            other => {
-                drop(other);
-                None
-            }
+            Piece::Value(x) => x,
+            _ => unreachable!(),
         }
     }
 
@@ -246,13 +254,14 @@ impl Form for OperandPart {
 
     ghost made = { piece.Operand };
 
-    fn of(piece: Piece) -> Option<Boxed<OperandText>> {
+    fn is(piece: &Piece) -> bool {
+        matches!(piece, Piece::Operand(_))
+    }
+
+    fn of(piece: Piece) -> Boxed<OperandText> {
         match piece {
-            Piece::Operand(x) => Some(x),
-            other => {
-                drop(other);
-                None
-            }
+            Piece::Operand(x) => x,
+            _ => unreachable!(),
         }
     }
 
@@ -274,13 +283,14 @@ impl Form for ParamAttributePart {
 
     ghost made = { piece.ParamAttribute };
 
-    fn of(piece: Piece) -> Option<ParamAttributeText> {
+    fn is(piece: &Piece) -> bool {
+        matches!(piece, Piece::ParamAttribute(_))
+    }
+
+    fn of(piece: Piece) -> ParamAttributeText {
         match piece {
-            Piece::ParamAttribute(x) => Some(x),
-            other => {
-                drop(other);
-                None
-            }
+            Piece::ParamAttribute(x) => x,
+            _ => unreachable!(),
         }
     }
 
@@ -302,13 +312,14 @@ impl Form for FunctionAttributePart {
 
     ghost made = { piece.FunctionAttribute };
 
-    fn of(piece: Piece) -> Option<FunctionAttributeText> {
+    fn is(piece: &Piece) -> bool {
+        matches!(piece, Piece::FunctionAttribute(_))
+    }
+
+    fn of(piece: Piece) -> FunctionAttributeText {
         match piece {
-            Piece::FunctionAttribute(x) => Some(x),
-            other => {
-                drop(other);
-                None
-            }
+            Piece::FunctionAttribute(x) => x,
+            _ => unreachable!(),
         }
     }
 

@@ -25,7 +25,7 @@ pub fn take_expr<P: Parts>(parts: &mut P) -> Option<ExprText>
     ensures taken { result ≡ stack.top the_line_expr (P.listed parts.old) }
     ensures below { P.listed parts.new ≡ stack.below (P.listed parts.old) }
 {
-    parts.take::<ExprPart>()
+    Some(parts.take::<ExprPart>()?.into_inner())
 }
 
 /// The type on top of the stack, if it is one; else it is dropped.

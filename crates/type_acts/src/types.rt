@@ -8,14 +8,14 @@ ghost use Rattle.typed_grammars.specs.Typed.{action};
 use crate::rows::seq_of;
 use contents::Boxed;
 use leaf_forms::{AtPart, LocalPart, NumberPart, StarsPart, TypesPart, WidthPart};
-use module_grammar::{CalledText, NextCalledText, TypeText};
+use module_grammar::{CalledText, NextCalledText, Stars, TypeText};
 use part_groups::Parts;
 use piece_forms::{CalledPart, FunctionTypePart, NextCalledPart, TypePart};
 use std::alloc::{AllocError, Global};
 use typed_grammars::Stack;
 
 /// The pointers to the type that the stars make, the first one first.
-fn pointers_to(alloc: Global, ty: TypeText, stars: &mut Stack<u32>) -> Result<TypeText, AllocError>
+fn pointers_to(alloc: Global, ty: TypeText, stars: &mut Stars) -> Result<TypeText, AllocError>
     ensures { IfOk result (λ made. made ≡ pointers_to ty stars.old) }
 {
     let mut made = ty;
@@ -36,6 +36,10 @@ pub fn pointers<P: Parts>(parts: &mut P, alloc: Global) -> Result<(), AllocError
     let Some(ty) = parts.take::<TypePart>() else {
         return Ok(());
     };
+    let Some(at) = stars.pop() else {
+        return parts.put::<TypePart>(ty);
+    };
+    let ty = TypeText::Ptr(at, Boxed::new(alloc, ty)?);
     let ty = pointers_to(alloc, ty, &mut stars)?;
     parts.put::<TypePart>(ty)
 }
@@ -100,7 +104,7 @@ pub fn struct_type<P: Parts>(parts: &mut P, alloc: Global) -> Result<(), AllocEr
 pub fn stars_end<P: Parts>(parts: &mut P, alloc: Global) -> Result<(), AllocError>
     ensures { OnOk result (P.listed parts.new ≡ action vocabulary rule.stars_end (P.listed parts.old)) }
 {
-    parts.put::<StarsPart>(Stack::new(alloc))
+    parts.put::<StarsPart>(Stars::new(alloc))
 }
 
 /// A star before the others.
@@ -177,21 +181,21 @@ pub fn called<P: Parts>(parts: &mut P, alloc: Global) -> Result<(), AllocError>
     let Some(next) = parts.take::<NextCalledPart>() else {
         return Ok(());
     };
-    let called = called_from(alloc, next)?;
+    let called = called_from(alloc, next.into_inner())?;
     parts.put::<CalledPart>(called)
 }
 
 /// `...`
 #[inline(never)]
-pub fn called_open<P: Parts>(parts: &mut P) -> Result<(), AllocError>
+pub fn called_open<P: Parts>(parts: &mut P, alloc: Global) -> Result<(), AllocError>
     ensures { OnOk result (P.listed parts.new ≡ action vocabulary rule.called_open (P.listed parts.old)) }
 {
-    parts.put::<NextCalledPart>(NextCalledText::Open)
+    parts.put::<NextCalledPart>(Boxed::new(alloc, NextCalledText::Open)?)
 }
 
 /// A type of a parameter before the others.
 #[inline(never)]
-pub fn called_type<P: Parts>(parts: &mut P) -> Result<(), AllocError>
+pub fn called_type<P: Parts>(parts: &mut P, alloc: Global) -> Result<(), AllocError>
     ensures { OnOk result (P.listed parts.new ≡ action vocabulary rule.called_type (P.listed parts.old)) }
 {
     let Some(more) = parts.take::<CalledPart>() else {
@@ -201,7 +205,7 @@ pub fn called_type<P: Parts>(parts: &mut P) -> Result<(), AllocError>
         return Ok(());
     };
     let next = NextCalledText::Type { ty, more };
-    parts.put::<NextCalledPart>(next)
+    parts.put::<NextCalledPart>(Boxed::new(alloc, next)?)
 }
 
 /// No types of parameters are stated.
