@@ -10,6 +10,7 @@ use ir_core::Name;
 use std::alloc::{AllocError, Global};
 
 /// What a token of the text says.
+#[inline(always)]
 pub fn says(alloc: Global, text: &[u8], token: &Token) -> Result<TokenKind, AllocError>
     ensures { IfOk result (λ kind. kind ≡ said_in text.now token.now) }
 {
@@ -107,12 +108,14 @@ fn number_said(bytes: &[u8]) -> Number
     }
 }
 
+#[inline(always)]
 fn text_name(alloc: Global, bytes: &[u8]) -> Result<Name, AllocError>
     ensures { IfOk result (λ name. name ≡ Name.Text bytes.now) }
 {
     Ok(Name::Text(Text::from_slice(alloc, bytes)?))
 }
 
+#[inline(never)]
 fn string_name(alloc: Global, raw: &[u8]) -> Result<Name, AllocError>
     ensures { IfOk result (λ name. name ≡ Name.Text (unescaped raw.now)) }
 {
@@ -121,6 +124,7 @@ fn string_name(alloc: Global, raw: &[u8]) -> Result<Name, AllocError>
 }
 
 /// A name, without sigil or colon.
+#[inline(always)]
 #[tactic(auto, unfolding(crate::specs::Said::name_said))]
 fn name_said(alloc: Global, bytes: &[u8]) -> Result<Name, AllocError>
     ensures { IfOk result (λ name. name ≡ name_said bytes.now) }
@@ -141,6 +145,7 @@ fn copied(alloc: Global, bytes: &[u8]) -> Result<Seq<u8>, AllocError>
 }
 
 /// The name of a label, from the bytes that spell it with its colon.
+#[inline(always)]
 fn label_said(alloc: Global, bytes: &[u8]) -> Result<Name, AllocError>
     ensures { IfOk result (λ name. name ≡ name_said (take (length bytes.now - 1) bytes.now)) }
 {
@@ -148,6 +153,7 @@ fn label_said(alloc: Global, bytes: &[u8]) -> Result<Name, AllocError>
 }
 
 /// What a token of that kind says, from the bytes that spell it.
+#[inline(always)]
 fn said(alloc: Global, kind: Kind, bytes: &[u8]) -> Result<TokenKind, AllocError>
     ensures { IfOk result (λ it. it ≡ said kind bytes.now) }
 {

@@ -1,5 +1,6 @@
 //! The words of textual IR but for the types, in a table by slots, in which a word is looked for at one place.
 ghost use Rattle.std.specs.Prelude.{◌≡◌, get_or, map};
+ghost use Rattle.std.specs.Str.{bytes_eq};
 ghost use Rattle.module_tokens.specs.Slots.{AreOfSlots, entry_of, nothing, said_as, said_named, slot};
 
 use ir_core::Pred;
@@ -180,12 +181,34 @@ fn slot(word: &[u8]) -> usize
     (ends * 56 + byte_at(word, word.len() / 2) * 15 + len * 48) % 512
 }
 
+/// Whether the words are the same. They are short, so that each byte is looked at by itself.
+#[inline(always)]
+fn is_same(word: &[u8], other: &[u8]) -> bool
+    ensures { result ≡ bytes_eq word.now other.now }
+{
+    if word.len() != other.len() {
+        return false;
+    }
+    for (index, byte) in word.iter().enumerate() {
+        if *byte != other[index] {
+            return false;
+        }
+    }
+    true
+}
+
 /// What a word is that can only be the word of this number.
 fn said_at(entries: &[(&[u8], Word)], number: usize, word: &[u8]) -> Word
     ensures { result ≡ said_as (get_or (map entry_of entries.now) number nothing) word.now }
 {
     match entries.get(number) {
-        Some((other, said)) => { if word == *other { *said } else { Word::Foreign } }
+        Some((other, said)) => {
+            if is_same(word, other) {
+                *said
+            } else {
+                Word::Foreign
+            }
+        }
         None => Word::Foreign,
     }
 }

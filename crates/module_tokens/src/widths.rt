@@ -1,4 +1,4 @@
-ghost use Rattle.std.specs.Prelude.{◌≡◌, ◌<◌, ◌≤◌, MatchOption, nat_lt};
+ghost use Rattle.std.specs.Prelude.{◌≡◌, ◌<◌, ◌≤◌, [], ◌∷◌, MatchOption, nat_lt};
 ghost use Rattle.std.specs.Char.{is_ascii_digit};
 ghost use Rattle.std.specs.List.{list_all};
 ghost use Rattle.module_grammar.specs.Words as said;
@@ -57,8 +57,33 @@ pub fn begins_with_zero(digits: &[u8]) -> bool
     }
 }
 
-/// The width that the digits write, without a leading zero.
-fn width_in(digits: &[u8]) -> Option<u32>
+/// The width that one digit writes.
+#[inline(always)]
+fn width_of_one(digit: u8) -> Option<u32>
+    ensures { result ≡ said.width_in (digit ∷ []) }
+{
+    if digit.is_ascii_digit() && digit != b'0' {
+        Some(u32::from(digit - b'0'))
+    } else {
+        None
+    }
+}
+
+/// The width that two digits write, the first of which is no zero.
+#[inline(always)]
+fn width_of_two(first: u8, second: u8) -> Option<u32>
+    ensures { result ≡ said.width_in (first ∷ second ∷ []) }
+{
+    if !first.is_ascii_digit() || !second.is_ascii_digit() || first == b'0' {
+        return None;
+    }
+    let width = u32::from(first - b'0') * 10 + u32::from(second - b'0');
+    if is_width(width) { Some(width) } else { None }
+}
+
+/// The width that so many digits write, without a leading zero.
+#[inline(never)]
+fn width_of_many(digits: &[u8]) -> Option<u32>
     ensures { result ≡ said.width_in digits.now }
 {
     match up_to_64(digits) {
@@ -70,6 +95,18 @@ fn width_in(digits: &[u8]) -> Option<u32>
             }
         }
         None => None,
+    }
+}
+
+/// The width that the digits write, without a leading zero. One digit or two write each width.
+#[inline(always)]
+fn width_in(digits: &[u8]) -> Option<u32>
+    ensures { result ≡ said.width_in digits.now }
+{
+    match digits {
+        [digit] => width_of_one(*digit),
+        [first, second] => width_of_two(*first, *second),
+        _ => width_of_many(digits),
     }
 }
 

@@ -1,3 +1,4 @@
+mod ByNumber
 pub mod Runs
 pub mod Classes
 pub mod Held

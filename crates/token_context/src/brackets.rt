@@ -1,6 +1,7 @@
 ghost use Rattle.std.specs.Prelude.{◌≡◌, ◌+◌, ◌++◌, ◌∷◌, ℕ, suc, List, OnOk, length};
+ghost use Rattle.module_grammar.specs.Balanced.{is_plain_kind};
 ghost use Rattle.token_context.specs.Brackets.{after, class_of, closing, forgotten, moved, start};
-ghost use Rattle.token_context.specs.declared.brackets.Class.TheVariants.{Opens};
+ghost use Rattle.token_context.specs.declared.brackets.Class.TheVariants.{Opens, Plain};
 
 use std::alloc::{AllocError, Global};
 use std::marker::Model;
@@ -62,6 +63,14 @@ fn class_of(kind: u8) -> Class
     }
 }
 
+/// Whether a token of this kind is one of a text and no bracket.
+#[inline(always)]
+fn is_plain(kind: u8) -> bool
+    ensures { result ≡ is_plain_kind kind }
+{
+    PLAIN_KINDS[usize::from(kind)]
+}
+
 impl Brackets {
     /// Nothing is open.
     pub fn new(alloc: Global) -> Brackets
@@ -75,6 +84,7 @@ impl Brackets {
     }
 
     /// The pair that the last token closed, if it did.
+    #[inline(always)]
     pub fn closed(&self) -> Option<Opened>
         ensures { result ≡ self.now.closed }
     {
@@ -116,20 +126,40 @@ impl Brackets {
         }
     }
 
-    /// Goes over the token at this place.
-    pub fn step(&mut self, alloc: Global, place: usize, kind: u8) -> Result<(), AllocError>
+    /// Goes over a token that is no bracket.
+    #[inline(always)]
+    fn pass(&mut self, kind: u8)
+        ensures { (place : ℕ) → self.new ≡ moved Plain self.old place kind }
+    {
+        self.closed = None;
+        self.last = kind;
+    }
+
+    /// Goes over the token at this place, which can be a bracket.
+    #[inline(never)]
+    fn step_by_class(&mut self, alloc: Global, place: usize, kind: u8) -> Result<(), AllocError>
         ensures { OnOk result (self.new ≡ after self.old place kind) }
     {
         match class_of(kind) {
             Class::Opens => self.open(place, kind)?,
             Class::Closes(opens) => self.close(alloc, kind, opens),
-            Class::Plain => {
-                self.closed = None;
-                self.last = kind;
-            }
+            Class::Plain => self.pass(kind),
             Class::Outside => self.forget(alloc, kind),
         }
         Ok(())
+    }
+
+    /// Goes over the token at this place.
+    #[inline(always)]
+    pub fn step(&mut self, alloc: Global, place: usize, kind: u8) -> Result<(), AllocError>
+        ensures { OnOk result (self.new ≡ after self.old place kind) }
+    {
+        if is_plain(kind) {
+            self.pass(kind);
+            Ok(())
+        } else {
+            self.step_by_class(alloc, place, kind)
+        }
     }
 }
 
@@ -148,3 +178,26 @@ pub fn between(kinds: &[u8], place: usize, end: usize) -> &[u8]
         None => &[],
     }
 }
+
+/// Which kinds are of tokens of a text that are no brackets, by their numbers.
+static PLAIN_KINDS: [bool; 256] = [
+    true, true, true, true, true, true, true, true, true, true, true, true, true, true, true, true,
+    true, true, false, false, true, true, true, true, true, true, true, true, true, true, true,
+    true, true, true, true, true, true, true, true, true, true, true, true, true, true, true, true,
+    true, true, true, true, true, true, true, true, true, true, true, true, true, true, true, true,
+    true, true, true, false, false, false, false, true, true, true, true, true, false, false,
+    false, false, false, false, false, false, false, false, false, false, false, false, false,
+    false, false, false, false, false, false, false, false, false, false, false, false, false,
+    false, false, false, false, false, false, false, false, false, false, false, false, false,
+    false, false, false, false, false, false, false, false, false, false, false, false, false,
+    false, false, false, false, false, false, false, false, false, false, false, false, false,
+    false, false, false, false, false, false, false, false, false, false, false, false, false,
+    false, false, false, false, false, false, false, false, false, false, false, false, false,
+    false, false, false, false, false, false, false, false, false, false, false, false, false,
+    false, false, false, false, false, false, false, false, false, false, false, false, false,
+    false, false, false, false, false, false, false, false, false, false, false, false, false,
+    false, false, false, false, false, false, false, false, false, false, false, false, false,
+    false, false, false, false, false, false, false, false, false, false, false, false, false,
+    false, false, false, false, false, false, false, false, false, false, false, false, false,
+    false, false, false, false, false, false, false, false, false, false,
+];
