@@ -1,11 +1,12 @@
 -- While no limit is passed a reader's stack is that of the grammar's acts, and its watch is told all.
-use Rattle.std.proofs.Common.{◌≡◌, ℕ, suc, Bool, true, false, cond, nat_eq, List, [], ◌∷◌, length, map, Option, None, Some, refl, ap, sym, ◌∙◌, subst}
+use Rattle.std.proofs.Common.{◌≡◌, ℕ, suc, Bool, true, false, cond, nat_eq, nat_lt, List, [], ◌∷◌, length, map, Option, None, Some, refl, ap, sym, ◌∙◌, subst}
 use Rattle.std.proofs.lemmas.Bool.{eqb-true, eq-eqb}
 use Rattle.gap_grammars.specs.Gapped as gapped
 use Rattle.ir_core.specs.declared.limits.Limit.{Limit}
 use Rattle.module_grammar.proofs.Lawful.{lawful}
 use Rattle.module_grammar.specs.Kinds.{kept}
 use Rattle.module_grammar.specs.Rules.{meaning}
+use Rattle.module_grammar.specs.Symbols as symbol
 use Rattle.module_grammar.specs.Symbols.{Symbol, foreign, kind_of}
 use Rattle.module_grammar.specs.Tokens.{with_gap}
 use Rattle.module_grammar.specs.declared.parts.Part.{Part}
@@ -19,20 +20,41 @@ use Rattle.typed_grammars.specs.Meaning as typed
 
 -- ---- what a token leaves on the stack
 
-kept_foreign : (s : Symbol) (below : List Part) → kind_of s ≡ kind_of foreign → kept s below ≡ below
-kept_foreign s below e =
-    let content : (c : meaning.Content (kind_of foreign)) × (meaning.token (kind_of foreign) c ≡ s) =
-    subst (λ k. (c : meaning.Content k) × (meaning.token k c ≡ s)) e (lawful.content s) in
-    ap (λ t. kept t below) (sym content.1)
+-- a word or mark that says nothing but itself leaves nothing
+kept_alone : (s : Symbol) (below : List Part) → nat_lt (kind_of s) (kind_of foreign) ≡ false → kept s below ≡ below
+kept_alone (symbol.Local x) below e = cc
+kept_alone (symbol.Global x) below e = cc
+kept_alone (symbol.Debug x) below e = cc
+kept_alone (symbol.Label x) below e = cc
+kept_alone (symbol.Numeral x) below e = cc
+kept_alone (symbol.Width x) below e = cc
+kept_alone (symbol.Truth x) below e = cc
+kept_alone (symbol.Bytes x) below e = cc
+kept_alone (symbol.Overflow x) below e = cc
+kept_alone (symbol.Exact x) below e = cc
+kept_alone (symbol.Plain x) below e = cc
+kept_alone (symbol.Resize x) below e = cc
+kept_alone (symbol.Pred x) below e = cc
+kept_alone (symbol.Flag x) below e = cc
+kept_alone (symbol.Linkage x) below e = cc
+kept_alone (symbol.Extension x) below e = cc
+kept_alone (symbol.Holding x) below e = cc
+kept_alone (symbol.Star x) below e = cc
+kept_alone (symbol.Bracket x) below e = cc
+kept_alone (symbol.Brace x) below e = cc
+kept_alone (symbol.Null x) below e = cc
+kept_alone (symbol.Element x) below e = cc
+kept_alone (symbol.BitCast x) below e = cc
+kept_alone (symbol.Fixed k) below e = refl
 
 kept_seen : (s : Symbol) (k : ℕ) (below : List Part) → kind_of (seen_as s k) ≡ k → kept (seen_as s k) below ≡ kept_as k s below
-kept_seen s k below e = go (nat_eq (kind_of s) k) refl (nat_eq k (kind_of foreign)) refl e
+kept_seen s k below e = go (nat_eq (kind_of s) k) refl (nat_lt k (kind_of foreign)) refl e
   where
-    go : (b : Bool) → nat_eq (kind_of s) k ≡ b → (d : Bool) → nat_eq k (kind_of foreign) ≡ d → kind_of (cond b s foreign) ≡ k → kept (cond b s foreign) below ≡ cond d below (kept s below)
-    go true own true other e = kept_foreign s below (e ∙ eqb-true k (kind_of foreign) other)
-    go true own false other e = refl
-    go false own true other e = refl
-    go false own false other e = let seen : nat_eq k (kind_of foreign) ≡ true = eq-eqb k (kind_of foreign) (sym e) in cc
+    go : (b : Bool) → nat_eq (kind_of s) k ≡ b → (d : Bool) → nat_lt k (kind_of foreign) ≡ d → kind_of (cond b s foreign) ≡ k → kept (cond b s foreign) below ≡ cond d (kept s below) below
+    go true own true below_it e = refl
+    go true own false above e = kept_alone s below (ap (λ n. nat_lt n (kind_of foreign)) e ∙ above)
+    go false own true below_it e = let less : nat_lt (kind_of foreign) (kind_of foreign) ≡ true = ap (λ n. nat_lt n (kind_of foreign)) e ∙ below_it in cc
+    go false own false above e = refl
 
 -- ---- the stack
 

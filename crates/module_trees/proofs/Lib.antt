@@ -2,3 +2,4 @@ pub mod Kept
 pub mod Limits
 pub mod Starts
 pub mod Whole
+mod Jumping

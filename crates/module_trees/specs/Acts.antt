@@ -1,5 +1,5 @@
 -- Words of private functions: what a reader's acts do. Once a token has passed a limit nothing is kept and no rule does anything.
-use Rattle.std.specs.Prelude.{ℕ, cond, nat_eq, List, [], ◌∷◌, Option, None, Some}
+use Rattle.std.specs.Prelude.{ℕ, cond, nat_lt, List, [], ◌∷◌, Option, None, Some}
 use Rattle.ir_core.specs.declared.limits.Limit.{Limit}
 use Rattle.module_grammar.specs.Kinds.{kept}
 use Rattle.module_grammar.specs.Symbols.{Symbol, foreign, kind_of}
@@ -21,9 +21,10 @@ first own kinds watch = record { own = own; kinds = kinds; parts = []; watch = w
 abbrev pub with_watch : State → Watch → State
 with_watch s w = record { own = s.own; kinds = s.kinds; parts = s.parts; watch = w }
 
--- a token that is this by itself and is seen as one of this kind, put onto the stack
+-- a token that is this by itself and is seen as one of this kind, put onto the stack; words and marks that say nothing but themselves have the
+-- kinds from that of `foreign` on
 abbrev pub kept_as : ℕ → Symbol → List Part → List Part
-kept_as k s below = cond (nat_eq k (kind_of foreign)) below (kept s below)
+kept_as k s below = cond (nat_lt k (kind_of foreign)) (kept s below) below
 
 abbrev pub next_kept : List Symbol → List ℕ → State → State
 next_kept [] ks s = s

@@ -2,3 +2,4 @@ pub mod Acts
 pub mod Reading
 pub mod Runs
 pub mod Unmarked
+pub mod Jumps

@@ -1,20 +1,56 @@
-ghost use Rattle.std.specs.Prelude.{◌≡◌, OnOk, map};
+ghost use Rattle.std.specs.Prelude.{◌≡◌, ◌∷◌, ℕ, IfOk, IfSome, IsTrue, MatchBool, OnOk, Some, map, slice_get};
+ghost use Rattle.module_grammar.specs.Sets.{sets};
 ghost use Rattle.module_grammar.specs.Spelled.{symbol_in};
+ghost use Rattle.module_grammar.specs.Tokens.{token_grammar};
 ghost use Rattle.module_trees.specs.Acts as acts;
+ghost use Rattle.module_trees.specs.Jumps as jumps;
+ghost use Rattle.module_grammar.specs.declared.parts.Leaf.TheVariants as leaf;
+ghost use Rattle.module_grammar.specs.declared.parts.Part.TheVariants as part;
+ghost use Rattle.module_grammar.specs.declared.parts.Piece.TheVariants as piece;
+ghost use Rattle.module_grammar.specs.declared.types.TypeText.{TypeText as TypeOf};
+ghost use Rattle.predictive.specs.Going.{Jumps};
+ghost use Rattle.predictive.specs.Predictive.{ahead};
 ghost use Rattle.token_limits.specs.Watched.{fresh};
 
+use contents::Boxed;
 use ir_core::Limit;
 use ir_lexer::Token;
-use module_grammar::{Language, Part};
+use leaf_forms::AtPart;
+use module_grammar::{Language, Leaf, Part, Piece, TypeText};
+use module_tables::TokenGrammar;
 use module_tokens::keep;
-use predictive::Action;
+use part_groups::Parts;
+use piece_forms::TypePart;
+use predictive::{Action, Table};
 use std::alloc::{AllocError, Global};
 use std::marker::Model;
 use token_limits::Watch;
 use tree_acts::reduce;
 use typed_grammars::Stack;
 
-/// The kind of tokens of which nothing is kept, whatever they are by themselves.
+/// The nonterminals of types and of their stars, and the kinds of the tokens with which most begin, and of a star.
+const ANY_TYPE: u8 = 33;
+
+const STARS: u8 = 35;
+
+const LOCAL: u8 = 0;
+
+const WIDTH: u8 = 5;
+
+const STAR: u8 = 17;
+
+/// The rules of a type and of what stands in it: of a width, of a name, of no more stars, and of a star before others.
+const POINTERS: u16 = 74;
+
+const INT_TYPE: u16 = 75;
+
+const NAMED_BASE: u16 = 76;
+
+const STARS_END: u16 = 79;
+
+const MORE_STARS: u16 = 80;
+
+/// Of tokens of this kind, and of words and marks that say nothing but themselves, which have the kinds behind it, nothing is kept.
 const FOREIGN: u8 = 23;
 
 /// What a parser's acts work on: the text, the language that it is in, its tokens that are left and their kinds where they stand, the stack,
@@ -99,7 +135,7 @@ impl<'a> Reading<'a> {
         };
         self.tokens = tokens;
         self.kinds = kinds;
-        if *kind != FOREIGN {
+        if *kind < FOREIGN {
             keep(&mut self.parts, alloc, self.language, self.text, token)?;
         }
         Ok(())
@@ -124,6 +160,181 @@ impl<'a> Reading<'a> {
         match self.watch.limit() {
             None => reduce(&mut self.parts, alloc, rule),
             Some(_) => Ok(()),
+        }
+    }
+}
+
+/// Whether a type ends before tokens of these kinds.
+#[inline(always)]
+fn ends_type(kinds: &[u8]) -> bool
+    ensures { IsTrue result → sets.table jumps.stars (ahead kinds.now) ≡ Some jumps.stars_end }
+{
+    let ahead = match kinds.first() {
+        Some(kind) => u16::from(*kind) + 1,
+        None => 0,
+    };
+    match TokenGrammar.choose(STARS, ahead) {
+        Some(STARS_END) => true,
+        _ => false,
+    }
+}
+
+/// How many stars stand in front of tokens of these kinds, if the type ends behind them.
+#[inline(always)]
+fn stars_in_front(kinds: &[u8]) -> Option<u32>
+    ensures { IfSome result (λ stars. jumps.HasStars stars kinds.now) }
+{
+    let mut stars: u32 = 0;
+    let mut rest = kinds;
+    while let [STAR, more @ ..] = rest {
+        stars = stars.checked_add(1)?;
+        rest = more;
+    }
+    if ends_type(rest) { Some(stars) } else { None }
+}
+
+/// Whether the part of that number, counted from the top, is a type.
+#[inline(always)]
+fn is_type_at(parts: &Stack<Part>, number: usize) -> bool
+    ensures { IsTrue result → (t : TypeOf) × (slice_get parts.now number ≡ Some (part.Piece (piece.Type t))) }
+{
+    match parts.get(number) {
+        Some(Part::Piece(Piece::Type(_))) => true,
+        _ => false,
+    }
+}
+
+/// Whether a star that was kept is on top.
+#[inline(always)]
+fn is_star_on_top(parts: &Stack<Part>) -> bool
+    ensures { IsTrue result → (at : ℕ) × (slice_get parts.now 0 ≡ Some (part.Leaf (leaf.At at))) }
+{
+    match parts.get(0) {
+        Some(Part::Leaf(Leaf::At(_))) => true,
+        _ => false,
+    }
+}
+
+/// The type behind which a star was kept is a pointer to it, if these are on top.
+#[tactic(auto, using(crate::proofs::Jumping::pointer_made))]
+fn point_once(parts: &mut Stack<Part>, alloc: Global) -> Result<bool, AllocError>
+    ensures { IfOk result (λ done. MatchBool done (parts.new ≡ jumps.pointed_parts parts.old) (parts.new ≡ parts.old)) }
+{
+    if !is_star_on_top(parts) || !is_type_at(parts, 1) {
+        return Ok(false);
+    }
+    let Some(at) = parts.take::<AtPart>() else {
+        return Ok(false);
+    };
+    let Some(ty) = parts.take::<TypePart>() else {
+        return Ok(false);
+    };
+    parts.put::<TypePart>(TypeText::Ptr(at, Boxed::new(alloc, ty)?))?;
+    Ok(true)
+}
+
+impl<'a> Reading<'a> {
+    /// What the rule does, no limit being passed.
+    #[inline(always)]
+    fn do_rule(&mut self, alloc: Global, rule: u16) -> Result<(), AllocError>
+        ensures { OnOk result (self.new ≡ acts.rule_done rule self.old) }
+    {
+        reduce(&mut self.parts, alloc, rule)
+    }
+
+    /// Keeps so many tokens.
+    fn keep_more(&mut self, alloc: Global, count: u32) -> Result<(), AllocError>
+        ensures { OnOk result (self.new ≡ jumps.kept_more count self.old) }
+    {
+        for _ in 0..count {
+            self.keep_next(alloc)?;
+        }
+        Ok(())
+    }
+
+    /// Puts so many stars before those that are read.
+    fn do_stars(&mut self, alloc: Global, count: u32) -> Result<(), AllocError>
+        ensures { OnOk result (self.new ≡ jumps.stars_done count self.old) }
+    {
+        for _ in 0..count {
+            self.do_rule(alloc, MORE_STARS)?;
+        }
+        Ok(())
+    }
+
+    /// The type behind which a star was kept gets it, if these are on top.
+    #[inline(always)]
+    fn point_top(&mut self, alloc: Global) -> Result<bool, AllocError>
+        ensures { IfOk result (λ done.
+            MatchBool done (self.new ≡ acts.rule_done jumps.pointers (jumps.stars_done 1 (acts.rule_done jumps.stars_end self.old))) (self.new ≡ self.old)) }
+    {
+        point_once(&mut self.parts, alloc)
+    }
+
+    /// Reads so many stars, which the type on top gets.
+    #[inline(always)]
+    fn point(&mut self, alloc: Global, stars: u32) -> Result<(), AllocError>
+        ensures { OnOk result (self.new ≡ jumps.pointed stars self.old) }
+    {
+        if stars == 0 && is_type_at(&self.parts, 0) {
+            return Ok(());
+        }
+        self.keep_more(alloc, stars)?;
+        if stars == 1 && self.point_top(alloc)? {
+            return Ok(());
+        }
+        self.do_rule(alloc, STARS_END)?;
+        self.do_stars(alloc, stars)?;
+        self.do_rule(alloc, POINTERS)
+    }
+
+    /// Reads the next token by the rule, and the stars behind it.
+    #[inline(always)]
+    fn read_type(&mut self, alloc: Global, rule: u16, stars: u32) -> Result<(), AllocError>
+        ensures { OnOk result (self.new ≡ jumps.type_read rule stars self.old) }
+    {
+        self.keep_next(alloc)?;
+        self.do_rule(alloc, rule)?;
+        self.point(alloc, stars)
+    }
+
+    /// Reads one token before these by the rule, and the stars behind it, if that is a type, and says over how many it went.
+    #[inline(always)]
+    fn jump_by(&mut self, alloc: Global, rule: u16, behind: &[u8]) -> Result<usize, AllocError>
+        ensures { IfOk result (λ taken. jumps.IsTypeJump rule behind.now taken self.old self.new) }
+    {
+        let Some(stars) = stars_in_front(behind) else {
+            return Ok(0);
+        };
+        if !self.watch.touch(stars) {
+            return Ok(0);
+        }
+        self.read_type(alloc, rule, stars)?;
+        Ok(stars as usize + 1)
+    }
+
+    /// Reads a type that begins with a token of this kind, if it is that token and stars, and says over how many it went.
+    #[inline(always)]
+    #[tactic(auto, using(crate::proofs::Jumping::by_width, crate::proofs::Jumping::by_name))]
+    fn jump_from(&mut self, alloc: Global, kind: u8, behind: &[u8]) -> Result<usize, AllocError>
+        ensures { IfOk result
+            (λ taken. Jumps sets.table token_grammar.right acts.begun acts.shifted acts.reduced taken jumps.any_type (kind ∷ behind.now) self.old self.new) }
+    {
+        match kind {
+            WIDTH => self.jump_by(alloc, INT_TYPE, behind),
+            LOCAL => self.jump_by(alloc, NAMED_BASE, behind),
+            _ => Ok(0),
+        }
+    }
+
+    /// Reads a type of one token and stars, and says over how many tokens it went.
+    fn jump_type(&mut self, alloc: Global, kinds: &[u8]) -> Result<usize, AllocError>
+        ensures { IfOk result
+            (λ taken. Jumps sets.table token_grammar.right acts.begun acts.shifted acts.reduced taken jumps.any_type kinds.now self.old self.new) }
+    {
+        match kinds.split_first() {
+            Some((kind, behind)) => self.jump_from(alloc, *kind, behind),
+            None => Ok(0),
         }
     }
 }
@@ -172,8 +383,12 @@ impl<'a> Action for Reading<'a> {
     }
 
     #[inline(always)]
-    fn jump(&mut self, _alloc: Global, _non: u8, _kinds: &[u8]) -> Result<usize, AllocError> {
-        Ok(0)
+    fn jump(&mut self, alloc: Global, non: u8, kinds: &[u8]) -> Result<usize, AllocError> {
+        if non == ANY_TYPE {
+            self.jump_type(alloc, kinds)
+        } else {
+            Ok(0)
+        }
     }
 
     ghost begun_unmarked = { unmarked.begun_unmarked };

@@ -64,13 +64,13 @@ reduced_as r w = unless_marked w.mark (reduced_by r w) w
 abbrev pub reduced : Watch → ℕ → Watch
 reduced w p = reduced_as (role_of p) w
 
--- a type of one token stands there, and no token passed a limit, nor does this one
-pub record IsWithin (w : Watch) : Type 0 where
+-- a type of one token and so many stars stands there, and no token passed a limit, nor does one of these
+pub record IsWithin (stars : ℕ) (w : Watch) : Type 0 where
   pub unmarked : w.mark ≡ None
-  pub within : mark_at (w.nesting.level + 1) w.lines ≡ None
+  pub within : mark_at (w.nesting.level + 1 + stars) w.lines ≡ None
 
-abbrev pub touched : Watch → Watch
-touched w = record { nesting = nested.touched w.nesting (w.nesting.level + 1); lines = w.lines; mark = w.mark }
+abbrev pub touched : ℕ → Watch → Watch
+touched stars w = record { nesting = nested.touched w.nesting (w.nesting.level + 1 + stars); lines = w.lines; mark = w.mark }
 
 same_mark : (m : Option Limit) (next w : Watch) → next.mark ≡ w.mark → (unless_marked m next w).mark ≡ w.mark
 same_mark None next w e = e

@@ -1,4 +1,4 @@
-ghost use Rattle.std.specs.Prelude.{◌≡◌, IfOk, OnOk, MatchBool};
+ghost use Rattle.std.specs.Prelude.{◌≡◌, ◌+◌, IfOk, IfSome, OnOk, MatchBool};
 ghost use Rattle.token_limits.specs.Watched as watched;
 
 use crate::nesting::{Nesting, one_more};
@@ -53,6 +53,14 @@ fn lines_reduced(lines: u32, role: Role) -> u32
     }
 }
 
+/// How deep the last of so many stars stands behind a type of one token.
+#[inline(always)]
+fn innermost(level: u32, stars: u32) -> Option<u32>
+    ensures { IfSome result (λ inner. inner ≡ level + 1 + stars) }
+{
+    level.checked_add(1)?.checked_add(stars)
+}
+
 impl Watch {
     pub fn new(alloc: Global) -> Watch
         ensures { result ≡ watched.fresh }
@@ -72,16 +80,16 @@ impl Watch {
         self.mark
     }
 
-    /// Whether a type of one token may stand there: no token passed a limit, nor does that one. Then all is told of it, from where the type
-    /// begins to where it ends.
+    /// Whether a type of one token and so many stars may stand there: no token passed a limit, nor does one of these. Then all is told of
+    /// it, from where the type begins to where it ends.
     #[inline(always)]
-    pub fn touch(&mut self) -> bool
-        ensures { MatchBool result (watched.IsWithin self.old × (self.new ≡ watched.touched self.old)) (self.new ≡ self.old) }
+    pub fn touch(&mut self, stars: u32) -> bool
+        ensures { MatchBool result (watched.IsWithin stars self.old × (self.new ≡ watched.touched stars self.old)) (self.new ≡ self.old) }
     {
         if self.mark.is_some() {
             return false;
         }
-        let Some(inner) = self.nesting.level().checked_add(1) else {
+        let Some(inner) = innermost(self.nesting.level(), stars) else {
             return false;
         };
         if mark_at(inner, self.lines).is_some() {
