@@ -1,14 +1,16 @@
 -- Words of private functions: the names of a function as they are kept.
-use Rattle.std.specs.Prelude.{◌≡◌, Option, None, Some}
-use Rattle.std.specs.Option.{option_map}
+use Rattle.std.specs.Prelude.{◌≡◌, ℕ, Option, slice_get}
+use Rattle.std.specs.Option.{option_map, option_or}
 use Rattle.indexmap.specs.IndexMap.{get_by}
 use Rattle.ir_types.specs.declared.names.Name.{Name}
+use Rattle.ir_types.specs.declared.names.Name.TheVariants as name
 use Rattle.ir_types.specs.declared.ty.Ty.{Ty, Int, Ptr}
 use Rattle.ir_types.specs.Same.{same_name}
 use Rattle.module_grammar.specs.declared.functions.DefinitionText.{DefinitionText}
 use Rattle.named_modules.specs.Built.{function_of}
 use Rattle.named_modules.specs.Faults.{Heads, Thing as Seen, Block', Register', Things, thing_of, things_of}
 use Rattle.type_faults.specs.Lent.{seen}
+use Rattle.function_names.specs.Held.{entries_held, found_among}
 use Rattle.function_names.specs.declared.names.Names.{Names}
 use Rattle.function_names.specs.declared.things.Own.{Own}
 use Rattle.function_names.specs.declared.things.Own.TheVariants as own
@@ -24,12 +26,17 @@ abbrev pub thing_seen : Thing → Seen
 thing_seen thing.Block = Block'
 thing_seen (thing.Register o) = Register' (option_map own_type o)
 
+-- what is told of a number, in order or apart
+abbrev pub found_number : Names → ℕ → Option Thing
+found_number names n = option_or (slice_get names.counted.items n) (get_by (same_name (name.Number n)) names.strays)
+
 abbrev pub found_in : Names → Name → Option Thing
-found_in names name = get_by (same_name name) names.first
+found_in names (name.Text bytes) = found_among (entries_held names.texts) (name.Text bytes)
+found_in names (name.Number n) = found_number names n
 
 -- what the name is that is kept
 unfoldable pub thing_by : Names → Name → Option Seen
-thing_by names name = option_map thing_seen (found_in names name)
+thing_by names x = option_map thing_seen (found_in names x)
 
 -- what lines of a function are judged beside: the heads of the module, and the names of the function
 pub record Place : Type 0 where

@@ -1,6 +1,8 @@
 //! The names of a function of a tree, with what they are (LangRef 3.7, Identifiers).
 #![tactic(auto)]
 
+mod held;
+mod marked;
 mod names;
 mod things;
 mod within;

@@ -150,14 +150,17 @@ module _ (whole : Placed Name) where
           sym (append-nil (own_name_faults whole taken a.due (Some w) false) ∙ ap (λ b. unwritten_told b w) (are w.what))
 
   pub defined_so :
-      (a b : Walk) (x : Option (Placed Name)) (s : Seen) (name : Name) (taken : Bool) → name ≡ name_due a.due x → taken ≡ is_taken a.names x
-      → ((y : Name) → thing_by b.names y ≡ option_or (thing_by a.names y) (thing_of ((name, s) ∷ []) y))
+      (a b : Walk) (x : Option (Placed Name)) (s : Seen) (taken : Bool) → taken ≡ is_some (thing_by a.names (name_due a.due x))
+      → ((y : Name) → thing_by b.names y ≡ option_or (thing_by a.names y) (thing_of ((name_due a.due x, s) ∷ []) y))
       → b.due ≡ due_behind a.due x → b.fault ≡ noted (defined_told whole taken a.due x) a.fault → Walks whole ((defined x, s) ∷ []) a b
-  defined_so a b x s name taken named known told counted fault =
-      one_defined a b x s
-      (λ y. told y ∙ ap (λ (n : Name). option_or (thing_by a.names y) (thing_of ((n, s) ∷ []) y)) named)
-      counted
-      (fault ∙ ap (λ (t : Bool). noted (defined_told whole t a.due x) a.fault) known)
+  defined_so a b x s taken known told counted fault =
+      one_defined a b x s told counted
+      (fault ∙ ap (λ (t : Bool). noted (defined_told whole t a.due x) a.fault) known ∙ ap (λ (fs : List Fault). noted fs a.fault) (same x))
+    where
+      -- where none is written, none can be taken
+      same : (y : Option (Placed Name)) → defined_told whole (is_some (thing_by a.names (name_due a.due y))) a.due y ≡ defined_told whole (is_taken a.names y) a.due y
+      same None = refl
+      same (Some w) = refl
 
   pub passed_so :
       (a b : Walk) (x : Option (Placed Name)) (s : Seen) (taken : Bool) → taken ≡ is_taken a.names x → b.names ≡ a.names → b.due ≡ a.due

@@ -13,13 +13,12 @@ use function_names::{Own, Thing};
 use ir_core::{Name, NamedTypes};
 use module_grammar::{BlockText, LineText, ParamText, PhiText, Placed};
 use register_types::line_own;
-use std::alloc::{AllocError, Global};
+use std::alloc::AllocError;
 use type_faults::Lent;
 use typed_grammars::Stack;
 
 #[tactic(auto, using(crate::proofs::Walked::walks_nothing))]
 fn walk_param<'a>(
-    alloc: Global,
     whole: &Placed<Name>,
     param: Option<&'a ParamText>,
     walk: &mut Walk<'a>,
@@ -30,7 +29,7 @@ fn walk_param<'a>(
         Some(param) => {
             let own = Own::Is(Lent::Written(&param.ty));
             let thing = Thing::Register(Some(own));
-            walk.define(alloc, whole, spot_of(&param.name), thing)
+            walk.define(whole, spot_of(&param.name), thing)
         }
         None => Ok(()),
     }
@@ -39,7 +38,6 @@ fn walk_param<'a>(
 /// The parameters, one by one.
 #[tactic(auto, using(crate::proofs::Walked::walks_nothing))]
 pub(crate) fn walk_params<'a>(
-    alloc: Global,
     whole: &Placed<Name>,
     params: &'a Stack<ParamText>,
     walk: &mut Walk<'a>,
@@ -47,14 +45,13 @@ pub(crate) fn walk_params<'a>(
     ensures { OnOk result (Walks whole.now (flat_map walked.param_entries params.now) walk.old walk.new) }
 {
     for number in 0..params.len() {
-        walk_param(alloc, whole, params.get(number), walk)?;
+        walk_param(whole, params.get(number), walk)?;
     }
     Ok(())
 }
 
 #[tactic(auto, using(crate::proofs::Walked::walks_nothing))]
 fn walk_phi<'a>(
-    alloc: Global,
     whole: &Placed<Name>,
     phi: Option<&'a PhiText>,
     walk: &mut Walk<'a>,
@@ -65,7 +62,7 @@ fn walk_phi<'a>(
         Some(phi) => {
             let own = Own::Is(Lent::Written(&phi.node.get().ty));
             let thing = Thing::Register(Some(own));
-            walk.define(alloc, whole, spot_of(&phi.register), thing)
+            walk.define(whole, spot_of(&phi.register), thing)
         }
         None => Ok(()),
     }
@@ -73,7 +70,6 @@ fn walk_phi<'a>(
 
 #[tactic(auto, using(crate::proofs::Walked::walks_nothing))]
 fn walk_phis<'a>(
-    alloc: Global,
     whole: &Placed<Name>,
     phis: &'a Stack<PhiText>,
     walk: &mut Walk<'a>,
@@ -81,13 +77,12 @@ fn walk_phis<'a>(
     ensures { OnOk result (Walks whole.now (flat_map walked.phi_entries phis.now) walk.old walk.new) }
 {
     for number in 0..phis.len() {
-        walk_phi(alloc, whole, phis.get(number), walk)?;
+        walk_phi(whole, phis.get(number), walk)?;
     }
     Ok(())
 }
 
 fn walk_line<'a>(
-    alloc: Global,
     whole: &Placed<Name>,
     types: &'a NamedTypes,
     line: &'a LineText,
@@ -98,7 +93,7 @@ fn walk_line<'a>(
     let instruction = &line.attached.get().instruction;
     if sets(instruction) {
         let thing = Thing::Register(line_own(types, instruction));
-        walk.define(alloc, whole, spot_of(&line.register), thing)
+        walk.define(whole, spot_of(&line.register), thing)
     } else {
         walk.pass(spot_of(&line.register));
         Ok(())
@@ -107,7 +102,6 @@ fn walk_line<'a>(
 
 #[tactic(auto, using(crate::proofs::Walked::walks_nothing))]
 fn walk_line_got<'a>(
-    alloc: Global,
     whole: &Placed<Name>,
     types: &'a NamedTypes,
     line: Option<&'a LineText>,
@@ -116,14 +110,13 @@ fn walk_line_got<'a>(
     ensures { OnOk result (Walks whole.now (got_entries (walked.line_entries types.now) (option_copied line.entry)) walk.old walk.new) }
 {
     match line {
-        Some(line) => walk_line(alloc, whole, types, line, walk),
+        Some(line) => walk_line(whole, types, line, walk),
         None => Ok(()),
     }
 }
 
 #[tactic(auto, using(crate::proofs::Walked::walks_nothing))]
 fn walk_lines<'a>(
-    alloc: Global,
     whole: &Placed<Name>,
     types: &'a NamedTypes,
     lines: &'a Stack<LineText>,
@@ -132,14 +125,13 @@ fn walk_lines<'a>(
     ensures { OnOk result (Walks whole.now (flat_map (walked.line_entries types.now) lines.now) walk.old walk.new) }
 {
     for number in 0..lines.len() {
-        walk_line_got(alloc, whole, types, lines.get(number), walk)?;
+        walk_line_got(whole, types, lines.get(number), walk)?;
     }
     Ok(())
 }
 
 /// A block's label, its phi nodes and its lines.
 pub(crate) fn walk_block<'a>(
-    alloc: Global,
     whole: &Placed<Name>,
     types: &'a NamedTypes,
     block: &'a BlockText,
@@ -147,15 +139,14 @@ pub(crate) fn walk_block<'a>(
 ) -> Result<(), AllocError>
     ensures { OnOk result (Walks whole.now (walked.block_entries types.now block.now) walk.old walk.new) }
 {
-    walk.define(alloc, whole, label_spot(&block.label), Thing::Block)?;
-    walk_phis(alloc, whole, &block.body.phis, walk)?;
-    walk_lines(alloc, whole, types, &block.body.lines, walk)?;
+    walk.define(whole, label_spot(&block.label), Thing::Block)?;
+    walk_phis(whole, &block.body.phis, walk)?;
+    walk_lines(whole, types, &block.body.lines, walk)?;
     Ok(())
 }
 
 #[tactic(auto, using(crate::proofs::Walked::walks_nothing))]
 fn walk_block_got<'a>(
-    alloc: Global,
     whole: &Placed<Name>,
     types: &'a NamedTypes,
     block: Option<&'a Boxed<BlockText>>,
@@ -164,7 +155,7 @@ fn walk_block_got<'a>(
     ensures { OnOk result (Walks whole.now (got_entries (walked.block_entries types.now) (option_copied block.entry)) walk.old walk.new) }
 {
     match block {
-        Some(block) => walk_block(alloc, whole, types, block.get(), walk),
+        Some(block) => walk_block(whole, types, block.get(), walk),
         None => Ok(()),
     }
 }
@@ -172,7 +163,6 @@ fn walk_block_got<'a>(
 /// The blocks behind the first one.
 #[tactic(auto, using(crate::proofs::Walked::walks_nothing))]
 pub(crate) fn walk_blocks<'a>(
-    alloc: Global,
     whole: &Placed<Name>,
     types: &'a NamedTypes,
     blocks: &'a Stack<Boxed<BlockText>>,
@@ -181,7 +171,7 @@ pub(crate) fn walk_blocks<'a>(
     ensures { OnOk result (Walks whole.now (flat_map (walked.block_entries types.now) blocks.now) walk.old walk.new) }
 {
     for number in 0..blocks.len() {
-        walk_block_got(alloc, whole, types, blocks.get(number), walk)?;
+        walk_block_got(whole, types, blocks.get(number), walk)?;
     }
     Ok(())
 }

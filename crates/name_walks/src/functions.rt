@@ -7,6 +7,7 @@ ghost use Rattle.name_walks.specs.Walked.{IsWalked};
 ghost use Rattle.type_faults.specs.Noted.{noted};
 
 use crate::entries::{walk_block, walk_blocks, walk_params};
+use crate::room::names_at_most;
 use crate::walk::Walk;
 use function_names::Within;
 use ir_core::NamedTypes;
@@ -24,11 +25,11 @@ fn walked<'a>(
 ) -> Result<Walk<'a>, AllocError>
     ensures { IfOk result (λ walk. IsWalked types.now definition.now walk) }
 {
-    let mut walk = Walk::with_room(alloc, definition.head.params.len())?;
+    let mut walk = Walk::with_room(alloc, names_at_most(definition))?;
     let whole = global_name(&definition.head.name);
-    walk_params(alloc, whole, &definition.head.params, &mut walk)?;
-    walk_block(alloc, whole, types, definition.entry.get(), &mut walk)?;
-    walk_blocks(alloc, whole, types, &definition.others, &mut walk)?;
+    walk_params(whole, &definition.head.params, &mut walk)?;
+    walk_block(whole, types, definition.entry.get(), &mut walk)?;
+    walk_blocks(whole, types, &definition.others, &mut walk)?;
     Ok(walk)
 }
 

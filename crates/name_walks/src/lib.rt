@@ -3,6 +3,7 @@
 
 mod entries;
 mod functions;
+mod room;
 mod setting;
 mod spots;
 mod walk;

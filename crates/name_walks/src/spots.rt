@@ -1,13 +1,11 @@
 //! Names at their places, as they are lent.
-ghost use Rattle.std.specs.Prelude.{◌≡◌, ◌^◌, cond, nat_lt, IfOk, IfSome};
+ghost use Rattle.std.specs.Prelude.{◌≡◌, ◌^◌, cond, nat_lt, IfSome};
 ghost use Rattle.std.specs.Option.{option_map};
 ghost use Rattle.named_modules.specs.Built as built;
 ghost use Rattle.name_walks.specs.Walked.{spot_seen};
 
-use contents::Exact;
 use ir_core::Name;
 use module_grammar::Placed;
-use std::alloc::{AllocError, Global};
 
 /// A name, and the bytes that spell it.
 #[derive(Clone, Copy)]
@@ -46,20 +44,10 @@ pub(crate) fn label_spot<'a>(label: &'a Option<Placed<Name>>) -> Option<Spot<'a>
 }
 
 /// The number, or 0 where no name has it.
-fn counted(due: u64) -> u32
+pub(crate) fn counted(due: u64) -> u32
     ensures { result ≡ cond (nat_lt due (2 ^ 32)) due 0 }
 {
     if due < 4_294_967_296 { due as u32 } else { 0 }
-}
-
-/// The name that is written, or the number that is due.
-pub(crate) fn name_due(alloc: Global, due: u64, spot: Option<Spot>) -> Result<Name, AllocError>
-    ensures { IfOk result (λ name. name ≡ built.name_due due (option_map spot_seen spot.entry)) }
-{
-    match spot {
-        Some(spot) => spot.name.copy(alloc),
-        None => Ok(Name::Number(counted(due))),
-    }
 }
 
 fn due_after(due: u64, name: &Name) -> Option<u64>

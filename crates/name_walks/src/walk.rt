@@ -1,14 +1,16 @@
 //! A walk through what a function defines, in the order of the text.
-ghost use Rattle.std.specs.Prelude.{◌≡◌, [], ◌∷◌, None, IfOk, OnOk};
-ghost use Rattle.named_modules.specs.Faults.{Thing as Seen};
-ghost use Rattle.std.specs.Option.{option_map};
+ghost use Rattle.std.specs.Prelude.{◌≡◌, [], ◌∷◌, None, is_some, IfOk, OnOk};
+ghost use Rattle.ir_types.specs.declared.names.Name.{Name as NameOf};
+ghost use Rattle.named_modules.specs.Faults.{Thing as Seen, thing_of};
+ghost use Rattle.std.specs.Option.{option_map, option_or};
+ghost use Rattle.named_modules.specs.Built as built;
 ghost use Rattle.named_modules.specs.Faults as meaning;
 ghost use Rattle.function_names.specs.Seen.{thing_by, thing_seen};
 ghost use Rattle.name_walks.specs.Walked as walked;
 ghost use Rattle.name_walks.specs.Walked.{Walks, spot_seen};
 ghost use Rattle.type_faults.specs.Noted.{noted};
 
-use crate::spots::{Spot, due_behind, name_due};
+use crate::spots::{Spot, counted, due_behind};
 use function_names::{Names, Thing};
 use ir_core::Name;
 use module_grammar::Placed;
@@ -98,8 +100,24 @@ fn note_without_result(spot: Option<Spot>, is_taken: bool, fault: &mut Option<Fa
     }
 }
 
+/// What is defined is told under its name, or the number that is due. Says whether that was taken.
+fn tell<'a>(
+    names: &mut Names<'a>,
+    due: u64,
+    spot: Option<Spot<'a>>,
+    thing: Thing<'a>,
+) -> Result<bool, AllocError>
+    ensures taken { IfOk result (λ taken. taken ≡ is_some (thing_by names.old (built.name_due due (option_map spot_seen spot.entry)))) }
+    ensures names { OnOk result ((x : NameOf) → thing_by names.new x
+        ≡ option_or (thing_by names.old x) (thing_of ((built.name_due due (option_map spot_seen spot.entry), thing_seen thing.entry) ∷ []) x)) }
+{
+    match spot {
+        Some(spot) => names.take(spot.name, thing),
+        None => names.take_number(counted(due), thing),
+    }
+}
+
 impl<'a> Walk<'a> {
-    ghost use Rattle.ir_types.specs.declared.names.Name.{Name as NameOf};
     ghost use Rattle.module_grammar.specs.declared.places.Placed.{Placed as PlacedOf};
 
     /// Whether the name that is written is told already.
@@ -130,17 +148,14 @@ impl<'a> Walk<'a> {
     #[tactic(auto, using(crate::proofs::Walked::defined_so))]
     pub(crate) fn define(
         &mut self,
-        alloc: Global,
         whole: &Placed<Name>,
-        spot: Option<Spot>,
+        spot: Option<Spot<'a>>,
         thing: Thing<'a>,
     ) -> Result<(), AllocError>
         ensures { OnOk result (Walks whole.now ((meaning.defined (option_map spot_seen spot.entry), thing_seen thing.entry) ∷ []) self.old self.new) }
     {
-        let is_taken = self.is_taken(spot);
+        let is_taken = tell(&mut self.names, self.due, spot, thing)?;
         note_defined(whole, self.due, spot, is_taken, &mut self.fault);
-        let name = name_due(alloc, self.due, spot)?;
-        self.names.put(name, thing)?;
         match due_behind(self.due, spot) {
             Some(due) => {
                 self.due = due;

@@ -1,5 +1,5 @@
 -- An item more of a list whose items are found by their numbers.
-use Rattle.std.proofs.Common.{◌≡◌, ◌∙◌, ◌+◌, ℕ, zero, suc, add-one, List, [], ◌∷◌, ◌++◌, drop, Option, None, Some, refl, sym, ap}
+use Rattle.std.proofs.Common.{◌≡◌, ◌∙◌, ◌+◌, ℕ, zero, suc, add-one, List, [], ◌∷◌, ◌++◌, drop, Option, refl, sym, ap}
 use Rattle.std.specs.List.{flat_map, slice_get}
 use Rattle.name_claims.specs.declared.claims.Fault.{Fault}
 use Rattle.value_faults.specs.Got.{got_faults}

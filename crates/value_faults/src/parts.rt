@@ -14,7 +14,7 @@ use type_faults::{at, note_int, note_unless};
 
 /// Whether it is a power of two, 2^29 at most.
 #[tactic(auto, using(crate::proofs::Powers::power_more))]
-fn is_power(magnitude: u128) -> bool
+fn is_any_power(magnitude: u128) -> bool
     ensures { result ≡ is_power magnitude }
 {
     let mut found = false;
@@ -22,6 +22,17 @@ fn is_power(magnitude: u128) -> bool
         found = magnitude == 1 << exponent || found;
     }
     found
+}
+
+/// The same. Most alignments are one of the first few.
+#[tactic(auto, using(crate::proofs::Powers::small_power))]
+fn is_power(magnitude: u128) -> bool
+    ensures { result ≡ is_power magnitude }
+{
+    if magnitude == 4 || magnitude == 8 || magnitude == 1 || magnitude == 16 {
+        return true;
+    }
+    is_any_power(magnitude)
 }
 
 fn is_align(number: &Number) -> bool

@@ -1,6 +1,6 @@
 use Rattle.std.proofs.Common.{◌≡◌, ◌∙◌, ap, arith}
 use Rattle.value_faults.specs.Powers.{is_power_below}
-use Rattle.value_faults.proofs.parts.is_power.Goals as goal
+use Rattle.value_faults.proofs.parts.is_any_power.Goals as goal
 
 pub returns : goal.returns
 returns c =
