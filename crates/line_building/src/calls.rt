@@ -6,6 +6,7 @@ ghost use Rattle.named_modules.specs.Built as meaning;
 ghost use Rattle.named_modules.specs.Constants.{global_name};
 ghost use Rattle.line_building.specs.Parts as part;
 
+use crate::maker::TypeMaker;
 use contents::{Boxed, Seq};
 use ir_core::{Argument, Call, Extensions, Instr, Name};
 use module_grammar::{
@@ -14,25 +15,27 @@ use module_grammar::{
 use std::alloc::{AllocError, Global};
 use typed_grammars::Stack;
 use value_building::{
-    extensions_of, extensions_with, global_name, item_at, name_due, name_of, operand_at, result_of,
-    with_room,
+    extensions_of, extensions_with, global_name, item_at, name_due, name_of, with_room,
 };
 
-fn argument_of(alloc: Global, argument: &ArgumentText) -> Result<Argument, AllocError>
+fn argument_of(maker: &mut TypeMaker, argument: &ArgumentText) -> Result<Argument, AllocError>
     ensures { IfOk result (λ built. built ≡ meaning.argument_of argument.now) }
 {
     Ok(Argument {
-        operand: operand_at(alloc, &argument.ty, &argument.value)?,
+        operand: maker.operand_at(&argument.ty, &argument.value)?,
         extensions: extensions_of(&argument.attributes),
     })
 }
 
-fn arguments_of(alloc: Global, arguments: &Stack<ArgumentText>) -> Result<Seq<Argument>, AllocError>
+fn arguments_of(
+    maker: &mut TypeMaker,
+    arguments: &Stack<ArgumentText>,
+) -> Result<Seq<Argument>, AllocError>
     ensures { IfOk result (λ built. built ≡ map meaning.argument_of arguments.now) }
 {
-    let mut built = with_room(alloc, arguments.len())?;
+    let mut built = with_room(maker.alloc(), arguments.len())?;
     for number in 0..arguments.len() {
-        built.push(argument_of(alloc, item_at(arguments, number))?)?;
+        built.push(argument_of(maker, item_at(arguments, number))?)?;
     }
     Ok(built)
 }
@@ -54,7 +57,7 @@ fn result_name(
 
 /// The call of a function.
 fn called(
-    alloc: Global,
+    maker: &mut TypeMaker,
     due: u64,
     register: &Option<Placed<Name>>,
     result_extensions: Extensions,
@@ -65,18 +68,18 @@ fn called(
     ensures { IfOk result (λ line. line ≡ part.call_with due register.now result_extensions (option_copied of.entry) callee.now arguments.now) }
 {
     let call = Call {
-        name: result_name(alloc, due, register, of)?,
-        result: result_of(alloc, of)?,
+        name: result_name(maker.alloc(), due, register, of)?,
+        result: maker.result_of(of)?,
         result_extensions,
-        callee: name_of(alloc, callee)?,
-        arguments: arguments_of(alloc, arguments)?,
+        callee: name_of(maker.alloc(), callee)?,
+        arguments: arguments_of(maker, arguments)?,
     };
-    Ok(Instr::Call(Boxed::new(alloc, call)?))
+    Ok(Instr::Call(Boxed::new(maker.alloc(), call)?))
 }
 
 /// The call of a function whose name stands behind its type.
 fn callee_called(
-    alloc: Global,
+    maker: &mut TypeMaker,
     due: u64,
     register: &Option<Placed<Name>>,
     result_extensions: Extensions,
@@ -88,7 +91,7 @@ fn callee_called(
     let name = global_name(&callee.name);
     let of = callee.result.as_ref();
     called(
-        alloc,
+        maker,
         due,
         register,
         result_extensions,
@@ -100,7 +103,7 @@ fn callee_called(
 
 /// The call of a function that returns nothing.
 fn plainly_called(
-    alloc: Global,
+    maker: &mut TypeMaker,
     due: u64,
     callee: &Placed<Name>,
     arguments: &Stack<ArgumentText>,
@@ -108,7 +111,7 @@ fn plainly_called(
     ensures { IfOk result (λ line. line ≡ part.call_with due None not_extended None callee.now arguments.now) }
 {
     called(
-        alloc,
+        maker,
         due,
         &None,
         Extensions::none(),
@@ -119,21 +122,24 @@ fn plainly_called(
 }
 
 /// The call behind `call void`.
-fn void_called(alloc: Global, due: u64, call: &VoidCallText) -> Result<Instr, AllocError>
+fn void_called(maker: &mut TypeMaker, due: u64, call: &VoidCallText) -> Result<Instr, AllocError>
     ensures { IfOk result (λ line. line ≡ meaning.void_called due call.now) }
 {
     match call {
-        VoidCallText::Call { name, end } => plainly_called(alloc, due, name, &end.arguments),
+        VoidCallText::Call { name, end } => plainly_called(maker, due, name, &end.arguments),
         VoidCallText::Debug {
             name,
             attributes: _,
-        } => plainly_called(alloc, due, name, &Stack::new(alloc)),
+        } => {
+            let none = Stack::new(maker.alloc());
+            plainly_called(maker, due, name, &none)
+        }
     }
 }
 
 /// The call that is written.
 pub(crate) fn call_of(
-    alloc: Global,
+    maker: &mut TypeMaker,
     due: u64,
     register: &Option<Placed<Name>>,
     body: &CallBodyText,
@@ -147,7 +153,7 @@ pub(crate) fn call_of(
             end,
         } => {
             let extensions = extensions_of(attributes);
-            callee_called(alloc, due, register, extensions, callee, end)
+            callee_called(maker, due, register, extensions, callee, end)
         }
         CallBodyText::Attributes {
             first,
@@ -156,7 +162,7 @@ pub(crate) fn call_of(
             end,
         } => {
             let extensions = extensions_with(first, others);
-            callee_called(alloc, due, register, extensions, callee, end)
+            callee_called(maker, due, register, extensions, callee, end)
         }
         CallBodyText::Typed {
             ty,
@@ -166,8 +172,8 @@ pub(crate) fn call_of(
         } => {
             let name = global_name(name);
             let none = Extensions::none();
-            called(alloc, due, register, none, Some(ty), name, &end.arguments)
+            called(maker, due, register, none, Some(ty), name, &end.arguments)
         }
-        CallBodyText::Void(callee) => void_called(alloc, due, &callee.call),
+        CallBodyText::Void(callee) => void_called(maker, due, &callee.call),
     }
 }

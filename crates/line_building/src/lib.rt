@@ -5,7 +5,9 @@ mod addresses;
 mod calls;
 mod flow;
 mod lines;
+mod maker;
 mod operations;
 
 pub use flow::{phi_at, term_of};
 pub use lines::line_at;
+pub use maker::TypeMaker;

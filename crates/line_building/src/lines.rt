@@ -6,6 +6,7 @@ ghost use Rattle.line_building.specs.Parts as part;
 
 use crate::addresses::pointed;
 use crate::calls::call_of;
+use crate::maker::TypeMaker;
 use crate::operations::operation_of;
 use contents::{Boxed, Exact, Seq};
 use ir_core::{
@@ -16,7 +17,7 @@ use module_grammar::{
 };
 use std::alloc::{AllocError, Global};
 use typed_grammars::Stack;
-use value_building::{align_of, built, int_of, item_at, name_due, operand_of, type_of, with_room};
+use value_building::{align_of, built, int_of, item_at, name_due, with_room};
 
 /// The count behind its type, unless it is 1.
 fn count_kept(ty: Ty, number: Bits) -> Option<(Ty, Bits)>
@@ -29,13 +30,16 @@ fn count_kept(ty: Ty, number: Bits) -> Option<(Ty, Bits)>
     }
 }
 
-fn count_of(alloc: Global, count: &Option<CountText>) -> Result<Option<(Ty, Bits)>, AllocError>
+fn count_of(
+    maker: &mut TypeMaker,
+    count: &Option<CountText>,
+) -> Result<Option<(Ty, Bits)>, AllocError>
     ensures { IfOk result (λ kept. kept ≡ meaning.count_of count.now) }
 {
     match count {
         None => Ok(None),
         Some(count) => {
-            let ty = type_of(alloc, &count.ty)?;
+            let ty = maker.type_of(&count.ty)?;
             let number = built(int_of(&ty, &count.number));
             Ok(count_kept(ty, number))
         }
@@ -43,29 +47,29 @@ fn count_of(alloc: Global, count: &Option<CountText>) -> Result<Option<(Ty, Bits
 }
 
 fn operands_of(
-    alloc: Global,
+    maker: &mut TypeMaker,
     operands: &Stack<OperandText>,
 ) -> Result<Seq<Operand<Name>>, AllocError>
     ensures { IfOk result (λ built. built ≡ map meaning.operand_of operands.now) }
 {
-    let mut made = with_room(alloc, operands.len())?;
+    let mut made = with_room(maker.alloc(), operands.len())?;
     for number in 0..operands.len() {
-        made.push(operand_of(alloc, item_at(operands, number))?)?;
+        made.push(maker.operand_of(item_at(operands, number))?)?;
     }
     Ok(made)
 }
 
 fn element_of(
-    alloc: Global,
+    maker: &mut TypeMaker,
     types: &NamedTypes,
     element: &ElementText,
 ) -> Result<Expr<Name>, AllocError>
     ensures { IfOk result (λ right. right ≡ expr.Element (part.element_of types.now element.now)) }
 {
-    let of = type_of(alloc, &element.of)?;
-    let base = operand_of(alloc, &element.base)?;
-    let indices = operands_of(alloc, &element.indices)?;
-    let to = pointed(alloc, types, &base.ty, &of, indices.as_slice())?;
+    let of = maker.type_of(&element.of)?;
+    let base = maker.operand_of(&element.base)?;
+    let indices = operands_of(maker, &element.indices)?;
+    let to = pointed(maker.alloc(), types, &base.ty, &of, indices.as_slice())?;
     let element = Element {
         inbounds: element.inbounds,
         of,
@@ -73,39 +77,40 @@ fn element_of(
         indices,
         to,
     };
-    Ok(Expr::Element(Boxed::new(alloc, element)?))
+    Ok(Expr::Element(Boxed::new(maker.alloc(), element)?))
 }
 
-fn alloca_of(alloc: Global, name: Name, alloca: &AllocaText) -> Result<Alloca, AllocError>
+fn alloca_of(maker: &mut TypeMaker, name: Name, alloca: &AllocaText) -> Result<Alloca, AllocError>
     ensures { IfOk result (λ built. built ≡ part.alloca_of name alloca.now) }
 {
-    let of = type_of(alloc, &alloca.ty)?;
+    let of = maker.type_of(&alloca.ty)?;
+    let alloc = maker.alloc();
     let to = Ty::Ptr(Shared::new(alloc, of.copy(alloc)?)?);
     Ok(Alloca {
         name,
         of,
         to,
-        count: count_of(alloc, &alloca.count)?,
+        count: count_of(maker, &alloca.count)?,
         align: align_of(&alloca.align),
     })
 }
 
-fn load_of(alloc: Global, load: &LoadText) -> Result<Load<Name>, AllocError>
+fn load_of(maker: &mut TypeMaker, load: &LoadText) -> Result<Load<Name>, AllocError>
     ensures { IfOk result (λ built. built ≡ part.load_of load.now) }
 {
     Ok(Load {
-        of: type_of(alloc, &load.ty)?,
-        pointer: operand_of(alloc, &load.address)?,
+        of: maker.type_of(&load.ty)?,
+        pointer: maker.operand_of(&load.address)?,
         align: align_of(&load.align),
     })
 }
 
-fn store_of(alloc: Global, store: &StoreText) -> Result<Store, AllocError>
+fn store_of(maker: &mut TypeMaker, store: &StoreText) -> Result<Store, AllocError>
     ensures { IfOk result (λ built. built ≡ part.store_of store.now) }
 {
     Ok(Store {
-        value: operand_of(alloc, &store.value)?,
-        pointer: operand_of(alloc, &store.address)?,
+        value: maker.operand_of(&store.value)?,
+        pointer: maker.operand_of(&store.address)?,
         align: align_of(&store.align),
     })
 }
@@ -127,7 +132,7 @@ fn calm(
 
 /// The line that is written, where this number is due.
 pub fn line_at(
-    alloc: Global,
+    maker: &mut TypeMaker,
     types: &NamedTypes,
     due: u64,
     register: &Option<Placed<Name>>,
@@ -137,19 +142,34 @@ pub fn line_at(
 {
     match instruction {
         InstructionText::Operation(operation) => {
-            calm(alloc, due, register, operation_of(alloc, operation)?)
+            calm(
+                maker.alloc(),
+                due,
+                register,
+                operation_of(maker, operation)?,
+            )
         }
         InstructionText::Element(element) => {
-            calm(alloc, due, register, element_of(alloc, types, element)?)
+            calm(
+                maker.alloc(),
+                due,
+                register,
+                element_of(maker, types, element)?,
+            )
         }
         InstructionText::Alloca(alloca) => {
-            let name = name_due(alloc, due, register)?;
-            Ok(Instr::Alloca(alloca_of(alloc, name, alloca)?))
+            let name = name_due(maker.alloc(), due, register)?;
+            Ok(Instr::Alloca(alloca_of(maker, name, alloca)?))
         }
         InstructionText::Load(load) => {
-            calm(alloc, due, register, Expr::Load(load_of(alloc, load)?))
+            calm(
+                maker.alloc(),
+                due,
+                register,
+                Expr::Load(load_of(maker, load)?),
+            )
         }
-        InstructionText::Store(store) => Ok(Instr::Store(store_of(alloc, store)?)),
-        InstructionText::Call(call) => call_of(alloc, due, register, &call.body),
+        InstructionText::Store(store) => Ok(Instr::Store(store_of(maker, store)?)),
+        InstructionText::Call(call) => call_of(maker, due, register, &call.body),
     }
 }

@@ -5,14 +5,15 @@ ghost use Rattle.named_modules.specs.Built as meaning;
 ghost use Rattle.named_modules.specs.Lines as lines;
 ghost use Rattle.line_building.specs.Parts as part;
 
+use crate::maker::TypeMaker;
 use contents::Boxed;
 use ir_core::{Binary, Cast, CastOp, Expr, Flags, Icmp, Name, Select};
 use module_grammar::{
     BinaryText, CastText, CastWord, CompareText, FlagWord, OperationText, OperatorText, SelectText,
 };
-use std::alloc::{AllocError, Global};
+use std::alloc::AllocError;
 use typed_grammars::Stack;
-use value_building::{item_at, operand_of, type_of, value_at};
+use value_building::{item_at, value_at};
 
 fn is_nuw(word: FlagWord) -> bool
     ensures { result ≡ lines.is_nuw word }
@@ -78,12 +79,12 @@ fn cast_op(word: &CastWord) -> CastOp
     }
 }
 
-fn binary_of(alloc: Global, binary: &BinaryText) -> Result<Binary<Name>, AllocError>
+fn binary_of(maker: &mut TypeMaker, binary: &BinaryText) -> Result<Binary<Name>, AllocError>
     ensures { IfOk result (λ built. built ≡ part.binary_of binary.now) }
 {
-    let ty = type_of(alloc, &binary.left.ty)?;
-    let left = value_at(alloc, &ty, &binary.left.value)?;
-    let right = value_at(alloc, &ty, &binary.right)?;
+    let ty = maker.type_of(&binary.left.ty)?;
+    let left = value_at(maker.alloc(), &ty, &binary.left.value)?;
+    let right = value_at(maker.alloc(), &ty, &binary.right)?;
     Ok(Binary {
         op: binary.operator.op(),
         flags: flags_of(&binary.operator),
@@ -93,12 +94,12 @@ fn binary_of(alloc: Global, binary: &BinaryText) -> Result<Binary<Name>, AllocEr
     })
 }
 
-fn compare_of(alloc: Global, compare: &CompareText) -> Result<Icmp<Name>, AllocError>
+fn compare_of(maker: &mut TypeMaker, compare: &CompareText) -> Result<Icmp<Name>, AllocError>
     ensures { IfOk result (λ built. built ≡ part.compare_of compare.now) }
 {
-    let ty = type_of(alloc, &compare.left.ty)?;
-    let left = value_at(alloc, &ty, &compare.left.value)?;
-    let right = value_at(alloc, &ty, &compare.right)?;
+    let ty = maker.type_of(&compare.left.ty)?;
+    let left = value_at(maker.alloc(), &ty, &compare.left.value)?;
+    let right = value_at(maker.alloc(), &ty, &compare.right)?;
     Ok(Icmp {
         pred: compare.pred,
         ty,
@@ -107,11 +108,11 @@ fn compare_of(alloc: Global, compare: &CompareText) -> Result<Icmp<Name>, AllocE
     })
 }
 
-fn cast_of(alloc: Global, cast: &CastText) -> Result<Cast<Name>, AllocError>
+fn cast_of(maker: &mut TypeMaker, cast: &CastText) -> Result<Cast<Name>, AllocError>
     ensures { IfOk result (λ built. built ≡ part.cast_of cast.now) }
 {
-    let operand = operand_of(alloc, &cast.from)?;
-    let to = type_of(alloc, &cast.to)?;
+    let operand = maker.operand_of(&cast.from)?;
+    let to = maker.type_of(&cast.to)?;
     Ok(Cast {
         op: cast_op(&cast.word),
         operand,
@@ -119,30 +120,30 @@ fn cast_of(alloc: Global, cast: &CastText) -> Result<Cast<Name>, AllocError>
     })
 }
 
-fn select_of(alloc: Global, select: &SelectText) -> Result<Select<Name>, AllocError>
+fn select_of(maker: &mut TypeMaker, select: &SelectText) -> Result<Select<Name>, AllocError>
     ensures { IfOk result (λ built. built ≡ part.select_of select.now) }
 {
     Ok(Select {
-        condition: operand_of(alloc, &select.condition)?,
-        left: operand_of(alloc, &select.then)?,
-        right: operand_of(alloc, &select.other)?,
+        condition: maker.operand_of(&select.condition)?,
+        left: maker.operand_of(&select.then)?,
+        right: maker.operand_of(&select.other)?,
     })
 }
 
 /// The operation that is written.
 pub(crate) fn operation_of(
-    alloc: Global,
+    maker: &mut TypeMaker,
     operation: &OperationText,
 ) -> Result<Expr<Name>, AllocError>
     ensures { IfOk result (λ built. built ≡ meaning.operation_of operation.now) }
 {
     match operation {
-        OperationText::Binary(binary) => Ok(Expr::Binary(binary_of(alloc, binary)?)),
-        OperationText::Compare(compare) => Ok(Expr::Icmp(compare_of(alloc, compare)?)),
-        OperationText::Cast(cast) => Ok(Expr::Cast(cast_of(alloc, cast)?)),
+        OperationText::Binary(binary) => Ok(Expr::Binary(binary_of(maker, binary)?)),
+        OperationText::Compare(compare) => Ok(Expr::Icmp(compare_of(maker, compare)?)),
+        OperationText::Cast(cast) => Ok(Expr::Cast(cast_of(maker, cast)?)),
         OperationText::Select(select) => {
-            let select = select_of(alloc, select.get())?;
-            Ok(Expr::Select(Boxed::new(alloc, select)?))
+            let select = select_of(maker, select.get())?;
+            Ok(Expr::Select(Boxed::new(maker.alloc(), select)?))
         }
     }
 }

@@ -11,7 +11,7 @@ use crate::phis::phis_of;
 use contents::{Boxed, Seq};
 use head_building::{bare_of, due_behind, due_behind_params};
 use ir_core::{Block, Function, Instr, Name, NamedTypes, Phi};
-use line_building::term_of;
+use line_building::{TypeMaker, term_of};
 use module_grammar::{BlockText, BodyText, DefinitionText, Placed};
 use std::alloc::{AllocError, Global};
 use typed_grammars::Stack;
@@ -20,7 +20,7 @@ use value_building::{item_at, name_due, with_room};
 /// The phi nodes and the lines of a block, and the number that is due behind them.
 #[tactic(auto, using(crate::proofs::Due::lines_capped, crate::proofs::Due::behind_lines_capped))]
 fn body_of(
-    alloc: Global,
+    maker: &mut TypeMaker,
     types: &NamedTypes,
     body: &BodyText,
     due: u64,
@@ -29,8 +29,8 @@ fn body_of(
     ensures lines { IfOk result (λ made. made.1 ≡ meaning.lines_from types.now (meaning.due_from due (registers_of body.now.phis)) (filter is_kept body.now.lines)) }
     ensures due { IfOk result (λ made. made.2 ≡ capped (meaning.due_behind_lines types.now (meaning.due_from due (registers_of body.now.phis)) (filter is_kept body.now.lines))) }
 {
-    let (phis, due) = phis_of(alloc, &body.phis, due)?;
-    let (lines, due) = lines_of(alloc, types, &body.lines, due)?;
+    let (phis, due) = phis_of(maker, &body.phis, due)?;
+    let (lines, due) = lines_of(maker, types, &body.lines, due)?;
     Ok((phis, lines, due))
 }
 
@@ -53,7 +53,7 @@ fn block_name(alloc: Global, due: u64, label: &Option<Placed<Name>>) -> Result<N
 /// The block, and the number that is due behind it.
 #[tactic(auto, using(crate::proofs::Due::phis_capped, crate::proofs::Due::lines_behind, crate::proofs::Due::behind_phis))]
 fn block_of(
-    alloc: Global,
+    maker: &mut TypeMaker,
     types: &NamedTypes,
     block: &BlockText,
     due: u64,
@@ -62,9 +62,9 @@ fn block_of(
     ensures due { IfOk result (λ made. made.1 ≡ capped (meaning.due_behind_lines types.now (meaning.due_behind_phis due block.now) (meaning.kept_lines block.now))) }
 {
     let behind = due_behind_label(due, &block.label);
-    let name = block_name(alloc, due, &block.label)?;
-    let (phis, body, behind) = body_of(alloc, types, &block.body, behind)?;
-    let term = term_of(alloc, &block.end.get().term)?;
+    let name = block_name(maker.alloc(), due, &block.label)?;
+    let (phis, body, behind) = body_of(maker, types, &block.body, behind)?;
+    let term = term_of(maker, &block.end.get().term)?;
     let block = Block {
         name,
         phis,
@@ -76,7 +76,7 @@ fn block_of(
 
 /// The first block and the others.
 fn blocks_of(
-    alloc: Global,
+    maker: &mut TypeMaker,
     types: &NamedTypes,
     entry: &BlockText,
     others: &Stack<Boxed<BlockText>>,
@@ -84,13 +84,13 @@ fn blocks_of(
 ) -> Result<Seq<Block>, AllocError>
     ensures { IfOk result (λ made. made ≡ meaning.blocks_from types.now due (entry.now ∷ others.now)) }
 {
-    let mut made = with_room(alloc, others.len().saturating_add(1))?;
-    let (first, behind) = block_of(alloc, types, entry, due)?;
+    let mut made = with_room(maker.alloc(), others.len().saturating_add(1))?;
+    let (first, behind) = block_of(maker, types, entry, due)?;
     made.push(first)?;
     let mut due = behind;
     for number in 0..others.len() {
         let other = item_at(others, number).get();
-        let (block, behind) = block_of(alloc, types, other, due)?;
+        let (block, behind) = block_of(maker, types, other, due)?;
         made.push(block)?;
         due = behind;
     }
@@ -99,16 +99,16 @@ fn blocks_of(
 
 /// The function of a definition.
 pub(crate) fn function_of(
-    alloc: Global,
+    maker: &mut TypeMaker,
     types: &NamedTypes,
     definition: &DefinitionText,
 ) -> Result<Function, AllocError>
     ensures { IfOk result (λ built. built ≡ meaning.function_of types.now definition.now) }
 {
-    let mut function = bare_of(alloc, definition)?;
+    let mut function = bare_of(maker.alloc(), definition)?;
     let due = due_behind_params(&definition.head.params);
     function.blocks = blocks_of(
-        alloc,
+        maker,
         types,
         definition.entry.get(),
         &definition.others,

@@ -10,9 +10,9 @@ ghost use Rattle.module_building.specs.Bodies.{due_or};
 use contents::Seq;
 use head_building::due_behind;
 use ir_core::{Instr, NamedTypes};
-use line_building::line_at;
+use line_building::{TypeMaker, line_at};
 use module_grammar::{CallBodyText, InstructionText, LineText, VoidCallText};
-use std::alloc::{AllocError, Global};
+use std::alloc::AllocError;
 use typed_grammars::Stack;
 use value_building::{item_at, with_room};
 
@@ -60,7 +60,7 @@ fn due_after_line(due: u64, behind: u64, line: &Instr) -> u64
 /// The line, and the number that is due behind it.
 #[tactic(auto, using(crate::proofs::Due::or_capped))]
 fn line_of(
-    alloc: Global,
+    maker: &mut TypeMaker,
     types: &NamedTypes,
     line: &LineText,
     due: u64,
@@ -71,7 +71,7 @@ fn line_of(
     let register = &line.register;
     let behind = due_behind(due, register);
     let instruction = &line.attached.get().instruction;
-    let line = line_at(alloc, types, due, register, instruction)?;
+    let line = line_at(maker, types, due, register, instruction)?;
     let due = due_after_line(due, behind, &line);
     Ok((line, due))
 }
@@ -79,7 +79,7 @@ fn line_of(
 /// The lines, but for those that are dropped, and the number that is due behind them.
 #[tactic(auto, using(crate::proofs::Due::capped_is))]
 pub(crate) fn lines_of(
-    alloc: Global,
+    maker: &mut TypeMaker,
     types: &NamedTypes,
     lines: &Stack<LineText>,
     due: u64,
@@ -88,13 +88,13 @@ pub(crate) fn lines_of(
     ensures due { IfOk result (λ made. made.1 ≡ capped (meaning.due_behind_lines types.now due (filter written.is_kept lines.now))) }
 {
     let mut due = due;
-    let mut made = with_room(alloc, lines.len())?;
+    let mut made = with_room(maker.alloc(), lines.len())?;
     for number in 0..lines.len() {
         let line = item_at(lines, number);
         if is_dropped(&line.attached.get().instruction) {
             continue;
         }
-        let (line, behind) = line_of(alloc, types, line, due)?;
+        let (line, behind) = line_of(maker, types, line, due)?;
         made.push(line)?;
         due = behind;
     }

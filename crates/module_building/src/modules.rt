@@ -10,6 +10,7 @@ ghost use Rattle.named_modules.specs.Built as meaning;
 use crate::blocks::function_of;
 use contents::Seq;
 use ir_core::{Function, Module, NamedTypes};
+use line_building::TypeMaker;
 use module_grammar::{ItemText, ModuleText};
 use std::alloc::{AllocError, Global};
 use typed_grammars::Stack;
@@ -17,7 +18,7 @@ use value_building::with_room;
 
 /// Puts the function that the item defines, if it defines one.
 fn put_function(
-    alloc: Global,
+    maker: &mut TypeMaker,
     types: &NamedTypes,
     item: &ItemText,
     functions: &mut Seq<Function>,
@@ -26,7 +27,7 @@ fn put_function(
 {
     match item {
         ItemText::Definition(definition) => {
-            functions.push(function_of(alloc, types, definition.get())?)
+            functions.push(function_of(maker, types, definition.get())?)
         }
         ItemText::Target
         | ItemText::Attributes(_)
@@ -43,17 +44,17 @@ fn put_function(
 /// The functions that items define, so many of them. The items are taken.
 #[tactic(auto, using(crate::proofs::Due::functions_behind))]
 fn functions_of(
-    alloc: Global,
+    maker: &mut TypeMaker,
     types: &NamedTypes,
     items: &mut Stack<ItemText>,
     count: usize,
 ) -> Result<Seq<Function>, AllocError>
     ensures { IfOk result (λ functions. functions ≡ functions_in types.now items.old) }
 {
-    let mut functions = with_room(alloc, count)?;
+    let mut functions = with_room(maker.alloc(), count)?;
     while let Some(item) = items.pop() {
         items.shrink();
-        put_function(alloc, types, &item, &mut functions)?;
+        put_function(maker, types, &item, &mut functions)?;
     }
     Ok(functions)
 }
@@ -69,7 +70,8 @@ pub fn with_bodies(alloc: Global, heads: Module, tree: ModuleText) -> Result<Mod
     let mut module = heads;
     let mut tree = tree;
     let count = module.functions.len();
-    let functions = functions_of(alloc, &module.types, &mut tree.items, count)?;
+    let mut maker = TypeMaker::new(alloc);
+    let functions = functions_of(&mut maker, &module.types, &mut tree.items, count)?;
     module.functions = functions;
     Ok(module)
 }

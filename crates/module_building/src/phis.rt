@@ -7,16 +7,16 @@ ghost use Rattle.named_modules.specs.Built as meaning;
 use contents::Seq;
 use head_building::due_behind;
 use ir_core::Phi;
-use line_building::phi_at;
+use line_building::{TypeMaker, phi_at};
 use module_grammar::PhiText;
-use std::alloc::{AllocError, Global};
+use std::alloc::AllocError;
 use typed_grammars::Stack;
 use value_building::{item_at, with_room};
 
 /// The phi nodes, and the number that is due behind them.
 #[tactic(auto, using(crate::proofs::Due::capped_is))]
 pub(crate) fn phis_of(
-    alloc: Global,
+    maker: &mut TypeMaker,
     phis: &Stack<PhiText>,
     due: u64,
 ) -> Result<(Seq<Phi>, u64), AllocError>
@@ -24,11 +24,11 @@ pub(crate) fn phis_of(
     ensures due { IfOk result (λ made. made.1 ≡ capped (meaning.due_from due (registers_of phis.now))) }
 {
     let mut due = due;
-    let mut made = with_room(alloc, phis.len())?;
+    let mut made = with_room(maker.alloc(), phis.len())?;
     for number in 0..phis.len() {
         let phi = item_at(phis, number);
         let behind = due_behind(due, &phi.register);
-        made.push(phi_at(alloc, due, phi)?)?;
+        made.push(phi_at(maker, due, phi)?)?;
         due = behind;
     }
     Ok((made, due))
