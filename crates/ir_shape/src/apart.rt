@@ -162,6 +162,9 @@ fn end_fits(
         .checked_add(block.body.len())
         .ok_or(AllocError)?;
     let kind = end_kind(alloc, scope, entry, &function.result, &block.term)?;
+    if kind.is_none() {
+        return Ok(());
+    }
     line_fits(alloc, &function.name, &block.name, line, kind)
 }
 

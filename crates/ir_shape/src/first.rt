@@ -10,6 +10,7 @@ ghost use Rattle.shape_tests.specs.Edges.{HasEdges, named, row_kept, rows_of};
 ghost use Rattle.shape_tests.specs.Kinds as fitting;
 ghost use Rattle.ir_shape.specs.Shape as meaning;
 ghost use Rattle.ir_shape.specs.Shape.{IsFirstOf};
+ghost use Rattle.line_shapes.specs.Assumed.{types_by};
 ghost use Rattle.line_shapes.specs.Told as told;
 
 use crate::apart::new_body_fits;
@@ -401,6 +402,43 @@ pub(crate) fn name_fits(alloc: Global, taken: bool, name: &Name) -> Result<(), S
     header_fits(alloc, name, name_kind(taken, name))
 }
 
+/// Whether the blocks of a function have no fault, where each line is asked whether it gives its register a type.
+fn told_blocks_fit(
+    alloc: Global,
+    bit: &BitType,
+    beside: &Beside,
+    function: &Function,
+) -> Result<(), ShapeEnd>
+    ensures fits { IfOk result
+        (λ _. meaning.in_body beside.now «function».now (fitting.labels_of «function».now) (fitting.types_of beside.now «function».now)
+        (with_names [] (functions.names_in (functions.params_of «function».now))) «function».now.blocks ≡ []) }
+    ensures fault { IfErr result
+        (IsFirstOf
+        (meaning.in_body beside.now «function».now (fitting.labels_of «function».now) (fitting.types_of beside.now «function».now)
+        (with_names [] (functions.names_in (functions.params_of «function».now))) «function».now.blocks)) }
+{
+    let scope = scope_of(alloc, bit, beside, false, function)?;
+    all_blocks_fit(alloc, beside, &scope, function)
+}
+
+/// Whether it is seen that the blocks of a function have no fault, where it is assumed that each line gives its register a type: a line
+/// without fault does.
+fn fits_as_assumed(alloc: Global, beside: &Beside, scope: &Scope, function: &Function) -> bool
+    requires beside { scope.now.beside.now ≡ beside.now }
+    requires labels { scope.now.labels ≡ fitting.labels_of «function».now }
+    requires types { type_in scope.now.types ≡ types_by true beside.now «function».now }
+    requires edges { AllByRecursion (HasEdges scope.now.labels (rows_of scope.now.edges.items) «function».now.blocks) «function».now.blocks }
+    requires names { scope.now.names_differ ≡ true → are_new [] (functions.names_of «function».now) ≡ true }
+    ensures { result ≡ true
+        → meaning.in_body beside.now «function».now (fitting.labels_of «function».now) (fitting.types_of beside.now «function».now)
+        (with_names [] (functions.names_in (functions.params_of «function».now))) «function».now.blocks ≡ [] }
+{
+    if scope.names_differ {
+        return new_body_fits(alloc, function, scope, function.blocks.as_slice()).is_ok();
+    }
+    false
+}
+
 /// Whether a function has no fault, whose name may be taken.
 pub(crate) fn function_fits(
     alloc: Global,
@@ -413,7 +451,10 @@ pub(crate) fn function_fits(
 {
     name_fits(alloc, taken, &function.name)?;
     let bit = BitType::new();
-    let scope = scope_of(alloc, &bit, beside, function)?;
-    params_fit(alloc, beside, scope.params_differ, function)?;
-    all_blocks_fit(alloc, beside, &scope, function)
+    let assumed = scope_of(alloc, &bit, beside, true, function)?;
+    params_fit(alloc, beside, assumed.params_differ, function)?;
+    if fits_as_assumed(alloc, beside, &assumed, function) {
+        return Ok(());
+    }
+    told_blocks_fit(alloc, &bit, beside, function)
 }

@@ -12,7 +12,8 @@ use Rattle.shape_kinds.specs.Names.{are_new}
 use Rattle.shape_kinds.specs.Typed.{Types, none_typed, with_types}
 use Rattle.shape_tests.proofs.Tests.{both_left, both_right}
 use Rattle.shape_tests.proofs.Typed.{types_joined}
-use Rattle.shape_tests.specs.Kinds.{told_in, typed, types_of}
+use Rattle.shape_tests.specs.Kinds.{typed}
+use Rattle.line_shapes.specs.Assumed.{told_in_by, types_by}
 use Rattle.line_shapes.specs.Untold.{are_untold, have_own_names}
 use Rattle.line_shapes.proofs.Untold.{names_new, params_new}
 
@@ -20,14 +21,14 @@ abbrev params_in : List Param → List (Name × Option Ty)
 params_in ps = typed (map (λ (p : Param). (p.name, p.ty)) ps)
 
 -- types are told of parameters, and then of blocks
-pub types_told : (m : Module) (f : Function) (none some all : Types) (ps : List Param) (bs : List Block) → ps ≡ f.params → bs ≡ f.blocks → none ≡ none_typed
-    → some ≡ with_types none (params_in ps) → all ≡ with_types some (flat_map (told_in m.types) bs) → all ≡ types_of m f
-types_told m f none some all ps bs params blocks start first further =
+pub types_told : (assumed : Bool) (m : Module) (f : Function) (none some all : Types) (ps : List Param) (bs : List Block) → ps ≡ f.params → bs ≡ f.blocks → none ≡ none_typed
+    → some ≡ with_types none (params_in ps) → all ≡ with_types some (flat_map (told_in_by assumed m.types) bs) → all ≡ types_by assumed m f
+types_told assumed m f none some all ps bs params blocks start first further =
     further
-    ∙ ap (λ (t : Types). with_types t (flat_map (told_in m.types) bs)) (first ∙ ap (λ (t : Types). with_types t (params_in ps)) start)
-    ∙ ap (λ (qs : List Param). with_types (with_types none_typed (params_in qs)) (flat_map (told_in m.types) bs)) params
-    ∙ ap (λ (cs : List Block). with_types (with_types none_typed (params_in f.params)) (flat_map (told_in m.types) cs)) blocks
-    ∙ sym (types_joined none_typed (params_in f.params) (flat_map (told_in m.types) f.blocks))
+    ∙ ap (λ (t : Types). with_types t (flat_map (told_in_by assumed m.types) bs)) (first ∙ ap (λ (t : Types). with_types t (params_in ps)) start)
+    ∙ ap (λ (qs : List Param). with_types (with_types none_typed (params_in qs)) (flat_map (told_in_by assumed m.types) bs)) params
+    ∙ ap (λ (cs : List Block). with_types (with_types none_typed (params_in f.params)) (flat_map (told_in_by assumed m.types) cs)) blocks
+    ∙ sym (types_joined none_typed (params_in f.params) (flat_map (told_in_by assumed m.types) f.blocks))
 
 untold_params : (f : Function) (none : Types) (ps : List Param) (new : Bool) → ps ≡ f.params → none ≡ none_typed → new ≡ are_untold none (params_in ps) → new ≡ are_untold none_typed (typed (params_of f))
 untold_params f none ps new params start is =
@@ -38,22 +39,22 @@ pub params_differ : (f : Function) (none : Types) (ps : List Param) (new : Bool)
 params_differ f none ps new params start is = untold_params f none ps new params start is ∙ params_new (params_of f)
 
 -- names differ where all are told of for the first time, labels differ, and none of them is a register's
-pub names_differ : (m : Module) (f : Function) (none some all : Types) (ps : List Param) (bs : List Block) (labels : List Name) (params registers apart own told others whole : Bool)
-    → ps ≡ f.params → bs ≡ f.blocks → none ≡ none_typed → some ≡ with_types none (params_in ps) → all ≡ with_types some (flat_map (told_in m.types) bs) → labels ≡ []
-    → params ≡ are_untold none (params_in ps) → registers ≡ are_untold some (flat_map (told_in m.types) bs) → apart ≡ are_new labels (map (λ (b : Block). b.name) bs) → own ≡ have_own_names all bs
+pub names_differ : (assumed : Bool) (m : Module) (f : Function) (none some all : Types) (ps : List Param) (bs : List Block) (labels : List Name) (params registers apart own told others whole : Bool)
+    → ps ≡ f.params → bs ≡ f.blocks → none ≡ none_typed → some ≡ with_types none (params_in ps) → all ≡ with_types some (flat_map (told_in_by assumed m.types) bs) → labels ≡ []
+    → params ≡ are_untold none (params_in ps) → registers ≡ are_untold some (flat_map (told_in_by assumed m.types) bs) → apart ≡ are_new labels (map (λ (b : Block). b.name) bs) → own ≡ have_own_names all bs
     → told ≡ (params && registers) → others ≡ (apart && own) → whole ≡ (told && others) → whole ≡ true → are_new [] (names_of f) ≡ true
-names_differ m f none some all ps bs labels params registers apart own told others whole is_params is_blocks start first further empty params_are registers_are apart_is own_is told_is others_are whole_is differ =
+names_differ assumed m f none some all ps bs labels params registers apart own told others whole is_params is_blocks start first further empty params_are registers_are apart_is own_is told_is others_are whole_is differ =
     let both = sym whole_is ∙ differ in
     let told_true = sym told_is ∙ both_left told others both in
     let others_true = sym others_are ∙ both_right told others both in
-    names_new m f (sym (untold_params f none ps params is_params start params_are) ∙ both_left params registers told_true)
+    names_new assumed m f (sym (untold_params f none ps params is_params start params_are) ∙ both_left params registers told_true)
     (sym (registers_are
-    ∙ ap (λ (t : Types). are_untold t (flat_map (told_in m.types) bs)) (first ∙ ap (λ (t : Types). with_types t (params_in ps)) start)
-    ∙ ap (λ (qs : List Param). are_untold (with_types none_typed (params_in qs)) (flat_map (told_in m.types) bs)) is_params
-    ∙ ap (λ (cs : List Block). are_untold (with_types none_typed (params_in f.params)) (flat_map (told_in m.types) cs)) is_blocks) ∙ both_right params registers told_true)
+    ∙ ap (λ (t : Types). are_untold t (flat_map (told_in_by assumed m.types) bs)) (first ∙ ap (λ (t : Types). with_types t (params_in ps)) start)
+    ∙ ap (λ (qs : List Param). are_untold (with_types none_typed (params_in qs)) (flat_map (told_in_by assumed m.types) bs)) is_params
+    ∙ ap (λ (cs : List Block). are_untold (with_types none_typed (params_in f.params)) (flat_map (told_in_by assumed m.types) cs)) is_blocks) ∙ both_right params registers told_true)
     (sym (apart_is
     ∙ ap (λ (ns : List Name). are_new ns (map (λ (b : Block). b.name) bs)) empty
     ∙ ap (λ (cs : List Block). are_new [] (map (λ (b : Block). b.name) cs)) is_blocks) ∙ both_left apart own others_true)
     (sym (own_is
-    ∙ ap (λ (t : Types). have_own_names t bs) (types_told m f none some all ps bs is_params is_blocks start first further)
-    ∙ ap (λ (cs : List Block). have_own_names (types_of m f) cs) is_blocks) ∙ both_right apart own others_true)
+    ∙ ap (λ (t : Types). have_own_names t bs) (types_told assumed m f none some all ps bs is_params is_blocks start first further)
+    ∙ ap (λ (cs : List Block). have_own_names (types_by assumed m f) cs) is_blocks) ∙ both_right apart own others_true)

@@ -23,7 +23,8 @@ use Rattle.shape_kinds.specs.Typed.{Types, none_typed, or_else, with_type, with_
 use Rattle.shape_tests.proofs.Taken.{all_put, both_new, new_behind, new_by, new_front, new_is, registers_joined}
 use Rattle.shape_tests.proofs.Tests.{all_left, all_right, all_there, both_assoc, both_hold, each_tested, not_true, one_there, with_true}
 use Rattle.shape_tests.proofs.Typed.{types_joined}
-use Rattle.shape_tests.specs.Kinds.{gives_type, told_in, told_of, typed, types_of}
+use Rattle.shape_tests.specs.Kinds.{gives_type, typed}
+use Rattle.line_shapes.specs.Assumed.{told_by, told_in_by, types_by}
 use Rattle.line_shapes.specs.Untold.{are_untold, have_own_names}
 
 -- a name with what is told of it
@@ -137,31 +138,31 @@ said_joined : (xs ys : List Said) → map (λ (r : Said). r.0) (xs ++ ys) ≡ ma
 said_joined [] ys = refl
 said_joined (x ∷ xs) ys = ap (λ ns. x.0 ∷ ns) (said_joined xs ys)
 
-line_names : (types : List NamedTy) (ls : List Instr) → map (λ (r : Said). r.0) (flat_map (told_of types) ls) ≡ names_in (set_by ls)
-line_names types [] = refl
-line_names types (l ∷ ls) =
-    said_joined (told_of types l) (flat_map (told_of types) ls)
-    ∙ ap₂ (λ (xs ys : List Name). xs ++ ys) (one_line types l) (line_names types ls)
+line_names : (assumed : Bool) (types : List NamedTy) (ls : List Instr) → map (λ (r : Said). r.0) (flat_map (told_by assumed types) ls) ≡ names_in (set_by ls)
+line_names assumed types [] = refl
+line_names assumed types (l ∷ ls) =
+    said_joined (told_by assumed types l) (flat_map (told_by assumed types) ls)
+    ∙ ap₂ (λ (xs ys : List Name). xs ++ ys) (one_line assumed types l) (line_names assumed types ls)
     ∙ sym (names_more l ls)
   where
-    one_line : (types : List NamedTy) (l : Instr) → map (λ (r : Said). r.0) (told_of types l) ≡ names_in (set_by (l ∷ []))
-    one_line types l = go (set_by (l ∷ []))
+    one_line : (assumed : Bool) (types : List NamedTy) (l : Instr) → map (λ (r : Said). r.0) (told_by assumed types l) ≡ names_in (set_by (l ∷ []))
+    one_line assumed types l = go (set_by (l ∷ []))
       where
-        go : (rs : List (Name × Ty)) → map (λ (r : Said). r.0) (map (λ (r : Name × Ty). let pair : Said = (r.0, cond (gives_type types l) (Some r.1) None) in pair) rs) ≡ names_in rs
+        go : (rs : List (Name × Ty)) → map (λ (r : Said). r.0) (map (λ (r : Name × Ty). let pair : Said = (r.0, cond (assumed || gives_type types l) (Some r.1) None) in pair) rs) ≡ names_in rs
         go [] = refl
         go (r ∷ rs) = ap (λ ns. r.0 ∷ ns) (go rs)
 
-block_said : (types : List NamedTy) (b : Block) → map (λ (r : Said). r.0) (told_in types b) ≡ names_in (registers_of b)
-block_said types b =
-    said_joined (typed (phi_registers b.phis)) (flat_map (told_of types) b.body)
-    ∙ ap₂ (λ (xs ys : List Name). xs ++ ys) (typed_names (phi_registers b.phis)) (line_names types b.body)
+block_said : (assumed : Bool) (types : List NamedTy) (b : Block) → map (λ (r : Said). r.0) (told_in_by assumed types b) ≡ names_in (registers_of b)
+block_said assumed types b =
+    said_joined (typed (phi_registers b.phis)) (flat_map (told_by assumed types) b.body)
+    ∙ ap₂ (λ (xs ys : List Name). xs ++ ys) (typed_names (phi_registers b.phis)) (line_names assumed types b.body)
     ∙ sym (registers_joined (phi_registers b.phis) (set_by b.body))
 
-blocks_said : (types : List NamedTy) (bs : List Block) → map (λ (r : Said). r.0) (flat_map (told_in types) bs) ≡ names_in (flat_map registers_of bs)
-blocks_said types [] = refl
-blocks_said types (b ∷ bs) =
-    said_joined (told_in types b) (flat_map (told_in types) bs)
-    ∙ ap₂ (λ (xs ys : List Name). xs ++ ys) (block_said types b) (blocks_said types bs)
+blocks_said : (assumed : Bool) (types : List NamedTy) (bs : List Block) → map (λ (r : Said). r.0) (flat_map (told_in_by assumed types) bs) ≡ names_in (flat_map registers_of bs)
+blocks_said assumed types [] = refl
+blocks_said assumed types (b ∷ bs) =
+    said_joined (told_in_by assumed types b) (flat_map (told_in_by assumed types) bs)
+    ∙ ap₂ (λ (xs ys : List Name). xs ++ ys) (block_said assumed types b) (blocks_said assumed types bs)
     ∙ sym (registers_joined (registers_of b) (flat_map registers_of bs))
 
 -- whether parameters have new names
@@ -232,21 +233,21 @@ module _ (IsLabel : Name → Type 0) where
       )
 
 -- where registers differ, and labels do, and no label is told of, all names differ
-pub names_new : (m : Module) (f : Function) → are_untold none_typed (typed (params_of f)) ≡ true
-    → are_untold (with_types none_typed (typed (params_of f))) (flat_map (told_in m.types) f.blocks) ≡ true → are_new [] (map (λ (b : Block). b.name) f.blocks) ≡ true
-    → have_own_names (types_of m f) f.blocks ≡ true → are_new [] (names_of f) ≡ true
-names_new m f params registers labels own =
+pub names_new : (assumed : Bool) (m : Module) (f : Function) → are_untold none_typed (typed (params_of f)) ≡ true
+    → are_untold (with_types none_typed (typed (params_of f))) (flat_map (told_in_by assumed m.types) f.blocks) ≡ true → are_new [] (map (λ (b : Block). b.name) f.blocks) ≡ true
+    → have_own_names (types_by assumed m f) f.blocks ≡ true → are_new [] (names_of f) ≡ true
+names_new assumed m f params registers labels own =
     let ps = names_in (params_of f) in
     let rest = names_in (flat_map registers_of f.blocks) in
-    let rs = typed (params_of f) ++ flat_map (told_in m.types) f.blocks in
+    let rs = typed (params_of f) ++ flat_map (told_in_by assumed m.types) f.blocks in
     let names = map (λ (b : Block). b.name) f.blocks in
-    let all : are_untold none_typed rs ≡ true = untold_joined none_typed (typed (params_of f)) (flat_map (told_in m.types) f.blocks)
-    ∙ both_hold (are_untold none_typed (typed (params_of f))) (are_untold (with_types none_typed (typed (params_of f))) (flat_map (told_in m.types) f.blocks)) params registers in
-    let said : map (λ (r : Said). r.0) rs ≡ ps ++ rest = said_joined (typed (params_of f)) (flat_map (told_in m.types) f.blocks)
-    ∙ ap₂ (λ (xs ys : List Name). xs ++ ys) (typed_names (params_of f)) (blocks_said m.types f.blocks) in
+    let all : are_untold none_typed rs ≡ true = untold_joined none_typed (typed (params_of f)) (flat_map (told_in_by assumed m.types) f.blocks)
+    ∙ both_hold (are_untold none_typed (typed (params_of f))) (are_untold (with_types none_typed (typed (params_of f))) (flat_map (told_in_by assumed m.types) f.blocks)) params registers in
+    let said : map (λ (r : Said). r.0) rs ≡ ps ++ rest = said_joined (typed (params_of f)) (flat_map (told_in_by assumed m.types) f.blocks)
+    ∙ ap₂ (λ (xs ys : List Name). xs ++ ys) (typed_names (params_of f)) (blocks_said assumed m.types f.blocks) in
     let new : AreNew [] (ps ++ rest) = new_by [] (ps ++ rest) (sym (untold_new none_typed [] rs (λ n. refl) ∙ ap (are_new []) said) ∙ all) in
-    let alike : Alike (types_of m f) (with_names [] (ps ++ rest)) = subst (λ (ns : List Name). Alike (types_of m f) (with_names [] ns)) said (all_alike none_typed [] rs (λ n. refl)) in
-    let apart : AllByRecursion (λ (n : Name). Contains (ps ++ rest) n → ⊥) names = own_names (ps ++ rest) (types_of m f) f.blocks alike (each_tested (λ (b : Block). not (is_some (types_of m f b.name))) f.blocks own) in
+    let alike : Alike (types_by assumed m f) (with_names [] (ps ++ rest)) = subst (λ (ns : List Name). Alike (types_by assumed m f) (with_names [] ns)) said (all_alike none_typed [] rs (λ n. refl)) in
+    let apart : AllByRecursion (λ (n : Name). Contains (ps ++ rest) n → ⊥) names = own_names (ps ++ rest) (types_by assumed m f) f.blocks alike (each_tested (λ (b : Block). not (is_some (types_by assumed m f b.name))) f.blocks own) in
     let other : (n : Name) → Contains (ps ++ rest) n → Contains names n → ⊥ = λ n there label. one_there (λ (n : Name). Contains (ps ++ rest) n → ⊥) names n apart label there in
     let others : AllByRecursion (λ (n : Name). Contains names n → ⊥) (ps ++ rest) = all_there (λ (n : Name). Contains names n → ⊥) (ps ++ rest) other in
     new_is [] (names_of f)

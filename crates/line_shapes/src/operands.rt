@@ -140,6 +140,7 @@ fn right_operands_kind(beside: &Beside, types: &LentTypes, right: &Expr<Name>) -
 }
 
 /// What is wrong with the operands of a line.
+#[inline(always)]
 #[tactic(auto, using(operand_tests::proofs::Least::least_none))]
 pub(crate) fn line_operands_kind(
     beside: &Beside,

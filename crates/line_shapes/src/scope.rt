@@ -7,6 +7,7 @@ ghost use Rattle.shape_kinds.specs.Kept.{type_in};
 ghost use Rattle.shape_kinds.specs.Names.{are_new, with_names};
 ghost use Rattle.shape_tests.specs.Edges.{HasEdges, rows_of};
 ghost use Rattle.shape_tests.specs.Kinds as fitting;
+ghost use Rattle.line_shapes.specs.Assumed.{types_by};
 
 use crate::types::{both, have_own_names, put_blocks, put_params};
 use ir_core::{BitType, Block, Function};
@@ -53,16 +54,19 @@ fn take_labels<'a>(labels: &mut LentNames<'a>, blocks: &'a [Block]) -> Result<bo
     Ok(new)
 }
 
-/// What is known of a function beside a module.
+/// What is known of a function beside a module. Where it is assumed that each line gives its register a type, none is asked whether it
+/// does.
+#[inline(always)]
 pub fn scope_of<'a>(
     alloc: Global,
     bit: &'a BitType,
     beside: &'a Beside<'a>,
+    assumed: bool,
     function: &'a Function,
 ) -> Result<Scope<'a>, AllocError>
     ensures beside { IfOk result (λ scope. scope.beside.now ≡ beside.now) }
     ensures labels { IfOk result (λ scope. scope.labels ≡ fitting.labels_of «function».now) }
-    ensures types { IfOk result (λ scope. type_in scope.types ≡ fitting.types_of beside.now «function».now) }
+    ensures types { IfOk result (λ scope. type_in scope.types ≡ types_by assumed beside.now «function».now) }
     ensures edges { IfOk result
         (λ scope. AllByRecursion (HasEdges scope.labels (rows_of scope.edges.items) «function».now.blocks) «function».now.blocks) }
     ensures params { IfOk result
@@ -76,7 +80,7 @@ pub fn scope_of<'a>(
     let edges = edges_of(alloc, &labels, blocks)?;
     let mut types = LentTypes::for_function(alloc, function)?;
     let params_differ = put_params(&mut types, function.params.as_slice())?;
-    let registers_differ = put_blocks(&mut types, beside, bit, blocks)?;
+    let registers_differ = put_blocks(&mut types, assumed, beside, bit, blocks)?;
     let told_once = both(params_differ, registers_differ);
     let labels_stand_once = both(labels_differ, have_own_names(&types, blocks));
     let names_differ = both(told_once, labels_stand_once);

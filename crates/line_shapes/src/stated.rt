@@ -125,6 +125,7 @@ fn is_call_known(beside: &Beside, call: &Call) -> bool
 }
 
 /// Whether the named types that a line states are the module's.
+#[inline(always)]
 pub(crate) fn is_line_known(beside: &Beside, line: &Instr) -> bool
     ensures { result ≡ are_types_known beside.now (stated.stated_by_line line.now) }
 {

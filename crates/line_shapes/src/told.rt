@@ -77,6 +77,7 @@ fn is_stored(store: &Store) -> bool
 }
 
 /// What is wrong with a line, but for its operands.
+#[inline(always)]
 fn rest_kind(beside: &Beside, line: &Instr) -> Option<ShapeKind>
     ensures { result ≡ meaning.rest_kind beside.now line.now }
 {
@@ -104,7 +105,6 @@ pub fn line_kind(beside: &Beside, types: &LentTypes, new: bool, line: &Instr) ->
     }
 }
 
-#[inline(always)]
 fn any_kind(beside: &Beside, types: &LentTypes, new: bool, line: &Instr) -> Option<ShapeKind>
     ensures { result ≡ meaning.line_kind beside.now (type_in types.now) new line.now }
 {

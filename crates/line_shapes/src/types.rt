@@ -1,5 +1,5 @@
 //! The types of a function's registers, and whether their names differ.
-ghost use Rattle.std.specs.Prelude.{◌≡◌, ◌&&◌, None, Some, cond, map, IfOk, OnOk};
+ghost use Rattle.std.specs.Prelude.{◌≡◌, ◌&&◌, ◌||◌, None, Some, cond, map, IfOk, OnOk};
 ghost use Rattle.std.specs.List.{flat_map};
 ghost use Rattle.std.specs.Option.{option_copied};
 ghost use Rattle.ir_core.specs.declared.functions.Param.{Param};
@@ -7,6 +7,7 @@ ghost use Rattle.ir_core.specs.Functions as functions;
 ghost use Rattle.shape_kinds.specs.Kept.{type_in};
 ghost use Rattle.shape_kinds.specs.Typed.{with_types};
 ghost use Rattle.shape_tests.specs.Kinds as fitting;
+ghost use Rattle.line_shapes.specs.Assumed.{told_by, told_in_by};
 ghost use Rattle.line_shapes.specs.Untold.{are_untold, have_own_names};
 
 use ir_core::{BitType, Block, Expr, Function, Instr, Name, Param, Phi, Ty};
@@ -72,46 +73,48 @@ fn gives_type(beside: &Beside, line: &Instr) -> bool
     }
 }
 
-/// The type of a line's register, where it has one.
-fn told<'a>(beside: &Beside, line: &Instr, ty: &'a Ty) -> Option<&'a Ty>
-    ensures { option_copied result ≡ cond (fitting.gives_type beside.now.types line.now) (Some ty.now) None }
+/// The type of a line's register, where the line gives it or is assumed to.
+fn told<'a>(assumed: bool, beside: &Beside, line: &Instr, ty: &'a Ty) -> Option<&'a Ty>
+    ensures { option_copied result ≡ cond (assumed || fitting.gives_type beside.now.types line.now) (Some ty.now) None }
 {
-    if gives_type(beside, line) {
+    if assumed || gives_type(beside, line) {
         Some(ty)
     } else {
         None
     }
 }
 
-#[tactic(auto, using(shape_tests::proofs::Typed::told_one, shape_tests::proofs::Typed::told_none))]
+#[tactic(auto, using(crate::proofs::Assumed::assumed_one, crate::proofs::Assumed::assumed_none))]
 fn put_line<'a>(
     types: &mut LentTypes<'a>,
+    assumed: bool,
     beside: &Beside,
     bit: &'a BitType,
     line: &'a Instr,
 ) -> Result<bool, AllocError>
-    ensures new { IfOk result (λ new. new ≡ are_untold (type_in types.old) (fitting.told_of beside.now.types line.now)) }
-    ensures types { OnOk result (type_in types.new ≡ with_types (type_in types.old) (fitting.told_of beside.now.types line.now)) }
+    ensures new { IfOk result (λ new. new ≡ are_untold (type_in types.old) (told_by assumed beside.now.types line.now)) }
+    ensures types { OnOk result (type_in types.new ≡ with_types (type_in types.old) (told_by assumed beside.now.types line.now)) }
 {
     match line.register(bit) {
-        Some((name, ty)) => types.put_first(name, told(beside, line, ty)),
+        Some((name, ty)) => types.put_first(name, told(assumed, beside, line, ty)),
         None => Ok(true),
     }
 }
 
 fn put_lines<'a>(
     types: &mut LentTypes<'a>,
+    assumed: bool,
     beside: &Beside,
     bit: &'a BitType,
     lines: &'a [Instr],
 ) -> Result<bool, AllocError>
     ensures new { IfOk result
-        (λ new. new ≡ are_untold (type_in types.old) (flat_map (fitting.told_of beside.now.types) lines.now)) }
-    ensures types { OnOk result (type_in types.new ≡ with_types (type_in types.old) (flat_map (fitting.told_of beside.now.types) lines.now)) }
+        (λ new. new ≡ are_untold (type_in types.old) (flat_map (told_by assumed beside.now.types) lines.now)) }
+    ensures types { OnOk result (type_in types.new ≡ with_types (type_in types.old) (flat_map (told_by assumed beside.now.types) lines.now)) }
 {
     let mut new = true;
     for line in lines {
-        let first = put_line(types, beside, bit, line)?;
+        let first = put_line(types, assumed, beside, bit, line)?;
         new = both(new, first);
     }
     Ok(new)
@@ -120,32 +123,35 @@ fn put_lines<'a>(
 #[tactic(auto, using(shape_tests::proofs::Typed::types_joined, crate::proofs::Untold::untold_joined))]
 fn put_block<'a>(
     types: &mut LentTypes<'a>,
+    assumed: bool,
     beside: &Beside,
     bit: &'a BitType,
     block: &'a Block,
 ) -> Result<bool, AllocError>
-    ensures new { IfOk result (λ new. new ≡ are_untold (type_in types.old) (fitting.told_in beside.now.types block.now)) }
-    ensures types { OnOk result (type_in types.new ≡ with_types (type_in types.old) (fitting.told_in beside.now.types block.now)) }
+    ensures new { IfOk result (λ new. new ≡ are_untold (type_in types.old) (told_in_by assumed beside.now.types block.now)) }
+    ensures types { OnOk result (type_in types.new ≡ with_types (type_in types.old) (told_in_by assumed beside.now.types block.now)) }
 {
     let phis = put_phis(types, block.phis.as_slice())?;
-    let lines = put_lines(types, beside, bit, block.body.as_slice())?;
+    let lines = put_lines(types, assumed, beside, bit, block.body.as_slice())?;
     Ok(both(phis, lines))
 }
 
-/// Tells the types of the registers that blocks set, and says whether each is told for the first time.
+/// Tells the types of the registers that blocks set, and says whether each is told for the first time. It may be assumed that each line
+/// gives its register a type.
 pub(crate) fn put_blocks<'a>(
     types: &mut LentTypes<'a>,
+    assumed: bool,
     beside: &Beside,
     bit: &'a BitType,
     blocks: &'a [Block],
 ) -> Result<bool, AllocError>
     ensures new { IfOk result
-        (λ new. new ≡ are_untold (type_in types.old) (flat_map (fitting.told_in beside.now.types) blocks.now)) }
-    ensures types { OnOk result (type_in types.new ≡ with_types (type_in types.old) (flat_map (fitting.told_in beside.now.types) blocks.now)) }
+        (λ new. new ≡ are_untold (type_in types.old) (flat_map (told_in_by assumed beside.now.types) blocks.now)) }
+    ensures types { OnOk result (type_in types.new ≡ with_types (type_in types.old) (flat_map (told_in_by assumed beside.now.types) blocks.now)) }
 {
     let mut new = true;
     for block in blocks {
-        let first = put_block(types, beside, bit, block)?;
+        let first = put_block(types, assumed, beside, bit, block)?;
         new = both(new, first);
     }
     Ok(new)

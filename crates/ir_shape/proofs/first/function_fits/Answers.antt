@@ -3,6 +3,7 @@ use Rattle.ir_core.specs.Functions.{names_in, params_of}
 use Rattle.line_shapes.specs.Told.{header_kind}
 use Rattle.shape_kinds.specs.Names.{are_new}
 use Rattle.shape_tests.specs.Kinds.{name_kind}
+use Rattle.shape_tests.proofs.Tests.{joined_none}
 use Rattle.ir_shape.specs.Shape.{IsFirstOf, fault_at, in_function}
 use Rattle.ir_shape.proofs.Found.{behind, further, others_decide, others_fit}
 use Rattle.ir_shape.proofs.first.function_fits.Goals as goal
@@ -24,19 +25,27 @@ returns-in_err-params_fit-clause-fault c =
     behind (fault_at f.name None (name_kind c.args.taken f.name)) _ c.in_ok-name_fits.ensures.fits e (further header _ e c.in_err-params_fit.ensures.fault) in
     search (rules, this)
 
+pub returns-then-fits_as_assumed-clause-fits : goal.returns-then-fits_as_assumed-clause-fits
+returns-then-fits_as_assumed-clause-fits c =
+    let m = c.args.beside.now in
+    let f = c.args.function.now in
+    let header = fault_at f.name None (header_kind m (are_new [] (names_in (params_of f))) f) in
+    joined_none (fault_at f.name None (name_kind c.args.taken f.name)) _ c.in_ok-name_fits.ensures.fits
+    (joined_none header _ c.in_ok-params_fit.ensures.fits (c.fits_as_assumed.ensures c.if-fits_as_assumed.true))
+
 pub returns-clause-fits : goal.returns-clause-fits
 returns-clause-fits c =
     let m = c.args.beside.now in
     let f = c.args.function.now in
-    let r = c.all_blocks_fit.result in
+    let r = c.told_blocks_fit.result in
     let header = fault_at f.name None (header_kind m (are_new [] (names_in (params_of f))) f) in
-    others_fit (fault_at f.name None (name_kind c.args.taken f.name)) _ c.in_ok-name_fits.ensures.fits r (others_fit header _ c.in_ok-params_fit.ensures.fits r c.all_blocks_fit.ensures.fits)
+    others_fit (fault_at f.name None (name_kind c.args.taken f.name)) _ c.in_ok-name_fits.ensures.fits r (others_fit header _ c.in_ok-params_fit.ensures.fits r c.told_blocks_fit.ensures.fits)
 
 pub returns-clause-fault : goal.returns-clause-fault
 returns-clause-fault c =
     let m = c.args.beside.now in
     let f = c.args.function.now in
-    let r = c.all_blocks_fit.result in
+    let r = c.told_blocks_fit.result in
     let header = fault_at f.name None (header_kind m (are_new [] (names_in (params_of f))) f) in
     others_decide (fault_at f.name None (name_kind c.args.taken f.name)) _ c.in_ok-name_fits.ensures.fits r
-    (others_decide header _ c.in_ok-params_fit.ensures.fits r c.all_blocks_fit.ensures.fault)
+    (others_decide header _ c.in_ok-params_fit.ensures.fits r c.told_blocks_fit.ensures.fault)

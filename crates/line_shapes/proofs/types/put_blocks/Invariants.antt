@@ -1,6 +1,6 @@
 use Rattle.std.proofs.Common.{◌≡◌, ◌&&◌, drop}
 use Rattle.std.specs.List.{flat_map}
-use Rattle.shape_tests.specs.Kinds.{told_in}
+use Rattle.line_shapes.specs.Assumed.{told_in_by}
 use Rattle.shape_kinds.specs.Kept.{type_in}
 use Rattle.shape_kinds.specs.Typed.{with_types}
 use Rattle.line_shapes.specs.Untold.{are_untold}
@@ -8,5 +8,5 @@ use Rattle.line_shapes.proofs.types.put_blocks.Given as goal
 
 abbrev pub invariant-loop-block : goal.invariant-loop-block
 invariant-loop-block l =
-    (with_types (type_in l.types) (flat_map (told_in l.beside.types) (drop l.block-index l.blocks)) ≡ with_types (type_in l.initial.types) (flat_map (told_in l.beside.types) l.blocks))
-    × ((l.new && are_untold (type_in l.types) (flat_map (told_in l.beside.types) (drop l.block-index l.blocks))) ≡ are_untold (type_in l.initial.types) (flat_map (told_in l.beside.types) l.blocks))
+    (with_types (type_in l.types) (flat_map (told_in_by l.assumed l.beside.types) (drop l.block-index l.blocks)) ≡ with_types (type_in l.initial.types) (flat_map (told_in_by l.assumed l.beside.types) l.blocks))
+    × ((l.new && are_untold (type_in l.types) (flat_map (told_in_by l.assumed l.beside.types) (drop l.block-index l.blocks))) ≡ are_untold (type_in l.initial.types) (flat_map (told_in_by l.assumed l.beside.types) l.blocks))
