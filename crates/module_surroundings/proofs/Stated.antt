@@ -1,5 +1,5 @@
 -- What is told is what stands around names.
-use Rattle.std.proofs.Common.{◌≡◌, ◌≤◌, ℕ, List, ◌∷◌, ◌++◌, length, Option, refl, ap, sym, ◌∙◌, subst, arith}
+use Rattle.std.proofs.Common.{◌≡◌, ◌≤◌, ℕ, List, ◌∷◌, ◌++◌, length, Option, refl, ap, sym, ◌∙◌, subst, arith, inl, inr}
 use Rattle.std.proofs.lemmas.Bool.{ltb-true}
 use Rattle.ir_lexer.specs.declared.token.Token.{Token}
 use Rattle.ir_types.specs.declared.names.Name.{Name}
@@ -7,7 +7,7 @@ use Rattle.module_grammar.proofs.ModulesMade.{called_text, declared_text}
 use Rattle.module_grammar.proofs.OneTree.{called, declared}
 use Rattle.module_grammar.specs.Balanced.{IsBalanced}
 use Rattle.module_grammar.specs.Sorts.{Called, DeclaredParams}
-use Rattle.module_grammar.specs.Symbols.{Symbol, Debug, Global, close_paren, open_paren, unnamed_addr, void}
+use Rattle.module_grammar.specs.Symbols.{Symbol, Debug, Global, close_paren, kind_of, open_paren, unnamed_addr, void}
 use Rattle.module_grammar.specs.Texts.{IsWritten}
 use Rattle.module_grammar.specs.declared.functions.DeclaredText.{DeclaredText}
 use Rattle.module_grammar.specs.declared.places.Placed.{Placed}
@@ -18,6 +18,8 @@ use Rattle.module_surroundings.proofs.Parens.{as_many_symbols}
 use Rattle.module_surroundings.proofs.Plain.{plain_text}
 use Rattle.module_surroundings.specs.Between.{Between, IsText, seen}
 use Rattle.module_surroundings.specs.Held.{AreParamsTold, AreTypesTold, params_or_none, types_or_none}
+use Rattle.token_context.proofs.SideBySide.{parens_between}
+use Rattle.token_context.specs.SideBySide.{DoParensMatter, HaveParens}
 
 module _ (symbols : List Symbol) where
   -- ---- types before names
@@ -81,3 +83,17 @@ pub all_params :
 all_params text tokens kinds is place told past h x inside at b less =
     let same = as_many_symbols text tokens kinds is in
     h x inside at b (omega (arith, same, past, less))
+
+-- ---- where no parentheses matter nothing is told
+
+pub no_types_stand :
+    (text : List ℕ) (tokens : List Token) (kinds : List ℕ) → IsText text tokens kinds → (DoParensMatter kinds → ⊥) → (told : ℕ → Option CalledText)
+    → AreTypesTold (seen text tokens kinds) (length (seen text tokens kinds)) told
+no_types_stand text tokens kinds is none told x inside at b less =
+    absurd (none (inl (subst (λ ks. HaveParens (kind_of void) 1 ks) is.are_kinds.1 (parens_between void (Global x) b.before inside b.behind (seen text tokens kinds) b.same))))
+
+pub no_params_stand :
+    (text : List ℕ) (tokens : List Token) (kinds : List ℕ) → IsText text tokens kinds → (DoParensMatter kinds → ⊥) → (told : ℕ → Option DeclaredText)
+    → AreParamsTold (seen text tokens kinds) (length (seen text tokens kinds)) told
+no_params_stand text tokens kinds is none told x inside at b less =
+    absurd (none (inr (subst (λ ks. HaveParens 2 (kind_of unnamed_addr) ks) is.are_kinds.1 (parens_between (Debug x) unnamed_addr b.before inside b.behind (seen text tokens kinds) b.same))))

@@ -23,7 +23,7 @@ use ir_lexer::Token;
 use module_grammar::{CalledText, DeclaredText, Placed};
 use std::alloc::{AllocError, Global};
 use std::collections::HashMap;
-use token_context::{Brackets, Opened};
+use token_context::{Brackets, Opened, do_parens_matter};
 use tree_surroundings::Surroundings;
 use typed_grammars::Stack;
 
@@ -130,6 +130,26 @@ impl Around {
         Ok(Around { called, declared })
     }
 
+    /// What is told of the names of a text: nothing where no brackets have to be matched.
+    fn told(
+        alloc: Global,
+        text: &[u8],
+        tokens: &[Token],
+        kinds: &[u8],
+    ) -> Result<Around, AllocError>
+        requires { IsText text.now tokens.now kinds.now }
+        ensures types { IfOk result (λ it. AreTypesTold (seen text.now tokens.now kinds.now) (length (seen text.now tokens.now kinds.now)) (get nat_eq it.called)) }
+        ensures params { IfOk result (λ it. AreParamsTold (seen text.now tokens.now kinds.now) (length (seen text.now tokens.now kinds.now)) (get nat_eq it.declared)) }
+    {
+        if do_parens_matter(kinds) {
+            return Around::walk(alloc, text, tokens, kinds);
+        }
+        Ok(Around {
+            called: HashMap::new(alloc),
+            declared: HashMap::new(alloc),
+        })
+    }
+
     /// What stands around the names of a text, whose tokens are of these kinds where they stand.
     pub fn new(
         alloc: Global,
@@ -155,6 +175,6 @@ impl Around {
             → all_seen (map (symbol_in Ir text.now) tokens.now) kinds.now ≡ before ++ (DebugName x ∷ open_paren ∷ (inside ++ (close_paren ∷ unnamed_addr ∷ behind)))
             → IsBalanced inside → StatesParams (all_seen (map (symbol_in Ir text.now) tokens.now) kinds.now) x (told.declared it x)) }
     {
-        Around::walk(alloc, text, tokens, kinds)
+        Around::told(alloc, text, tokens, kinds)
     }
 }

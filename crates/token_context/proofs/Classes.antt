@@ -1,12 +1,11 @@
 -- What tokens of a class are.
-use Rattle.std.proofs.Common.{◌≡◌, ◌<◌, ℕ, Bool, true, false, not, cond, ◌&&◌, ◌||◌, nat_eq, nat_lt, List, [], ◌∷◌, ◌++◌, refl, ap, sym, ◌∙◌, subst, arith, ◌⊎◌, inl, inr}
+use Rattle.std.proofs.Common.{◌≡◌, ℕ, Bool, true, false, not, cond, ◌&&◌, ◌||◌, nat_eq, nat_lt, List, [], ◌∷◌, ◌++◌, refl, ap, ◌∙◌, subst, arith, ◌⊎◌, inl, inr}
 use Rattle.std.proofs.lemmas.Bool.{eqb-true}
 use Rattle.module_grammar.proofs.Vocabulary.{is_vocabulary}
 use Rattle.module_grammar.specs.Balanced.{IsBalanced, nothing, parens, brackets, braces, is_plain_kind}
 use Rattle.module_grammar.specs.Kinds.{Says, kind, symbol_by}
 use Rattle.module_grammar.specs.Symbols.{Symbol, Bracket, Brace, balanced, close_brace, close_bracket, close_paren, kind_of, open_paren}
 use Rattle.token_context.specs.Brackets.{class_of}
-use Rattle.token_context.specs.declared.brackets.Class.{Class}
 use Rattle.token_context.specs.declared.brackets.Class.TheVariants.{Opens, Closes, Plain, Outside}
 
 -- ---- plain kinds

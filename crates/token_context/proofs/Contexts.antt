@@ -1,13 +1,13 @@
 -- What tokens are where they stand, with one more behind them.
-use Rattle.std.proofs.Common.{◌≡◌, ◌<◌, ◌≤◌, ℕ, zero, suc, ◌+◌, Bool, true, false, cond, nat_eq, nat_lt, List, [], ◌∷◌, ◌++◌, length, map, reverse, take, Option, Some, None, refl, ap, sym, ◌∙◌, append_assoc, subst, arith, ◌⊎◌, inl, inr}
+use Rattle.std.proofs.Common.{◌≡◌, ◌<◌, ◌≤◌, ℕ, zero, suc, ◌+◌, Bool, true, false, cond, nat_eq, nat_lt, List, [], ◌∷◌, ◌++◌, length, map, reverse, take, Some, refl, ap, sym, ◌∙◌, append_assoc, subst, arith, ◌⊎◌, inl, inr}
 use Rattle.std.proofs.Math.Seq.{take-append_seam}
 use Rattle.std.proofs.lemmas.Bool.{eq-eqb, eqb-true, ltb-false, ltb-true}
 use Rattle.std.proofs.lemmas.List.{append-nil, length-append, map-append, reverse-append, take-append-le}
-use Rattle.std.proofs.lemmas.List.Elements.{Contains-append_cases, Contains-append_left, Contains-push, Contains-push_cases}
+use Rattle.std.proofs.lemmas.List.Elements.{Contains-append_left, Contains-push, Contains-push_cases}
 use Rattle.std.proofs.lemmas.Option.{slice_get_within}
 use Rattle.std.specs.List.{Contains, slice_get}
 use Rattle.module_grammar.specs.Symbols.{Symbol, foreign, kind_of}
-use Rattle.module_spelling.specs.Context.{AreBehind, AreKinds, StandsFor, all_seen, seen_as}
+use Rattle.module_spelling.specs.Context.{AreBehind, StandsFor, all_seen, seen_as}
 use Rattle.module_spelling.specs.Faults.{IsDeepAt, IsDeepBehind}
 use Rattle.token_context.proofs.Classes.{symbol_is}
 use Rattle.token_context.specs.Readings.{IsContext, IsSeen, deep_seen, kind_seen}
@@ -16,7 +16,7 @@ use Rattle.token_context.specs.declared.reading.Reading.TheVariants.{Whole, Deep
 
 -- ---- a token by its kind
 
-seen_itself : (s : Symbol) → seen_as s (kind_of s) ≡ s
+pub seen_itself : (s : Symbol) → seen_as s (kind_of s) ≡ s
 seen_itself s = ap (λ b. cond b s foreign) (eq-eqb (kind_of s) (kind_of s) refl)
 
 seen_foreign : (s : Symbol) → seen_as s (kind_of foreign) ≡ foreign
@@ -99,7 +99,7 @@ deep_cases done s k h = go (nat_lt k (length done)) refl
         inr (is, subst (λ x. IsDeepBehind (reverse done) x) same behind)
 
 -- a token that is too deep is one of those, and no other
-not_within : {A : Type 0} (k : ℕ) → Contains {X = ℕ} [] k → A
+pub not_within : {A : Type 0} (k : ℕ) → Contains {X = ℕ} [] k → A
 not_within k h = let none : h.0 < 0 = h.1 in absurd (omega (arith, none))
 
 deep_known :

@@ -1,12 +1,12 @@
 -- What a run over brackets says of the tokens that it came over.
-use Rattle.std.proofs.Common.{◌≡◌, ℕ, suc, ◌+◌, Bool, true, false, cond, nat_eq, List, [], ◌∷◌, ◌++◌, length, map, reverse, Option, Some, None, refl, ap, sym, ◌∙◌, append_assoc, subst, arith}
+use Rattle.std.proofs.Common.{◌≡◌, ℕ, suc, Bool, true, false, cond, nat_eq, List, [], ◌∷◌, ◌++◌, length, map, reverse, Option, Some, None, refl, ap, sym, ◌∙◌, append_assoc, subst, arith}
 use Rattle.std.proofs.lemmas.Bool.{eqb-true}
-use Rattle.std.proofs.lemmas.List.{append-nil, length-map, map-append, reverse-append, reverse-reverse, length-reverse}
+use Rattle.std.proofs.lemmas.List.{append-nil, length-map, map-append, reverse-append, reverse-reverse}
 use Rattle.module_grammar.specs.Balanced.{IsBalanced, nothing, token, parens, brackets, braces}
 use Rattle.module_grammar.specs.Symbols.{Symbol, Bracket, Brace, close_brace, close_bracket, close_paren, kind_of, open_paren}
 use Rattle.module_spelling.specs.Context.{StandsBehind}
 use Rattle.token_context.proofs.Classes.{class_plain, closes_paren, pair, symbol_is}
-use Rattle.token_context.proofs.Runs.{after_last, balanced_keeps, closes_it, entered, pair_runs, run_append}
+use Rattle.token_context.proofs.Runs.{after_last, balanced_keeps, pair_runs, run_append}
 use Rattle.token_context.specs.Brackets.{State, after, after_all, class_of, closing, moved, start}
 use Rattle.token_context.specs.declared.brackets.Class.{Class}
 use Rattle.token_context.specs.declared.brackets.Class.TheVariants.{Opens, Closes, Plain, Outside}

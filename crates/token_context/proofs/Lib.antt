@@ -7,5 +7,6 @@ pub mod Readings
 pub mod Seen
 pub mod Contexts
 pub mod Steps
+pub mod SideBySide
 pub mod Lineless
 pub mod Watched

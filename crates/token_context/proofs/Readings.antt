@@ -1,5 +1,5 @@
 -- What is read as a nonterminal is written of one tree, or of none.
-use Rattle.std.proofs.Common.{◌≡◌, ◌<◌, ℕ, List, [], ◌∷◌, map, refl, ap, sym, ◌∙◌, subst}
+use Rattle.std.proofs.Common.{◌≡◌, ◌<◌, ℕ, List, [], ◌∷◌, map, sym, ◌∙◌, subst}
 use Rattle.gap_grammars.proofs.Joint as joint
 use Rattle.ir_core.specs.declared.limits.Limit.TheVariants as limit
 use Rattle.module_grammar.proofs.Lawful.{lawful}
@@ -12,7 +12,7 @@ use Rattle.module_grammar.specs.Symbols.{Symbol, kind_of}
 use Rattle.module_grammar.specs.Texts.{IsWritten}
 use Rattle.module_grammar.specs.Tokens.{token_grammar, with_gap}
 use Rattle.module_spelling.specs.Context.{IsWhole}
-use Rattle.module_spelling.specs.Opened.{IsWithin, Passes}
+use Rattle.module_spelling.specs.Opened.{Passes}
 use Rattle.predictive.proofs.Selects.{unambiguous}
 use Rattle.predictive.specs.Grammar.{Forest, Forms, yield}
 use Rattle.predictive.specs.Predictive.{MayEnd}

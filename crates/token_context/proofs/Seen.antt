@@ -1,12 +1,12 @@
 -- What a token is where it stands, by how what stands before it is read.
-use Rattle.std.proofs.Common.{◌≡◌, ◌<◌, ℕ, suc, ◌+◌, Bool, true, false, cond, ◌&&◌, nat_eq, List, [], ◌∷◌, ◌++◌, length, map, reverse, Option, Some, None, refl, ap, sym, ◌∙◌, append_assoc, subst, arith, ◌⊎◌, inl, inr}
+use Rattle.std.proofs.Common.{◌≡◌, ◌<◌, ℕ, suc, ◌+◌, Bool, true, false, cond, ◌&&◌, nat_eq, List, [], ◌∷◌, ◌++◌, length, map, reverse, Option, Some, None, refl, ap, sym, ◌∙◌, append_assoc, subst, arith, inl, inr}
 use Rattle.std.proofs.lemmas.Bool.{eqb-false, eqb-true, ltb-true}
 use Rattle.std.proofs.lemmas.List.{length-append, length-map, map-append}
 use Rattle.ir_types.specs.declared.names.Name.{Name}
 use Rattle.module_grammar.specs.Sets.{sets}
-use Rattle.module_grammar.specs.Symbols.{Symbol, Global, Debug, close_paren, foreign, kind_of, open_paren, unnamed_addr, void}
+use Rattle.module_grammar.specs.Symbols.{Symbol, Global, Debug, close_paren, kind_of, open_paren, unnamed_addr, void}
 use Rattle.module_grammar.specs.declared.places.Placed.{Placed}
-use Rattle.module_spelling.specs.Context.{IsUndeclared, IsUnstated, StandsBehind, StandsFor, UnlessAddr, called_number, declared_number}
+use Rattle.module_spelling.specs.Context.{StandsBehind, StandsFor, called_number, declared_number}
 use Rattle.module_spelling.specs.Faults.{IsDeepBehind}
 use Rattle.predictive.specs.Predictive.{MayEnd}
 use Rattle.token_context.proofs.Classes.{symbol_is}

@@ -1,5 +1,5 @@
 -- A step of the pass over a text's tokens.
-use Rattle.std.proofs.Common.{◌≡◌, ◌<◌, ℕ, zero, suc, ◌+◌, List, [], ◌∷◌, ◌++◌, get_or, length, map, take, Option, refl, ap, sym, ◌∙◌, append_assoc, subst, arith}
+use Rattle.std.proofs.Common.{◌≡◌, ◌<◌, ℕ, zero, suc, ◌+◌, List, [], ◌∷◌, ◌++◌, get_or, length, map, take, Option, refl, ap, sym, ◌∙◌, subst, arith}
 use Rattle.std.proofs.lemmas.List.{length-map}
 use Rattle.ir_lexer.specs.declared.token.Token.{Token}
 use Rattle.module_grammar.specs.Spelled.{kind_in, symbol_in}
@@ -44,7 +44,7 @@ pub record At (own : List Symbol) (place : ℕ) : Type 0 where
   pub kinds : take place (map kind_of own) ≡ map kind_of (take place own)
   pub long : length (take place own) ≡ place
 
-at : (own : List Symbol) (place : ℕ) → place < length own → At own place
+pub at : (own : List Symbol) (place : ℕ) → place < length own → At own place
 at [] place h = absurd (grind arith)
 at (x ∷ own) zero h = record { token = x; rest = own; all = refl; next = refl; kind = refl; kinds = refl; long = refl }
 at (x ∷ own) (suc place) h =

@@ -1,5 +1,5 @@
 -- What a parser's answer and its watch say of what stands between parentheses.
-use Rattle.std.proofs.Common.{◌≡◌, ◌⊎◌, inl, inr, ℕ, true, List, [], ◌∷◌, MatchOption, Option, None, Some, refl, ap, sym, ◌∙◌, subst, arith}
+use Rattle.std.proofs.Common.{◌≡◌, ◌⊎◌, inl, inr, ℕ, true, List, [], ◌∷◌, MatchOption, Option, None, Some, ap, sym, ◌∙◌, subst, arith}
 use Rattle.ir_core.specs.declared.limits.Limit.{Limit}
 use Rattle.ir_core.specs.declared.limits.Limit.TheVariants as limit
 use Rattle.module_grammar.specs.Tokens.{token_grammar}
@@ -11,7 +11,7 @@ use Rattle.predictive.specs.declared.symbol.Symbol.TheVariants.{Non}
 use Rattle.token_context.proofs.Lineless.{lineless, no_lines_passed}
 use Rattle.token_context.specs.Readings.{Reads, reading_of}
 use Rattle.token_context.specs.declared.reading.Reading.{Reading}
-use Rattle.token_context.specs.declared.reading.Reading.TheVariants.{Whole, Deep, Other}
+use Rattle.token_context.specs.declared.reading.Reading.TheVariants.{Other}
 use Rattle.token_limits.proofs.Marks.{marked_all}
 use Rattle.token_limits.specs.Laws.{SaysWhole, base_number}
 use Rattle.token_limits.specs.Watched.{begun, fresh, reduced, shifted}

@@ -1,5 +1,5 @@
 -- Words of private functions: the brackets that are open where tokens are read from the left, and what a token that closes one does.
-use Rattle.std.specs.Prelude.{ℕ, suc, Bool, cond, nat_eq, nat_lt, ◌||◌, List, [], ◌∷◌, Option, Some, None, if◌then◌else◌}
+use Rattle.std.specs.Prelude.{ℕ, suc, Bool, nat_eq, nat_lt, ◌||◌, List, [], ◌∷◌, Option, Some, None, if◌then◌else◌}
 use Rattle.module_grammar.specs.Symbols.{Bracket, Brace, balanced, close_brace, close_bracket, close_paren, foreign, kind_of, open_paren}
 use Rattle.token_context.specs.declared.brackets.Class.{Class}
 use Rattle.token_context.specs.declared.brackets.Class.TheVariants.{Opens, Closes, Plain, Outside}

@@ -8,6 +8,7 @@ ghost use Rattle.module_spelling.specs.Faults.{IsDeepAt};
 ghost use Rattle.token_context.specs.Readings.{IsContext, deep_seen, kind_seen};
 
 use crate::brackets::Brackets;
+use crate::matters::do_parens_matter;
 use crate::reading::{Reading, seen};
 use ir_lexer::Token;
 use module_grammar::Language;
@@ -57,6 +58,19 @@ fn in_context(alloc: Global, kinds: &[u8]) -> Result<InContext, AllocError>
     Ok(context)
 }
 
+/// What tokens of these kinds are where they stand, which most often is what they are by themselves.
+fn seen_in_context(alloc: Global, kinds: Vec<u8>) -> Result<InContext, AllocError>
+    ensures { IfOk result (λ context. (own : List Symbol) → map kind_of own ≡ kinds.items → IsContext own context.kinds.items context.deep.items) }
+{
+    if do_parens_matter(&kinds) {
+        return in_context(alloc, &kinds);
+    }
+    Ok(InContext {
+        kinds,
+        deep: Vec::new(alloc),
+    })
+}
+
 /// What a module's tokens are where they stand.
 pub fn kinds_in_context(
     alloc: Global,
@@ -69,5 +83,5 @@ pub fn kinds_in_context(
     ensures deep { IfOk result (λ context.
         (k : ℕ) → Contains context.deep.items k ↔ IsDeepAt (map (symbol_in Ir text.now) tokens.now) k) }
 {
-    in_context(alloc, &kinds_of(alloc, Language::Ir, text, tokens)?)
+    seen_in_context(alloc, kinds_of(alloc, Language::Ir, text, tokens)?)
 }

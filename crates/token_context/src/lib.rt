@@ -4,7 +4,9 @@
 
 mod brackets;
 mod context;
+mod matters;
 mod reading;
 
 pub use brackets::{Brackets, Opened};
 pub use context::{InContext, kinds_in_context};
+pub use matters::do_parens_matter;

@@ -7,15 +7,15 @@ use Rattle.token_context.proofs.context.kinds_in_context.Goals as goal
 
 pub returns-clause-kinds : goal.returns-clause-kinds
 returns-clause-kinds c =
-    IfOk-weaker c.in_context.result _ _
+    IfOk-weaker c.seen_in_context.result _ _
     (λ context h.
-    let is = h (map (symbol_in Ir c.args.text.now) c.args.tokens.now) (kinds_of_symbols c.args.text.now c.args.tokens.now ∙ sym c.in_ok-kinds_of.ensures ∙ sym c.deref.ensures.value) in
+    let is = h (map (symbol_in Ir c.args.text.now) c.args.tokens.now) (kinds_of_symbols c.args.text.now c.args.tokens.now ∙ sym c.in_ok-kinds_of.ensures) in
     (is.stand, is.are_kinds))
-    c.in_context.ensures
+    c.seen_in_context.ensures
 
 pub returns-clause-deep : goal.returns-clause-deep
 returns-clause-deep c =
-    IfOk-weaker c.in_context.result _ _
+    IfOk-weaker c.seen_in_context.result _ _
     (λ context h.
-    (h (map (symbol_in Ir c.args.text.now) c.args.tokens.now) (kinds_of_symbols c.args.text.now c.args.tokens.now ∙ sym c.in_ok-kinds_of.ensures ∙ sym c.deref.ensures.value)).deep)
-    c.in_context.ensures
+    (h (map (symbol_in Ir c.args.text.now) c.args.tokens.now) (kinds_of_symbols c.args.text.now c.args.tokens.now ∙ sym c.in_ok-kinds_of.ensures)).deep)
+    c.seen_in_context.ensures
