@@ -1,5 +1,5 @@
 -- What is read at once is what a parser's moves read.
-use Rattle.std.proofs.Common.{◌≡◌, ◌+◌, ◌-◌, ◌≤◌, ◌<◌, ℕ, zero, suc, Bool, true, false, cond, nat_lt, List, [], ◌∷◌, ◌++◌, length, drop, replicate, Option, None, Some, refl, ap, sym, ◌∙◌, option_and_then, slice_get, subst, max, append_assoc, arith}
+use Rattle.std.proofs.Common.{◌≡◌, ◌+◌, ◌-◌, ◌≤◌, ℕ, zero, suc, Bool, true, false, cond, nat_lt, List, [], ◌∷◌, ◌++◌, length, drop, replicate, Option, None, Some, refl, ap, sym, ◌∙◌, option_and_then, slice_get, subst, max, append_assoc, arith}
 use Rattle.std.proofs.Math.Nat.{max-eq_right}
 use Rattle.std.proofs.lemmas.Bool.{ltb-true, ltb-false}
 use Rattle.std.proofs.lemmas.List.{replicate_more}
@@ -22,7 +22,6 @@ use Rattle.predictive.specs.Going.{Move, Open, Take, Close, Goes, Jumps}
 use Rattle.predictive.specs.Predictive.{ahead}
 use Rattle.predictive.specs.declared.item.Item.{Item}
 use Rattle.predictive.specs.declared.item.Item.TheVariants as item
-use Rattle.token_limits.specs.Nested as nested
 use Rattle.token_limits.specs.Roles.{role_of}
 use Rattle.token_limits.specs.Watched as watched
 use Rattle.token_limits.specs.declared.nesting.Saved.{Saved}
@@ -71,7 +70,7 @@ deepest_is (suc n) level =
 
 -- ---- what is read, and the watch apart
 
-next_apart : (own : List Symbol) (kinds : List ℕ) (s : State) (w : Watch) → next_kept own kinds (with_watch s w) ≡ with_watch (next_kept own kinds s) w
+pub next_apart : (own : List Symbol) (kinds : List ℕ) (s : State) (w : Watch) → next_kept own kinds (with_watch s w) ≡ with_watch (next_kept own kinds s) w
 next_apart [] kinds s w = refl
 next_apart (t ∷ ts) [] s w = refl
 next_apart (t ∷ ts) (k ∷ ks) s w = refl

@@ -1,9 +1,7 @@
 -- While no limit is passed a reader's stack is that of the grammar's acts, and its watch is told all.
 use Rattle.std.proofs.Common.{◌≡◌, ℕ, suc, Bool, true, false, cond, nat_eq, nat_lt, List, [], ◌∷◌, length, map, Option, None, Some, refl, ap, sym, ◌∙◌, subst}
-use Rattle.std.proofs.lemmas.Bool.{eqb-true, eq-eqb}
 use Rattle.gap_grammars.specs.Gapped as gapped
 use Rattle.ir_core.specs.declared.limits.Limit.{Limit}
-use Rattle.module_grammar.proofs.Lawful.{lawful}
 use Rattle.module_grammar.specs.Kinds.{kept}
 use Rattle.module_grammar.specs.Rules.{meaning}
 use Rattle.module_grammar.specs.Symbols as symbol

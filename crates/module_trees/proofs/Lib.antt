@@ -3,3 +3,5 @@ pub mod Limits
 pub mod Starts
 pub mod Whole
 mod Jumping
+mod Values
+mod Attached

@@ -1,4 +1,4 @@
--- Words of private functions: a type of one token and the stars behind it, which are read at once.
+-- Words of private functions: a type of one token and the stars behind it, a value of one token, and an attachment, which are read at once.
 use Rattle.std.specs.Prelude.{◌≡◌, ℕ, zero, suc, List, ◌++◌, Some, replicate}
 use Rattle.module_grammar.specs.Sets.{sets}
 use Rattle.module_grammar.specs.declared.parts.Part.{Part}
@@ -67,3 +67,99 @@ abbrev pub IsTypeJump : ℕ → List ℕ → ℕ → State → State → Type 0
 IsTypeJump rule behind zero s t = t ≡ s
 IsTypeJump rule behind (suc n) s t =
     HasStars n behind × watched.IsWithin n s.watch × (t ≡ type_read rule n (with_watch s (watched.touched n s.watch)))
+
+-- ---- a value
+
+-- the values
+abbrev pub any_value : ℕ
+any_value = 50
+
+-- the rules of a value that is a constant, of one that is a register, of a constant that is a number, and of a number
+abbrev pub constant : ℕ
+constant = 116
+
+abbrev pub register : ℕ
+register = 117
+
+abbrev pub int_constant : ℕ
+int_constant = 99
+
+abbrev pub numeral : ℕ
+numeral = 95
+
+-- the parts where a register was kept, or a number, when it is a value
+abbrev pub register_parts : List Part → List Part
+register_parts parts = act register parts
+
+abbrev pub number_parts : List Part → List Part
+number_parts parts = act constant (act int_constant (act numeral parts))
+
+-- a number that was kept is a value
+abbrev pub number_done : State → State
+number_done s = rule_done constant (rule_done int_constant (rule_done numeral s))
+
+-- a register is read
+abbrev pub register_read : State → State
+register_read s = rule_done register (next_read s)
+
+-- a number is read
+abbrev pub number_read : State → State
+number_read s = number_done (next_read s)
+
+-- what a jump over so many tokens does, if it is one: they are that many, stand so much deeper than what is open, and are read like this
+abbrev pub IsJumpOver : ℕ → ℕ → (State → State) → ℕ → State → State → Type 0
+IsJumpOver size deeper read zero s t = t ≡ s
+IsJumpOver size deeper read (suc n) s t =
+    (suc n ≡ size) × watched.MayStep deeper s.watch × (t ≡ read (with_watch s (watched.stepped deeper s.watch)))
+
+-- ---- an attachment
+
+-- the attachments, and what may stand behind the name of metadata
+abbrev pub all_attachments : ℕ
+all_attachments = 27
+
+abbrev pub meta_arguments : ℕ
+meta_arguments = 30
+
+-- `,`, and a name of metadata
+abbrev pub comma : ℕ
+comma = 64
+
+abbrev pub metadata : ℕ
+metadata = 72
+
+-- the rules of no attachments, of one before others, of one, of metadata that has a name, and of nothing behind that
+abbrev pub attachments_end : ℕ
+attachments_end = 63
+
+abbrev pub attachments : ℕ
+attachments = 64
+
+abbrev pub attachment : ℕ
+attachment = 65
+
+abbrev pub named_meta : ℕ
+named_meta = 66
+
+abbrev pub no_arguments : ℕ
+no_arguments = 68
+
+-- the parts with an attachment by name on top
+abbrev pub attached_parts : List Part → List Part
+attached_parts parts = act attachments (act attachments_end (act attachment (act named_meta (act no_arguments parts))))
+
+abbrev pub attached : State → State
+attached s = rule_done attachments (rule_done attachments_end (rule_done attachment (rule_done named_meta (rule_done no_arguments s))))
+
+-- `, !kind !name` is read
+abbrev pub attachment_read : State → State
+attachment_read s = attached (kept_more 3 s)
+
+-- nothing more is attached before these kinds
+abbrev pub EndsAttachments : List ℕ → Type 0
+EndsAttachments rest =
+    (sets.table meta_arguments (ahead rest) ≡ Some no_arguments) × (sets.table all_attachments (ahead rest) ≡ Some attachments_end)
+
+abbrev pub IsAttachmentJump : List ℕ → ℕ → State → State → Type 0
+IsAttachmentJump rest zero s t = t ≡ s
+IsAttachmentJump rest (suc n) s t = EndsAttachments rest × IsJumpOver 3 0 attachment_read (suc n) s t

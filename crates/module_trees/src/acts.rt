@@ -8,6 +8,9 @@ ghost use Rattle.module_grammar.specs.declared.parts.Leaf.TheVariants as leaf;
 ghost use Rattle.module_grammar.specs.declared.parts.Part.TheVariants as part;
 ghost use Rattle.module_grammar.specs.declared.parts.Piece.TheVariants as piece;
 ghost use Rattle.module_grammar.specs.declared.types.TypeText.{TypeText as TypeOf};
+ghost use Rattle.ir_lexer.specs.declared.token.Number.{Number};
+ghost use Rattle.ir_types.specs.declared.names.Name.{Name};
+ghost use Rattle.module_grammar.specs.declared.places.Placed.{Placed};
 ghost use Rattle.predictive.specs.Going.{Jumps};
 ghost use Rattle.predictive.specs.Predictive.{ahead};
 ghost use Rattle.token_limits.specs.Watched.{fresh};
@@ -15,12 +18,14 @@ ghost use Rattle.token_limits.specs.Watched.{fresh};
 use contents::Boxed;
 use ir_core::Limit;
 use ir_lexer::Token;
-use leaf_forms::AtPart;
-use module_grammar::{Language, Leaf, Part, Piece, TypeText};
+use leaf_forms::{AtPart, AttachmentsPart, LocalPart, NumberPart};
+use module_grammar::{
+    ConstText, IntText, Language, Leaf, MetaText, Part, Piece, TypeText, ValueText,
+};
 use module_tables::TokenGrammar;
 use module_tokens::keep;
 use part_groups::Parts;
-use piece_forms::TypePart;
+use piece_forms::{TypePart, ValuePart};
 use predictive::{Action, Table};
 use std::alloc::{AllocError, Global};
 use std::marker::Model;
@@ -28,16 +33,29 @@ use token_limits::Watch;
 use tree_acts::reduce;
 use typed_grammars::Stack;
 
-/// The nonterminals of types and of their stars, and the kinds of the tokens with which most begin, and of a star.
+/// The nonterminals of types, of their stars, of values, of attachments and of what may stand behind their names, and the kinds of the tokens
+/// with which most begin, of a star, of a comma and of the names of metadata.
 const ANY_TYPE: u8 = 33;
 
 const STARS: u8 = 35;
 
+const ANY_VALUE: u8 = 50;
+
+const ALL_ATTACHMENTS: u8 = 27;
+
+const META_ARGUMENTS: u8 = 30;
+
 const LOCAL: u8 = 0;
+
+const NUMBER: u8 = 4;
 
 const WIDTH: u8 = 5;
 
 const STAR: u8 = 17;
+
+const COMMA: u8 = 64;
+
+const METADATA: u8 = 72;
 
 /// The rules of a type and of what stands in it: of a width, of a name, of no more stars, and of a star before others.
 const POINTERS: u16 = 74;
@@ -49,6 +67,20 @@ const NAMED_BASE: u16 = 76;
 const STARS_END: u16 = 79;
 
 const MORE_STARS: u16 = 80;
+
+/// The rules of a value: of a constant, of a register, of a constant that is a number, and of a number.
+const CONSTANT: u16 = 116;
+
+const REGISTER: u16 = 117;
+
+const INT_CONSTANT: u16 = 99;
+
+const NUMERAL: u16 = 95;
+
+/// The rules of no attachments, and of nothing behind the name of metadata.
+const ATTACHMENTS_END: u16 = 63;
+
+const NO_ARGUMENTS: u16 = 68;
 
 /// Of tokens of this kind, and of words and marks that say nothing but themselves, which have the kinds behind it, nothing is kept.
 const FOREIGN: u8 = 23;
@@ -164,18 +196,62 @@ impl<'a> Reading<'a> {
     }
 }
 
+/// What is ahead of tokens of these kinds, as the parser's table has it.
+#[inline(always)]
+fn ahead_of(kinds: &[u8]) -> u16
+    ensures { result ≡ ahead kinds.now }
+{
+    match kinds.first() {
+        Some(kind) => u16::from(*kind) + 1,
+        None => 0,
+    }
+}
+
 /// Whether a type ends before tokens of these kinds.
 #[inline(always)]
 fn ends_type(kinds: &[u8]) -> bool
     ensures { IsTrue result → sets.table jumps.stars (ahead kinds.now) ≡ Some jumps.stars_end }
 {
-    let ahead = match kinds.first() {
-        Some(kind) => u16::from(*kind) + 1,
-        None => 0,
-    };
-    match TokenGrammar.choose(STARS, ahead) {
+    match TokenGrammar.choose(STARS, ahead_of(kinds)) {
         Some(STARS_END) => true,
         _ => false,
+    }
+}
+
+/// Whether nothing stands behind the name of metadata before tokens of these kinds.
+#[inline(always)]
+fn ends_meta(kinds: &[u8]) -> bool
+    ensures { IsTrue result → sets.table jumps.meta_arguments (ahead kinds.now) ≡ Some jumps.no_arguments }
+{
+    match TokenGrammar.choose(META_ARGUMENTS, ahead_of(kinds)) {
+        Some(NO_ARGUMENTS) => true,
+        _ => false,
+    }
+}
+
+/// Whether nothing more is attached before tokens of these kinds.
+#[inline(always)]
+fn ends_attachments(kinds: &[u8]) -> bool
+    ensures { IsTrue result → sets.table jumps.all_attachments (ahead kinds.now) ≡ Some jumps.attachments_end }
+{
+    match TokenGrammar.choose(ALL_ATTACHMENTS, ahead_of(kinds)) {
+        Some(ATTACHMENTS_END) => true,
+        _ => false,
+    }
+}
+
+/// What stands behind the tokens of an attachment by name, if these are in front.
+#[inline(always)]
+fn behind_attachment(kinds: &[u8]) -> Option<&[u8]>
+    ensures { IfSome result (λ rest. kinds.now ≡ jumps.comma ∷ jumps.metadata ∷ jumps.metadata ∷ rest.now) }
+{
+    let (mark, behind) = kinds.split_first()?;
+    let (kind, behind) = behind.split_first()?;
+    let (name, rest) = behind.split_first()?;
+    if *mark == COMMA && *kind == METADATA && *name == METADATA {
+        Some(rest)
+    } else {
+        None
     }
 }
 
@@ -231,6 +307,70 @@ fn point_once(parts: &mut Stack<Part>, alloc: Global) -> Result<bool, AllocError
     };
     parts.put::<TypePart>(TypeText::Ptr(at, Boxed::new(alloc, ty)?))?;
     Ok(true)
+}
+
+/// Whether a register that was kept is on top.
+#[inline(always)]
+fn is_register_on_top(parts: &Stack<Part>) -> bool
+    ensures { IsTrue result → (x : Placed Name) × (slice_get parts.now 0 ≡ Some (part.Leaf (leaf.Local x))) }
+{
+    match parts.get(0) {
+        Some(Part::Leaf(Leaf::Local(_))) => true,
+        _ => false,
+    }
+}
+
+/// Whether a number that was kept is on top.
+#[inline(always)]
+fn is_number_on_top(parts: &Stack<Part>) -> bool
+    ensures { IsTrue result → (x : Placed Number) × (slice_get parts.now 0 ≡ Some (part.Leaf (leaf.Number x))) }
+{
+    match parts.get(0) {
+        Some(Part::Leaf(Leaf::Number(_))) => true,
+        _ => false,
+    }
+}
+
+/// The register that was kept is a value, if it is on top.
+#[tactic(auto, using(crate::proofs::Values::register_made))]
+fn register_once(parts: &mut Stack<Part>) -> Result<bool, AllocError>
+    ensures { IfOk result (λ done. MatchBool done (parts.new ≡ jumps.register_parts parts.old) (parts.new ≡ parts.old)) }
+{
+    if !is_register_on_top(parts) {
+        return Ok(false);
+    }
+    let Some(name) = parts.take::<LocalPart>() else {
+        return Ok(false);
+    };
+    parts.put::<ValuePart>(ValueText::Local(name))?;
+    Ok(true)
+}
+
+/// The number that was kept is a value, if it is on top.
+#[tactic(auto, using(crate::proofs::Values::number_made))]
+fn number_once(parts: &mut Stack<Part>) -> Result<bool, AllocError>
+    ensures { IfOk result (λ done. MatchBool done (parts.new ≡ jumps.number_parts parts.old) (parts.new ≡ parts.old)) }
+{
+    if !is_number_on_top(parts) {
+        return Ok(false);
+    }
+    let Some(number) = parts.take::<NumberPart>() else {
+        return Ok(false);
+    };
+    parts.put::<ValuePart>(ValueText::Const(ConstText::Int(IntText::Number(number))))?;
+    Ok(true)
+}
+
+/// An attachment by name on top.
+#[tactic(auto, using(crate::proofs::Attached::attachment_made))]
+fn attach_once(parts: &mut Stack<Part>, alloc: Global) -> Result<(), AllocError>
+    ensures { OnOk result (parts.new ≡ jumps.attached_parts parts.old) }
+{
+    let mut attachments = Stack::new(alloc);
+    attachments.push(MetaText::Named {
+        has_arguments: false,
+    })?;
+    parts.put::<AttachmentsPart>(attachments)
 }
 
 impl<'a> Reading<'a> {
@@ -337,6 +477,123 @@ impl<'a> Reading<'a> {
             None => Ok(0),
         }
     }
+
+    /// The register that was kept is a value.
+    #[inline(always)]
+    fn end_register(&mut self, alloc: Global) -> Result<(), AllocError>
+        ensures { OnOk result (self.new ≡ acts.rule_done jumps.register self.old) }
+    {
+        if register_once(&mut self.parts)? {
+            return Ok(());
+        }
+        self.do_rule(alloc, REGISTER)
+    }
+
+    /// The number that was kept is a value.
+    #[inline(always)]
+    fn end_number(&mut self, alloc: Global) -> Result<(), AllocError>
+        ensures { OnOk result (self.new ≡ jumps.number_done self.old) }
+    {
+        if number_once(&mut self.parts)? {
+            return Ok(());
+        }
+        self.do_rule(alloc, NUMERAL)?;
+        self.do_rule(alloc, INT_CONSTANT)?;
+        self.do_rule(alloc, CONSTANT)
+    }
+
+    /// Reads the next token as a register that is a value, if it may stand there, and says over how many it went.
+    #[inline(always)]
+    fn jump_register(&mut self, alloc: Global) -> Result<usize, AllocError>
+        ensures { IfOk result (λ taken. jumps.IsJumpOver 1 0 jumps.register_read taken self.old self.new) }
+    {
+        if !self.watch.step(0) {
+            return Ok(0);
+        }
+        self.keep_next(alloc)?;
+        self.end_register(alloc)?;
+        Ok(1)
+    }
+
+    /// Reads the next token as a number that is a value, if it may stand there, and says over how many it went.
+    #[inline(always)]
+    fn jump_number(&mut self, alloc: Global) -> Result<usize, AllocError>
+        ensures { IfOk result (λ taken. jumps.IsJumpOver 1 1 jumps.number_read taken self.old self.new) }
+    {
+        if !self.watch.step(1) {
+            return Ok(0);
+        }
+        self.keep_next(alloc)?;
+        self.end_number(alloc)?;
+        Ok(1)
+    }
+
+    /// Reads a value that begins with a token of this kind, if it is that token, and says over how many it went.
+    #[inline(always)]
+    fn jump_value_from(
+        &mut self,
+        alloc: Global,
+        kind: u8,
+        behind: &[u8],
+    ) -> Result<usize, AllocError>
+        ensures { IfOk result
+            (λ taken. Jumps sets.table token_grammar.right acts.begun acts.shifted acts.reduced taken jumps.any_value (kind ∷ behind.now) self.old self.new) }
+    {
+        match kind {
+            LOCAL => self.jump_register(alloc),
+            NUMBER => self.jump_number(alloc),
+            _ => Ok(0),
+        }
+    }
+
+    /// Reads a value of one token, and says over how many it went.
+    #[inline(always)]
+    fn jump_value(&mut self, alloc: Global, kinds: &[u8]) -> Result<usize, AllocError>
+        ensures { IfOk result
+            (λ taken. Jumps sets.table token_grammar.right acts.begun acts.shifted acts.reduced taken jumps.any_value kinds.now self.old self.new) }
+    {
+        match kinds.split_first() {
+            Some((kind, behind)) => self.jump_value_from(alloc, *kind, behind),
+            None => Ok(0),
+        }
+    }
+
+    /// An attachment by name on top.
+    #[inline(always)]
+    fn attach(&mut self, alloc: Global) -> Result<(), AllocError>
+        ensures { OnOk result (self.new ≡ jumps.attached self.old) }
+    {
+        attach_once(&mut self.parts, alloc)
+    }
+
+    /// Reads the next three tokens as an attachment by name, if nothing more is attached before these, and says over how many it went.
+    #[inline(always)]
+    fn jump_attachment(&mut self, alloc: Global, rest: &[u8]) -> Result<usize, AllocError>
+        ensures { IfOk result (λ taken. jumps.IsAttachmentJump rest.now taken self.old self.new) }
+    {
+        if !ends_meta(rest) || !ends_attachments(rest) {
+            return Ok(0);
+        }
+        if !self.watch.step(0) {
+            return Ok(0);
+        }
+        self.keep_more(alloc, 3)?;
+        self.attach(alloc)?;
+        Ok(3)
+    }
+
+    /// Reads one attachment by name, behind which none stands, and says over how many tokens it went.
+    #[inline(always)]
+    #[tactic(auto, using(crate::proofs::Attached::by_attachment))]
+    fn jump_attachments(&mut self, alloc: Global, kinds: &[u8]) -> Result<usize, AllocError>
+        ensures { IfOk result
+            (λ taken. Jumps sets.table token_grammar.right acts.begun acts.shifted acts.reduced taken jumps.all_attachments kinds.now self.old self.new) }
+    {
+        match behind_attachment(kinds) {
+            Some(rest) => self.jump_attachment(alloc, rest),
+            None => Ok(0),
+        }
+    }
 }
 
 impl<'a> Action for Reading<'a> {
@@ -384,10 +641,11 @@ impl<'a> Action for Reading<'a> {
 
     #[inline(always)]
     fn jump(&mut self, alloc: Global, non: u8, kinds: &[u8]) -> Result<usize, AllocError> {
-        if non == ANY_TYPE {
-            self.jump_type(alloc, kinds)
-        } else {
-            Ok(0)
+        match non {
+            ANY_TYPE => self.jump_type(alloc, kinds),
+            ANY_VALUE => self.jump_value(alloc, kinds),
+            ALL_ATTACHMENTS => self.jump_attachments(alloc, kinds),
+            _ => Ok(0),
         }
     }
 

@@ -110,4 +110,12 @@ impl Nesting {
     {
         self.deepest = self.level.max(inner).max(self.deepest);
     }
+
+    /// One token stands inside, as deep as this, and what began with it ends again.
+    #[inline(always)]
+    pub fn step(&mut self, inner: u32)
+        ensures { self.new ≡ nested.stepped self.old inner }
+    {
+        self.deepest = self.deepest.max(inner);
+    }
 }

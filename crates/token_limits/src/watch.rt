@@ -98,6 +98,25 @@ impl Watch {
         self.nesting.touch(inner);
         true
     }
+
+    /// Whether one token may stand there, so much deeper than what is open: no token passed a limit, nor does this one. Then it is told of
+    /// it, and of what began with it and ends behind it.
+    #[inline(always)]
+    pub fn step(&mut self, deeper: u32) -> bool
+        ensures { MatchBool result (watched.MayStep deeper self.old × (self.new ≡ watched.stepped deeper self.old)) (self.new ≡ self.old) }
+    {
+        if self.mark.is_some() {
+            return false;
+        }
+        let Some(inner) = self.nesting.level().checked_add(deeper) else {
+            return false;
+        };
+        if mark_at(inner, self.lines).is_some() {
+            return false;
+        }
+        self.nesting.step(inner);
+        true
+    }
 }
 
 impl Watch {
