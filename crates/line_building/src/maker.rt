@@ -8,6 +8,7 @@ use contents::Exact;
 use ir_core::{Name, Operand, Ty};
 use module_grammar::{OperandText, TypeText, ValueText};
 use std::alloc::{AllocError, Global};
+use std::marker::Model;
 use type_faults::is_written;
 use value_building::{type_of, value_at};
 
@@ -31,9 +32,20 @@ impl Drop for TypeMaker {
     }
 }
 
+/// It is seen as where its memory is taken from.
+impl Model for TypeMaker {
+    ghost use Rattle.std.specs.Global.{Global as GlobalOf};
+
+    ghost Value = { GlobalOf };
+
+    ghost view = { λ it. it.alloc };
+}
+
 impl TypeMaker {
     /// Keeps no type yet. Takes no memory.
-    pub fn new(alloc: Global) -> TypeMaker {
+    pub fn new(alloc: Global) -> TypeMaker
+        ensures { result ≡ alloc }
+    {
         TypeMaker {
             alloc,
             kept: Vec::new(alloc),
@@ -42,7 +54,9 @@ impl TypeMaker {
     }
 
     /// Where memory is taken from.
-    pub fn alloc(&self) -> Global {
+    pub fn alloc(&self) -> Global
+        ensures { result ≡ self.now }
+    {
         self.alloc
     }
 
