@@ -86,7 +86,7 @@ class BodyJudge(Judge):
         if isinstance(line, Convert):
             return line.to
         if isinstance(line, Element):
-            return self.layout.address_type(line.of, list(map(index_of, line.operands[1:]))) or UNTOLD
+            return self.layout.address_type(line.of, line.operands[0].type, list(map(index_of, line.operands[1:]))) or UNTOLD
         if isinstance(line, Alloca):
             return Pointer(line.type)
         if isinstance(line, Load):
@@ -162,7 +162,7 @@ class BodyJudge(Judge):
         indices = list(map(index_of, line.operands[1:]))
         self.judge_entered(line.of, indices)
         self.need(types[0] == Pointer(line.of), "operand type")
-        self.need(self.layout.address_type(line.of, indices) is not None, "gep index")
+        self.need(self.layout.address_type(line.of, line.operands[0].type, indices) is not None, "gep index")
 
     def judge_alloca(self, function, line):
         """The count is a number of its type, read without sign."""

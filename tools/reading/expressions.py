@@ -44,8 +44,7 @@ class ExpressionReader(Cursor):
         self.take_word("x")
         element = self.type(around + 1)
         self.take("]")
-        magnitude = abs(count.value)
-        return Array(magnitude if magnitude < 2 ** 64 else 0, element, count, token.start)
+        return Array(count.value if 0 <= count.value < 2 ** 64 else 0, element, count, token.start)
 
     def struct(self, around):
         start = self.take("{").start

@@ -176,7 +176,7 @@ class Judge:
             self.judge_stated(operand)
         indices = list(map(index_of, constant.operands[1:]))
         self.judge_entered(constant.of, indices)
-        own = self.layout.address_type(constant.of, indices)
+        own = self.layout.address_type(constant.of, constant.operands[0].type, indices)
         self.wrong_unless(own in (None, type_), constant.token)
         self.need(own is not None, "gep index")
         self.need(constant.operands[0].type == Pointer(constant.of), "operand type")

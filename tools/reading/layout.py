@@ -68,9 +68,12 @@ class Layout:
             found.append(type_)
         return found
 
-    def address_type(self, type_, indices):
-        """The type of a `getelementptr`: a pointer to where its indices lead, or None where they don't. The first goes over many of the type."""
-        if indices and not isinstance(indices[0][0], Integer):
+    def address_type(self, type_, base, indices):
+        """The type of a `getelementptr`: a pointer to where its indices lead, or None where they don't; without index, that of its base. The
+        first index goes over many of the type."""
+        if not indices:
+            return base
+        if not isinstance(indices[0][0], Integer):
             return None
         found = self.entered(type_, indices)
         if len(found) < len(indices) - 1:
