@@ -31,7 +31,7 @@ taken_front p (b ∷ rest) =
     ∙ cond_both (p b) (b ∷ take_while p rest) [] (λ w. take (length w) (b ∷ rest) ≡ w) (λ yes. ap (λ w. b ∷ w) (taken_front p rest)) (λ no. refl)
     ∙ sym (take_while-cons p b rest)
 
-all_taken : (p : ℕ → Bool) (text : List ℕ) → list_all p (take_while p text) ≡ true
+pub all_taken : (p : ℕ → Bool) (text : List ℕ) → list_all p (take_while p text) ≡ true
 all_taken p [] = refl
 all_taken p (b ∷ rest) =
     ap (list_all p) (take_while-cons p b rest)

@@ -1,12 +1,13 @@
--- A table of what a test tells of the numbers from one on, one after another.
-use Rattle.std.proofs.Common.{◌≡◌, ℕ, zero, suc, ◌+◌, ◌<◌, Bool, false, List, [], ◌∷◌, slice_index_or, ap, ◌∙◌, arith}
+-- A table of what is told of the numbers from one on, one after another.
+use Rattle.std.proofs.Common.{◌≡◌, ℕ, zero, suc, ◌+◌, ◌<◌, List, [], ◌∷◌, slice_index_or, ap, ◌∙◌, arith}
 
-abbrev pub told : (ℕ → Bool) → ℕ → ℕ → List Bool
-told test from zero = []
-told test from (suc count) = test from ∷ told test (suc from) count
+module _ {A : Type 0} (other : A) where
+  abbrev pub told : (ℕ → A) → ℕ → ℕ → List A
+  told f from zero = []
+  told f from (suc count) = f from ∷ told f (suc from) count
 
-pub told_at : (test : ℕ → Bool) (from count k : ℕ) → k < count → slice_index_or (told test from count) k false ≡ test (from + k)
-told_at test from zero k inside = absurd (omega arith)
-told_at test from (suc count) zero inside = ap test (omega arith)
-told_at test from (suc count) (suc k) inside =
-    told_at test (suc from) count k (omega arith) ∙ ap test (omega arith)
+  pub told_at : (f : ℕ → A) (from count k : ℕ) → k < count → slice_index_or (told f from count) k other ≡ f (from + k)
+  told_at f from zero k inside = absurd (omega arith)
+  told_at f from (suc count) zero inside = ap f (omega arith)
+  told_at f from (suc count) (suc k) inside =
+      told_at f (suc from) count k (omega arith) ∙ ap f (omega arith)

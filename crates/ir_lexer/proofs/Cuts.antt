@@ -1,6 +1,6 @@
 -- One piece after another.
-use Rattle.std.proofs.Common.{◌≡◌, ℕ, suc, zero, ◌+◌, ◌-◌, ◌≤◌, List, [], ◌∷◌, ◌++◌, length, take, drop, map, Result, Ok, Err, refl, ap, sym, ◌∙◌, subst, append_assoc, arith}
-use Rattle.std.proofs.lemmas.List.{append-nil, take_rest, length-drop}
+use Rattle.std.proofs.Common.{◌≡◌, ℕ, suc, zero, ◌+◌, ◌-◌, ◌<◌, ◌≤◌, List, [], ◌∷◌, ◌++◌, length, take, drop, get_or, map, Result, Ok, Err, refl, ap, sym, ◌∙◌, subst, append_assoc, arith}
+use Rattle.std.proofs.lemmas.List.{append-nil, take_rest, drop_more, drop-drop, length-drop}
 use Rattle.ir_lexer.specs.declared.pieces.Outline.{Outline}
 use Rattle.ir_lexer.specs.declared.pieces.Outline.TheVariants as outline_is
 use Rattle.ir_lexer.specs.declared.token.Kind.{Kind}
@@ -40,6 +40,10 @@ unfolding cut piece
 front place room [] p is within = ap (λ q. joined place q (cut 0 (place + piece_len q) (drop (piece_len q) []))) (sym is)
 front place room (b ∷ rest) p is within =
     ap (λ q. joined place q (cut (piece_len q - 1) (place + 1) rest)) (sym is) ∙ further_joined place b room rest p within
+
+space_skipped : (place : ℕ) (rest : List ℕ) → cut 0 place (32 ∷ rest) ≡ cut 0 (place + 1) rest
+unfolding cut piece
+space_skipped place rest = refl
 
 -- ---- without what is said
 
@@ -111,10 +115,20 @@ fault_bare : (whole : Cut) (f : LexFault) → bare whole ≡ Err f → whole ≡
 fault_bare (Ok placed) f is = cc
 fault_bare (Err g) f is = cc
 
--- what the loop of the code has read: the tokens so far, the place of the rest, the rest, and the whole text
-module _ (done : List tokens.Token) (place : ℕ) (rest text : List ℕ) (whole : behind_bare done (bare (cut 0 place rest)) ≡ bare (cut 0 0 text)) (q : Outline) (is : q ≡ outline (piece rest)) (within : IsWithin q (length rest)) where
-  at_front : (o : Outline) → q ≡ o → bare (cut 0 0 text) ≡ behind_bare done (joined_bare place o (bare (cut 0 (place + outline_len o) (drop (outline_len o) rest))))
-  at_front o e = sym whole ∙ ap (behind_bare done) (front_bare place (length rest) rest o (sym e ∙ is) (subst (λ r. IsWithin r (length rest)) e within))
+-- a space only moves the place
+pub at_space : (done : List tokens.Token) (place : ℕ) (text : List ℕ) (other : ℕ) → behind_bare done (bare (cut 0 place (drop place text))) ≡ bare (cut 0 0 text) → place < length text → get_or text place other ≡ 32 → behind_bare done (bare (cut 0 (place + 1) (drop (place + 1) text))) ≡ bare (cut 0 0 text)
+at_space done place text other whole inside is =
+    let here = drop_more text place other inside ∙ ap (λ (b : ℕ). b ∷ drop (place + 1) text) is in
+    sym (ap (λ more. behind_bare done (bare (cut 0 place more))) here ∙ ap (λ more. behind_bare done (bare more)) (space_skipped place (drop (place + 1) text))) ∙ whole
+
+-- what the loop of the code has read: the tokens so far, the place of the rest, and the whole text
+module _ (done : List tokens.Token) (place : ℕ) (text : List ℕ) (whole : behind_bare done (bare (cut 0 place (drop place text))) ≡ bare (cut 0 0 text)) (q : Outline) (is : q ≡ outline (piece (take (length text - place) (drop place text)))) (within : IsWithin q (length (take (length text - place) (drop place text)))) where
+  at_front : (o : Outline) → q ≡ o → bare (cut 0 0 text) ≡ behind_bare done (joined_bare place o (bare (cut 0 (place + outline_len o) (drop (place + outline_len o) text))))
+  at_front o e =
+      let here = is ∙ ap (λ rest. outline (piece rest)) (take_rest text place) in
+      sym whole
+      ∙ ap (behind_bare done) (front_bare place (length (take (length text - place) (drop place text))) (drop place text) o (sym e ∙ here) (subst (λ r. IsWithin r (length (take (length text - place) (drop place text)))) e within))
+      ∙ ap (λ more. behind_bare done (joined_bare place o (bare (cut 0 (place + outline_len o) more)))) (drop-drop (outline_len o) place text)
 
   pub at_end : q ≡ outline_is.End → bare (cut 0 0 text) ≡ Ok done
   at_end e = at_front outline_is.End e ∙ ap Ok (append-nil done)
@@ -128,18 +142,17 @@ module _ (done : List tokens.Token) (place : ℕ) (rest text : List ℕ) (whole 
   pub at_bad_number : q ≡ outline_is.BadNumber → cut 0 0 text ≡ Err (fault.BadNumber place)
   at_bad_number e = fault_bare (cut 0 0 text) _ (at_front outline_is.BadNumber e)
 
-  pub at_gap : (len : ℕ) → q ≡ outline_is.Gap len → behind_bare done (bare (cut 0 (place + len) (take (length rest - len) (drop len rest)))) ≡ bare (cut 0 0 text)
-  at_gap len e = ap (λ more. behind_bare done (bare (cut 0 (place + len) more))) (take_rest rest len) ∙ sym (at_front (outline_is.Gap len) e)
+  pub at_gap : (len : ℕ) → q ≡ outline_is.Gap len → behind_bare done (bare (cut 0 (place + len) (drop (place + len) text))) ≡ bare (cut 0 0 text)
+  at_gap len e = sym (at_front (outline_is.Gap len) e)
 
-  pub at_token : (kind : Kind) (len : ℕ) (items : List tokens.Token) → q ≡ outline_is.Token kind len → items ≡ done ++ at_place kind place (place + len) ∷ [] → behind_bare items (bare (cut 0 (place + len) (take (length rest - len) (drop len rest)))) ≡ bare (cut 0 0 text)
+  pub at_token : (kind : Kind) (len : ℕ) (items : List tokens.Token) → q ≡ outline_is.Token kind len → items ≡ done ++ at_place kind place (place + len) ∷ [] → behind_bare items (bare (cut 0 (place + len) (drop (place + len) text))) ≡ bare (cut 0 0 text)
   at_token kind len items e pushed =
-      ap (λ front. behind_bare front (bare (cut 0 (place + len) (take (length rest - len) (drop len rest))))) pushed
-      ∙ ap (λ more. behind_bare (done ++ at_place kind place (place + len) ∷ []) (bare (cut 0 (place + len) more))) (take_rest rest len)
-      ∙ sym (behind_more done (at_place kind place (place + len) ∷ []) (bare (cut 0 (place + len) (drop len rest))))
+      ap (λ front. behind_bare front (bare (cut 0 (place + len) (drop (place + len) text)))) pushed
+      ∙ sym (behind_more done (at_place kind place (place + len) ∷ []) (bare (cut 0 (place + len) (drop (place + len) text))))
       ∙ sym (at_front (outline_is.Token kind len) e)
 
 -- the place of what is left
-pub further_on : (place len end : ℕ) (rest : List ℕ) → place + length rest ≡ end → len ≤ length rest → place + len + length (take (length rest - len) (drop len rest)) ≡ end
-further_on place len end rest reached within =
-    let left : length (take (length rest - len) (drop len rest)) ≡ length rest - len = ap length (take_rest rest len) ∙ length-drop len rest in
+pub further_on : (place len : ℕ) (text : List ℕ) → place ≤ length text → len ≤ length (take (length text - place) (drop place text)) → place + len ≤ length text
+further_on place len text reached within =
+    let left : length (take (length text - place) (drop place text)) ≡ length text - place = ap length (take_rest text place) ∙ length-drop place text in
     omega arith

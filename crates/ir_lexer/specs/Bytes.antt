@@ -1,7 +1,10 @@
 -- The bytes of a text, by what they can be in it.
-use Rattle.std.specs.Prelude.{ℕ, Bool, false, ◌||◌, ◌==◌, List, [], ◌∷◌, codes}
+use Rattle.std.specs.Prelude.{ℕ, Bool, false, ◌||◌, ◌==◌, List, [], ◌∷◌, if◌then◌else◌, codes}
 use Rattle.std.specs.List.{list_any, list_all}
 use Rattle.std.specs.Char.{is_ascii_alphabetic, is_ascii_digit}
+use Rattle.ir_core.specs.Names.{is_name_byte}
+use Rattle.ir_lexer.specs.declared.bytes.Class.{Class}
+use Rattle.ir_lexer.specs.declared.bytes.Class.TheVariants as class
 
 -- space, tab, line feed, carriage return
 abbrev pub is_blank : ℕ → Bool
@@ -29,3 +32,22 @@ begins_with_colon (b ∷ rest) = b == 58
 abbrev pub begins_with_quote : List ℕ → Bool
 begins_with_quote [] = false
 begins_with_quote (b ∷ rest) = b == 34
+
+-- a letter, `_` or `$`
+abbrev pub is_letter : ℕ → Bool
+is_letter b = is_ascii_alphabetic b || b == 95 || b == 36
+
+-- what a byte is at the front of a text
+unfoldable pub class_of : ℕ → Class
+class_of b =
+    if is_blank b then class.Blank
+    else (if b == 59 then class.Comment
+    else (if b == 37 then class.Local
+    else (if b == 64 then class.Global
+    else (if b == 35 then class.Attribute
+    else (if b == 33 then class.Metadata
+    else (if b == 34 then class.Quote
+    else (if is_letter b then class.Letter
+    else (if is_name_byte b then class.Run
+    else (if is_mark b then class.Mark
+    else class.Other)))))))))

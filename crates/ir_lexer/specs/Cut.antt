@@ -2,6 +2,7 @@
 use Rattle.std.specs.Prelude.{ℕ, map, suc, zero, ◌+◌, ◌-◌, ◌<◌, ◌≤◌, ◌≡◌, List, [], ◌∷◌, ◌++◌, length, Result, Ok, Err, nat_lt, if◌then◌else◌}
 use Rattle.ir_core.specs.declared.limits.Limit.TheVariants as limit
 use Rattle.ir_core.specs.Limits.{text_limit}
+use Rattle.ir_lexer.specs.declared.token.Kind.{Kind}
 use Rattle.ir_lexer.specs.declared.token.LexFault.{LexFault}
 use Rattle.ir_lexer.specs.declared.token.LexFault.TheVariants.{BadByte, BadString, BadNumber, Memory, Limit}
 use Rattle.ir_lexer.specs.declared.token.Token.{Token}
@@ -45,6 +46,10 @@ cut zero place (b ∷ rest) =
 -- A text has tokens only up to the limit of its length.
 abbrev pub lexed : List ℕ → Cut
 lexed text = if nat_lt text_limit (length text) then Err (Limit limit.Text) else cut 0 0 text
+
+-- a token of that kind that goes from start up to end
+abbrev pub bare_token : Kind → ℕ → ℕ → Token
+bare_token kind start end = record { kind = kind; start = start; end = end }
 
 -- without what it says
 abbrev pub unsaid : Placed → Token

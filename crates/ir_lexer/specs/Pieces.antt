@@ -139,6 +139,12 @@ behind_sigil kind (span.Found len) = outline_is.Token kind (len + 1)
 behind_sigil kind span.EmptyOrOpen = outline_is.BadString 1
 behind_sigil kind span.Missing = outline_is.BadByte
 
+-- what stands behind a letter: a label, where a colon follows the run, else a word
+abbrev pub lettered : List ℕ → Outline
+lettered rest =
+    if begins_with_colon (drop (length (run_at rest)) rest) then outline_is.Token alone.Label (length (run_at rest) + 2)
+    else outline_is.Token alone.Word (length (run_at rest) + 1)
+
 -- a number of either sign
 abbrev pub number_outline : Option ℕ → ℕ → Outline
 number_outline None len = outline_is.BadNumber

@@ -15,7 +15,6 @@ is_no_quote b = not (b == 34)
 
 -- the bytes of which each front is the longest that is made
 abbrev pub belongs : Front → ℕ → Bool
-belongs front.Run b = is_name_byte b
 belongs front.Digits b = is_ascii_digit b
 belongs front.Line b = is_in_line b
 belongs front.Quoted b = is_no_quote b

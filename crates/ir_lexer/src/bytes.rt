@@ -3,15 +3,43 @@ ghost use Rattle.std.specs.Char.{is_ascii_digit};
 ghost use Rattle.std.specs.List.{list_all};
 ghost use Rattle.ir_core.specs.Names.{is_name_byte};
 ghost use Rattle.ir_lexer.specs.Runs.{is_in_line};
-ghost use Rattle.ir_lexer.specs.Bytes.{is_blank, is_mark, begins_word, are_digits, begins_with_colon, begins_with_quote};
+ghost use Rattle.ir_lexer.specs.Bytes.{class_of, begins_word, are_digits, begins_with_colon, begins_with_quote};
 
 use crate::runs;
+use Class::{Attribute, Blank, Comment, Global, Letter, Local, Mark, Metadata, Other, Quote, Run};
 
-/// Space, tab, line feed, carriage return.
-pub fn is_blank(byte: u8) -> bool
-    ensures { result ≡ is_blank byte }
+/// What a byte is at the front of a text.
+#[derive(Drop, Clone, Copy)]
+pub enum Class {
+    /// Space, tab, line feed, carriage return.
+    Blank,
+    /// `;`
+    Comment,
+    /// `%`
+    Local,
+    /// `@`
+    Global,
+    /// `#`
+    Attribute,
+    /// `!`
+    Metadata,
+    /// `"`
+    Quote,
+    /// A letter, `_` or `$`: it begins a word or the name of a label, and no number.
+    Letter,
+    /// Any other byte of a run.
+    Run,
+    /// A byte that is a token by itself.
+    Mark,
+    /// A byte that begins nothing.
+    Other,
+}
+
+/// What the byte is at the front of a text.
+pub fn class_of(byte: u8) -> Class
+    ensures { result ≡ class_of byte }
 {
-    byte == b' ' || byte == b'\t' || byte == b'\n' || byte == b'\r'
+    CLASSES[usize::from(byte)]
 }
 
 /// A byte of a run.
@@ -26,16 +54,6 @@ pub fn is_in_line(byte: u8) -> bool
     ensures { result ≡ is_in_line byte }
 {
     !(byte == b'\n' || byte == b'\r')
-}
-
-/// A byte that is a token by itself.
-pub fn is_mark(byte: u8) -> bool
-    ensures { result ≡ is_mark byte }
-{
-    matches!(
-        byte,
-        b'=' | b',' | b'(' | b')' | b'{' | b'}' | b'[' | b']' | b'*' | b'<' | b'>' | b'|'
-    )
 }
 
 /// A byte that begins a word.
@@ -103,4 +121,28 @@ static RUN_BYTES: [bool; 256] = [
     false, false, false, false, false, false, false, false, false, false, false, false, false,
     false, false, false, false, false, false, false, false, false, false, false, false, false,
     false, false, false, false, false, false, false, false, false, false,
+];
+
+/// The classes of the bytes, by their numbers.
+static CLASSES: [Class; 256] = [
+    Other, Other, Other, Other, Other, Other, Other, Other, Other, Blank, Blank, Other, Other,
+    Blank, Other, Other, Other, Other, Other, Other, Other, Other, Other, Other, Other, Other,
+    Other, Other, Other, Other, Other, Other, Blank, Metadata, Quote, Attribute, Letter, Local,
+    Other, Other, Mark, Mark, Mark, Other, Mark, Run, Run, Other, Run, Run, Run, Run, Run, Run,
+    Run, Run, Run, Run, Other, Comment, Mark, Mark, Mark, Other, Global, Letter, Letter, Letter,
+    Letter, Letter, Letter, Letter, Letter, Letter, Letter, Letter, Letter, Letter, Letter, Letter,
+    Letter, Letter, Letter, Letter, Letter, Letter, Letter, Letter, Letter, Letter, Letter, Mark,
+    Other, Mark, Other, Letter, Other, Letter, Letter, Letter, Letter, Letter, Letter, Letter,
+    Letter, Letter, Letter, Letter, Letter, Letter, Letter, Letter, Letter, Letter, Letter, Letter,
+    Letter, Letter, Letter, Letter, Letter, Letter, Letter, Mark, Mark, Mark, Other, Other, Other,
+    Other, Other, Other, Other, Other, Other, Other, Other, Other, Other, Other, Other, Other,
+    Other, Other, Other, Other, Other, Other, Other, Other, Other, Other, Other, Other, Other,
+    Other, Other, Other, Other, Other, Other, Other, Other, Other, Other, Other, Other, Other,
+    Other, Other, Other, Other, Other, Other, Other, Other, Other, Other, Other, Other, Other,
+    Other, Other, Other, Other, Other, Other, Other, Other, Other, Other, Other, Other, Other,
+    Other, Other, Other, Other, Other, Other, Other, Other, Other, Other, Other, Other, Other,
+    Other, Other, Other, Other, Other, Other, Other, Other, Other, Other, Other, Other, Other,
+    Other, Other, Other, Other, Other, Other, Other, Other, Other, Other, Other, Other, Other,
+    Other, Other, Other, Other, Other, Other, Other, Other, Other, Other, Other, Other, Other,
+    Other, Other, Other, Other, Other, Other, Other, Other, Other, Other,
 ];

@@ -1,9 +1,9 @@
-ghost use Rattle.std.specs.Prelude.{◌≡◌, ◌<◌, ◌≤◌, ◌↔◌, length, IfOk, IfErr, IsErrAnd};
+ghost use Rattle.std.specs.Prelude.{◌≡◌, ◌<◌, ◌≤◌, ◌↔◌, ◌^◌, length, IfOk, IfErr, IsErrAnd};
 ghost use Rattle.ir_core.specs.Limits.{text_limit};
-ghost use Rattle.ir_lexer.specs.Cut.{lexed, cut, AreInOrder, AreThoseOf, IsFaultOf, IsLimit};
+ghost use Rattle.ir_lexer.specs.Cut.{lexed, cut, bare_token, AreInOrder, AreThoseOf, IsFaultOf, IsLimit};
 
 use crate::pieces::{self, Outline};
-use crate::{LexFault, Token};
+use crate::{Kind, LexFault, Token};
 use ir_core::Limit;
 use std::alloc::Global;
 
@@ -26,6 +26,7 @@ pub fn lex(alloc: Global, text: &[u8]) -> Result<Vec<Token>, LexFault>
 }
 
 /// The tokens of a text whose places are small.
+#[inline(never)]
 fn cut(alloc: Global, text: &[u8]) -> Result<Vec<Token>, LexFault>
     requires { length text.now ≤ text_limit }
     ensures tokens { IfOk result (λ tokens. AreThoseOf text.now tokens.items (cut 0 0 text.now)) }
@@ -35,27 +36,37 @@ fn cut(alloc: Global, text: &[u8]) -> Result<Vec<Token>, LexFault>
 {
     let mut tokens = Vec::new(alloc);
     let mut place = 0;
-    let mut rest = text;
     loop {
-        match pieces::outline_at(rest) {
+        // A space is the most frequent piece, and its test the shortest.
+        if place < text.len() && text[place] == b' ' {
+            place += 1;
+            continue;
+        }
+        match pieces::outline_at(&text[place..]) {
             Outline::End => return Ok(tokens),
-            Outline::Gap(len) => {
-                place += len;
-                rest = &rest[len..];
-            }
+            Outline::Gap(len) => place += len,
             Outline::Token(kind, len) => {
                 let end = place + len;
-                tokens.push(Token {
-                    kind,
-                    start: place as u32,
-                    end: end as u32,
-                })?;
+                tokens.push(token(kind, place, end))?;
                 place = end;
-                rest = &rest[len..];
             }
             Outline::BadByte => return Err(LexFault::BadByte(place)),
             Outline::BadString(offset) => return Err(LexFault::BadString(place + offset)),
             Outline::BadNumber => return Err(LexFault::BadNumber(place)),
         }
+    }
+}
+
+/// The token of that kind that goes from `start` up to `end`.
+#[inline(always)]
+fn token(kind: Kind, start: usize, end: usize) -> Token
+    requires start { start < 2 ^ 32 }
+    requires end { end < 2 ^ 32 }
+    ensures { result ≡ bare_token kind start end }
+{
+    Token {
+        kind,
+        start: start as u32,
+        end: end as u32,
     }
 }

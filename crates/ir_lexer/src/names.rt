@@ -1,4 +1,6 @@
-ghost use Rattle.std.specs.Prelude.{◌≡◌, ◌≤◌, ◌^◌, ◌+◌, length, MatchOption, option_map};
+ghost use Rattle.std.specs.Prelude.{◌≡◌, ◌≤◌, ◌^◌, ◌+◌, length, IsTrue, MatchOption, option_map};
+ghost use Rattle.std.specs.Char.{is_ascii_digit};
+ghost use Rattle.std.specs.List.{list_all};
 ghost use Rattle.ir_lexer.specs.Names.{name_at, numbered, quoted_name, span_of, span_len};
 ghost use Rattle.ir_lexer.specs.Numbers.{value_of, if_below};
 
@@ -25,10 +27,16 @@ fn quoted_span(quoted: Option<&[u8]>) -> NameSpan
     }
 }
 
+/// So few digits as nine are in range, whichever they are.
+#[tactic(auto, using(crate::proofs::Ranges::short_name))]
 fn numbered_span(digits: &[u8]) -> NameSpan
+    requires { IsTrue (list_all is_ascii_digit digits.now) }
     ensures value { result ≡ span_of (numbered (if_below (2 ^ 32) (value_of digits.now)) (length digits.now)) }
     ensures within { span_len result ≤ length digits.now }
 {
+    if digits.len() <= 9 {
+        return NameSpan::Found(digits.len());
+    }
     match numbers::small_value_of(digits) {
         Some(_) => NameSpan::Found(digits.len()),
         None => NameSpan::Missing,
@@ -36,7 +44,8 @@ fn numbered_span(digits: &[u8]) -> NameSpan
 }
 
 /// How far the name at the front of the text goes.
-#[tactic(auto, unfolding(crate::specs::Names::name_at))]
+#[inline(always)]
+#[tactic(auto, using(crate::proofs::Ranges::names), unfolding(crate::specs::Names::name_at))]
 pub fn name_span(text: &[u8]) -> NameSpan
     ensures value { result ≡ span_of (name_at text.now) }
     ensures within { span_len result ≤ length text.now }
@@ -47,7 +56,7 @@ pub fn name_span(text: &[u8]) -> NameSpan
     if first.is_ascii_digit() {
         numbered_span(runs::digits_at(text))
     } else if bytes::is_run_byte(first) {
-        NameSpan::Found(runs::run_at(text).len())
+        NameSpan::Found(runs::run_at(rest).len() + 1)
     } else if first == b'"' {
         quoted_span(runs::quoted_at(rest))
     } else {

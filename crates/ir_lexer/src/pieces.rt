@@ -1,11 +1,13 @@
 ghost use Rattle.std.specs.Prelude.{◌≡◌, ◌+◌, ◌≤◌, ◌^◌, length, option_map, IsTrue, codes};
 ghost use Rattle.std.specs.Str.{bytes_eq};
-ghost use Rattle.ir_lexer.specs.Pieces.{attribute, behind_sigil, closed, IsWithin, label, metadata, named, number_outline, numbered_block, outline, piece, plain, quoted, run};
+ghost use Rattle.ir_lexer.specs.Bytes.{are_digits};
+ghost use Rattle.ir_lexer.specs.Pieces.{attribute, behind_sigil, closed, IsWithin, label, lettered, metadata, named, number_outline, numbered_block, outline, piece, plain, quoted, run};
 ghost use Rattle.ir_lexer.specs.declared.token.TokenKind.TheVariants as kind;
 ghost use Rattle.ir_lexer.specs.Names.{name_at, span_of};
 ghost use Rattle.ir_lexer.specs.Numbers.{value_of, if_below};
 ghost use Rattle.ir_lexer.specs.Runs.{quoted_at};
 
+use crate::bytes::Class;
 use crate::names::NameSpan;
 use crate::{Kind, bytes, names, numbers, runs};
 
@@ -27,6 +29,7 @@ pub enum Outline {
 }
 
 /// A sigil, and the text behind it.
+#[inline(always)]
 fn behind_sigil(kind: Kind, rest: &[u8]) -> Outline
     ensures value { result ≡ behind_sigil kind (span_of (name_at rest.now)) }
     ensures within { IsWithin result (length rest.now + 1) }
@@ -125,12 +128,17 @@ fn numbered_block(digits: &[u8]) -> Outline
     }
 }
 
-/// A run that is a number of either sign.
+/// A run that is a number of either sign. So few digits as 38 are in range, whichever they are.
+#[tactic(auto, using(crate::proofs::Ranges::short_number))]
 fn number(digits: &[u8], len: usize) -> Outline
-    requires { 1 ≤ len }
+    requires some { 1 ≤ len }
+    requires digits { IsTrue (are_digits digits.now) }
     ensures value { result ≡ number_outline (if_below (2 ^ 128) (value_of digits.now)) len }
     ensures within { IsWithin result len }
 {
+    if digits.len() <= 38 {
+        return Outline::Token(Kind::Number, len);
+    }
     match numbers::value_of(digits) {
         Some(_) => Outline::Token(Kind::Number, len),
         None => Outline::BadNumber,
@@ -178,8 +186,21 @@ fn run_piece(found: &[u8], after: &[u8]) -> Outline
     }
 }
 
+/// A letter stood first, and this is the text behind it.
+fn lettered(rest: &[u8]) -> Outline
+    ensures value { result ≡ lettered rest.now }
+    ensures within { IsWithin result (length rest.now + 1) }
+{
+    let len = runs::run_at(rest).len();
+    if bytes::begins_with_colon(&rest[len..]) {
+        Outline::Token(Kind::Label, len + 2)
+    } else {
+        Outline::Token(Kind::Word, len + 1)
+    }
+}
+
 /// What stands at the front of the text.
-#[tactic(auto, unfolding(crate::specs::Pieces::piece))]
+#[tactic(auto, using(crate::proofs::Classes::by_class))]
 pub fn outline_at(text: &[u8]) -> Outline
     ensures value { result ≡ outline (piece text.now) }
     ensures within { IsWithin result (length text.now) }
@@ -187,26 +208,20 @@ pub fn outline_at(text: &[u8]) -> Outline
     let Some((first, rest)) = runs::split(text) else {
         return Outline::End;
     };
-    if bytes::is_blank(first) {
-        Outline::Gap(1)
-    } else if first == b';' {
-        Outline::Gap(runs::rest_of_line(rest).len() + 1)
-    } else if first == b'%' {
-        local(rest)
-    } else if first == b'@' {
-        global(rest)
-    } else if first == b'#' {
-        attribute(runs::digits_at(rest))
-    } else if first == b'!' {
-        metadata(runs::run_at(rest))
-    } else if first == b'"' {
-        quoted(rest)
-    } else if bytes::is_run_byte(first) {
-        let found = runs::run_at(text);
-        run_piece(found, &text[found.len()..])
-    } else if bytes::is_mark(first) {
-        Outline::Token(Kind::Mark, 1)
-    } else {
-        Outline::BadByte
+    match bytes::class_of(first) {
+        Class::Blank => Outline::Gap(1),
+        Class::Comment => Outline::Gap(runs::rest_of_line(rest).len() + 1),
+        Class::Local => local(rest),
+        Class::Global => global(rest),
+        Class::Attribute => attribute(runs::digits_at(rest)),
+        Class::Metadata => metadata(runs::run_at(rest)),
+        Class::Quote => quoted(rest),
+        Class::Letter => lettered(rest),
+        Class::Run => {
+            let found = runs::run_at(text);
+            run_piece(found, &text[found.len()..])
+        }
+        Class::Mark => Outline::Token(Kind::Mark, 1),
+        Class::Other => Outline::BadByte,
     }
 }

@@ -1,5 +1,6 @@
 ghost use Rattle.std.specs.Prelude.{◌≡◌, [], ◌∷◌, length, ◌<◌, ◌≤◌, MatchOption, IfSome, option_map};
 ghost use Rattle.std.specs.List.{prefix_len};
+ghost use Rattle.ir_core.specs.Names.{is_name_byte};
 ghost use Rattle.ir_lexer.specs.Runs.{belongs, run_at, digits_at, rest_of_line, quoted_at};
 
 use crate::bytes;
@@ -15,7 +16,6 @@ pub fn split(text: &[u8]) -> Option<(u8, &[u8])>
 /// What the bytes of a front are.
 #[derive(Drop, Clone, Copy)]
 pub enum Front {
-    Run,
     Digits,
     Line,
     Quoted,
@@ -25,7 +25,6 @@ fn belongs(front: Front, byte: u8) -> bool
     ensures { result ≡ belongs front byte }
 {
     match front {
-        Front::Run => bytes::is_run_byte(byte),
         Front::Digits => byte.is_ascii_digit(),
         Front::Line => bytes::is_in_line(byte),
         Front::Quoted => !(byte == b'"'),
@@ -46,13 +45,43 @@ fn front_len(front: Front, text: &[u8]) -> usize
     text.len()
 }
 
+/// How many bytes the longest run at the front of the text has. They are looked at by fours, while there are so many.
+fn run_len(text: &[u8]) -> usize
+    ensures len { result ≡ prefix_len is_name_byte text.now }
+    ensures within { result ≤ length text.now }
+{
+    let mut len = 0;
+    while text.len() - len >= 4 {
+        if !bytes::is_run_byte(text[len]) {
+            return len;
+        }
+        len += 1;
+        if !bytes::is_run_byte(text[len]) {
+            return len;
+        }
+        len += 1;
+        if !bytes::is_run_byte(text[len]) {
+            return len;
+        }
+        len += 1;
+        if !bytes::is_run_byte(text[len]) {
+            return len;
+        }
+        len += 1;
+    }
+    while len < text.len() && bytes::is_run_byte(text[len]) {
+        len += 1;
+    }
+    len
+}
+
 /// The longest run at the front of the text.
 #[tactic(auto, using(crate::proofs::Fronts::fronts), unfolding(crate::specs::Runs::run_at))]
 pub fn run_at(text: &[u8]) -> &[u8]
     ensures front { result.now ≡ run_at text.now }
     ensures within { length result.now ≤ length text.now }
 {
-    &text[..front_len(Front::Run, text)]
+    &text[..run_len(text)]
 }
 
 /// The decimal digits at the front of the text.

@@ -1,3 +1,4 @@
+mod ByNumber
 pub mod Debug
 pub mod Slots
 mod Wide

@@ -4,10 +4,11 @@ ghost use Rattle.module_grammar.specs.Spelled.{at, mark_symbol, symbol_at, symbo
 ghost use Rattle.module_grammar.specs.declared.parts.Part.TheVariants as part;
 ghost use Rattle.module_grammar.specs.declared.parts.Leaf.TheVariants as leaf;
 
+use crate::bytes::{bytes_in, first_byte_in};
 use crate::kinds::is_behind_c;
 use crate::words::word_of;
 use contents::Text;
-use ir_lexer::{Kind, Token, TokenKind, bytes_of, mark_of, says};
+use ir_lexer::{Kind, Token, TokenKind, says};
 use module_grammar::{Language, Leaf, Part, Placed, Word};
 use std::alloc::{AllocError, Global};
 use typed_grammars::Stack;
@@ -119,8 +120,8 @@ pub fn keep(
     ensures { OnOk result (parts.new ≡ kept (symbol_in language text.now token.now) parts.old) }
 {
     match token.kind {
-        Kind::Word => keep_word(parts, word_of(language, bytes_of(text, token)), token),
-        Kind::Mark => keep_mark(parts, mark_of(text, token).unwrap_or(0), token),
+        Kind::Word => keep_word(parts, word_of(language, bytes_in(text, token)), token),
+        Kind::Mark => keep_mark(parts, first_byte_in(text, token), token),
         Kind::Local | Kind::Global | Kind::Label | Kind::Number | Kind::Text => {
             keep_said(
                 parts,

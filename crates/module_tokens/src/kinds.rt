@@ -5,9 +5,10 @@ ghost use Rattle.module_tokens.specs.Tokens.{is_behind_c};
 ghost use Rattle.ir_core.specs.Functions.{is_debug};
 ghost use Rattle.ir_types.specs.declared.names.Name.{Name};
 
+use crate::bytes::{bytes_in, first_byte_in};
 use crate::names::is_debug_global;
 use crate::words::word_of;
-use ir_lexer::{Kind, Token, bytes_of, mark_of};
+use ir_lexer::{Kind, Token};
 use module_grammar::{KeyWord, Language, Word};
 use std::alloc::{AllocError, Global};
 
@@ -83,23 +84,27 @@ fn kind_of_said(said: Word) -> u8
     }
 }
 
+/// The kinds of the marks, by their bytes.
+static MARK_KINDS: [u8; 256] = [
+    23, 23, 23, 23, 23, 23, 23, 23, 23, 23, 23, 23, 23, 23, 23, 23, 23, 23, 23, 23, 23, 23, 23, 23,
+    23, 23, 23, 23, 23, 23, 23, 23, 23, 23, 23, 23, 23, 23, 23, 23, 66, 67, 17, 23, 64, 23, 23, 23,
+    23, 23, 23, 23, 23, 23, 23, 23, 23, 23, 23, 23, 23, 65, 23, 23, 23, 23, 23, 23, 23, 23, 23, 23,
+    23, 23, 23, 23, 23, 23, 23, 23, 23, 23, 23, 23, 23, 23, 23, 23, 23, 23, 23, 18, 23, 69, 23, 23,
+    23, 23, 23, 23, 23, 23, 23, 23, 23, 23, 23, 23, 23, 23, 23, 23, 23, 23, 23, 23, 23, 23, 23, 23,
+    23, 23, 23, 19, 23, 68, 23, 23, 23, 23, 23, 23, 23, 23, 23, 23, 23, 23, 23, 23, 23, 23, 23, 23,
+    23, 23, 23, 23, 23, 23, 23, 23, 23, 23, 23, 23, 23, 23, 23, 23, 23, 23, 23, 23, 23, 23, 23, 23,
+    23, 23, 23, 23, 23, 23, 23, 23, 23, 23, 23, 23, 23, 23, 23, 23, 23, 23, 23, 23, 23, 23, 23, 23,
+    23, 23, 23, 23, 23, 23, 23, 23, 23, 23, 23, 23, 23, 23, 23, 23, 23, 23, 23, 23, 23, 23, 23, 23,
+    23, 23, 23, 23, 23, 23, 23, 23, 23, 23, 23, 23, 23, 23, 23, 23, 23, 23, 23, 23, 23, 23, 23, 23,
+    23, 23, 23, 23, 23, 23, 23, 23, 23, 23, 23, 23, 23, 23, 23, 23,
+];
+
 /// The kind of a mark.
-#[tactic(auto, unfolding(module_grammar::specs::Spelled::mark_symbol))]
+#[inline(always)]
 fn kind_of_mark(mark: u8) -> u8
     ensures { (start : ℕ) → result ≡ kind_of (mark_symbol mark start) }
 {
-    match mark {
-        b'*' => 17,
-        b'[' => 18,
-        b'{' => 19,
-        b',' => 64,
-        b'=' => 65,
-        b'(' => 66,
-        b')' => 67,
-        b'}' => 68,
-        b']' => 69,
-        _ => 23,
-    }
+    MARK_KINDS[usize::from(mark)]
 }
 
 /// Whether the token stands directly behind a byte `c`.
@@ -135,8 +140,8 @@ fn kind_of(alloc: Global, language: Language, text: &[u8], token: &Token) -> Res
         Kind::Global => kind_of_global(is_debug_global(alloc, text, token)?),
         Kind::Label => 3,
         Kind::Number => 4,
-        Kind::Word => kind_of_said(word_of(language, bytes_of(text, token))),
-        Kind::Mark => kind_of_mark(mark_of(text, token).unwrap_or(0)),
+        Kind::Word => kind_of_said(word_of(language, bytes_in(text, token))),
+        Kind::Mark => kind_of_mark(first_byte_in(text, token)),
         Kind::Dots => 70,
         Kind::Bang => 71,
         Kind::Metadata => 72,
@@ -157,7 +162,8 @@ pub fn kinds_of(
 {
     let mut kinds = Vec::with_capacity(alloc, tokens.len())?;
     for token in tokens {
-        kinds.push(kind_of(alloc, language, text, token)?)?;
+        let kind = kind_of(alloc, language, text, token)?;
+        kinds.push_reserved(kind);
     }
     Ok(kinds)
 }

@@ -1,6 +1,7 @@
 //! What a parser sees of the tokens of a text: their kinds, and what they say on its stack.
 #![tactic(auto)]
 
+mod bytes;
 mod keeping;
 mod kinds;
 mod left_out;

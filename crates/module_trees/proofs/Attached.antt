@@ -1,6 +1,7 @@
 -- An attachment by name, which is read at once, is what a parser's moves read.
 use Rattle.std.proofs.Common.{◌≡◌, ◌+◌, ℕ, zero, suc, false, List, [], ◌∷◌, max, Option, None, Some, refl, ap, sym, ◌∙◌, subst, arith}
 use Rattle.std.proofs.Math.Nat.{le-max_right, max-eq_right, max_comm}
+use Rattle.direct_parts.specs.Direct.{act}
 use Rattle.ir_core.specs.declared.limits.Limit.{Limit}
 use Rattle.module_grammar.specs.Sets.{sets}
 use Rattle.module_grammar.specs.Tokens.{token_grammar}
@@ -10,7 +11,7 @@ use Rattle.module_grammar.specs.declared.parts.Part.{Part}
 use Rattle.module_grammar.specs.declared.parts.Part.TheVariants as part
 use Rattle.module_trees.proofs.Jumping.{GoesOn, next_apart, watch_at}
 use Rattle.module_trees.proofs.Values.{IsApart, jumped}
-use Rattle.module_trees.specs.Acts.{State, act, begun, kept_unmarked, reduced, shifted, with_watch}
+use Rattle.module_trees.specs.Acts.{State, begun, kept_unmarked, reduced, shifted, with_watch}
 use Rattle.module_trees.specs.Jumps.{EndsAttachments, IsAttachmentJump, all_attachments, attached, attached_parts, attachment, attachment_read, attachments, attachments_end, kept_more, meta_arguments, named_meta, next_read, no_arguments}
 use Rattle.predictive.specs.Going.{Move, Open, Take, Close, Jumps}
 use Rattle.predictive.specs.declared.item.Item.{Item}
@@ -20,20 +21,20 @@ use Rattle.token_limits.specs.Watched as watched
 use Rattle.token_limits.specs.declared.nesting.Saved.{Saved}
 
 -- a token that passes no limit is taken
-taken :
+pub taken :
     (P : State → Type 0) (s : State) (level deepest : ℕ) (saved : List Saved) (lines : ℕ) (m : Option Limit) → m ≡ None
     → P (with_watch (next_read s) (watch_at level deepest saved lines None)) → P (kept_unmarked (with_watch s (watch_at level deepest saved lines m)))
 taken P s level deepest saved lines None e h = subst P (sym (next_apart s.own s.kinds s (watch_at level deepest saved lines None))) h
 taken P s level deepest saved lines (Some l) e h = cc
 
 -- as deep as before is no deeper
-no_deeper : (deepest level : ℕ) → max (max deepest level) level ≡ max deepest level
+pub no_deeper : (deepest level : ℕ) → max (max deepest level) level ≡ max deepest level
 no_deeper deepest level = max_comm (max deepest level) level ∙ max-eq_right (le-max_right deepest level)
 
-abbrev behind_name : List Move
+abbrev pub behind_name : List Move
 behind_name = Open no_arguments ∷ Close ∷ Close ∷ Close ∷ Open attachments_end ∷ Close ∷ Close ∷ []
 
-abbrev moves : List Move
+abbrev pub moves : List Move
 moves = Open attachments ∷ Take ∷ Open attachment ∷ Take ∷ Open named_meta ∷ Take ∷ behind_name
 
 module _ (s : State) (rest : List ℕ) (level deepest : ℕ) (saved : List Saved) (lines : ℕ) (ends : EndsAttachments rest) where
@@ -48,7 +49,7 @@ module _ (s : State) (rest : List ℕ) (level deepest : ℕ) (saved : List Saved
   abbrev items : List Item
   items = item.Non all_attachments ∷ item.Done attachments ∷ []
 
-  goes :
+  pub goes :
       watched.mark_at (level + 0) lines ≡ None
       → GoesOn moves (64 ∷ 72 ∷ 72 ∷ rest) (item.Non all_attachments ∷ []) (with_watch s (watch_at level deepest saved lines None)) rest last
   unfolding role_of

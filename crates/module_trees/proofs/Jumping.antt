@@ -1,23 +1,18 @@
 -- What is read at once is what a parser's moves read.
-use Rattle.std.proofs.Common.{◌≡◌, ◌+◌, ◌-◌, ◌≤◌, ℕ, zero, suc, Bool, true, false, cond, nat_lt, List, [], ◌∷◌, ◌++◌, length, drop, replicate, Option, None, Some, refl, ap, sym, ◌∙◌, option_and_then, slice_get, subst, max, append_assoc, arith}
+use Rattle.std.proofs.Common.{◌≡◌, ◌+◌, ◌-◌, ◌≤◌, ℕ, zero, suc, Bool, true, false, cond, nat_lt, List, [], ◌∷◌, ◌++◌, length, drop, replicate, Option, None, Some, refl, ap, sym, ◌∙◌, subst, max, append_assoc, arith}
 use Rattle.std.proofs.Math.Nat.{max-eq_right}
 use Rattle.std.proofs.lemmas.Bool.{ltb-true, ltb-false}
 use Rattle.std.proofs.lemmas.List.{replicate_more}
+use Rattle.direct_parts.specs.Direct.{act}
 use Rattle.ir_core.specs.Limits.{depth_limit, line_limit}
 use Rattle.ir_core.specs.declared.limits.Limit.TheVariants as limit
 use Rattle.ir_core.specs.declared.limits.Limit.{Limit}
-use Rattle.module_grammar.specs.Parts.{a_leaf, a_piece, leaf_at, piece_type}
 use Rattle.module_grammar.specs.Sets.{sets}
 use Rattle.module_grammar.specs.Symbols.{Symbol}
 use Rattle.module_grammar.specs.Tokens.{token_grammar, with_gap}
-use Rattle.module_grammar.specs.declared.parts.Leaf.TheVariants as leaf
 use Rattle.module_grammar.specs.declared.parts.Part.{Part}
-use Rattle.module_grammar.specs.declared.parts.Part.TheVariants as part
-use Rattle.module_grammar.specs.declared.parts.Piece.TheVariants as piece
-use Rattle.module_grammar.specs.declared.types.TypeText as type_text
-use Rattle.module_grammar.specs.declared.types.TypeText.{TypeText}
-use Rattle.module_trees.specs.Acts.{State, act, begun, kept_unmarked, next_kept, reduced, rule_done, shifted, with_watch}
-use Rattle.module_trees.specs.Jumps.{IsTypeJump, any_type, int_type, kept_more, more_stars, named_base, next_read, pointed, pointed_parts, pointers, star_kind, stars, stars_done, stars_end, type_read}
+use Rattle.module_trees.specs.Acts.{State, begun, kept_unmarked, next_kept, reduced, rule_done, shifted, with_watch}
+use Rattle.module_trees.specs.Jumps.{IsTypeJump, any_type, int_type, kept_more, more_stars, named_base, next_read, pointers, star_kind, stars, stars_done, stars_end, type_read}
 use Rattle.predictive.specs.Going.{Move, Open, Take, Close, Goes, Jumps}
 use Rattle.predictive.specs.Predictive.{ahead}
 use Rattle.predictive.specs.declared.item.Item.{Item}
@@ -26,7 +21,6 @@ use Rattle.token_limits.specs.Roles.{role_of}
 use Rattle.token_limits.specs.Watched as watched
 use Rattle.token_limits.specs.declared.nesting.Saved.{Saved}
 use Rattle.token_limits.specs.declared.watch.Watch.{Watch}
-use Rattle.typed_grammars.specs.Typed.{below, top}
 
 abbrev pub GoesOn : List Move → List ℕ → List Item → State → List ℕ → State → Type 0
 GoesOn ms ks items s rest t = Goes sets.table token_grammar.right begun shifted reduced ms ks items s rest [] t
@@ -37,7 +31,7 @@ abbrev pub watch_at : ℕ → ℕ → List Saved → ℕ → Option Limit → Wa
 watch_at level deepest saved lines mark = record { nesting = record { level = level; deepest = deepest; saved = saved }; lines = lines; mark = mark }
 
 -- what passes no limit there passes none less deep
-within_less : (a b lines : ℕ) → a ≤ b → watched.mark_at b lines ≡ None → watched.mark_at a lines ≡ None
+pub within_less : (a b lines : ℕ) → a ≤ b → watched.mark_at b lines ≡ None → watched.mark_at a lines ≡ None
 within_less a b lines h e = go (nat_lt depth_limit a) refl (nat_lt depth_limit b) refl e
   where
     others : Option Limit
@@ -86,7 +80,7 @@ read_apart (suc n) s w =
     ap (λ u. rule_done more_stars u) (ap (λ u. stars_read n u) (next_apart s.own s.kinds s w) ∙ read_apart n (next_kept s.own s.kinds s) w)
 
 -- the first of some tokens is kept before the others
-kept_first : (n : ℕ) (s : State) → kept_more n (next_read s) ≡ kept_more (suc n) s
+pub kept_first : (n : ℕ) (s : State) → kept_more n (next_read s) ≡ kept_more (suc n) s
 kept_first zero s = refl
 kept_first (suc n) s = ap next_read (kept_first n s)
 
@@ -215,7 +209,7 @@ module _
 
 -- ---- jumps
 
-drop_stars : (n : ℕ) (more : List ℕ) → drop n (replicate n star_kind ++ more) ≡ more
+pub drop_stars : (n : ℕ) (more : List ℕ) → drop n (replicate n star_kind ++ more) ≡ more
 drop_stars zero more = refl
 drop_stars (suc n) more = drop_stars n more
 
@@ -240,7 +234,7 @@ abbrev pub marked_so : State → Option Limit → State
 marked_so s m = with_watch s (watch_at s.watch.nesting.level s.watch.nesting.deepest s.watch.nesting.saved s.watch.lines m)
 
 -- what is read and what is watched, one after another
-read_type :
+pub read_type :
     (rule n : ℕ) (s : State) (w : Watch)
     → with_watch (rule_done pointers (stars_read n (rule_done rule (next_kept s.own s.kinds s)))) w ≡ type_read rule n (with_watch s w)
 read_type rule n s w =
@@ -294,44 +288,6 @@ by_name behind (suc n) s t j =
     ) in
     made 0 n behind j.0.0 moves s t j.0.1
     (subst (λ u. GoesOn moves (0 ∷ (replicate n star_kind ++ j.0.0)) (item.Non any_type ∷ []) s j.0.0 u) (sym j.2) goes)
-
--- a type that is there keeps as it is where it gets no star
-starless_type : (t : TypeText) (below : List Part) → act pointers (act stars_end (part.Piece (piece.Type t) ∷ below)) ≡ part.Piece (piece.Type t) ∷ below
-unfolding act
-starless_type t below = refl
-
-starless_parts : (parts : List Part) (t : TypeText) → slice_get parts 0 ≡ Some (part.Piece (piece.Type t)) → act pointers (act stars_end parts) ≡ parts
-starless_parts [] t e = cc
-starless_parts (p ∷ below) t e =
-    let same : p ≡ part.Piece (piece.Type t) = cc in
-    subst (λ q. act pointers (act stars_end (q ∷ below)) ≡ q ∷ below) (sym same) (starless_type t below)
-
-pub starless : (s : State) (t : TypeText) → slice_get s.parts 0 ≡ Some (part.Piece (piece.Type t)) → s ≡ pointed 0 s
-starless s t e =
-    ap (λ ps. record { own = s.own; kinds = s.kinds; parts = ps; watch = s.watch }) (sym (starless_parts s.parts t e))
-
--- where a star that was kept is on top, it is what is taken
-pub star_there :
-    (parts : List Part) (at : ℕ) → slice_get parts 0 ≡ Some (part.Leaf (leaf.At at)) → top (λ p. option_and_then leaf_at (a_leaf p)) parts ≡ Some at
-star_there [] at e = cc
-star_there (p ∷ below) at e =
-    let same : p ≡ part.Leaf (leaf.At at) = cc in ap (λ p. option_and_then leaf_at (a_leaf p)) same
-
--- and so is a type
-pub type_there :
-    (parts : List Part) (t : TypeText) → slice_get parts 1 ≡ Some (part.Piece (piece.Type t))
-    → top (λ p. option_and_then piece_type (a_piece p)) (below parts) ≡ Some t
-type_there [] t e = cc
-type_there (p ∷ []) t e = cc
-type_there (p ∷ q ∷ others) t e =
-    let same : q ≡ part.Piece (piece.Type t) = cc in ap (λ q. option_and_then piece_type (a_piece q)) same
-
--- one that gets a star is a pointer
-pub pointer_made :
-    (at : ℕ) (t : TypeText) (below : List Part)
-    → pointed_parts (part.Leaf (leaf.At at) ∷ part.Piece (piece.Type t) ∷ below) ≡ part.Piece (piece.Type (type_text.Ptr at t)) ∷ below
-unfolding act
-pointer_made at t below = refl
 
 -- a rule's act on the parts is the rule done
 pub rule_is :

@@ -1,5 +1,6 @@
 -- While no limit is passed a reader's stack is that of the grammar's acts, and its watch is told all.
 use Rattle.std.proofs.Common.{◌≡◌, ℕ, suc, Bool, true, false, cond, nat_eq, nat_lt, List, [], ◌∷◌, length, map, Option, None, Some, refl, ap, sym, ◌∙◌, subst}
+use Rattle.direct_parts.specs.Direct.{act}
 use Rattle.gap_grammars.specs.Gapped as gapped
 use Rattle.ir_core.specs.declared.limits.Limit.{Limit}
 use Rattle.module_grammar.specs.Kinds.{kept}
@@ -9,7 +10,7 @@ use Rattle.module_grammar.specs.Symbols.{Symbol, foreign, kind_of}
 use Rattle.module_grammar.specs.Tokens.{with_gap}
 use Rattle.module_grammar.specs.declared.parts.Part.{Part}
 use Rattle.module_spelling.specs.Context.{AreKinds, all_seen, seen_as}
-use Rattle.module_trees.specs.Acts.{State, act, begun, done_unmarked, kept_as, next_kept, reduced, rule_done, shifted, unless_marked, with_watch}
+use Rattle.module_trees.specs.Acts.{State, begun, done_unmarked, kept_as, next_kept, reduced, rule_done, shifted, unless_marked, with_watch}
 use Rattle.module_trees.specs.Unmarked.{watch_reduced}
 use Rattle.predictive.proofs.Keeping.{Keeps}
 use Rattle.token_limits.specs.Watched as watched

@@ -5,3 +5,7 @@ pub mod Whole
 mod Jumping
 mod Values
 mod Attached
+mod Following
+mod OperandMoves
+mod AlignMoves
+mod StraightReads

@@ -1,21 +1,11 @@
 -- A value of one token, which is read at once, is what a parser's moves read.
 use Rattle.std.proofs.Common.{◌≡◌, ◌+◌, ◌-◌, ◌≤◌, ℕ, zero, suc, List, [], ◌∷◌, drop, length, max, Option, None, Some, refl, ap, sym, ◌∙◌, subst, arith}
 use Rattle.ir_core.specs.declared.limits.Limit.{Limit}
-use Rattle.ir_lexer.specs.declared.token.Number.{Number as Numeral}
-use Rattle.ir_types.specs.declared.names.Name.{Name}
 use Rattle.module_grammar.specs.Sets.{sets}
 use Rattle.module_grammar.specs.Tokens.{token_grammar}
-use Rattle.module_grammar.specs.declared.constants.ConstText.TheVariants as const
-use Rattle.module_grammar.specs.declared.constants.IntText.TheVariants as int
-use Rattle.module_grammar.specs.declared.constants.ValueText.TheVariants as value
-use Rattle.module_grammar.specs.declared.parts.Leaf.TheVariants as leaf
-use Rattle.module_grammar.specs.declared.parts.Part.{Part}
-use Rattle.module_grammar.specs.declared.parts.Part.TheVariants as part
-use Rattle.module_grammar.specs.declared.parts.Piece.TheVariants as piece
-use Rattle.module_grammar.specs.declared.places.Placed.{Placed}
 use Rattle.module_trees.proofs.Jumping.{GoesOn, marked_so, next_apart, watch_at}
-use Rattle.module_trees.specs.Acts.{State, act, begun, kept_unmarked, next_kept, reduced, rule_done, shifted, with_watch}
-use Rattle.module_trees.specs.Jumps.{IsJumpOver, any_value, constant, int_constant, number_read, number_parts, numeral, register, register_parts, register_read}
+use Rattle.module_trees.specs.Acts.{State, begun, kept_unmarked, next_kept, reduced, rule_done, shifted, with_watch}
+use Rattle.module_trees.specs.Jumps.{IsJumpOver, any_value, constant, int_constant, number_read, numeral, register, register_read}
 use Rattle.predictive.specs.Going.{Move, Open, Take, Close, Jumps}
 use Rattle.predictive.specs.declared.item.Item.{Item}
 use Rattle.predictive.specs.declared.item.Item.TheVariants as item
@@ -90,10 +80,10 @@ module _ (s : State) (behind : List ℕ) (level deepest : ℕ) (saved : List Sav
 abbrev pub IsApart : (State → State) → Type 0
 IsApart read = (s : State) (w : Watch) → with_watch (read s) w ≡ read (with_watch s w)
 
-register_apart : IsApart register_read
+pub register_apart : IsApart register_read
 register_apart s w = ap (λ u. rule_done register u) (sym (next_apart s.own s.kinds s w))
 
-number_apart : IsApart number_read
+pub number_apart : IsApart number_read
 number_apart s w = ap (λ u. rule_done constant (rule_done int_constant (rule_done numeral u))) (sym (next_apart s.own s.kinds s w))
 
 module _ (n non deeper : ℕ) (ks : List ℕ) (ms : List Move) (read : State → State) (apart : IsApart read) (s t : State) where
@@ -151,16 +141,3 @@ pub over_number :
     → Jumps sets.table token_grammar.right begun shifted reduced taken any_value (kind ∷ behind) s t
 over_number kind behind is taken s t j =
     subst (λ k. Jumps sets.table token_grammar.right begun shifted reduced taken any_value (k ∷ behind) s t) (sym is) (by_number behind taken s t j)
-
--- ---- what is put on top is what the rules make
-
-pub register_made :
-    (x : Placed Name) (below : List Part) → register_parts (part.Leaf (leaf.Local x) ∷ below) ≡ part.Piece (piece.Value (value.Local x)) ∷ below
-unfolding act
-register_made x below = refl
-
-pub number_made :
-    (x : Placed Numeral) (below : List Part)
-    → number_parts (part.Leaf (leaf.Number x) ∷ below) ≡ part.Piece (piece.Value (value.Const (const.Int (int.Number x)))) ∷ below
-unfolding act
-number_made x below = refl

@@ -1,9 +1,9 @@
 -- Words of private functions: what a reader's acts do. Once a token has passed a limit nothing is kept and no rule does anything.
 use Rattle.std.specs.Prelude.{ℕ, cond, nat_lt, List, [], ◌∷◌, Option, None, Some}
+use Rattle.direct_parts.specs.Direct.{act}
 use Rattle.ir_core.specs.declared.limits.Limit.{Limit}
 use Rattle.module_grammar.specs.Kinds.{kept}
 use Rattle.module_grammar.specs.Symbols.{Symbol, foreign, kind_of}
-use Rattle.module_grammar.specs.Tokens.{with_gap}
 use Rattle.module_grammar.specs.declared.parts.Part.{Part}
 use Rattle.token_limits.specs.Watched as watched
 use Rattle.token_limits.specs.declared.watch.Watch.{Watch}
@@ -30,10 +30,6 @@ abbrev pub next_kept : List Symbol → List ℕ → State → State
 next_kept [] ks s = s
 next_kept (t ∷ ts) [] s = s
 next_kept (t ∷ ts) (k ∷ ks) s = record { own = ts; kinds = ks; parts = kept_as k t s.parts; watch = s.watch }
-
--- what the rule of a number does to the stack
-unfoldable pub act : ℕ → List Part → List Part
-act p parts = with_gap.act p parts
 
 abbrev pub rule_done : ℕ → State → State
 rule_done p s = record { own = s.own; kinds = s.kinds; parts = act p s.parts; watch = s.watch }

@@ -1,8 +1,9 @@
 -- Words of private functions: a type of one token and the stars behind it, a value of one token, and an attachment, which are read at once.
 use Rattle.std.specs.Prelude.{◌≡◌, ℕ, zero, suc, List, ◌++◌, Some, replicate}
+use Rattle.direct_parts.specs.Direct.{act}
 use Rattle.module_grammar.specs.Sets.{sets}
 use Rattle.module_grammar.specs.declared.parts.Part.{Part}
-use Rattle.module_trees.specs.Acts.{State, act, next_kept, rule_done, with_watch}
+use Rattle.module_trees.specs.Acts.{State, next_kept, rule_done, with_watch}
 use Rattle.predictive.specs.Predictive.{ahead}
 use Rattle.token_limits.specs.Watched as watched
 
@@ -50,10 +51,6 @@ stars_done (suc n) s = rule_done more_stars (stars_done n s)
 abbrev pub pointed : ℕ → State → State
 pointed n s = rule_done pointers (stars_done n (rule_done stars_end (kept_more n s)))
 
--- the parts where a star was kept behind a type, when it has it
-abbrev pub pointed_parts : List Part → List Part
-pointed_parts parts = act pointers (act more_stars (act stars_end parts))
-
 -- a token is read by that rule, and the stars behind it
 abbrev pub type_read : ℕ → ℕ → State → State
 type_read rule n s = pointed n (rule_done rule (next_read s))
@@ -86,13 +83,6 @@ int_constant = 99
 
 abbrev pub numeral : ℕ
 numeral = 95
-
--- the parts where a register was kept, or a number, when it is a value
-abbrev pub register_parts : List Part → List Part
-register_parts parts = act register parts
-
-abbrev pub number_parts : List Part → List Part
-number_parts parts = act constant (act int_constant (act numeral parts))
 
 -- a number that was kept is a value
 abbrev pub number_done : State → State

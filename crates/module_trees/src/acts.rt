@@ -1,31 +1,21 @@
-ghost use Rattle.std.specs.Prelude.{◌≡◌, ◌∷◌, ℕ, IfOk, IfSome, IsTrue, MatchBool, OnOk, Some, map, slice_get};
+ghost use Rattle.std.specs.Prelude.{◌≡◌, ◌∷◌, IfOk, IfSome, IsTrue, OnOk, Some, map};
 ghost use Rattle.module_grammar.specs.Sets.{sets};
 ghost use Rattle.module_grammar.specs.Spelled.{symbol_in};
 ghost use Rattle.module_grammar.specs.Tokens.{token_grammar};
 ghost use Rattle.module_trees.specs.Acts as acts;
 ghost use Rattle.module_trees.specs.Jumps as jumps;
-ghost use Rattle.module_grammar.specs.declared.parts.Leaf.TheVariants as leaf;
-ghost use Rattle.module_grammar.specs.declared.parts.Part.TheVariants as part;
-ghost use Rattle.module_grammar.specs.declared.parts.Piece.TheVariants as piece;
-ghost use Rattle.module_grammar.specs.declared.types.TypeText.{TypeText as TypeOf};
-ghost use Rattle.ir_lexer.specs.declared.token.Number.{Number};
-ghost use Rattle.ir_types.specs.declared.names.Name.{Name};
-ghost use Rattle.module_grammar.specs.declared.places.Placed.{Placed};
+ghost use Rattle.module_trees.specs.Operands as operands;
 ghost use Rattle.predictive.specs.Going.{Jumps};
 ghost use Rattle.predictive.specs.Predictive.{ahead};
 ghost use Rattle.token_limits.specs.Watched.{fresh};
 
-use contents::Boxed;
 use ir_core::Limit;
 use ir_lexer::Token;
-use leaf_forms::{AtPart, AttachmentsPart, LocalPart, NumberPart};
-use module_grammar::{
-    ConstText, IntText, Language, Leaf, MetaText, Part, Piece, TypeText, ValueText,
-};
+use leaf_forms::AttachmentsPart;
+use module_grammar::{Language, MetaText, Part};
 use module_tables::TokenGrammar;
 use module_tokens::keep;
 use part_groups::Parts;
-use piece_forms::{TypePart, ValuePart};
 use predictive::{Action, Table};
 use std::alloc::{AllocError, Global};
 use std::marker::Model;
@@ -33,36 +23,40 @@ use token_limits::Watch;
 use tree_acts::reduce;
 use typed_grammars::Stack;
 
-/// The nonterminals of types, of their stars, of values, of attachments and of what may stand behind their names, and the kinds of the tokens
-/// with which most begin, of a star, of a comma and of the names of metadata.
+/// The nonterminals of types, of their stars, of values, of operands, of attachments, of what may stand behind their names and of alignments, and
+/// the kinds of the tokens with which most begin, of a star, of a comma and of the names of metadata.
 const ANY_TYPE: u8 = 33;
 
 const STARS: u8 = 35;
 
 const ANY_VALUE: u8 = 50;
 
+const ANY_OPERAND: u8 = 51;
+
 const ALL_ATTACHMENTS: u8 = 27;
 
 const META_ARGUMENTS: u8 = 30;
 
-const LOCAL: u8 = 0;
+const ANY_ALIGNMENT: u8 = 57;
 
-const NUMBER: u8 = 4;
+pub(crate) const LOCAL: u8 = 0;
 
-const WIDTH: u8 = 5;
+pub(crate) const NUMBER: u8 = 4;
+
+pub(crate) const WIDTH: u8 = 5;
 
 const STAR: u8 = 17;
 
-const COMMA: u8 = 64;
+pub(crate) const COMMA: u8 = 64;
 
-const METADATA: u8 = 72;
+pub(crate) const METADATA: u8 = 72;
 
 /// The rules of a type and of what stands in it: of a width, of a name, of no more stars, and of a star before others.
 const POINTERS: u16 = 74;
 
-const INT_TYPE: u16 = 75;
+pub(crate) const INT_TYPE: u16 = 75;
 
-const NAMED_BASE: u16 = 76;
+pub(crate) const NAMED_BASE: u16 = 76;
 
 const STARS_END: u16 = 79;
 
@@ -78,23 +72,23 @@ const INT_CONSTANT: u16 = 99;
 const NUMERAL: u16 = 95;
 
 /// The rules of no attachments, and of nothing behind the name of metadata.
-const ATTACHMENTS_END: u16 = 63;
+pub(crate) const ATTACHMENTS_END: u16 = 63;
 
 const NO_ARGUMENTS: u16 = 68;
 
 /// Of tokens of this kind, and of words and marks that say nothing but themselves, which have the kinds behind it, nothing is kept.
-const FOREIGN: u8 = 23;
+pub(crate) const FOREIGN: u8 = 23;
 
 /// What a parser's acts work on: the text, the language that it is in, its tokens that are left and their kinds where they stand, the stack,
 /// and a watch over the limits. Once a token has passed one, nothing is kept any more, so that no tree grows deeper.
 #[derive(Drop)]
 pub struct Reading<'a> {
-    language: Language,
-    text: &'a [u8],
-    tokens: &'a [Token],
-    kinds: &'a [u8],
-    parts: Stack<Part>,
-    watch: Watch,
+    pub(crate) language: Language,
+    pub(crate) text: &'a [u8],
+    pub(crate) tokens: &'a [Token],
+    pub(crate) kinds: &'a [u8],
+    pub(crate) parts: Stack<Part>,
+    pub(crate) watch: Watch,
 }
 
 impl<'a> Model for Reading<'a> {
@@ -156,7 +150,7 @@ impl<'a> Reading<'a> {
 
     /// What the next token says on the stack, where it is seen as one of its own kind.
     #[inline(always)]
-    fn keep_next(&mut self, alloc: Global) -> Result<(), AllocError>
+    pub(crate) fn keep_next(&mut self, alloc: Global) -> Result<(), AllocError>
         ensures { OnOk result (self.new ≡ acts.next_kept self.old.own self.old.kinds self.old) }
     {
         let Some((token, tokens)) = self.tokens.split_first() else {
@@ -220,7 +214,7 @@ fn ends_type(kinds: &[u8]) -> bool
 
 /// Whether nothing stands behind the name of metadata before tokens of these kinds.
 #[inline(always)]
-fn ends_meta(kinds: &[u8]) -> bool
+pub(crate) fn ends_meta(kinds: &[u8]) -> bool
     ensures { IsTrue result → sets.table jumps.meta_arguments (ahead kinds.now) ≡ Some jumps.no_arguments }
 {
     match TokenGrammar.choose(META_ARGUMENTS, ahead_of(kinds)) {
@@ -231,7 +225,7 @@ fn ends_meta(kinds: &[u8]) -> bool
 
 /// Whether nothing more is attached before tokens of these kinds.
 #[inline(always)]
-fn ends_attachments(kinds: &[u8]) -> bool
+pub(crate) fn ends_attachments(kinds: &[u8]) -> bool
     ensures { IsTrue result → sets.table jumps.all_attachments (ahead kinds.now) ≡ Some jumps.attachments_end }
 {
     match TokenGrammar.choose(ALL_ATTACHMENTS, ahead_of(kinds)) {
@@ -242,7 +236,7 @@ fn ends_attachments(kinds: &[u8]) -> bool
 
 /// What stands behind the tokens of an attachment by name, if these are in front.
 #[inline(always)]
-fn behind_attachment(kinds: &[u8]) -> Option<&[u8]>
+pub(crate) fn behind_attachment(kinds: &[u8]) -> Option<&[u8]>
     ensures { IfSome result (λ rest. kinds.now ≡ jumps.comma ∷ jumps.metadata ∷ jumps.metadata ∷ rest.now) }
 {
     let (mark, behind) = kinds.split_first()?;
@@ -255,10 +249,10 @@ fn behind_attachment(kinds: &[u8]) -> Option<&[u8]>
     }
 }
 
-/// How many stars stand in front of tokens of these kinds, if the type ends behind them.
+/// How many stars stand in front of tokens of these kinds, and what stands behind them.
 #[inline(always)]
-fn stars_in_front(kinds: &[u8]) -> Option<u32>
-    ensures { IfSome result (λ stars. jumps.HasStars stars kinds.now) }
+pub(crate) fn behind_stars(kinds: &[u8]) -> Option<(u32, &[u8])>
+    ensures { IfSome result (λ found. operands.HasBehind found.0 found.1.now kinds.now) }
 {
     let mut stars: u32 = 0;
     let mut rest = kinds;
@@ -266,99 +260,16 @@ fn stars_in_front(kinds: &[u8]) -> Option<u32>
         stars = stars.checked_add(1)?;
         rest = more;
     }
+    Some((stars, rest))
+}
+
+/// How many stars stand in front of tokens of these kinds, if the type ends behind them.
+#[inline(always)]
+fn stars_in_front(kinds: &[u8]) -> Option<u32>
+    ensures { IfSome result (λ stars. jumps.HasStars stars kinds.now) }
+{
+    let (stars, rest) = behind_stars(kinds)?;
     if ends_type(rest) { Some(stars) } else { None }
-}
-
-/// Whether the part of that number, counted from the top, is a type.
-#[inline(always)]
-fn is_type_at(parts: &Stack<Part>, number: usize) -> bool
-    ensures { IsTrue result → (t : TypeOf) × (slice_get parts.now number ≡ Some (part.Piece (piece.Type t))) }
-{
-    match parts.get(number) {
-        Some(Part::Piece(Piece::Type(_))) => true,
-        _ => false,
-    }
-}
-
-/// Whether a star that was kept is on top.
-#[inline(always)]
-fn is_star_on_top(parts: &Stack<Part>) -> bool
-    ensures { IsTrue result → (at : ℕ) × (slice_get parts.now 0 ≡ Some (part.Leaf (leaf.At at))) }
-{
-    match parts.get(0) {
-        Some(Part::Leaf(Leaf::At(_))) => true,
-        _ => false,
-    }
-}
-
-/// The type behind which a star was kept is a pointer to it, if these are on top.
-#[tactic(auto, using(crate::proofs::Jumping::pointer_made))]
-fn point_once(parts: &mut Stack<Part>, alloc: Global) -> Result<bool, AllocError>
-    ensures { IfOk result (λ done. MatchBool done (parts.new ≡ jumps.pointed_parts parts.old) (parts.new ≡ parts.old)) }
-{
-    if !is_star_on_top(parts) || !is_type_at(parts, 1) {
-        return Ok(false);
-    }
-    let Some(at) = parts.take::<AtPart>() else {
-        return Ok(false);
-    };
-    let Some(ty) = parts.take::<TypePart>() else {
-        return Ok(false);
-    };
-    parts.put::<TypePart>(TypeText::Ptr(at, Boxed::new(alloc, ty)?))?;
-    Ok(true)
-}
-
-/// Whether a register that was kept is on top.
-#[inline(always)]
-fn is_register_on_top(parts: &Stack<Part>) -> bool
-    ensures { IsTrue result → (x : Placed Name) × (slice_get parts.now 0 ≡ Some (part.Leaf (leaf.Local x))) }
-{
-    match parts.get(0) {
-        Some(Part::Leaf(Leaf::Local(_))) => true,
-        _ => false,
-    }
-}
-
-/// Whether a number that was kept is on top.
-#[inline(always)]
-fn is_number_on_top(parts: &Stack<Part>) -> bool
-    ensures { IsTrue result → (x : Placed Number) × (slice_get parts.now 0 ≡ Some (part.Leaf (leaf.Number x))) }
-{
-    match parts.get(0) {
-        Some(Part::Leaf(Leaf::Number(_))) => true,
-        _ => false,
-    }
-}
-
-/// The register that was kept is a value, if it is on top.
-#[tactic(auto, using(crate::proofs::Values::register_made))]
-fn register_once(parts: &mut Stack<Part>) -> Result<bool, AllocError>
-    ensures { IfOk result (λ done. MatchBool done (parts.new ≡ jumps.register_parts parts.old) (parts.new ≡ parts.old)) }
-{
-    if !is_register_on_top(parts) {
-        return Ok(false);
-    }
-    let Some(name) = parts.take::<LocalPart>() else {
-        return Ok(false);
-    };
-    parts.put::<ValuePart>(ValueText::Local(name))?;
-    Ok(true)
-}
-
-/// The number that was kept is a value, if it is on top.
-#[tactic(auto, using(crate::proofs::Values::number_made))]
-fn number_once(parts: &mut Stack<Part>) -> Result<bool, AllocError>
-    ensures { IfOk result (λ done. MatchBool done (parts.new ≡ jumps.number_parts parts.old) (parts.new ≡ parts.old)) }
-{
-    if !is_number_on_top(parts) {
-        return Ok(false);
-    }
-    let Some(number) = parts.take::<NumberPart>() else {
-        return Ok(false);
-    };
-    parts.put::<ValuePart>(ValueText::Const(ConstText::Int(IntText::Number(number))))?;
-    Ok(true)
 }
 
 /// An attachment by name on top.
@@ -376,14 +287,14 @@ fn attach_once(parts: &mut Stack<Part>, alloc: Global) -> Result<(), AllocError>
 impl<'a> Reading<'a> {
     /// What the rule does, no limit being passed.
     #[inline(always)]
-    fn do_rule(&mut self, alloc: Global, rule: u16) -> Result<(), AllocError>
+    pub(crate) fn do_rule(&mut self, alloc: Global, rule: u16) -> Result<(), AllocError>
         ensures { OnOk result (self.new ≡ acts.rule_done rule self.old) }
     {
         reduce(&mut self.parts, alloc, rule)
     }
 
     /// Keeps so many tokens.
-    fn keep_more(&mut self, alloc: Global, count: u32) -> Result<(), AllocError>
+    pub(crate) fn keep_more(&mut self, alloc: Global, count: u32) -> Result<(), AllocError>
         ensures { OnOk result (self.new ≡ jumps.kept_more count self.old) }
     {
         for _ in 0..count {
@@ -402,35 +313,24 @@ impl<'a> Reading<'a> {
         Ok(())
     }
 
-    /// The type behind which a star was kept gets it, if these are on top.
-    #[inline(always)]
-    fn point_top(&mut self, alloc: Global) -> Result<bool, AllocError>
-        ensures { IfOk result (λ done.
-            MatchBool done (self.new ≡ acts.rule_done jumps.pointers (jumps.stars_done 1 (acts.rule_done jumps.stars_end self.old))) (self.new ≡ self.old)) }
-    {
-        point_once(&mut self.parts, alloc)
-    }
-
     /// Reads so many stars, which the type on top gets.
     #[inline(always)]
     fn point(&mut self, alloc: Global, stars: u32) -> Result<(), AllocError>
         ensures { OnOk result (self.new ≡ jumps.pointed stars self.old) }
     {
-        if stars == 0 && is_type_at(&self.parts, 0) {
-            return Ok(());
-        }
         self.keep_more(alloc, stars)?;
-        if stars == 1 && self.point_top(alloc)? {
-            return Ok(());
-        }
         self.do_rule(alloc, STARS_END)?;
         self.do_stars(alloc, stars)?;
         self.do_rule(alloc, POINTERS)
     }
 
-    /// Reads the next token by the rule, and the stars behind it.
-    #[inline(always)]
-    fn read_type(&mut self, alloc: Global, rule: u16, stars: u32) -> Result<(), AllocError>
+    /// Reads the next token by the rule, and the stars behind it, part by part.
+    pub(crate) fn read_type_by_parts(
+        &mut self,
+        alloc: Global,
+        rule: u16,
+        stars: u32,
+    ) -> Result<(), AllocError>
         ensures { OnOk result (self.new ≡ jumps.type_read rule stars self.old) }
     {
         self.keep_next(alloc)?;
@@ -480,23 +380,17 @@ impl<'a> Reading<'a> {
 
     /// The register that was kept is a value.
     #[inline(always)]
-    fn end_register(&mut self, alloc: Global) -> Result<(), AllocError>
+    pub(crate) fn end_register(&mut self, alloc: Global) -> Result<(), AllocError>
         ensures { OnOk result (self.new ≡ acts.rule_done jumps.register self.old) }
     {
-        if register_once(&mut self.parts)? {
-            return Ok(());
-        }
         self.do_rule(alloc, REGISTER)
     }
 
     /// The number that was kept is a value.
     #[inline(always)]
-    fn end_number(&mut self, alloc: Global) -> Result<(), AllocError>
+    pub(crate) fn end_number(&mut self, alloc: Global) -> Result<(), AllocError>
         ensures { OnOk result (self.new ≡ jumps.number_done self.old) }
     {
-        if number_once(&mut self.parts)? {
-            return Ok(());
-        }
         self.do_rule(alloc, NUMERAL)?;
         self.do_rule(alloc, INT_CONSTANT)?;
         self.do_rule(alloc, CONSTANT)
@@ -510,8 +404,7 @@ impl<'a> Reading<'a> {
         if !self.watch.step(0) {
             return Ok(0);
         }
-        self.keep_next(alloc)?;
-        self.end_register(alloc)?;
+        self.read_register(alloc)?;
         Ok(1)
     }
 
@@ -523,8 +416,7 @@ impl<'a> Reading<'a> {
         if !self.watch.step(1) {
             return Ok(0);
         }
-        self.keep_next(alloc)?;
-        self.end_number(alloc)?;
+        self.read_number(alloc)?;
         Ok(1)
     }
 
@@ -560,7 +452,7 @@ impl<'a> Reading<'a> {
 
     /// An attachment by name on top.
     #[inline(always)]
-    fn attach(&mut self, alloc: Global) -> Result<(), AllocError>
+    pub(crate) fn attach(&mut self, alloc: Global) -> Result<(), AllocError>
         ensures { OnOk result (self.new ≡ jumps.attached self.old) }
     {
         attach_once(&mut self.parts, alloc)
@@ -644,7 +536,9 @@ impl<'a> Action for Reading<'a> {
         match non {
             ANY_TYPE => self.jump_type(alloc, kinds),
             ANY_VALUE => self.jump_value(alloc, kinds),
+            ANY_OPERAND => self.jump_operand(alloc, kinds),
             ALL_ATTACHMENTS => self.jump_attachments(alloc, kinds),
+            ANY_ALIGNMENT => self.jump_alignment(alloc, kinds),
             _ => Ok(0),
         }
     }

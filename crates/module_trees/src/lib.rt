@@ -2,7 +2,10 @@
 #![tactic(auto)]
 
 mod acts;
+mod aligned;
+mod operands;
 mod reader;
+mod straight;
 mod unread;
 
 pub use reader::{

@@ -1,5 +1,5 @@
 -- What tokens are where they stand if no parentheses matter.
-use Rattle.std.proofs.Common.{◌≡◌, ◌↔◌, IsTrue, ◌<◌, ℕ, zero, suc, Bool, true, false, nat_eq, List, [], ◌∷◌, ◌++◌, length, map, reverse, take, Some, refl, ap, sym, ◌∙◌, append_assoc, subst, arith, inl, inr}
+use Rattle.std.proofs.Common.{◌≡◌, ◌↔◌, ◌⊎◌, IsTrue, ◌||◌, ◌&&◌, ◌<◌, ℕ, zero, suc, Bool, true, false, nat_eq, List, [], ◌∷◌, ◌++◌, length, map, reverse, take, Some, refl, ap, sym, ◌∙◌, append_assoc, subst, arith, inl, inr}
 use Rattle.std.proofs.lemmas.Bool.{eqb-false, eqb-true}
 use Rattle.std.proofs.lemmas.List.{length-map, map-append, reverse-append}
 use Rattle.std.proofs.lemmas.Option.{slice_get_within}
@@ -14,26 +14,26 @@ use Rattle.token_context.proofs.Contexts.{not_within, seen_itself}
 use Rattle.token_context.proofs.Held.{Stands, from_behind}
 use Rattle.token_context.proofs.Steps.{At, at}
 use Rattle.token_context.specs.Readings.{IsContext}
-use Rattle.token_context.specs.SideBySide.{AreSideBySide, BeginSo, DoParensMatter, HaveParens}
+use Rattle.token_context.specs.SideBySide.{AreSideBySide, DoParensMatter, HaveParens}
 
 -- ---- side by side in a row, by its first token
 
-pub none_in_none : (first second : ℕ) → AreSideBySide first second [] → ⊥
+none_in_none : (first second : ℕ) → AreSideBySide first second [] → ⊥
 none_in_none first second h = go h.before h.same
   where
     go : (before : List ℕ) → [] ≡ before ++ (first ∷ second ∷ h.behind) → ⊥
     go [] e = cc
     go (x ∷ before) e = cc
 
-pub in_front : (first second : ℕ) (ks : List ℕ) → BeginSo first second ks → AreSideBySide first second ks
+-- tokens of these kinds stand side by side at the front
+abbrev BeginSo : ℕ → ℕ → List ℕ → Type 0
+BeginSo first second kinds = (behind : List ℕ) × (kinds ≡ first ∷ second ∷ behind)
+
+in_front : (first second : ℕ) (ks : List ℕ) → BeginSo first second ks → AreSideBySide first second ks
 in_front first second ks h = record { before = []; behind = h.0; same = h.1 }
 
-pub not_so :
-    (first second : ℕ) (ks : List ℕ) (answer : Bool) → answer ≡ false → (BeginSo first second ks → IsTrue answer) → BeginSo first second ks → ⊥
-not_so first second ks answer untrue told h = let yes : answer ≡ true = told h in cc
-
 -- where they don't stand at the front, they stand behind the first token, if anywhere
-pub behind_first :
+behind_first :
     (first second k : ℕ) (all ks : List ℕ) → all ≡ k ∷ ks → (BeginSo first second all → ⊥) → AreSideBySide first second all ↔ AreSideBySide first second ks
 behind_first first second k all ks is none =
     (λ h. go h.before h.behind (sym is ∙ h.same), λ h. record { before = k ∷ h.before; behind = h.behind; same = is ∙ ap (λ l. k ∷ l) h.same })
@@ -43,6 +43,63 @@ behind_first first second k all ks is none =
     go (x ∷ before) behind e =
         let more : ks ≡ before ++ (first ∷ second ∷ behind) = cc in
         record { before = before; behind = behind; same = more }
+
+-- ---- told of a row from its front
+
+-- they stand side by side if it is told already that they do, or in the rest
+abbrev pub IsToldOf : ℕ → ℕ → List ℕ → Bool → List ℕ → Type 0
+IsToldOf first second all told rest = AreSideBySide first second all ↔ (IsTrue told ⊎ AreSideBySide first second rest)
+
+untold : (X : Type 0) → IsTrue false ⊎ X → X
+untold X (inl e) = let none : false ≡ true = e in cc
+untold X (inr x) = x
+
+-- where a token of another kind stands in front of them all
+pub told_first : (first second k : ℕ) (all : List ℕ) → nat_eq k first ≡ false → IsToldOf first second all false (k ∷ all)
+told_first first second k all other =
+    let same = behind_first first second k (k ∷ all) all refl (λ b. let is : k ≡ first = cc (b.1) in eqb-false k first other is) in
+    (λ s. inr (same.1 s), λ t. same.0 (untold (AreSideBySide first second (k ∷ all)) t))
+
+-- a token further
+pub told_further :
+    (first second : ℕ) (all : List ℕ) (told : Bool) (k next : ℕ) (left rest : List ℕ) → left ≡ next ∷ rest → IsToldOf first second all told (k ∷ left)
+    → IsToldOf first second all (told || (nat_eq k first && nat_eq next second)) (next ∷ rest)
+told_further first second all told k next left rest is h = go told (nat_eq k first) (nat_eq next second) refl refl h
+  where
+    later : IsToldOf first second all false (k ∷ left) → (BeginSo first second (k ∷ left) → ⊥) → IsToldOf first second all false (next ∷ rest)
+    later h none =
+        let same = behind_first first second k (k ∷ left) left refl none in (
+          λ s. inr (subst (AreSideBySide first second) is (same.0 (untold (AreSideBySide first second (k ∷ left)) (h.0 s)))),
+          λ t. h.1 (inr (same.1 (subst (AreSideBySide first second) (sym is) (untold (AreSideBySide first second (next ∷ rest)) t)))),
+        )
+
+    go :
+        (told a b : Bool) → nat_eq k first ≡ a → nat_eq next second ≡ b → IsToldOf first second all told (k ∷ left)
+        → IsToldOf first second all (told || (a && b)) (next ∷ rest)
+    go true a b e f h = (λ s. inl refl, λ s. h.1 (inl refl))
+    go false true true e f h =
+        let one : k ≡ first = eqb-true k first e in
+        let other : next ≡ second = eqb-true next second f in
+        let row : k ∷ left ≡ first ∷ second ∷ rest = cc in
+        (λ s. inl refl, λ s. h.1 (inr (in_front first second (k ∷ left) (rest, row))))
+    go false true false e f h = later h (λ b. let other : next ≡ second = cc (b.1, is) in eqb-false next second f other)
+    go false false b e f h = later h (λ b. let one : k ≡ first = cc (b.1) in eqb-false k first e one)
+
+-- and where none is left
+pub told_all :
+    (first second : ℕ) (all : List ℕ) (told : Bool) (last : ℕ) (left : List ℕ) → left ≡ [] → IsToldOf first second all told (last ∷ left)
+    → IsTrue told ↔ AreSideBySide first second all
+told_all first second all told last left none h = (λ t. h.1 (inl t), λ s. go (h.0 s))
+  where
+    alone : (before behind : List ℕ) → (last ∷ left) ≡ before ++ (first ∷ second ∷ behind) → ⊥
+    alone [] behind e = cc
+    alone (x ∷ before) behind e =
+        let more : [] ≡ before ++ (first ∷ second ∷ behind) = cc in
+        none_in_none first second (record { before = before; behind = behind; same = more })
+
+    go : IsTrue told ⊎ AreSideBySide first second (last ∷ left) → IsTrue told
+    go (inl t) = t
+    go (inr s) = absurd (alone s.before s.behind s.same)
 
 -- no parentheses matter where it is told so
 pub none_matter : (ks : List ℕ) (answer : Bool) → answer ≡ false → (DoParensMatter ks → IsTrue answer) → DoParensMatter ks → ⊥

@@ -1,10 +1,14 @@
 ghost use Rattle.std.specs.Prelude.{◌↔◌, IsTrue};
-ghost use Rattle.token_context.specs.SideBySide.{AreSideBySide, BeginSo, DoParensMatter};
+ghost use Rattle.module_grammar.specs.Symbols.{close_paren, kind_of, open_paren, unnamed_addr, void};
+ghost use Rattle.token_context.specs.Readings.{debug_kind, global_kind};
+ghost use Rattle.token_context.specs.SideBySide.{AreSideBySide, DoParensMatter};
 
-/// The kinds of names of functions, of debugging or not, of `void`, of `unnamed_addr`, and of parentheses.
+/// The kinds of names of functions, of debugging or not, of what is none of the grammar, of `void`, of `unnamed_addr`, and of parentheses.
 const GLOBAL: u8 = 1;
 
 const DEBUG: u8 = 2;
+
+const FOREIGN: u8 = 23;
 
 const VOID: u8 = 25;
 
@@ -14,38 +18,52 @@ const OPEN_PAREN: u8 = 66;
 
 const CLOSE_PAREN: u8 = 67;
 
-/// Whether tokens of these kinds stand side by side at the front.
-#[inline(always)]
-fn begin_so(kinds: &[u8], first: u8, second: u8) -> bool
-    ensures { IsTrue result ↔ BeginSo first second kinds.now }
-{
-    match kinds {
-        [one, other, ..] => *one == first && *other == second,
-        _ => false,
-    }
+/// Which tokens stand somewhere side by side.
+#[derive(Drop)]
+struct Sides {
+    /// `void` and a parenthesis that opens.
+    void: bool,
+    /// A name of debugging and a parenthesis that opens.
+    debug: bool,
+    /// A parenthesis that closes and the name of a function.
+    global: bool,
+    /// A parenthesis that closes and `unnamed_addr`.
+    addr: bool,
 }
 
-/// Whether tokens of these kinds stand somewhere side by side.
+/// Which tokens of these kinds stand somewhere side by side. It takes no branch at a token, so that many are
+/// looked at at once.
 #[inline(always)]
-fn are_side_by_side(kinds: &[u8], first: u8, second: u8) -> bool
-    ensures { IsTrue result ↔ AreSideBySide first second kinds.now }
+fn sides_of(kinds: &[u8]) -> Sides
+    ensures void { IsTrue result.void ↔ AreSideBySide (kind_of void) (kind_of open_paren) kinds.now }
+    ensures debug { IsTrue result.debug ↔ AreSideBySide debug_kind (kind_of open_paren) kinds.now }
+    ensures global { IsTrue result.global ↔ AreSideBySide (kind_of close_paren) global_kind kinds.now }
+    ensures addr { IsTrue result.addr ↔ AreSideBySide (kind_of close_paren) (kind_of unnamed_addr) kinds.now }
 {
-    let mut rest = kinds;
-    while let Some((_, more)) = rest.split_first() {
-        if begin_so(rest, first, second) {
-            return true;
-        }
-        rest = more;
+    let mut sides = Sides {
+        void: false,
+        debug: false,
+        global: false,
+        addr: false,
+    };
+    let mut before = FOREIGN;
+    for kind in kinds {
+        sides.void |= (before == VOID) & (*kind == OPEN_PAREN);
+        sides.debug |= (before == DEBUG) & (*kind == OPEN_PAREN);
+        sides.global |= (before == CLOSE_PAREN) & (*kind == GLOBAL);
+        sides.addr |= (before == CLOSE_PAREN) & (*kind == UNNAMED_ADDR);
+        before = *kind;
     }
-    false
+    sides
 }
 
-/// Whether a token can be another where it stands than by itself: only then brackets have to be matched.
+/// Whether a token can be another where it stands than by itself: one parenthesis opens somewhere behind `void` and one closes somewhere
+/// before the name of a function, or one opens somewhere behind a name of debugging and one closes somewhere before `unnamed_addr`. Only
+/// then brackets have to be matched.
 #[inline(never)]
 pub fn do_parens_matter(kinds: &[u8]) -> bool
     ensures { IsTrue result ↔ DoParensMatter kinds.now }
 {
-    are_side_by_side(kinds, VOID, OPEN_PAREN) && are_side_by_side(kinds, CLOSE_PAREN, GLOBAL)
-        || are_side_by_side(kinds, CLOSE_PAREN, UNNAMED_ADDR)
-            && are_side_by_side(kinds, DEBUG, OPEN_PAREN)
+    let sides = sides_of(kinds);
+    sides.void && sides.global || sides.debug && sides.addr
 }

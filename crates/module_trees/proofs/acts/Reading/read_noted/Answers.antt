@@ -1,0 +1,18 @@
+use Rattle.std.proofs.Common.{◌∷◌, false, Option, IfSome, ap, subst, ◌∙◌}
+use Rattle.std.proofs.lemmas.Result.{on_ok_weaker}
+use Rattle.ir_lexer.specs.declared.token.Number.{Number}
+use Rattle.module_grammar.specs.declared.attributes.MetaText.TheVariants as meta
+use Rattle.module_grammar.specs.declared.places.Placed.{Placed}
+use Rattle.module_trees.proofs.StraightReads.{noted_puts, put_there}
+use Rattle.module_trees.specs.Aligned.{noted_align_read}
+use Rattle.module_trees.specs.Straight.{IsNotedAhead, alignment_of}
+use Rattle.module_trees.proofs.acts.Reading.read_noted.Goals as goal
+
+pub returns : goal.returns
+returns c =
+    let s = c.args.self.now in
+    let ahead = subst (λ (m : Option (Placed Number)). IfSome m (λ n. IsNotedAhead s n)) c.in-Some.is c.in_ok-number.ensures in
+    on_ok_weaker c.put_alignment.result
+    (λ e. e ∙ put_there 6 noted_align_read s c.pass.new.self _ _ (noted_puts s c.in-Some.number ahead) c.pass.ensures
+    (ap (λ attachments. alignment_of c.in-Some.number attachments ∷ c.pass.new.self.parts) (c.in_ok-push.ensures.ok ∙ ap (λ others. meta.Named false ∷ others) c.new-attachments.ensures)))
+    c.put_alignment.ensures
