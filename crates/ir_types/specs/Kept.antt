@@ -2,7 +2,7 @@
 use Rattle.std.specs.Prelude.{◌≡◌, ◌<◌, ◌+◌, ℕ, zero, suc, min, cond, List, [], ◌∷◌, map, Option, None, Some}
 use Rattle.std.specs.List.{AllByRecursion}
 use Rattle.std.specs.Option.{option_map, option_and_then}
-use Rattle.indexmap.specs.IndexMap.{get_by}
+use Rattle.std.specs.HashMap.{get_by}
 use Rattle.ir_types.specs.declared.layout.Layout.{Layout}
 use Rattle.ir_types.specs.declared.name_map.NameMap.{NameMap}
 use Rattle.ir_types.specs.declared.named.NamedTy.{NamedTy}

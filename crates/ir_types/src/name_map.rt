@@ -1,10 +1,10 @@
 use crate::Name;
-use indexmap::IndexMap;
 use std::alloc::{AllocError, Global};
+use std::collections::HashMap;
 
 /// Values by name, each found without a walk through the others.
 pub(crate) struct NameMap<V> {
-    values: IndexMap<Name, V>,
+    values: HashMap<Name, V>,
 }
 
 impl<V: Drop> Drop for NameMap<V> {
@@ -24,7 +24,7 @@ impl<V: Drop> NameMap<V> {
         ensures { (name : Name) → value_of result name ≡ None }
     {
         NameMap {
-            values: IndexMap::new(alloc),
+            values: HashMap::new(alloc),
         }
     }
 
@@ -33,7 +33,7 @@ impl<V: Drop> NameMap<V> {
         ensures { IfOk result (λ map. (name : Name) → value_of map name ≡ None) }
     {
         Ok(NameMap {
-            values: IndexMap::with_capacity(alloc, names)?,
+            values: HashMap::with_capacity(alloc, names)?,
         })
     }
 
