@@ -2,7 +2,7 @@
 use Rattle.std.specs.Prelude.{List, [], ◌∷◌}
 use Rattle.module_grammar.specs.AttributeRules as attribute_rules
 use Rattle.module_grammar.specs.Sorts.{vocabulary}
-use Rattle.typed_grammars.specs.Typed.{Rule}
+use Rattle.predictive.specs.Typed.{Rule}
 
 abbrev pub rules_of_attributes : List (Rule vocabulary)
 rules_of_attributes =

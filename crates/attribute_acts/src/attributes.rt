@@ -2,14 +2,14 @@
 ghost use Rattle.std.specs.Prelude.{◌≡◌, OnOk};
 ghost use Rattle.module_grammar.specs.AttributeRules as rule;
 ghost use Rattle.module_grammar.specs.Sorts.{vocabulary};
-ghost use Rattle.typed_grammars.specs.Typed.{action};
+ghost use Rattle.predictive.specs.Typed.{action};
 
 use leaf_forms::{ExtensionPart, FunctionAttributesPart, IsPart, NumberPart, ParamAttributesPart};
 use module_grammar::{FunctionAttributeText, ParamAttributeText};
 use part_groups::Parts;
 use piece_forms::{FunctionAttributePart, ParamAttributePart};
+use predictive::Stack;
 use std::alloc::{AllocError, Global};
-use typed_grammars::Stack;
 
 /// No attributes of a parameter, or no more of them.
 #[inline(never)]

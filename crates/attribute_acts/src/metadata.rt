@@ -2,13 +2,13 @@
 ghost use Rattle.std.specs.Prelude.{◌≡◌, OnOk};
 ghost use Rattle.module_grammar.specs.AttributeRules as rule;
 ghost use Rattle.module_grammar.specs.Sorts.{vocabulary};
-ghost use Rattle.typed_grammars.specs.Typed.{action};
+ghost use Rattle.predictive.specs.Typed.{action};
 
 use leaf_forms::{AtPart, AttachedMetaPart, AttachmentsPart, BangPart, IsPart, MetaPart};
 use module_grammar::{BangText, MetaText};
 use part_groups::Parts;
+use predictive::Stack;
 use std::alloc::{AllocError, Global};
-use typed_grammars::Stack;
 
 /// What may stand there does not.
 #[inline(never)]

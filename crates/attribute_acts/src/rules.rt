@@ -1,7 +1,7 @@
 //! The acts of all rules of attributes and metadata, by number.
 ghost use Rattle.std.specs.Prelude.{◌≡◌, OnOk};
 ghost use Rattle.module_grammar.specs.Sorts.{vocabulary};
-ghost use Rattle.typed_grammars.specs.Typed.{act_at};
+ghost use Rattle.predictive.specs.Typed.{act_at};
 ghost use Rattle.attribute_acts.specs.Listed.{rules_of_attributes};
 
 use crate::{attributes, metadata};

@@ -3,7 +3,7 @@ ghost use Rattle.std.specs.Prelude.{◌≡◌, IfOk, OnOk};
 ghost use Rattle.module_grammar.specs.BlockRules as rule;
 ghost use Rattle.module_grammar.specs.Joined as joined;
 ghost use Rattle.module_grammar.specs.Sorts.{vocabulary};
-ghost use Rattle.typed_grammars.specs.Typed.{action};
+ghost use Rattle.predictive.specs.Typed.{action};
 
 use contents::Boxed;
 use ir_core::Name;
@@ -11,8 +11,8 @@ use leaf_forms::{BlocksPart, LabelPart, LinesPart, NamePart};
 use line_forms::{AttachedPart, BehindPart, BlockPart, BodyPart, EndPart, NodePart};
 use module_grammar::{BehindText, BlockText, BodyText, LineText, PhiText, Placed};
 use part_groups::Parts;
+use predictive::Stack;
 use std::alloc::{AllocError, Global};
-use typed_grammars::Stack;
 
 /// What stands before a terminator, of a register and what stands behind it.
 fn with_register(

@@ -2,7 +2,7 @@
 ghost use Rattle.std.specs.Prelude.{◌≡◌, OnOk};
 ghost use Rattle.module_grammar.specs.BlockRules as rule;
 ghost use Rattle.module_grammar.specs.Sorts.{vocabulary};
-ghost use Rattle.typed_grammars.specs.Typed.{action};
+ghost use Rattle.predictive.specs.Typed.{action};
 
 use contents::Boxed;
 use leaf_forms::{AtPart, AttachmentsPart, CasesPart, IntPart, LocalPart};
@@ -10,8 +10,8 @@ use line_forms::{BranchPart, CasePart, EndPart, ReturnedPart, TermPart};
 use module_grammar::{BranchText, CaseText, ConditionText, EndText, SwitchText, TermText};
 use part_groups::Parts;
 use piece_forms::{OperandPart, TypePart};
+use predictive::Stack;
 use std::alloc::{AllocError, Global};
-use typed_grammars::Stack;
 
 /// A terminator and the metadata behind it.
 #[inline(never)]

@@ -3,7 +3,7 @@ ghost use Rattle.std.specs.Prelude.{◌≡◌, IfOk, OnOk};
 ghost use Rattle.module_grammar.specs.BlockRules as rule;
 ghost use Rattle.module_grammar.specs.Joined as joined;
 ghost use Rattle.module_grammar.specs.Sorts.{vocabulary};
-ghost use Rattle.typed_grammars.specs.Typed.{action};
+ghost use Rattle.predictive.specs.Typed.{action};
 
 use contents::Boxed;
 use leaf_forms::{AtPart, AttachmentsPart, LocalPart, MetaPart};
@@ -11,8 +11,8 @@ use line_forms::{EntriesBehindPart, EntryPart, NextEntryPart, NodePart};
 use module_grammar::{EntriesBehindText, EntryText, NextEntryText, NodeText};
 use part_groups::Parts;
 use piece_forms::{TypePart, ValuePart};
+use predictive::Stack;
 use std::alloc::{AllocError, Global};
-use typed_grammars::Stack;
 
 /// Further entries and metadata, of what stands behind a comma there.
 fn entries_from(alloc: Global, next: NextEntryText) -> Result<EntriesBehindText, AllocError>

@@ -2,7 +2,7 @@
 ghost use Rattle.std.specs.Prelude.{◌≡◌, OnOk};
 ghost use Rattle.block_acts.specs.Listed.{rules_of_blocks};
 ghost use Rattle.module_grammar.specs.Sorts.{vocabulary};
-ghost use Rattle.typed_grammars.specs.Typed.{act_at};
+ghost use Rattle.predictive.specs.Typed.{act_at};
 
 use crate::{blocks, ends, phis};
 use part_groups::Parts;

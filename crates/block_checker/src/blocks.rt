@@ -14,8 +14,7 @@ ghost use Rattle.checked_pair.specs.Progress.{CameOf, Answers, past_line, lines_
 
 use crate::edges::{edges_answer, refused};
 use crate::labels::labels_once;
-use agreeing_blocks::{block_agrees, term_fault};
-use checked_pair::{CheckEnd, Pair};
+use checked_pair::{CheckEnd, Pair, block_agrees, term_fault};
 use erhl_assert::{HintBlock, HintStep, Letter, Reason, Spot, Verdict};
 use erhl_sides::{Sides, sides_of};
 use fact_sets::IndexedSet;

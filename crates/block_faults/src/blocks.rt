@@ -14,9 +14,9 @@ use function_names::Within;
 use line_faults::note_line;
 use module_grammar::{BlockText, DefinitionText, LineText};
 use name_claims::Fault;
+use predictive::Stack;
 use std::alloc::{AllocError, Global};
 use tree_surroundings::Surroundings;
-use typed_grammars::Stack;
 
 fn note_line_got<S: Surroundings>(
     alloc: Global,

@@ -11,7 +11,7 @@ ghost use Rattle.type_faults.specs.Noted.{noted};
 use function_names::Within;
 use module_grammar::{EntryText, NodeText, PhiText, TypeText};
 use name_claims::Fault;
-use typed_grammars::Stack;
+use predictive::Stack;
 use value_faults::{note_label, note_type_of_values, note_value};
 
 /// A value is of the phi's type, and comes from a block.

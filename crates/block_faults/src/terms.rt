@@ -10,8 +10,8 @@ ghost use Rattle.type_faults.specs.Noted.{noted};
 use function_names::Within;
 use module_grammar::{BranchText, CaseText, ConditionText, OperandText, SwitchText, TermText};
 use name_claims::Fault;
+use predictive::Stack;
 use type_faults::note_int;
-use typed_grammars::Stack;
 use value_faults::{note_known_type, note_label, note_operand};
 
 fn note_returned(within: &Within, returned: &Option<OperandText>, fault: &mut Option<Fault>)

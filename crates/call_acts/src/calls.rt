@@ -2,7 +2,7 @@
 ghost use Rattle.std.specs.Prelude.{◌≡◌, OnOk};
 ghost use Rattle.module_grammar.specs.LineRules as rule;
 ghost use Rattle.module_grammar.specs.Sorts.{vocabulary};
-ghost use Rattle.typed_grammars.specs.Typed.{action};
+ghost use Rattle.predictive.specs.Typed.{action};
 
 use contents::Boxed;
 use leaf_forms::{
@@ -16,8 +16,8 @@ use module_grammar::{
 };
 use part_groups::Parts;
 use piece_forms::{FunctionTypePart, ParamAttributePart, ResultTypePart, TypePart, ValuePart};
+use predictive::Stack;
 use std::alloc::{AllocError, Global};
-use typed_grammars::Stack;
 
 /// `ccc`, attributes, a callee and a call's end
 #[inline(never)]

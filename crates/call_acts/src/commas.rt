@@ -3,7 +3,7 @@ ghost use Rattle.std.specs.Prelude.{◌≡◌, IfOk, OnOk};
 ghost use Rattle.module_grammar.specs.Joined as joined;
 ghost use Rattle.module_grammar.specs.LineRules as rule;
 ghost use Rattle.module_grammar.specs.Sorts.{vocabulary};
-ghost use Rattle.typed_grammars.specs.Typed.{action};
+ghost use Rattle.predictive.specs.Typed.{action};
 
 use contents::Boxed;
 use leaf_forms::{AttachmentsPart, IntPart, MetaPart, NumberPart};
@@ -11,8 +11,8 @@ use line_forms::{AlignBehindPart, CountBehindPart, NextAlignPart, NextCountPart}
 use module_grammar::{AlignBehindText, CountBehindText, CountText, NextAlignText, NextCountText};
 use part_groups::Parts;
 use piece_forms::TypePart;
+use predictive::Stack;
 use std::alloc::{AllocError, Global};
-use typed_grammars::Stack;
 
 /// What stands behind an address, of what stands behind a comma there.
 #[inline(always)]

@@ -1,3 +1,4 @@
+pub mod Agreeing
 pub mod Asked
 pub mod Empty
 pub mod Progress

@@ -11,11 +11,11 @@ use crate::addresses::leads_to;
 use ir_core::Name;
 use module_grammar::{ConstText, Placed, TypeText};
 use name_claims::{Fault, Reason};
+use named_modules::global_name;
 use type_faults::{
     Lent, Sight, alike, at, from, is_pointer, note, note_int, note_type, note_unless,
     note_value_type, points_to,
 };
-use value_building::global_name;
 
 /// Whether it is the name of a function.
 pub fn is_function(sight: &Sight, name: &Name) -> bool

@@ -7,8 +7,8 @@ use Rattle.ir_core.specs.Limits.{limit_name}
 use Rattle.ir_types.specs.declared.names.Name.{Name}
 use Rattle.ir_types.specs.declared.names.Sigil.TheVariants as sigil
 use Rattle.expression_printer.specs.Printed.{printed_name}
-use Rattle.text_faults.specs.declared.fault.TextFault.{TextFault}
-use Rattle.text_faults.specs.declared.fault.TextFault.TheVariants as text
+use Rattle.ir_lexer.specs.declared.fault.TextFault.{TextFault}
+use Rattle.ir_lexer.specs.declared.fault.TextFault.TheVariants as text
 use Rattle.ir_shape.specs.declared.fault.LinePlace.{LinePlace}
 use Rattle.ir_shape.specs.declared.fault.ShapeFault.{ShapeFault}
 use Rattle.ir_shape.specs.Shape.{kind_text}

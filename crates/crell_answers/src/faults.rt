@@ -10,8 +10,8 @@ use crate::answer::{Answer, fault, past_limit};
 use crate::pieces::{push_name, push_number, push_place};
 use definedness::Undefined;
 use ir_core::{Name, Sigil};
+use ir_reader::TextFault;
 use ir_shape::{LinePlace, ShapeFault};
-use ir_spelling::TextFault;
 use module_input::ModuleFault;
 use std::alloc::{AllocError, Global};
 

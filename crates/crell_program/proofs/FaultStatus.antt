@@ -1,8 +1,8 @@
 -- The status of an answer to a module's fault.
 use Rattle.std.proofs.Common.{◌≡◌, ◌∙◌, ◌≤◌, ℕ, List, length, refl, sym, ap, arith}
 use Rattle.ir_core.specs.Limits.{text_limit}
-use Rattle.text_faults.specs.declared.fault.TextFault.{TextFault}
-use Rattle.text_faults.specs.declared.fault.TextFault.TheVariants as text
+use Rattle.ir_lexer.specs.declared.fault.TextFault.{TextFault}
+use Rattle.ir_lexer.specs.declared.fault.TextFault.TheVariants as text
 use Rattle.module_input.specs.declared.fault.ModuleFault.{ModuleFault}
 use Rattle.module_input.specs.declared.fault.ModuleFault.TheVariants as faults
 use Rattle.module_input.specs.Laws.{FaultKind, PastLimit, Misspelled, IllFormed, Silent, fault_kind, text_kind}

@@ -1,10 +1,10 @@
 -- What is so by each of the two grammars.
 use Rattle.std.proofs.Common.{◌≢◌, ℕ, List}
-use Rattle.text_faults.specs.declared.fault.TextFault.{TextFault}
-use Rattle.text_faults.specs.declared.fault.TextFault.TheVariants as text
+use Rattle.ir_lexer.specs.declared.fault.TextFault.{TextFault}
+use Rattle.ir_lexer.specs.declared.fault.TextFault.TheVariants as text
 use Rattle.module_input.specs.declared.fault.ModuleFault.TheVariants as faults
 use Rattle.module_input.specs.Laws as small
-use Rattle.whole_input.specs.Laws as whole
+use Rattle.module_reader.specs.Laws as whole
 use Rattle.crell_program.specs.declared.command.Form.TheVariants.{ModuleText, HintFile}
 use Rattle.crell_program.specs.declared.command.Grammar.{Grammar}
 use Rattle.crell_program.specs.declared.command.Grammar.TheVariants.{Small, Whole}

@@ -6,8 +6,8 @@ use Rattle.ir_core.specs.declared.modules.Module.{Module}
 use Rattle.ir_machine.specs.declared.items.Item.{Item}
 use Rattle.ir_machine.specs.declared.items.Input.{Input}
 use Rattle.ir_machine.specs.Refinement.{Shows, MayShow}
-use Rattle.text_faults.specs.declared.fault.TextFault.{TextFault}
-use Rattle.text_faults.specs.declared.fault.TextFault.TheVariants as text
+use Rattle.ir_lexer.specs.declared.fault.TextFault.{TextFault}
+use Rattle.ir_lexer.specs.declared.fault.TextFault.TheVariants as text
 use Rattle.module_input.specs.declared.fault.ModuleFault.{ModuleFault}
 use Rattle.module_input.specs.declared.fault.ModuleFault.TheVariants as faults
 use Rattle.ir_core.specs.declared.limits.Limit.{Limit}

@@ -8,5 +8,5 @@ pub(crate) fn first_faults_agree()
     ensures spelled { FaultsExcludeModules }
 {
     module_input::first_faults_agree();
-    whole_input::first_faults_agree();
+    module_reader::first_faults_agree();
 }

@@ -31,10 +31,10 @@ use ir_core::{Limit, Module};
 use ir_printer::print_module;
 use ir_rename::name_all;
 use module_input::read_input;
+use module_reader::read_whole;
 use rule_base::{InferRule, LentBook, Pass, RuleBook, RuleSet, ShippedRules};
 use std::alloc::{AllocError, Global};
 use std::marker::PhantomData;
-use whole_input::read_whole;
 
 /// The status where the words are no command's.
 const USAGE: u8 = 2;

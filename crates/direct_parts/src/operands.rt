@@ -5,8 +5,8 @@ ghost use Rattle.module_grammar.specs.declared.parts.Piece.TheVariants as piece;
 
 use contents::Boxed;
 use module_grammar::{OperandText, Part, Piece, TypeText, ValueText};
+use predictive::Stack;
 use std::alloc::{AllocError, Global};
-use typed_grammars::Stack;
 
 /// The operand of the type and the value on top.
 #[inline(always)]

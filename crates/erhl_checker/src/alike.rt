@@ -2,11 +2,11 @@
 ghost use Rattle.std.specs.Prelude.{◌≡◌, IfOk, Some};
 ghost use Rattle.ir_types.specs.Same.{same_list};
 ghost use Rattle.erhl_assert.specs.Alignment.{no_facts, same_header};
-ghost use Rattle.agreeing_blocks.specs.Agreeing.{terms_agree};
+ghost use Rattle.checked_pair.specs.Agreeing.{terms_agree};
 ghost use Rattle.erhl_checker.specs.Alike.{are_few, blocks_alike, functions_alike, lines_alike, no_phi};
 
-use agreeing_blocks::term_fault;
 use allowed_lines::lines_agree;
+use checked_pair::term_fault;
 use erhl_sides::Sides;
 use fact_sets::IndexedSet;
 use ir_core::{Block, Function, Instr, Limit, Param, Phi, Term, same_name, same_ty};
@@ -27,7 +27,7 @@ impl<'b> Drop for Agreeing<'b> {
 
 impl<'b> Likeness<Instr> for Agreeing<'b> {
     ghost use Rattle.std.specs.Prelude.{Some};
-    ghost use Rattle.agreeing_blocks.specs.Agreeing.{instrs_agree};
+    ghost use Rattle.checked_pair.specs.Agreeing.{instrs_agree};
 
     ghost like = { λ _ x y. instrs_agree (Some x) (Some y) };
 

@@ -16,7 +16,7 @@ use Rattle.ir_values.specs.declared.operations.Outcome.TheVariants.{Gives, Trap}
 use Rattle.ir_values.specs.Laws.{flags_among}
 use Rattle.ir_values.specs.Operations.{IsOutcomeLessDefined, traps, binary_value}
 use Rattle.ir_values.specs.Selections.{select_outcome}
-use Rattle.value_laws.proofs.Monotone.{binary_monotone, icmp_monotone, cast_monotone, select_monotone}
+use Rattle.ir_values.proofs.Monotone.{binary_monotone, icmp_monotone, cast_monotone, select_monotone}
 use Rattle.ir_machine.specs.Registers.{binary_at, icmp_at, cast_at, selects}
 use Rattle.erhl_assert.specs.Sides.{IsRelated}
 

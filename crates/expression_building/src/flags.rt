@@ -5,8 +5,8 @@ ghost use Rattle.named_modules.specs.Lines as lines;
 
 use ir_core::{CastOp, Flags};
 use module_grammar::{CastWord, FlagWord, OperatorText};
-use typed_grammars::Stack;
-use value_building::item_at;
+use named_modules::item_at;
+use predictive::Stack;
 
 fn is_nuw(word: FlagWord) -> bool
     ensures { result ≡ lines.is_nuw word }

@@ -12,9 +12,9 @@ use contents::Exact;
 use ir_core::{Atom, Element, Load, NamedTypes, Operand, Reg, Shared, Ty, is_integer};
 use ir_lexer::Number;
 use module_grammar::{ElementText, LoadText, Placed};
+use named_modules::{align_of, type_of};
 use operand_tests::{entered, number_of};
 use std::alloc::{AllocError, Global};
-use value_building::{align_of, type_of};
 
 /// The number that an operand is.
 fn number_in(atom: &Atom<Reg>) -> Option<u64>

@@ -8,8 +8,8 @@ use crate::values::{operand_of, value_at};
 use contents::Boxed;
 use ir_core::{Binary, Cast, Expr, Expr0, Icmp, Reg, Select};
 use module_grammar::{BinaryText, CastText, CompareText, OperationText, SelectText};
+use named_modules::type_of;
 use std::alloc::{AllocError, Global};
-use value_building::type_of;
 
 fn binary_of(alloc: Global, binary: &BinaryText) -> Result<Binary<Reg>, AllocError>
     ensures { IfOk result (λ built. built ≡ part.binary_of binary.now) }

@@ -5,9 +5,9 @@ ghost use Rattle.expression_building.specs.Expressions as meaning;
 use contents::Seq;
 use ir_core::{Atom, Name, Operand, Reg, Ty};
 use module_grammar::{OperandText, Tag, ValueText};
+use named_modules::{const_of, item_at, name_of, type_of, with_room};
+use predictive::Stack;
 use std::alloc::{AllocError, Global};
-use typed_grammars::Stack;
-use value_building::{const_of, item_at, name_of, type_of, with_room};
 
 fn tagged(tag: Tag, name: Name) -> Reg
     ensures { result ≡ meaning.tagged tag name }

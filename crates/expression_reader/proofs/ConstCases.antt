@@ -16,7 +16,7 @@ use Rattle.named_modules.proofs.ConstKinds.{told_each}
 use Rattle.named_modules.specs.Faults.{int_faults}
 use Rattle.type_faults.proofs.Noted.{noted_joined}
 use Rattle.type_faults.specs.Noted.{noted}
-use Rattle.type_reader.specs.Types.{count_faults}
+use Rattle.expression_reader.specs.Types.{count_faults}
 
 -- `of`, the base and the indices of an address; a constant and its types in a conversion
 abbrev Address : Type 0

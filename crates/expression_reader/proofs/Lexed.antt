@@ -8,8 +8,8 @@ use Rattle.ir_core.specs.Limits.{text_limit}
 use Rattle.ir_lexer.specs.Cut.{IsFaultOf, cut, lexed}
 use Rattle.ir_lexer.specs.declared.token.LexFault.{LexFault}
 use Rattle.ir_lexer.specs.declared.token.LexFault.TheVariants as lexer
-use Rattle.type_reader.proofs.Cut.{IsCutWell, cut_well}
-use Rattle.type_reader.specs.Told.{of_lexer}
+use Rattle.expression_reader.proofs.TypeCut.{IsCutWell, cut_well}
+use Rattle.expression_reader.specs.ToldTypes.{of_lexer}
 
 pub fault_told : (text : List ℕ) (f : LexFault) → IsFaultOf f (lexed text) → IsExpressionFault text (of_lexer f)
 fault_told text f is = go (nat_lt text_limit (length text)) refl f is

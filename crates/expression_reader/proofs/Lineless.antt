@@ -1,8 +1,8 @@
 -- At most one line begins in an expression: its operation is counted as one.
 use Rattle.std.proofs.Common.{◌≡◌, ◌<◌, ◌≤◌, ℕ, zero, suc, ◌+◌, Bool, true, false, not, cond, ◌&&◌, ◌||◌, nat_eq, nat_le, List, [], ◌∷◌, ◌++◌, get_or, length, refl, sym, subst, arith}
 use Rattle.std.proofs.lemmas.Bool.{leb-true, ltb-true}
-use Rattle.gap_grammars.proofs.Listing.{both}
-use Rattle.gap_grammars.specs.Listing.{opened_rules}
+use Rattle.predictive.proofs.GapListing.{both}
+use Rattle.predictive.specs.GapListing.{opened_rules}
 use Rattle.ir_core.specs.declared.limits.Limit.TheVariants as limit
 use Rattle.ir_core.specs.Limits.{line_limit}
 use Rattle.module_grammar.specs.Rules.{rules}

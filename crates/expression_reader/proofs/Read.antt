@@ -13,10 +13,10 @@ use Rattle.module_trees.specs.Reading.{IsReading}
 use Rattle.module_trees.specs.declared.unread.Unread.{Unread}
 use Rattle.module_trees.specs.declared.unread.Unread.TheVariants as unread
 use Rattle.module_grammar.proofs.TextTokens.{symbols_in}
-use Rattle.type_reader.proofs.Own.{kinds_are, own_kinds, own_seen}
+use Rattle.expression_reader.proofs.TypeOwn.{kinds_are, own_kinds, own_seen}
 use Rattle.expression_reader.proofs.Told.{limit_told, stuck_told}
 use Rattle.expression_reader.specs.Told.{IsTreeOf}
-use Rattle.type_reader.specs.Told.{of_unread}
+use Rattle.expression_reader.specs.ToldTypes.{of_unread}
 use Rattle.expression_reader.specs.Expressions.{IsExpressionFault, expression_number, logic_symbols}
 
 -- the answer for the tokens by their kinds, where these are held and lent

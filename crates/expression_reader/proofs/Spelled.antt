@@ -7,8 +7,8 @@ use Rattle.expression_reader.specs.Told.{IsTreeOf}
 use Rattle.ir_core.specs.Expressions.{Expr0}
 use Rattle.module_grammar.specs.declared.lines.ExprText.{ExprText}
 use Rattle.name_claims.specs.declared.claims.Fault.{Fault}
-use Rattle.noted_laws.specs.First.{NoneIsNotedOfNone, NotedComeFirst}
-use Rattle.text_faults.specs.declared.fault.TextFault.TheVariants as fault
+use Rattle.name_walks.specs.First.{NoneIsNotedOfNone, NotedComeFirst}
+use Rattle.ir_lexer.specs.declared.fault.TextFault.TheVariants as fault
 use Rattle.type_faults.specs.Noted.{noted}
 
 -- where nothing is noted the text spells what is built of its tree

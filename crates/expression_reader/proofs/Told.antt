@@ -7,9 +7,9 @@ use Rattle.ir_lexer.specs.Cut.{Placed}
 use Rattle.module_spelling.specs.Faults.{PassesLimit}
 use Rattle.module_texts.specs.Texts.{HasTokens, is_left_out_at, place_at}
 use Rattle.module_tokens.specs.LeftOut.{is_left_out}
-use Rattle.text_faults.specs.declared.fault.TextFault.TheVariants as fault
+use Rattle.ir_lexer.specs.declared.fault.TextFault.TheVariants as fault
 use Rattle.expression_reader.proofs.Lineless.{no_lines_passed}
-use Rattle.type_reader.specs.Told.{of_place}
+use Rattle.expression_reader.specs.ToldTypes.{of_place}
 use Rattle.expression_reader.specs.Expressions.{IsExpressionFault, IsStuckAt, expression_number, logic_kinds}
 
 left_out_is : (tokens : List Placed) (k : ℕ) (t : Placed) → slice_get tokens k ≡ Some t → is_left_out_at tokens k ≡ is_left_out t.kind

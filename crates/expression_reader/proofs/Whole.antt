@@ -18,12 +18,12 @@ use Rattle.name_claims.specs.declared.claims.Fault.{Fault}
 use Rattle.expression_building.specs.Expressions.{expression_of}
 use Rattle.predictive.proofs.Faults.{none_in_text}
 use Rattle.predictive.specs.declared.symbol.Symbol.TheVariants.{Non}
-use Rattle.text_faults.specs.declared.fault.TextFault.{TextFault}
-use Rattle.text_faults.specs.declared.fault.TextFault.TheVariants as fault
+use Rattle.ir_lexer.specs.declared.fault.TextFault.{TextFault}
+use Rattle.ir_lexer.specs.declared.fault.TextFault.TheVariants as fault
 use Rattle.expression_reader.specs.Laws.{IsToldFault}
 use Rattle.expression_reader.specs.Expressions.{AreOfExpression, IsExpressionFault, IsRangeFault, IsStuckAt, SpellsExpression, expression_number, logic_kinds, logic_symbols}
 use Rattle.expression_reader.specs.Ranges.{range_faults}
-use Rattle.type_reader.specs.Types.{OfTokens}
+use Rattle.expression_reader.specs.Types.{OfTokens}
 
 none_there : {X : Type 0} (xs : List X) (x : X) → xs ≡ [] → Contains xs x → ⊥
 none_there [] x e (k, less, at) = omega (arith, less)

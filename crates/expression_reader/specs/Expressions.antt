@@ -19,9 +19,9 @@ use Rattle.module_texts.specs.Texts.{HasLexFault, is_left_out_at, place_at}
 use Rattle.module_tokens.specs.LeftOut.{is_left_out}
 use Rattle.module_trees.specs.Reading.{IsReadAs}
 use Rattle.name_claims.specs.declared.claims.Fault.{Fault}
-use Rattle.text_faults.specs.declared.fault.TextFault.{TextFault}
-use Rattle.text_faults.specs.declared.fault.TextFault.TheVariants as fault
-use Rattle.type_reader.specs.Types.{OfTokens}
+use Rattle.ir_lexer.specs.declared.fault.TextFault.{TextFault}
+use Rattle.ir_lexer.specs.declared.fault.TextFault.TheVariants as fault
+use Rattle.expression_reader.specs.Types.{OfTokens}
 
 -- ---- what is spelled
 

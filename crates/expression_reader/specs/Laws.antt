@@ -3,8 +3,8 @@ use Rattle.std.specs.Prelude.{◌≡◌, ℕ, List}
 use Rattle.expression_reader.specs.Expressions.{IsExpressionFault, SpellsExpression}
 use Rattle.ir_core.specs.Expressions.{Expr0}
 use Rattle.module_texts.specs.Texts.{IsShort}
-use Rattle.text_faults.specs.declared.fault.TextFault.{TextFault}
-use Rattle.text_faults.specs.declared.fault.TextFault.TheVariants as fault
+use Rattle.ir_lexer.specs.declared.fault.TextFault.{TextFault}
+use Rattle.ir_lexer.specs.declared.fault.TextFault.TheVariants as fault
 
 -- no text spells two expressions
 abbrev pub ExpressionsAreOne : Type 0

@@ -1,4 +1,7 @@
-pub mod Ranges
 pub mod Expressions
 pub mod Laws
+pub mod Ranges
 pub mod Told
+pub mod ToldTypes
+pub mod TypeLaws
+pub mod Types

@@ -17,7 +17,7 @@ use Rattle.module_grammar.specs.declared.types.TypeText.{TypeText}
 use Rattle.name_claims.specs.declared.claims.Fault.{Fault}
 use Rattle.named_modules.specs.Faults.{align_faults, int_faults}
 use Rattle.named_modules.specs.Types.{type_of}
-use Rattle.type_reader.specs.Types.{count_faults}
+use Rattle.expression_reader.specs.Types.{count_faults}
 
 -- ---- constants
 

@@ -15,7 +15,7 @@ use Rattle.module_grammar.specs.declared.types.TypeText.{TypeText}
 use Rattle.name_claims.specs.declared.claims.Fault.{Fault}
 use Rattle.named_modules.specs.Faults.{align_faults}
 use Rattle.named_modules.specs.Types.{type_of}
-use Rattle.type_reader.specs.Types.{OfTokens, count_faults}
+use Rattle.expression_reader.specs.Types.{OfTokens, count_faults}
 
 -- the tokens of the text are written of this expression
 abbrev pub IsTreeOf : List ℕ → ExprText → Type 0

@@ -13,7 +13,7 @@ use type_faults::note_int;
 
 /// What is out of range in a constant at the type that is stated for it.
 #[cycle(constants)]
-#[tactic(auto, using(crate::proofs::ConstCases::of_int, crate::proofs::ConstCases::of_null, crate::proofs::ConstCases::of_undef, crate::proofs::ConstCases::of_global, value_building::proofs::Measures::in_element, value_building::proofs::Measures::in_base, value_building::proofs::Measures::in_cast))]
+#[tactic(auto, using(crate::proofs::ConstCases::of_int, crate::proofs::ConstCases::of_null, crate::proofs::ConstCases::of_undef, crate::proofs::ConstCases::of_global, named_modules::proofs::Measures::in_element, named_modules::proofs::Measures::in_base, named_modules::proofs::Measures::in_cast))]
 pub fn note_const(constant: &ConstText, ty: &TypeText, told: &mut Option<Fault>)
     ensures { told.new ≡ noted (meaning.const_faults constant.now (type_of ty.now)) told.old }
 {
@@ -38,7 +38,7 @@ pub fn note_const(constant: &ConstText, ty: &TypeText, told: &mut Option<Fault>)
 
 /// What is out of range in a type and a constant behind it.
 #[cycle(constants)]
-#[tactic(auto, using(value_building::proofs::Measures::in_part, type_faults::proofs::Noted::noted_joined))]
+#[tactic(auto, using(named_modules::proofs::Measures::in_part, type_faults::proofs::Noted::noted_joined))]
 fn note_part(ty: &TypeText, constant: &ConstText, told: &mut Option<Fault>)
     ensures { told.new ≡ noted (part.part_faults (ty.now, constant.now)) told.old }
 {
@@ -48,7 +48,7 @@ fn note_part(ty: &TypeText, constant: &ConstText, told: &mut Option<Fault>)
 
 /// The same of several.
 #[cycle(constants)]
-#[tactic(auto, using(value_building::proofs::Measures::in_parts))]
+#[tactic(auto, using(named_modules::proofs::Measures::in_parts))]
 fn note_parts(parts: &[(TypeText, ConstText)], told: &mut Option<Fault>)
     ensures { told.new ≡ noted (flat_map part.part_faults parts.now) told.old }
 {

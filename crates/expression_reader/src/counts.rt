@@ -3,7 +3,7 @@ ghost use Rattle.std.specs.Prelude.{◌≡◌};
 ghost use Rattle.std.specs.List.{flat_map};
 ghost use Rattle.named_modules.specs.Types as meaning;
 ghost use Rattle.type_faults.specs.Noted.{noted};
-ghost use Rattle.type_reader.specs.Types.{count_faults};
+ghost use Rattle.expression_reader.specs.Types.{count_faults};
 
 use ir_lexer::Number;
 use module_grammar::TypeText;

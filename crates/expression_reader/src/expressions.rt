@@ -8,9 +8,9 @@ use crate::ranges::first_fault;
 use crate::trees::tree_in;
 use expression_building::expression_of;
 use ir_core::{Expr0, Limit};
-use noted_laws::noted_faults_come_first;
+use ir_lexer::TextFault;
+use name_walks::noted_faults_come_first;
 use std::alloc::Global;
-use text_faults::TextFault;
 
 /// The expression that the text spells, or its first fault.
 fn expression_in(alloc: Global, text: &[u8]) -> Result<Expr0, TextFault>

@@ -1,12 +1,11 @@
 //! The fault of one step, as the fault of a text.
 ghost use Rattle.std.specs.Prelude.{◌≡◌, length, map};
 ghost use Rattle.module_grammar.specs.Spelled.{placed_in};
-ghost use Rattle.type_reader.specs.Told as told;
+ghost use Rattle.expression_reader.specs.ToldTypes as told;
 
-use ir_lexer::{LexFault, Token};
+use ir_lexer::{LexFault, TextFault, Token};
 use module_tokens::is_left_out;
 use module_trees::Unread;
-use text_faults::TextFault;
 
 pub fn of_lexer(fault: LexFault) -> TextFault
     ensures { result ≡ told.of_lexer fault }

@@ -13,8 +13,8 @@ use module_grammar::{
     ValueText,
 };
 use name_claims::Fault;
-use typed_grammars::Stack;
-use value_building::item_at;
+use named_modules::item_at;
+use predictive::Stack;
 use value_faults::note_align;
 
 /// A register is in no range.

@@ -9,12 +9,11 @@ ghost use Rattle.module_texts.specs.Texts.{HasTokens};
 use crate::faults::of_unread;
 use crate::tokens::read_tokens;
 use ir_core::Limit;
-use ir_lexer::Token;
+use ir_lexer::{TextFault, Token};
 use module_grammar::{ExprText, Language};
 use module_tokens::kinds_of;
 use module_trees::read_expression;
 use std::alloc::Global;
-use text_faults::TextFault;
 
 /// The tree of the tokens of a text, or their first fault.
 fn read_tree(alloc: Global, text: &[u8], tokens: &[Token]) -> Result<ExprText, TextFault>

@@ -4,7 +4,7 @@ ghost use Rattle.ir_grammar.specs.declared.parts.Part.TheVariants as part;
 ghost use Rattle.ir_grammar.specs.declared.parts.Tree.TheVariants as tree;
 ghost use Rattle.ir_grammar.specs.Rules as rule;
 ghost use Rattle.ir_grammar.specs.Sorts.{vocabulary};
-ghost use Rattle.typed_grammars.specs.Typed.{action};
+ghost use Rattle.predictive.specs.Typed.{action};
 
 use contents::Boxed;
 use ir_core::Name;
@@ -17,8 +17,8 @@ use part_forms::{
     EntryPart, IntPart, LinesPart, LocalPart, NamePart, NodePart, NumberPart, OperandPart,
     OperationPart, ReturnedPart, TruthPart, ValuePart, WidthPart, take,
 };
+use predictive::Stack;
 use std::alloc::{AllocError, Global};
-use typed_grammars::Stack;
 
 /// A terminator on top.
 fn push_term(parts: &mut Stack<Part>, alloc: Global, term: TermText) -> Result<(), AllocError>

@@ -1,6 +1,6 @@
 -- A number that is no rule's does nothing.
 use Rattle.std.proofs.Common.{◌≡◌, ℕ, ◌+◌, Bool, true, false, cond, List, [], ◌∷◌, nat_eq, refl, ap, ◌∙◌}
-use Rattle.typed_grammars.specs.Typed.{Rule, Vocabulary, act_at, action}
+use Rattle.predictive.specs.Typed.{Rule, Vocabulary, act_at, action}
 
 -- it is the number of none of the rules, which are numbered from i on
 abbrev pub AreOther : {w : Vocabulary} → ℕ → List (Rule w) → ℕ → Type 0

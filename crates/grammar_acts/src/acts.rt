@@ -3,7 +3,7 @@ ghost use Rattle.ir_grammar.specs.declared.parts.Part.TheVariants as part;
 ghost use Rattle.ir_grammar.specs.declared.parts.Tree.TheVariants as tree;
 ghost use Rattle.ir_grammar.specs.Rules as rule;
 ghost use Rattle.ir_grammar.specs.Sorts.{vocabulary};
-ghost use Rattle.typed_grammars.specs.Typed.{action};
+ghost use Rattle.predictive.specs.Typed.{action};
 
 use contents::Boxed;
 use ir_grammar::{
@@ -17,8 +17,8 @@ use part_forms::{
     NamePart, OperandPart, OperationPart, OperatorPart, OverflowPart, ParamPart, ParamsPart,
     PlainPart, PredPart, ResultPart, ReturnedPart, TermPart, ValuePart, WidthPart, take,
 };
+use predictive::Stack;
 use std::alloc::{AllocError, Global};
-use typed_grammars::Stack;
 
 /// An operation on top.
 fn push_operation(

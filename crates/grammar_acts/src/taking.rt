@@ -1,11 +1,11 @@
 ghost use Rattle.std.specs.Prelude.{◌≡◌};
 ghost use Rattle.ir_grammar.specs.Parts as part;
-ghost use Rattle.typed_grammars.specs.Typed as stack;
+ghost use Rattle.predictive.specs.Typed as stack;
 
 use ir_core::Name;
 use ir_grammar::{ExprText, ModuleText, Part, Placed};
 use part_forms::{ExprPart, GlobalPart, LocalPart, ModulePart, take};
-use typed_grammars::Stack;
+use predictive::Stack;
 
 /// The module on top of the stack, if it is one; else it is dropped.
 pub fn take_module(parts: &mut Stack<Part>) -> Option<ModuleText>

@@ -9,10 +9,10 @@ use ir_core::{Declaration, DeclaredParam, Name};
 use module_grammar::{
     DeclarationText, DeclaredNameText, DeclaredText, ItemText, ParamText, Placed, ResultText,
 };
+use named_modules::{extensions_of, item_at, result_of, type_of, with_room};
+use predictive::Stack;
 use std::alloc::{AllocError, Global};
 use tree_surroundings::Surroundings;
-use typed_grammars::Stack;
-use value_building::{extensions_of, item_at, result_of, type_of, with_room};
 
 fn declared_param(alloc: Global, param: &ParamText) -> Result<DeclaredParam, AllocError>
     ensures { IfOk result (λ built. built ≡ meaning.declared_param param.now) }

@@ -9,11 +9,9 @@ use crate::counting::due_behind;
 use contents::{Exact, Seq};
 use ir_core::{Function, Linkage, Param};
 use module_grammar::{DefinitionText, LinkageText, ParamText};
+use named_modules::{extensions_of, global_name, item_at, name_due, result_of, type_of, with_room};
+use predictive::Stack;
 use std::alloc::{AllocError, Global};
-use typed_grammars::Stack;
-use value_building::{
-    extensions_of, global_name, item_at, name_due, result_of, type_of, with_room,
-};
 
 fn linkage_said(linkage: LinkageText) -> Linkage
     ensures { result ≡ linkage_said linkage }

@@ -9,9 +9,9 @@ use ir_core::{GlobalVar, Init, Linkage, Ty};
 use module_grammar::{
     GlobalBodyText, GlobalNameText, HeldText, HoldingWord, ItemText, LinkageWord,
 };
+use named_modules::{align_of, global_name, init_of, item_at, type_of};
+use predictive::Stack;
 use std::alloc::{AllocError, Global};
-use typed_grammars::Stack;
-use value_building::{align_of, global_name, init_of, item_at, type_of};
 
 fn is_constant(word: HoldingWord) -> bool
     ensures { result ≡ modules.is_constant word }

@@ -10,10 +10,10 @@ use crate::named::types_in;
 use contents::Seq;
 use ir_core::{Function, Module, NamedTypes};
 use module_grammar::{ItemText, ModuleText};
+use named_modules::item_at;
+use predictive::Stack;
 use std::alloc::{AllocError, Global};
 use tree_surroundings::Surroundings;
-use typed_grammars::Stack;
-use value_building::item_at;
 
 /// Puts the function that the item defines, if it defines one, without its blocks.
 fn put_function(

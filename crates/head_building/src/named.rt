@@ -7,9 +7,9 @@ ghost use Rattle.named_modules.specs.Types.{type_of};
 use contents::{Exact, Seq};
 use ir_core::{Name, NamedTy, Shared, Ty};
 use module_grammar::{ItemText, Placed, TypeBodyText, TypeText};
+use named_modules::{item_at, type_of, with_room};
+use predictive::Stack;
 use std::alloc::{AllocError, Global};
-use typed_grammars::Stack;
-use value_building::{item_at, type_of, with_room};
 
 fn fields_of(alloc: Global, fields: &Stack<TypeText>) -> Result<Seq<Ty>, AllocError>
     ensures { IfOk result (λ types. types ≡ map type_of fields.now) }

@@ -8,11 +8,11 @@ use Rattle.tree_reader.specs.Lawful.{lawful}
 use Rattle.tree_reader.specs.Tables.{sets}
 use Rattle.tree_reader.proofs.Whole.{expression_ends, once}
 use Rattle.ir_naming.specs.Expressions.{IsNameOf, NamesExpression}
-use Rattle.ir_spelling.specs.Forms.{expression_form, name_form}
-use Rattle.spelling_laws.specs.Laws.{ExpressionsAreOne, FaultsExclude, NamesAreOne}
-use Rattle.spelling_laws.proofs.Found.{exclude, spell_one}
-use Rattle.spelling_laws.proofs.Instances.{expressions_named, names_named}
-use Rattle.spelling_laws.proofs.Lawful.{IsWrittenOnce}
+use Rattle.ir_reader.specs.Forms.{expression_form, name_form}
+use Rattle.ir_reader.specs.Laws.{ExpressionsAreOne, FaultsExclude, NamesAreOne}
+use Rattle.ir_reader.proofs.Found.{exclude, spell_one}
+use Rattle.ir_reader.proofs.Instances.{expressions_named, names_named}
+use Rattle.ir_reader.proofs.Lawful.{IsWrittenOnce}
 
 expressions_once : IsWrittenOnce expression_form
 expressions_once = once 19 (unambiguous grammar sets lawful 19 expression_ends) expression_text

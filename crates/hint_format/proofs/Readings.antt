@@ -9,13 +9,13 @@ use Rattle.ir_types.specs.declared.names.Sigil.{Sigil}
 use Rattle.ir_core.specs.Expressions.{Expr0}
 use Rattle.ir_naming.specs.Expressions.{IsNameOf, NamesExpression}
 use Rattle.expression_printer.specs.Printed.{printed_name}
-use Rattle.text_faults.specs.declared.fault.TextFault.{TextFault}
-use Rattle.text_faults.specs.declared.fault.TextFault.TheVariants as text_fault
-use Rattle.ir_spelling.specs.Faults.{IsShort, IsTextFault}
-use Rattle.ir_spelling.specs.Forms as forms
-use Rattle.ir_spelling.specs.Spells.{IsSpelled, SpellsExpression, SpellsName}
-use Rattle.spelling_laws.specs.Laws.{FaultsExclude, IsRead, IsToldFault}
-use Rattle.spelling_laws.proofs.Judged.{judged_expression, judged_name}
+use Rattle.ir_lexer.specs.declared.fault.TextFault.{TextFault}
+use Rattle.ir_lexer.specs.declared.fault.TextFault.TheVariants as text_fault
+use Rattle.ir_reader.specs.Faults.{IsShort, IsTextFault}
+use Rattle.ir_reader.specs.Forms as forms
+use Rattle.ir_reader.specs.Spells.{IsSpelled, SpellsExpression, SpellsName}
+use Rattle.ir_reader.specs.Laws.{FaultsExclude, IsRead, IsToldFault}
+use Rattle.ir_reader.proofs.Judged.{judged_expression, judged_name}
 use Rattle.erhl_assert.specs.declared.hints.Hints.{Hints}
 use Rattle.json_forms.specs.declared.failure.Fault.{Fault}
 use Rattle.json_forms.specs.declared.failure.Fault.TheVariants.{At, Past}

@@ -6,9 +6,9 @@ use Rattle.ir_types.specs.declared.names.Name.{Name}
 use Rattle.ir_types.specs.declared.names.Sigil.{Sigil}
 use Rattle.ir_core.specs.Expressions.{Expr0}
 use Rattle.expression_printer.specs.Printed.{printed_name}
-use Rattle.text_faults.specs.declared.fault.TextFault.{TextFault}
-use Rattle.text_faults.specs.declared.fault.TextFault.TheVariants as text_fault
-use Rattle.spelling_laws.proofs.Judged.{judged_expression, judged_name}
+use Rattle.ir_lexer.specs.declared.fault.TextFault.{TextFault}
+use Rattle.ir_lexer.specs.declared.fault.TextFault.TheVariants as text_fault
+use Rattle.ir_reader.proofs.Judged.{judged_expression, judged_name}
 use Rattle.json_forms.specs.declared.failure.Failure.{Failure}
 use Rattle.json_forms.specs.declared.failure.Failure.TheVariants.{Form, Memory}
 use Rattle.json_forms.specs.declared.failure.Fault.{Fault}

@@ -17,8 +17,7 @@ ghost use Rattle.hint_format.specs.Reading.{expression_reading, failure_of, name
 
 use expression_printer::print_name;
 use ir_core::{Atom, Expr, Expr0, Name, Operand, Reg, Sigil};
-use ir_reader::{read_expr, read_name};
-use ir_spelling::TextFault;
+use ir_reader::{TextFault, read_expr, read_name};
 use json_forms::{Failure, Fault, TextForm, unfit};
 use std::alloc::{AllocError, Global};
 

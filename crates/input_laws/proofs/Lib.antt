@@ -1,3 +1,6 @@
 pub mod FirstWays
-pub mod Uses
+pub mod PrintedExpressions
+pub mod PrintedFacts
+pub mod PrintedNames
 pub mod Texts
+pub mod Uses

@@ -12,10 +12,10 @@ use Rattle.definedness.specs.Undefined.{IsFirstUndefined}
 use Rattle.ir_naming.specs.Spells.{NamesModule}
 use Rattle.ir_shape.specs.declared.fault.ShapeFault.{ShapeFault}
 use Rattle.ir_shape.specs.Shape.{first_fault}
-use Rattle.ir_spelling.specs.Forms.{module_form}
-use Rattle.ir_spelling.specs.Spells.{Spells}
+use Rattle.ir_reader.specs.Forms.{module_form}
+use Rattle.ir_reader.specs.Spells.{Spells}
 use Rattle.ir_core.proofs.Within.{lies_within}
-use Rattle.spelling_laws.specs.Laws.{EachIsJudged, ModulesAreInRange, ModulesAreOverIntegers, ModulesAreShort, ModulesHaveShape}
+use Rattle.ir_reader.specs.Laws.{EachIsJudged, ModulesAreInRange, ModulesAreOverIntegers, ModulesAreShort, ModulesHaveShape}
 use Rattle.module_input.specs.declared.fault.ModuleFault.{ModuleFault}
 use Rattle.module_input.specs.declared.fault.ModuleFault.TheVariants as fault
 use Rattle.module_input.specs.Faults.{FirstWithout}

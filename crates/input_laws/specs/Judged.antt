@@ -7,7 +7,7 @@ use Rattle.ir_core.specs.Ranges.{AreBytes}
 use Rattle.ir_core.specs.WellFormed.{IsFunctionDefined}
 use Rattle.definedness.specs.declared.paths.Undefined.{Undefined}
 use Rattle.definedness.specs.Undefined.{AreLabelsKnown, IsFirstUndefined}
-use Rattle.ir_spelling.specs.Spells.{SpellsWellFormed}
+use Rattle.ir_reader.specs.Spells.{SpellsWellFormed}
 use Rattle.module_input.specs.declared.fault.ModuleFault.{ModuleFault}
 use Rattle.module_input.specs.declared.fault.ModuleFault.TheVariants as fault
 use Rattle.module_input.specs.Faults.{IsModuleFault}

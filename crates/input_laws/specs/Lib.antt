@@ -1,2 +1,3 @@
-pub mod Ways
+pub mod HintLaws
 pub mod Judged
+pub mod Ways

@@ -2,7 +2,7 @@ ghost use Rattle.input_laws.specs.Judged.{FunctionsAreJudged, TextsAreJudged};
 ghost use Rattle.input_laws.specs.Ways.{WaysHaveAFirst};
 
 use definedness::{shape_knows_labels, undefined_uses_are_faults};
-use spelling_laws::{each_text_is_judged, spelled_modules_fit};
+use ir_reader::{each_text_is_judged, spelled_modules_fit};
 
 /// Empty on purpose: its contract is the law.
 ///

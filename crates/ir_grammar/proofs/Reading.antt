@@ -47,10 +47,10 @@ use Rattle.ir_grammar.specs.Sorts.{sort, vocabulary, Sort, Holds, part_of, value
 use Rattle.ir_grammar.specs.Symbols.{Symbol, kind_of}
 use Rattle.ir_grammar.specs.Symbols as symbol
 use Rattle.ir_grammar.specs.Written as write
-use Rattle.typed_grammars.proofs.Loads.{lawful_rules, tree}
-use Rattle.typed_grammars.specs.Made.{Made, MadeEach}
-use Rattle.typed_grammars.specs.Meaning.{Each, IsLawful}
-use Rattle.typed_grammars.specs.Typed.{IsVocabulary, AllOf, IsRight, made, nth}
+use Rattle.predictive.proofs.Loads.{lawful_rules, tree}
+use Rattle.predictive.specs.Made.{Made, MadeEach}
+use Rattle.predictive.specs.Meaning.{Each, IsLawful}
+use Rattle.predictive.specs.Typed.{IsVocabulary, AllOf, IsRight, made, nth}
 
 content : (s : Symbol) → (c : Says (kind (kind_of s))) × (symbol_by (kind (kind_of s)) (kind_of s) c ≡ s)
 content (symbol.Local x) = (x, refl)

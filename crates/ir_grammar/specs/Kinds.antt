@@ -16,7 +16,7 @@ use Rattle.ir_grammar.specs.declared.trees.Placed.{Placed}
 use Rattle.ir_grammar.specs.Parts.{a_local, a_global, a_label, a_number, a_width, a_truth, a_overflow, a_exact, a_plain, a_cast, a_pred, a_flag}
 use Rattle.ir_grammar.specs.Symbols.{Symbol}
 use Rattle.ir_grammar.specs.Symbols as symbol
-use Rattle.typed_grammars.specs.Typed.{take}
+use Rattle.predictive.specs.Typed.{take}
 
 -- the kinds; all words and marks that say nothing but themselves are `Alone`
 pub data Kind : Type 0 where

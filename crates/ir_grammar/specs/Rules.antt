@@ -20,8 +20,8 @@ use Rattle.ir_grammar.specs.Symbols as symbol
 use Rattle.predictive.specs.Grammar.{Grammar}
 use Rattle.predictive.specs.declared.symbol.Symbol.{Symbol}
 use Rattle.predictive.specs.declared.symbol.Symbol.TheVariants.{Kind, Non}
-use Rattle.typed_grammars.specs.Meaning.{Meaning}
-use Rattle.typed_grammars.specs.Typed.{Of, Rule, meaning_of}
+use Rattle.predictive.specs.Meaning.{Meaning}
+use Rattle.predictive.specs.Typed.{Of, Rule, meaning_of}
 
 -- ---- the symbols of the right sides
 

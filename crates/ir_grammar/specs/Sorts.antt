@@ -34,7 +34,7 @@ use Rattle.ir_grammar.specs.Parts.{a_module, a_definition, a_result, a_params, a
 use Rattle.ir_grammar.specs.Symbols.{Symbol, kind_of}
 use Rattle.ir_grammar.specs.Symbols as symbol
 use Rattle.ir_grammar.specs.Written as write
-use Rattle.typed_grammars.specs.Typed.{Vocabulary}
+use Rattle.predictive.specs.Typed.{Vocabulary}
 
 -- the nonterminals
 pub data Sort : Type 0 where

@@ -7,7 +7,7 @@ use crate::trees::{
 use contents::Boxed;
 use ir_core::{CastOp, Name, Pred};
 use ir_lexer::Number;
-use typed_grammars::Stack;
+use predictive::Stack;
 
 /// A token that says more than its kind.
 #[derive(Drop)]

@@ -2,7 +2,7 @@ use crate::operators::{ExactOp, FlagWord, OverflowOp, PlainOp};
 use contents::Boxed;
 use ir_core::{CastOp, Name, Pred};
 use ir_lexer::Number;
-use typed_grammars::Stack;
+use predictive::Stack;
 
 /// What a token says, and the bytes that spell the token: from `start` up to `end`, counted from 0.
 #[derive(Drop)]

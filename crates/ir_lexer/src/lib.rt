@@ -2,10 +2,13 @@
 //!
 //! A text is cut from the left: a gap (blanks, a comment), a token, or a fault, each by what stands first
 //! and by the longest run from there. `lex` gives the tokens with their places, or the first fault.
+//! `TextFault` says why a text spells nothing; what each fault says of a text is told where its definition stands, in the crates of what is
+//! spelled.
 #![tactic(auto)]
 
 mod bytes;
 mod cut;
+mod fault;
 mod names;
 mod numbers;
 mod pieces;
@@ -16,6 +19,7 @@ mod token;
 mod wide;
 
 pub use cut::lex;
+pub use fault::TextFault;
 pub use saying::{bytes_of, is_word, mark_of, says};
 pub use token::{Kind, LexFault, Number, Token, TokenKind};
 pub use wide::Wide;

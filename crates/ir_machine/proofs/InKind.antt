@@ -36,7 +36,7 @@ use Rattle.ir_values.specs.Operations.{GivesInKind}
 use Rattle.ir_values.proofs.KindLaws.{poison_in_kind}
 use Rattle.ir_values.specs.declared.operations.Outcome.TheVariants.{Gives}
 use Rattle.ir_values.specs.Selections.{select_outcome}
-use Rattle.value_laws.proofs.InKind as law
+use Rattle.ir_values.proofs.InKind as law
 use Rattle.ir_machine.specs.declared.items.Item.{Item}
 use Rattle.ir_machine.specs.declared.items.Shown.{Shown}
 use Rattle.ir_machine.specs.declared.items.Shown.TheVariants as shown

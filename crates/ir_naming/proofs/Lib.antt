@@ -1,2 +1,12 @@
-pub mod Widths
+pub mod Built
+pub mod Claimed
+pub mod Expressions
+pub mod Known
+pub mod Lists
+pub mod Named
+pub mod Operations
+pub mod Ordered
+pub mod Parts
 pub mod Tallies
+pub mod Terms
+pub mod Widths

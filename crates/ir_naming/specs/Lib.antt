@@ -1,6 +1,8 @@
-pub mod Values
-pub mod Naming
+pub mod Examples
 pub mod Expressions
+pub mod Laws
 pub mod Modules
+pub mod Naming
 pub mod Spells
+pub mod Values
 pub mod Walk

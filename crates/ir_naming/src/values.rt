@@ -10,8 +10,8 @@ use ir_grammar::{
     BinaryText, CastText, CompareText, FlagWord, OperandText, OperationText, OperatorText, Placed,
     SelectText, ValueText,
 };
+use predictive::Stack;
 use std::alloc::{AllocError, Global};
-use typed_grammars::Stack;
 
 fn is_nuw(word: FlagWord) -> bool
     ensures { result ≡ meaning.is_nuw word }

@@ -20,19 +20,19 @@ use Rattle.tree_reader.specs.Lines.{IsPastLimit}
 use Rattle.ir_naming.specs.Expressions.{NamesExpression, logic_expression}
 use Rattle.ir_naming.specs.Modules.{module_of}
 use Rattle.ir_naming.specs.Spells.{NamesModule}
-use Rattle.ir_naming_laws.specs.Laws.{IsFaultless, IsFaultlessExpression}
-use Rattle.ir_naming_laws.proofs.Expressions.{expression_built}
-use Rattle.ir_naming_laws.proofs.Named.{module_named}
-use Rattle.text_faults.specs.declared.fault.TextFault.{TextFault}
-use Rattle.ir_spelling.specs.Faults.{HasTokens, IsTextFault}
-use Rattle.ir_spelling.specs.Forms.{Form, module_form}
-use Rattle.ir_spelling.specs.Spells.{IsSpelled, Spells, symbols_cut}
-use Rattle.spelling_laws.specs.Told.{HasSpans, IsTreeFault, IsTreeNameFault, IsTreeOf}
-use Rattle.spelling_laws.proofs.Counting.{all_few, is_past}
-use Rattle.spelling_laws.proofs.Fit.{in_order}
-use Rattle.spelling_laws.proofs.Grammars.{kinds_are, tree_told}
-use Rattle.spelling_laws.proofs.Lexed.{have_bytes}
-use Rattle.spelling_laws.proofs.Named.{name_told}
+use Rattle.ir_naming.specs.Laws.{IsFaultless, IsFaultlessExpression}
+use Rattle.ir_naming.proofs.Expressions.{expression_built}
+use Rattle.ir_naming.proofs.Named.{module_named}
+use Rattle.ir_lexer.specs.declared.fault.TextFault.{TextFault}
+use Rattle.ir_reader.specs.Faults.{HasTokens, IsTextFault}
+use Rattle.ir_reader.specs.Forms.{Form, module_form}
+use Rattle.ir_reader.specs.Spells.{IsSpelled, Spells, symbols_cut}
+use Rattle.ir_reader.specs.Told.{HasSpans, IsTreeFault, IsTreeNameFault, IsTreeOf}
+use Rattle.ir_reader.proofs.Counting.{all_few, is_past}
+use Rattle.ir_reader.proofs.Fit.{in_order}
+use Rattle.ir_reader.proofs.Grammars.{kinds_are, tree_told}
+use Rattle.ir_reader.proofs.Lexed.{have_bytes}
+use Rattle.ir_reader.proofs.Named.{name_told}
 
 -- ---- the answer for the tokens is the one for their text
 

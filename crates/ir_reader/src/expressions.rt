@@ -5,21 +5,20 @@ ghost use Rattle.ir_grammar.specs.declared.words.Language.TheVariants.{Logic};
 ghost use Rattle.ir_grammar.specs.Symbols.{placed_in, symbol_in};
 ghost use Rattle.ir_grammar.specs.Written.{expression};
 ghost use Rattle.ir_naming.specs.Expressions.{logic_expression};
-ghost use Rattle.ir_naming_laws.specs.Laws.{IsFaultlessExpression};
-ghost use Rattle.ir_spelling.specs.Faults.{IsTextFault};
-ghost use Rattle.ir_spelling.specs.Forms.{expression_form};
-ghost use Rattle.ir_spelling.specs.Spells.{SpellsExpression};
-ghost use Rattle.spelling_laws.specs.Told.{IsTreeFault, IsTreeNameFault, IsTreeOf};
+ghost use Rattle.ir_naming.specs.Laws.{IsFaultlessExpression};
+ghost use Rattle.ir_reader.specs.Faults.{IsTextFault};
+ghost use Rattle.ir_reader.specs.Forms.{expression_form};
+ghost use Rattle.ir_reader.specs.Spells.{SpellsExpression};
+ghost use Rattle.ir_reader.specs.Told.{IsTreeFault, IsTreeNameFault, IsTreeOf};
 
 use crate::faults::{of_grammar, of_names};
 use crate::tokens::read_tokens;
+use crate::{TextFault, texts_spell_one};
 use ir_core::{Expr0, Limit};
 use ir_grammar::ExprText;
 use ir_lexer::Token;
 use ir_naming::name_expression;
-use ir_spelling::TextFault;
 use name_claims::first_fault;
-use spelling_laws::texts_spell_one;
 use std::alloc::Global;
 use tree_reader::read_expression;
 

@@ -1,11 +1,11 @@
 //! The fault of one step, as the fault of a text.
 ghost use Rattle.std.specs.Prelude.{◌≡◌, length, map};
 ghost use Rattle.ir_grammar.specs.Symbols.{placed_in};
-ghost use Rattle.spelling_laws.specs.Told as told;
+ghost use Rattle.ir_reader.specs.Told as told;
 
+use crate::TextFault;
 use ir_core::Limit;
 use ir_lexer::{LexFault, Token};
-use ir_spelling::TextFault;
 use name_claims::{Fault, Reason};
 use tree_reader::is_left_out;
 

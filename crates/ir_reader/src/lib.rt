@@ -2,15 +2,22 @@
 //! to 64 bits, with binary operators, `icmp`, conversions, `select`, phis and terminators, and the expressions and names of the logic.
 //!
 //! A text is cut into tokens, the tokens are read as a tree, and the tree is given names; each of these steps tells the first fault.
+//! The definitions of what a text spells stand here (`specs/Spells.antt`, `specs/Faults.antt`), and their laws: it is one thing alone, in
+//! order, of shape and in range, or else one first fault.
 #![tactic(auto)]
 
 mod expressions;
 mod faults;
+mod laws;
 mod modules;
 mod names;
 mod tokens;
 
 pub use expressions::read_expr;
-pub use ir_spelling::TextFault;
+pub use ir_lexer::TextFault;
+pub use laws::{
+    each_text_is_judged, faults_and_spelling_exclude, faults_are_one, spelled_modules_fit,
+    texts_spell_one,
+};
 pub use modules::read_module;
 pub use names::read_name;

@@ -6,21 +6,20 @@ ghost use Rattle.ir_grammar.specs.declared.words.Language.TheVariants.{Ir};
 ghost use Rattle.ir_grammar.specs.Symbols.{kind_in, placed_in, symbol_in};
 ghost use Rattle.ir_grammar.specs.Written.{written};
 ghost use Rattle.ir_naming.specs.Modules.{module_of};
-ghost use Rattle.ir_naming_laws.specs.Laws.{IsFaultless};
-ghost use Rattle.ir_spelling.specs.Faults.{IsTextFault};
-ghost use Rattle.ir_spelling.specs.Forms.{module_form};
-ghost use Rattle.ir_spelling.specs.Spells.{Spells};
-ghost use Rattle.spelling_laws.specs.Told.{IsTreeFault, IsTreeNameFault, IsTreeOf};
+ghost use Rattle.ir_naming.specs.Laws.{IsFaultless};
+ghost use Rattle.ir_reader.specs.Faults.{IsTextFault};
+ghost use Rattle.ir_reader.specs.Forms.{module_form};
+ghost use Rattle.ir_reader.specs.Spells.{Spells};
+ghost use Rattle.ir_reader.specs.Told.{IsTreeFault, IsTreeNameFault, IsTreeOf};
 ghost use Rattle.tree_reader.specs.Lines.{IsPastLimit};
 
 use crate::faults::{of_names, of_stuck};
 use crate::tokens::read_tokens;
+use crate::{TextFault, texts_spell_one};
 use ir_core::{Limit, Module};
 use ir_grammar::{Language, ModuleText};
 use ir_lexer::Token;
-use ir_spelling::TextFault;
 use module_naming::name_module;
-use spelling_laws::texts_spell_one;
 use std::alloc::Global;
 use tree_reader::{kinds_of, line_past_limit, read_definitions_of};
 

@@ -4,18 +4,17 @@ ghost use Rattle.ir_core.specs.Limits.{text_limit};
 ghost use Rattle.ir_grammar.specs.declared.words.Language.TheVariants.{Ir};
 ghost use Rattle.ir_grammar.specs.Symbols.{placed_in, symbol_in};
 ghost use Rattle.ir_grammar.specs.Written as write;
-ghost use Rattle.ir_spelling.specs.Faults.{IsTextFault};
-ghost use Rattle.ir_spelling.specs.Forms.{name_form};
-ghost use Rattle.ir_spelling.specs.Spells.{SpellsName};
-ghost use Rattle.spelling_laws.specs.Told.{IsTreeFault, IsTreeOf};
+ghost use Rattle.ir_reader.specs.Faults.{IsTextFault};
+ghost use Rattle.ir_reader.specs.Forms.{name_form};
+ghost use Rattle.ir_reader.specs.Spells.{SpellsName};
+ghost use Rattle.ir_reader.specs.Told.{IsTreeFault, IsTreeOf};
 
 use crate::faults::of_grammar;
 use crate::tokens::read_tokens;
+use crate::{TextFault, texts_spell_one};
 use ir_core::{Limit, Name, Sigil};
 use ir_grammar::Placed;
 use ir_lexer::Token;
-use ir_spelling::TextFault;
-use spelling_laws::texts_spell_one;
 use std::alloc::Global;
 
 /// The one token of a text, or the first token that is not expected.

@@ -3,13 +3,13 @@ ghost use Rattle.ir_types.specs.declared.names.Sigil.{Sigil};
 ghost use Rattle.ir_core.specs.Limits.{text_limit};
 ghost use Rattle.ir_lexer.specs.Cut.{AreInOrder};
 ghost use Rattle.ir_grammar.specs.Symbols.{placed_in};
-ghost use Rattle.ir_spelling.specs.Faults.{HasTokens, IsTextFault};
-ghost use Rattle.ir_spelling.specs.Forms.{expression_form, module_form, name_form};
+ghost use Rattle.ir_reader.specs.Faults.{HasTokens, IsTextFault};
+ghost use Rattle.ir_reader.specs.Forms.{expression_form, module_form, name_form};
 
+use crate::TextFault;
 use crate::faults::of_lexer;
 use ir_core::Limit;
 use ir_lexer::{Token, lex};
-use ir_spelling::TextFault;
 use std::alloc::Global;
 
 /// The tokens of a text, or its first fault among them, whatever is read of the text.

@@ -1,4 +1,9 @@
-pub mod Widths
-pub mod Signs
-pub mod OperationLaws
+pub mod Defined
+pub mod Examples
+pub mod InKind
 pub mod KindLaws
+pub mod Monotone
+pub mod OperationLaws
+pub mod Signs
+pub mod Widths
+pub mod Zero

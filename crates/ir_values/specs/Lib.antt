@@ -1,9 +1,11 @@
-pub mod Values
-pub mod Numbers
-pub mod Results
-pub mod Operations
 pub mod Comparisons
 pub mod Conversions
-pub mod Selections
-pub mod Private
+pub mod Examples
 pub mod Laws
+pub mod Numbers
+pub mod Operations
+pub mod Private
+pub mod Results
+pub mod Selections
+pub mod ValueLaws
+pub mod Values

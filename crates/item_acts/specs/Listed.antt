@@ -3,7 +3,7 @@ use Rattle.std.specs.Prelude.{List, [], ◌∷◌}
 use Rattle.module_grammar.specs.FunctionRules as function_rules
 use Rattle.module_grammar.specs.ItemRules as item_rules
 use Rattle.module_grammar.specs.Sorts.{vocabulary}
-use Rattle.typed_grammars.specs.Typed.{Rule}
+use Rattle.predictive.specs.Typed.{Rule}
 
 abbrev pub rules_of_items : List (Rule vocabulary)
 rules_of_items =

@@ -3,15 +3,15 @@ ghost use Rattle.std.specs.Prelude.{◌≡◌, IfOk, OnOk};
 ghost use Rattle.module_grammar.specs.FunctionRules as rule;
 ghost use Rattle.module_grammar.specs.Joined as joined;
 ghost use Rattle.module_grammar.specs.Sorts.{vocabulary};
-ghost use Rattle.typed_grammars.specs.Typed.{action};
+ghost use Rattle.predictive.specs.Typed.{action};
 
 use contents::Boxed;
 use item_forms::{DeclaredParamsPart, DeclaredPart, HeadEndPart, NextDeclaredPart, ParamPart};
 use leaf_forms::GlobalPart;
 use module_grammar::{DeclaredNameText, DeclaredText, NextDeclaredText};
 use part_groups::Parts;
+use predictive::Stack;
 use std::alloc::{AllocError, Global};
-use typed_grammars::Stack;
 
 /// The parameters of a declaration from one of them on, or from `...` on.
 fn declared_from(alloc: Global, next: NextDeclaredText) -> Result<DeclaredText, AllocError>

@@ -2,7 +2,7 @@
 ghost use Rattle.std.specs.Prelude.{◌≡◌, OnOk};
 ghost use Rattle.module_grammar.specs.FunctionRules as rule;
 ghost use Rattle.module_grammar.specs.Sorts.{vocabulary};
-ghost use Rattle.typed_grammars.specs.Typed.{action};
+ghost use Rattle.predictive.specs.Typed.{action};
 
 use contents::Boxed;
 use item_forms::{HeadEndPart, HeadPart, ParamPart, ResultPart};
@@ -13,8 +13,8 @@ use leaf_forms::{
 use module_grammar::{HeadEndText, HeadText, LinkageText, ParamText, ResultText};
 use part_groups::Parts;
 use piece_forms::{ResultTypePart, TypePart};
+use predictive::Stack;
 use std::alloc::{AllocError, Global};
-use typed_grammars::Stack;
 
 /// `[ccc]`, attributes and `(void | T)`
 #[inline(never)]

@@ -6,7 +6,7 @@ ghost use Rattle.module_grammar.specs.Sorts.{vocabulary};
 ghost use Rattle.module_grammar.specs.declared.items.ItemText.TheVariants as form;
 ghost use Rattle.module_grammar.specs.declared.parts.Item.TheVariants as item;
 ghost use Rattle.module_grammar.specs.declared.parts.Part.TheVariants as part;
-ghost use Rattle.typed_grammars.specs.Typed.{action, take};
+ghost use Rattle.predictive.specs.Typed.{action, take};
 
 use contents::Boxed;
 use item_forms::{
@@ -18,8 +18,8 @@ use leaf_forms::{
 use line_forms::BlockPart;
 use module_grammar::{BlockText, DeclarationText, DefinitionText, ItemText, ModuleText};
 use part_groups::Parts;
+use predictive::Stack;
 use std::alloc::{AllocError, Global};
-use typed_grammars::Stack;
 
 /// No more items.
 #[inline(never)]

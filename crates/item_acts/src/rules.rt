@@ -2,7 +2,7 @@
 ghost use Rattle.std.specs.Prelude.{◌≡◌, OnOk};
 ghost use Rattle.item_acts.specs.Listed.{rules_of_items};
 ghost use Rattle.module_grammar.specs.Sorts.{vocabulary};
-ghost use Rattle.typed_grammars.specs.Typed.{act_at};
+ghost use Rattle.predictive.specs.Typed.{act_at};
 
 use crate::{declarations, globals, heads, items};
 use part_groups::Parts;

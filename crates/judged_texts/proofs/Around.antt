@@ -1,7 +1,7 @@
 -- What stands around names whose tree doesn't keep it is told by functions.
 use Rattle.std.proofs.Common.{◌≡◌, ◌<◌, ℕ, List, [], ◌∷◌, ◌++◌, map, false, inl, inr, refl, ap, sym, ◌∙◌, append_assoc, subst}
 use Rattle.std.proofs.lemmas.Bool.{ltb-true}
-use Rattle.gap_grammars.proofs.Joint as joint
+use Rattle.predictive.proofs.GapJoint as joint
 use Rattle.ir_lexer.specs.Cut.{Placed as PlacedToken}
 use Rattle.ir_types.specs.declared.names.Name.{Name}
 use Rattle.module_grammar.proofs.Lawful.{lawful}
@@ -29,7 +29,7 @@ use Rattle.module_texts.proofs.Stood.{one_place}
 use Rattle.predictive.proofs.Faults.{none_in_text}
 use Rattle.predictive.specs.Predictive.{MayEnd}
 use Rattle.predictive.specs.declared.symbol.Symbol.TheVariants.{Non}
-use Rattle.typed_grammars.specs.Made.{Made}
+use Rattle.predictive.specs.Made.{Made}
 use Rattle.judged_texts.proofs.Contexts.{Verdict, verdict}
 use Rattle.judged_texts.proofs.Decided.{Decided}
 use Rattle.judged_texts.proofs.Framed.{Framed, IsDebugAt, IsGlobalAt, debug_or_not, fixed_or_not, framed_or_not, global_or_not}

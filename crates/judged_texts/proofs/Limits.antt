@@ -2,7 +2,7 @@
 use Rattle.std.proofs.Common.{◌≡◌, ◌<◌, ◌≤◌, ◌+◌, ℕ, zero, suc, List, [], ◌∷◌, ◌++◌, length, map, take, drop, Option, Some, None, ◌⊎◌, inl, inr, refl, ap, sym, ◌∙◌, subst, arith}
 use Rattle.std.proofs.lemmas.Bool.{ltb-true}
 use Rattle.std.proofs.lemmas.List.{length-take, take-append-drop}
-use Rattle.gap_grammars.proofs.Joint as joint
+use Rattle.predictive.proofs.GapJoint as joint
 use Rattle.ir_core.specs.declared.limits.Limit.{Limit}
 use Rattle.module_grammar.proofs.Lawful.{lawful}
 use Rattle.module_grammar.proofs.WithGap.{is_gapped}

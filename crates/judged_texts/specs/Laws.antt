@@ -4,7 +4,7 @@ use Rattle.ir_core.specs.declared.modules.Module.{Module}
 use Rattle.module_spelling.specs.Spells.{Spells}
 use Rattle.module_texts.specs.Laws.{IsToldFault}
 use Rattle.module_texts.specs.Texts.{IsShort}
-use Rattle.text_faults.specs.declared.fault.TextFault.{TextFault}
+use Rattle.ir_lexer.specs.declared.fault.TextFault.{TextFault}
 
 -- Each text is short and spells a module, or something is first at fault in it that isn't want of memory.
 --

@@ -14,9 +14,9 @@ use contents::Boxed;
 use module_grammar::{
     BlockText, BranchText, DefinitionText, EntryText, OperandText, PhiText, TermText,
 };
+use named_modules::item_at;
+use predictive::Stack;
 use std::alloc::{AllocError, Global};
-use typed_grammars::Stack;
-use value_building::item_at;
 
 fn note_entries(
     alloc: Global,

@@ -8,9 +8,9 @@ ghost use Rattle.module_spelling.specs.Blocks as wanted;
 use crate::entering::note_path;
 use crate::judged::Judged;
 use module_grammar::{ConstText, InitText, OperandText, TypeText, ValueText};
+use named_modules::item_at;
+use predictive::Stack;
 use std::alloc::{AllocError, Global};
-use typed_grammars::Stack;
-use value_building::item_at;
 
 /// What a constant wants.
 #[cycle(constants)]

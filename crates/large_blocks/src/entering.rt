@@ -14,10 +14,10 @@ use crate::noting::{is_faultless, note_at};
 use const_faults::number_of;
 use ir_core::{Atom, NamedTypes, Ty};
 use module_grammar::{ConstText, OperandText, TypeText, ValueText};
+use named_modules::{const_of, item_at, type_of};
 use operand_tests::{entered, number_in};
+use predictive::Stack;
 use std::alloc::{AllocError, Global};
-use typed_grammars::Stack;
-use value_building::{const_of, item_at, type_of};
 
 /// Whether one of the types is large that constants enter, one inside the other.
 fn is_told_large(

@@ -10,10 +10,10 @@ use crate::constants::note_init;
 use crate::judged::Judged;
 use crate::noting::note_block;
 use module_grammar::{GlobalBodyText, HeldText, ItemText, ModuleText};
+use named_modules::item_at;
+use predictive::Stack;
 use std::alloc::{AllocError, Global};
 use type_faults::Sight;
-use typed_grammars::Stack;
-use value_building::item_at;
 
 fn note_start(
     alloc: Global,

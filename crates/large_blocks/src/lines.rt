@@ -13,9 +13,9 @@ use module_grammar::{
     ArgumentText, CallBodyText, CallEndText, ElementText, InstructionText, LineText, OperandText,
     OperationText, SelectText, StoreText, ValueText, VoidCallText,
 };
+use named_modules::item_at;
+use predictive::Stack;
 use std::alloc::{AllocError, Global};
-use typed_grammars::Stack;
-use value_building::item_at;
 
 #[tactic(auto, using(crate::proofs::Noted::noted_joined))]
 fn note_pair(

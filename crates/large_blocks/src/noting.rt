@@ -9,9 +9,9 @@ ghost use Rattle.named_modules.specs.Types.{type_of};
 use crate::judged::{Judged, is_large};
 use ir_core::Ty;
 use module_grammar::{CountText, TypeText};
+use named_modules::type_of;
 use std::alloc::{AllocError, Global};
 use type_faults::{Sight, first_of, int_of, note_type};
-use value_building::type_of;
 
 /// A place more.
 fn note(place: u32, told: &mut Option<u32>)

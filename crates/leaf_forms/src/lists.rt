@@ -8,7 +8,7 @@ use module_grammar::{
     LineText, List, MetaText, OperandText, ParamAttributeText, ParamText, Stars, TypeText,
 };
 use part_groups::Form;
-use typed_grammars::Stack;
+use predictive::Stack;
 
 pub struct StarsPart;
 

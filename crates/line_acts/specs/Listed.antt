@@ -2,7 +2,7 @@
 use Rattle.std.specs.Prelude.{List, [], ◌∷◌}
 use Rattle.module_grammar.specs.LineRules as line_rules
 use Rattle.module_grammar.specs.Sorts.{vocabulary}
-use Rattle.typed_grammars.specs.Typed.{Rule}
+use Rattle.predictive.specs.Typed.{Rule}
 
 abbrev pub rules_of_lines : List (Rule vocabulary)
 rules_of_lines =

@@ -4,7 +4,7 @@ ghost use Rattle.module_grammar.specs.LineRules as rule;
 ghost use Rattle.module_grammar.specs.Sorts.{vocabulary};
 ghost use Rattle.module_grammar.specs.declared.parts.Line.TheVariants as line;
 ghost use Rattle.module_grammar.specs.declared.parts.Part.TheVariants as part;
-ghost use Rattle.typed_grammars.specs.Typed.{action};
+ghost use Rattle.predictive.specs.Typed.{action};
 
 use contents::Boxed;
 use leaf_forms::{AtPart, AttachmentsPart, IsPart};
@@ -17,8 +17,8 @@ use module_grammar::{
 };
 use part_groups::Parts;
 use piece_forms::{OperandPart, TypePart};
+use predictive::Stack;
 use std::alloc::{AllocError, Global};
-use typed_grammars::Stack;
 
 /// An instruction and the metadata that is attached to it on top.
 #[inline(always)]

@@ -2,7 +2,7 @@
 ghost use Rattle.std.specs.Prelude.{◌≡◌, OnOk};
 ghost use Rattle.module_grammar.specs.LineRules as rule;
 ghost use Rattle.module_grammar.specs.Sorts.{vocabulary};
-ghost use Rattle.typed_grammars.specs.Typed.{action};
+ghost use Rattle.predictive.specs.Typed.{action};
 
 use contents::Boxed;
 use leaf_forms::{AlignPart, AtPart, IsPart, LinesPart, LocalPart, NamePart, OperandsPart};
@@ -10,8 +10,8 @@ use line_forms::{AttachedPart, ExprPart, LinePart, OperationPart};
 use module_grammar::{ElementText, ExprText, LineText, LoadText};
 use part_groups::Parts;
 use piece_forms::{OperandPart, TypePart};
+use predictive::Stack;
 use std::alloc::{AllocError, Global};
-use typed_grammars::Stack;
 
 /// `[LOCAL =]` and an instruction
 #[inline(never)]

@@ -2,14 +2,14 @@
 ghost use Rattle.std.specs.Prelude.{◌≡◌, OnOk};
 ghost use Rattle.module_grammar.specs.LineRules as rule;
 ghost use Rattle.module_grammar.specs.Sorts.{vocabulary};
-ghost use Rattle.typed_grammars.specs.Typed.{action};
+ghost use Rattle.predictive.specs.Typed.{action};
 
 use leaf_forms::{ExactPart, FlagPart, FlagsPart, IsPart, OverflowPart, PlainPart};
 use line_forms::OperatorPart;
 use module_grammar::OperatorText;
 use part_groups::Parts;
+use predictive::Stack;
 use std::alloc::{AllocError, Global};
-use typed_grammars::Stack;
 
 /// OVERFLOW and flags
 #[inline(never)]

@@ -2,7 +2,7 @@
 ghost use Rattle.std.specs.Prelude.{◌≡◌, OnOk};
 ghost use Rattle.line_acts.specs.Listed.{rules_of_lines};
 ghost use Rattle.module_grammar.specs.Sorts.{vocabulary};
-ghost use Rattle.typed_grammars.specs.Typed.{act_at};
+ghost use Rattle.predictive.specs.Typed.{act_at};
 
 use crate::{instructions, lines, operations, operators};
 use part_groups::Parts;

@@ -12,11 +12,11 @@ use ir_core::{Argument, Call, Extensions, Instr, Name};
 use module_grammar::{
     ArgumentText, CallBodyText, CallEndText, CalleeText, Placed, TypeText, VoidCallText,
 };
-use std::alloc::{AllocError, Global};
-use typed_grammars::Stack;
-use value_building::{
+use named_modules::{
     extensions_of, extensions_with, global_name, item_at, name_due, name_of, with_room,
 };
+use predictive::Stack;
+use std::alloc::{AllocError, Global};
 
 fn argument_of(maker: &mut TypeMaker, argument: &ArgumentText) -> Result<Argument, AllocError>
     ensures { IfOk result (λ built. built ≡ meaning.argument_of argument.now) }

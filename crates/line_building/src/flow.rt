@@ -11,9 +11,9 @@ use module_grammar::{
     BranchText, CaseText, ConditionText, EntryText, NodeText, OperandText, PhiText, SwitchText,
     TermText,
 };
+use named_modules::{built, int_of, item_at, name_due, name_of, value_at, with_room};
+use predictive::Stack;
 use std::alloc::AllocError;
-use typed_grammars::Stack;
-use value_building::{built, int_of, item_at, name_due, name_of, value_at, with_room};
 
 fn entry_of(maker: &mut TypeMaker, ty: &Ty, entry: &EntryText) -> Result<Entry, AllocError>
     ensures { IfOk result (λ made. made ≡ meaning.entry_of ty.now entry.now) }

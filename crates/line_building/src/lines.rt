@@ -15,9 +15,9 @@ use ir_core::{
 use module_grammar::{
     AllocaText, CountText, ElementText, InstructionText, LoadText, OperandText, Placed, StoreText,
 };
+use named_modules::{align_of, built, int_of, item_at, name_due, with_room};
+use predictive::Stack;
 use std::alloc::{AllocError, Global};
-use typed_grammars::Stack;
-use value_building::{align_of, built, int_of, item_at, name_due, with_room};
 
 /// The count behind its type, unless it is 1.
 fn count_kept(ty: Ty, number: Bits) -> Option<(Ty, Bits)>

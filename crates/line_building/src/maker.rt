@@ -7,10 +7,10 @@ ghost use Rattle.named_modules.specs.Types as meaning;
 use contents::Exact;
 use ir_core::{Name, Operand, Ty};
 use module_grammar::{OperandText, TypeText, ValueText};
+use named_modules::{type_of, value_at};
 use std::alloc::{AllocError, Global};
 use std::marker::Model;
 use type_faults::is_written;
-use value_building::{type_of, value_at};
 
 /// So many types are kept. Each that is made is sought among them.
 const ROOM: usize = 16;

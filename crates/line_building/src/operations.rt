@@ -11,9 +11,9 @@ use ir_core::{Binary, Cast, CastOp, Expr, Flags, Icmp, Name, Select};
 use module_grammar::{
     BinaryText, CastText, CastWord, CompareText, FlagWord, OperationText, OperatorText, SelectText,
 };
+use named_modules::{item_at, value_at};
+use predictive::Stack;
 use std::alloc::AllocError;
-use typed_grammars::Stack;
-use value_building::{item_at, value_at};
 
 fn is_nuw(word: FlagWord) -> bool
     ensures { result ≡ lines.is_nuw word }

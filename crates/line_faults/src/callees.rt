@@ -12,8 +12,8 @@ use function_names::Within;
 use ir_core::{DeclaredParam, Name, Param, Ty};
 use module_grammar::{CalledText, Placed, TypeText};
 use name_claims::{Fault, Reason};
+use predictive::Stack;
 use type_faults::{Callee, Sight, at, is_written, note, note_unless};
-use typed_grammars::Stack;
 
 /// How many parameters it has.
 fn param_count(callee: Callee) -> usize

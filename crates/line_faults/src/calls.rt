@@ -14,10 +14,10 @@ use module_grammar::{
     VoidCalleeText,
 };
 use name_claims::Fault;
+use named_modules::global_name;
+use predictive::Stack;
 use std::alloc::{AllocError, Global};
 use tree_surroundings::Surroundings;
-use typed_grammars::Stack;
-use value_building::global_name;
 use value_faults::{note_known_type, note_result, note_type_of_values, note_value};
 
 fn note_type_got(within: &Within, ty: Option<&TypeText>, fault: &mut Option<Fault>)

@@ -13,9 +13,9 @@ use head_building::{bare_of, due_behind, due_behind_params};
 use ir_core::{Block, Function, Instr, Name, NamedTypes, Phi};
 use line_building::{TypeMaker, term_of};
 use module_grammar::{BlockText, BodyText, DefinitionText, Placed};
+use named_modules::{item_at, name_due, with_room};
+use predictive::Stack;
 use std::alloc::{AllocError, Global};
-use typed_grammars::Stack;
-use value_building::{item_at, name_due, with_room};
 
 /// The phi nodes and the lines of a block, and the number that is due behind them.
 #[tactic(auto, using(crate::proofs::Due::lines_capped, crate::proofs::Due::behind_lines_capped))]

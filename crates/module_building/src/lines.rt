@@ -12,9 +12,9 @@ use head_building::due_behind;
 use ir_core::{Instr, NamedTypes};
 use line_building::{TypeMaker, line_at};
 use module_grammar::{CallBodyText, InstructionText, LineText, VoidCallText};
+use named_modules::{item_at, with_room};
+use predictive::Stack;
 use std::alloc::AllocError;
-use typed_grammars::Stack;
-use value_building::{item_at, with_room};
 
 fn is_debug_call(call: &VoidCallText) -> bool
     ensures { result ≡ written.is_debug_call call.now }

@@ -12,9 +12,9 @@ use contents::Seq;
 use ir_core::{Function, Module, NamedTypes};
 use line_building::TypeMaker;
 use module_grammar::{ItemText, ModuleText};
+use named_modules::with_room;
+use predictive::Stack;
 use std::alloc::{AllocError, Global};
-use typed_grammars::Stack;
-use value_building::with_room;
 
 /// Puts the function that the item defines, if it defines one.
 fn put_function(

@@ -9,9 +9,9 @@ use head_building::due_behind;
 use ir_core::Phi;
 use line_building::{TypeMaker, phi_at};
 use module_grammar::PhiText;
+use named_modules::{item_at, with_room};
+use predictive::Stack;
 use std::alloc::AllocError;
-use typed_grammars::Stack;
-use value_building::{item_at, with_room};
 
 /// The phi nodes, and the number that is due behind them.
 #[tactic(auto, using(crate::proofs::Due::capped_is))]

@@ -1,2 +1,3 @@
-pub mod Picked
 pub mod Kept
+pub mod Parts
+pub mod Picked

@@ -11,9 +11,9 @@ use crate::picks::{Pick, name_at};
 use ir_core::Name;
 use module_grammar::{ItemText, Placed};
 use name_claims::{Fault, Reason};
+use predictive::Stack;
 use std::alloc::AllocError;
 use type_faults::{at, note_unless};
-use typed_grammars::Stack;
 
 /// A number is the one that is due.
 fn note_number(due: u64, name: &Placed<Name>, fault: &mut Option<Fault>)

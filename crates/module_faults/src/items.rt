@@ -9,16 +9,16 @@ ghost use Rattle.value_faults.specs.Got.{got_faults};
 ghost use Rattle.type_faults.specs.Noted.{noted};
 
 use crate::picks::is_dropped;
+use crate::{note_function, note_params, note_result};
 use const_faults::note_init;
-use function_faults::{note_function, note_params, note_result};
 use module_grammar::{
     DeclarationText, DeclaredNameText, GlobalBodyText, HeldText, ItemText, TypeBodyText, TypeText,
 };
 use name_claims::Fault;
+use predictive::Stack;
 use std::alloc::{AllocError, Global};
 use tree_surroundings::Surroundings;
 use type_faults::{Sight, note_type};
-use typed_grammars::Stack;
 use value_faults::note_align;
 
 fn note_field(sight: &Sight, field: Option<&TypeText>, fault: &mut Option<Fault>)

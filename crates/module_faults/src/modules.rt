@@ -2,7 +2,7 @@
 ghost use Rattle.std.specs.Prelude.{◌≡◌, ◌↔◌, [], None, IfOk, IfSome, OnOk};
 ghost use Rattle.named_modules.specs.Built.{module_of};
 ghost use Rattle.named_modules.specs.Faults as meaning;
-ghost use Rattle.noted_laws.specs.First.{IsFirstOf};
+ghost use Rattle.name_walks.specs.First.{IsFirstOf};
 ghost use Rattle.type_faults.specs.Noted.{noted};
 
 use crate::dues::note_dues;
@@ -11,10 +11,10 @@ use crate::names::note_twice;
 use crate::picks::Pick;
 use module_grammar::{ItemText, ModuleText};
 use name_claims::Fault;
+use predictive::Stack;
 use std::alloc::{AllocError, Global};
 use tree_surroundings::Surroundings;
 use type_faults::Sight;
-use typed_grammars::Stack;
 
 /// Names of globals and functions are new, and numbers are counted through the globals and then through the functions.
 fn note_global_names(

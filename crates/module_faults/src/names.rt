@@ -10,10 +10,10 @@ use crate::picks::{Pick, name_at};
 use ir_core::Name;
 use module_grammar::{ItemText, Placed};
 use name_claims::{Fault, Reason};
+use predictive::Stack;
 use shape_kinds::LentNames;
 use std::alloc::{AllocError, Global};
 use type_faults::{at, note_unless};
-use typed_grammars::Stack;
 
 /// A name more, which is none of those that are taken.
 fn take<'a>(

@@ -7,8 +7,8 @@ ghost use Rattle.module_faults.specs.Picked as told;
 
 use ir_core::Name;
 use module_grammar::{DeclarationText, DeclaredNameText, ItemText, Placed};
-use typed_grammars::Stack;
-use value_building::global_name;
+use named_modules::global_name;
+use predictive::Stack;
 
 /// Which names are asked for: of globals and functions, of either, or of types.
 #[derive(Clone, Copy)]

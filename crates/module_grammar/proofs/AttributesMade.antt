@@ -12,7 +12,7 @@ use Rattle.module_grammar.specs.declared.attributes.ParamAttributeText.TheVarian
 use Rattle.module_grammar.specs.declared.places.Placed.{Placed}
 use Rattle.module_grammar.specs.Rules.{meaning}
 use Rattle.module_grammar.proofs.Lawful.{by}
-use Rattle.typed_grammars.specs.Made.{Made}
+use Rattle.predictive.specs.Made.{Made}
 
 pub convention : (x : Bool) → Made meaning 11 x
 convention false = by 26 refl _ tt

@@ -2,8 +2,8 @@
 use Rattle.std.proofs.Common.{◌≡◌, ◌<◌, ◌+◌, ◌-◌, ℕ, zero, suc, Bool, true, false, not, ◌&&◌, ◌||◌, nat_eq, nat_lt, List, [], ◌∷◌, ◌++◌, length, map, refl, ap, sym, ◌∙◌, subst, arith}
 use Rattle.std.proofs.lemmas.Bool.{eqb-true, ltb-true, ltb-false}
 use Rattle.std.proofs.lemmas.List.{append-nil, map-append}
-use Rattle.gap_grammars.proofs.Listing.{at_behind, behind, both, count_is, left_below}
-use Rattle.gap_grammars.specs.Listing.{opened_rules, stand_apart}
+use Rattle.predictive.proofs.GapListing.{at_behind, behind, both, count_is, left_below}
+use Rattle.predictive.specs.GapListing.{opened_rules, stand_apart}
 use Rattle.module_grammar.proofs.Vocabulary.{is_vocabulary}
 use Rattle.module_grammar.specs.Balanced.{IsBalanced, nothing, token, parens, brackets, braces, is_plain, is_plain_kind}
 use Rattle.module_grammar.specs.BalancedRules.{a_token, balanced_rules, plain_kinds}
@@ -16,7 +16,7 @@ use Rattle.predictive.specs.Grammar.{Forest, End, Leaf, Node, Forms, yield, Deri
 use Rattle.predictive.specs.Listed.{rule_at}
 use Rattle.predictive.specs.declared.symbol.Symbol.{Symbol as Sign}
 use Rattle.predictive.specs.declared.symbol.Symbol.TheVariants.{Kind, Non}
-use Rattle.typed_grammars.proofs.Sound.{divided}
+use Rattle.predictive.proofs.Sound.{divided}
 
 pub apart : stand_apart rules gap ≡ true
 apart = refl

@@ -16,7 +16,7 @@ use Rattle.module_grammar.proofs.ConstFolds as of_const
 use Rattle.module_grammar.proofs.InitFolds as of_init
 use Rattle.module_grammar.proofs.Lawful.{by}
 use Rattle.module_grammar.proofs.TypesMade.{ty}
-use Rattle.typed_grammars.specs.Made.{Made}
+use Rattle.predictive.specs.Made.{Made}
 
 pub int : (x : IntText) → Made meaning 43 x
 int (integer.Number n) = by 95 refl _ tt

@@ -24,7 +24,7 @@ use Rattle.module_grammar.proofs.ConstantsMade.{int, operand, value}
 use Rattle.module_grammar.proofs.Lawful.{by}
 use Rattle.module_grammar.proofs.LinesMade.{attached, lines, register}
 use Rattle.module_grammar.proofs.TypesMade.{ty}
-use Rattle.typed_grammars.specs.Made.{Made}
+use Rattle.predictive.specs.Made.{Made}
 
 entry : (x : EntryText) → Made meaning 85 x
 entry e = by 193 refl _ (value e.value, tt)

@@ -29,10 +29,10 @@ use Rattle.module_grammar.proofs.ConstFolds as of_const
 use Rattle.module_grammar.proofs.InitFolds as of_init
 use Rattle.module_grammar.proofs.TypeFolds as of_type
 use Rattle.module_grammar.proofs.Vocabulary.{is_vocabulary}
-use Rattle.typed_grammars.proofs.Loads.{lawful_rules, tree}
-use Rattle.typed_grammars.specs.Made.{Made, MadeEach}
-use Rattle.typed_grammars.specs.Meaning.{Each, IsLawful}
-use Rattle.typed_grammars.specs.Typed.{AllOf, IsRight, Rule, made, nth}
+use Rattle.predictive.proofs.Loads.{lawful_rules, tree}
+use Rattle.predictive.specs.Made.{Made, MadeEach}
+use Rattle.predictive.specs.Meaning.{Each, IsLawful}
+use Rattle.predictive.specs.Typed.{AllOf, IsRight, Rule, made, nth}
 
 abbrev IsWrittenAsRight : Rule vocabulary → Type 0
 IsWrittenAsRight r = IsRight vocabulary written_at r first_rule rules

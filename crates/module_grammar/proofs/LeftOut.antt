@@ -1,6 +1,6 @@
 -- The examples of text that isn't kept.
 use Rattle.std.proofs.Common.{◌≡◌, ◌+◌, ℕ, Bool, true, false, not, ◌||◌, nat_eq, nat_lt, cond, List, [], ◌∷◌, ◌++◌, refl, ap, sym, ◌∙◌, arith}
-use Rattle.gap_grammars.proofs.Listing.{both}
+use Rattle.predictive.proofs.GapListing.{both}
 use Rattle.module_grammar.specs.AtPlaces.{number_at, width_at}
 use Rattle.module_grammar.specs.Balanced.{IsBalanced, nothing, token, parens, brackets, braces, is_brace, is_bracket, is_plain_kind}
 use Rattle.module_grammar.specs.GapExamples.{TextsAreLeftOut, count}

@@ -37,7 +37,7 @@ use Rattle.module_grammar.proofs.AttributesMade.{align, attachment, attachments,
 use Rattle.module_grammar.proofs.ConstantsMade.{global_name, inbounds, indices, int, operand, value}
 use Rattle.module_grammar.proofs.Lawful.{by}
 use Rattle.module_grammar.proofs.TypesMade.{function_type, result, ty}
-use Rattle.typed_grammars.specs.Made.{Made}
+use Rattle.predictive.specs.Made.{Made}
 
 -- ---- operations of values
 

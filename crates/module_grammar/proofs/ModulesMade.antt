@@ -34,7 +34,7 @@ use Rattle.module_grammar.proofs.FlowMade.{block, blocks}
 use Rattle.module_grammar.proofs.Lawful.{by}
 use Rattle.module_grammar.proofs.LinesMade.{expression}
 use Rattle.module_grammar.proofs.TypesMade.{called, result, ty, types}
-use Rattle.typed_grammars.specs.Made.{Made}
+use Rattle.predictive.specs.Made.{Made}
 
 -- ---- functions
 

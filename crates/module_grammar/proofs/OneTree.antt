@@ -1,7 +1,7 @@
 -- Tokens are written of one tree.
 use Rattle.std.proofs.Common.{◌≡◌, ◌<◌, ℕ, Some, refl, ap, sym, ◌∙◌}
 use Rattle.std.proofs.lemmas.Bool.{ltb-true}
-use Rattle.gap_grammars.proofs.Joint as joint
+use Rattle.predictive.proofs.GapJoint as joint
 use Rattle.module_grammar.proofs.Lawful.{lawful}
 use Rattle.module_grammar.proofs.ModulesMade.{called_text, declared_text, expression_text, global_text, local_text, module_text, type_text}
 use Rattle.module_grammar.proofs.Predictive.{is_predictive}
@@ -14,8 +14,8 @@ use Rattle.module_grammar.specs.Sorts.{AnyType, Called, DeclaredParams, Expr, Gl
 use Rattle.module_grammar.specs.Tokens.{token_grammar, with_gap}
 use Rattle.predictive.proofs.Selects.{unambiguous}
 use Rattle.predictive.specs.Predictive.{MayEnd}
-use Rattle.typed_grammars.specs.Made.{Made}
-use Rattle.typed_grammars.specs.Typed.{top}
+use Rattle.predictive.specs.Made.{Made}
+use Rattle.predictive.specs.Typed.{top}
 
 once : (n : ℕ) → n < 92 → MayEnd sets n → ((v : meaning.Value n) → Made meaning n v) → WritesOneTree (sort n)
 once n small may made a b tokens of_a of_b =

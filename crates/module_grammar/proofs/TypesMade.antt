@@ -11,7 +11,7 @@ use Rattle.module_grammar.specs.Joined.{pointers_to}
 use Rattle.module_grammar.specs.Rules.{meaning}
 use Rattle.module_grammar.proofs.Lawful.{by}
 use Rattle.module_grammar.proofs.TypeFolds.{by_parts, each}
-use Rattle.typed_grammars.specs.Made.{Made}
+use Rattle.predictive.specs.Made.{Made}
 
 stars : (x : List ℕ) → Made meaning 35 x
 stars [] = by 79 refl _ tt

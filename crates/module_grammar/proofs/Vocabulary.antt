@@ -18,7 +18,7 @@ use Rattle.module_grammar.specs.Kinds as by_kind
 use Rattle.module_grammar.specs.Sorts.{sort, vocabulary, Sort, Holds, part_of, value_of, Module, Item, TypeBody, GlobalBody, GlobalLinkage, Align, DeclaredName, DeclaredParams, MoreDeclared, NextDeclared, Result, Convention, ResultType, Head, HeadEnd, UnnamedAddr, Linkage, Params, MoreParams, Param, ParamName, ParamAttributes, ParamAttribute, FunctionAttributes, FunctionAttribute, AttributeValue, Attached, Attachments, Attachment, Meta, MetaArguments, Bang, Distinct, AnyType, BaseType, Stars, Types, MoreTypes, Called, MoreCalled, NextCalled, FunctionType, GlobalName, Int, Inbounds, Const, MoreConsts, Init, Inits, MoreInits, Value, Operand, Operator, Flags, Exactness, Operation, Attach, AlignBehind, NextAlign, CountBehind, NextCount, IndicesBehind, NextIndex, CallBody, Callee, VoidCallee, VoidCall, CallEnd, Arguments, MoreArguments, Argument, Line, Register, Lines, Expr, Indices, LocalName, Block, BlockLabel, Blocks, Body, Behind, Node, EntriesBehind, NextEntry, Entry, End, Term, Returned, Branch, Cases, Case}
 use Rattle.module_grammar.specs.Symbols.{Symbol, kind_of}
 use Rattle.module_grammar.specs.Symbols as symbol
-use Rattle.typed_grammars.specs.Typed.{IsVocabulary}
+use Rattle.predictive.specs.Typed.{IsVocabulary}
 
 content : (s : Symbol) → (c : Says (kind (kind_of s))) × (symbol_by (kind (kind_of s)) (kind_of s) c ≡ s)
 content (symbol.Local x) = (x, refl)

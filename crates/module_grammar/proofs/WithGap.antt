@@ -1,8 +1,8 @@
 -- The grammar of tokens is the typed grammar with its gap.
 use Rattle.std.proofs.Common.{◌≡◌, ℕ, List, true, nat_eq, refl, subst, sym}
 use Rattle.std.proofs.lemmas.Bool.{eqb-true}
-use Rattle.gap_grammars.proofs.Listing as listing
-use Rattle.gap_grammars.specs.Gapped.{IsGapped}
+use Rattle.predictive.proofs.GapListing as listing
+use Rattle.predictive.specs.Gapped.{IsGapped}
 use Rattle.module_grammar.proofs.BalancedRows.{apart, derived, fit}
 use Rattle.module_grammar.proofs.Vocabulary.{is_vocabulary}
 use Rattle.module_grammar.specs.declared.parts.Part.{Part}

@@ -7,7 +7,7 @@ use Rattle.module_grammar.specs.declared.attributes.BangText.TheVariants as bang
 use Rattle.module_grammar.specs.declared.attributes.FunctionAttributeText.TheVariants as function_attribute
 use Rattle.module_grammar.specs.declared.attributes.MetaText.TheVariants as meta
 use Rattle.module_grammar.specs.declared.attributes.ParamAttributeText.TheVariants as param_attribute
-use Rattle.typed_grammars.specs.Typed.{Rule}
+use Rattle.predictive.specs.Typed.{Rule}
 
 abbrev pub param_attributes_end : Rule vocabulary
 param_attributes_end = rule 21 [] []

@@ -8,7 +8,7 @@ use Rattle.module_grammar.specs.declared.commas.NextEntryText.TheVariants as nex
 use Rattle.module_grammar.specs.declared.flow.BehindText.TheVariants as behind_text
 use Rattle.module_grammar.specs.declared.flow.BranchText.TheVariants as branch_text
 use Rattle.module_grammar.specs.declared.flow.TermText.TheVariants as term_text
-use Rattle.typed_grammars.specs.Typed.{Rule}
+use Rattle.predictive.specs.Typed.{Rule}
 
 -- [LABEL] body end
 abbrev pub block : Rule vocabulary

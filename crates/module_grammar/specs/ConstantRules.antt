@@ -9,7 +9,7 @@ use Rattle.module_grammar.specs.declared.constants.InitText as init
 use Rattle.module_grammar.specs.declared.constants.IntText.TheVariants as integer
 use Rattle.module_grammar.specs.declared.constants.Tag.TheVariants.{Old, Ghost}
 use Rattle.module_grammar.specs.declared.constants.ValueText.TheVariants as value
-use Rattle.typed_grammars.specs.Typed.{Rule}
+use Rattle.predictive.specs.Typed.{Rule}
 
 abbrev pub plain_name : Rule vocabulary
 plain_name = rule 42 (GLOBAL ∷ []) (λ name. global_name.Plain name)

@@ -7,7 +7,7 @@ use Rattle.module_grammar.specs.Symbols as symbol
 use Rattle.module_grammar.specs.declared.functions.DeclaredNameText.TheVariants as declared_name
 use Rattle.module_grammar.specs.declared.functions.LinkageText.TheVariants as linkage
 use Rattle.module_grammar.specs.declared.functions.NextDeclaredText.TheVariants as next_declared
-use Rattle.typed_grammars.specs.Typed.{Rule}
+use Rattle.predictive.specs.Typed.{Rule}
 
 -- GLOBAL ( params ) end
 abbrev pub declared : Rule vocabulary

@@ -6,7 +6,7 @@ use Rattle.module_grammar.specs.Symbols as symbol
 use Rattle.module_grammar.specs.declared.items.HeldText.TheVariants as held
 use Rattle.module_grammar.specs.declared.items.ItemText.TheVariants as item
 use Rattle.module_grammar.specs.declared.items.TypeBodyText.TheVariants as type_body
-use Rattle.typed_grammars.specs.Typed.{Rule}
+use Rattle.predictive.specs.Typed.{Rule}
 
 abbrev pub items_end : Rule vocabulary
 items_end = rule 0 [] (record { items = [] })

@@ -19,7 +19,7 @@ use Rattle.module_grammar.specs.declared.parts.Leaf.{Leaf}
 use Rattle.module_grammar.specs.declared.parts.Part.TheVariants as part
 use Rattle.module_grammar.specs.declared.parts.Part.{Part}
 use Rattle.module_grammar.specs.declared.places.Placed.{Placed}
-use Rattle.typed_grammars.specs.Typed.{take}
+use Rattle.predictive.specs.Typed.{take}
 
 -- the kinds; all words and marks that say nothing but themselves are `Alone`
 pub data Kind : Type 0 where

@@ -14,7 +14,7 @@ use Rattle.module_grammar.specs.declared.lines.InstructionText.TheVariants as in
 use Rattle.module_grammar.specs.declared.lines.OperationText.TheVariants as form
 use Rattle.module_grammar.specs.declared.lines.OperatorText.TheVariants as operators
 use Rattle.module_grammar.specs.declared.lines.VoidCallText.TheVariants as void_call
-use Rattle.typed_grammars.specs.Typed.{Rule}
+use Rattle.predictive.specs.Typed.{Rule}
 
 abbrev pub overflow : Rule vocabulary
 overflow = rule 52 (OVERFLOW ∷ all_flags ∷ []) (λ op flags. operators.Overflow op flags)

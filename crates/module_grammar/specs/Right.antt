@@ -5,7 +5,7 @@ use Rattle.module_grammar.specs.Symbols.{kind_of}
 use Rattle.module_grammar.specs.Symbols as symbol
 use Rattle.predictive.specs.declared.symbol.Symbol.{Symbol}
 use Rattle.predictive.specs.declared.symbol.Symbol.TheVariants.{Kind, Non}
-use Rattle.typed_grammars.specs.Typed.{Of, Rule}
+use Rattle.predictive.specs.Typed.{Of, Rule}
 
 abbrev pub LOCAL : Symbol
 LOCAL = Kind 0

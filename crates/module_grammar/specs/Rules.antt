@@ -11,8 +11,8 @@ use Rattle.module_grammar.specs.TypeRules as type_rules
 use Rattle.module_grammar.specs.Sorts.{sort, vocabulary, written}
 use Rattle.module_grammar.specs.Symbols as symbol
 use Rattle.predictive.specs.Grammar.{Grammar}
-use Rattle.typed_grammars.specs.Meaning.{Meaning}
-use Rattle.typed_grammars.specs.Typed.{Rule, meaning_of}
+use Rattle.predictive.specs.Meaning.{Meaning}
+use Rattle.predictive.specs.Typed.{Rule, meaning_of}
 
 abbrev pub rules : List (Rule vocabulary)
 rules =

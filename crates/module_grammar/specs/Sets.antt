@@ -1,6 +1,6 @@
 -- The LL(1) sets of the grammar of tokens. What is ahead is a bit: 0 for the end, and k + 1 for kind k.
 use Rattle.std.specs.Prelude.{true, false, List, [], ◌∷◌}
-use Rattle.gap_grammars.specs.Listing.{listed_with}
+use Rattle.predictive.specs.GapListing.{listed_with}
 use Rattle.module_grammar.specs.Rules.{rules}
 use Rattle.module_grammar.specs.Tokens.{gap}
 use Rattle.predictive.specs.Listed.{Facts, Listed, sets_of}

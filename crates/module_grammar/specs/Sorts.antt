@@ -81,7 +81,7 @@ use Rattle.module_grammar.specs.declared.places.Placed.{Placed}
 use Rattle.module_grammar.specs.declared.types.CalledText.{CalledText}
 use Rattle.module_grammar.specs.declared.types.NextCalledText.{NextCalledText}
 use Rattle.module_grammar.specs.declared.types.TypeText.{TypeText}
-use Rattle.typed_grammars.specs.Typed.{Vocabulary}
+use Rattle.predictive.specs.Typed.{Vocabulary}
 
 -- the nonterminals
 pub data Sort : Type 0 where

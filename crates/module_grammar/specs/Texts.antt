@@ -1,6 +1,6 @@
 -- What tokens are written of: they are what a tree is written as, where `balanced` stands for any tokens that are balanced.
 use Rattle.std.specs.Prelude.{Bool, nat_eq, List}
-use Rattle.gap_grammars.specs.Fills.{Fills}
+use Rattle.predictive.specs.Fills.{Fills}
 use Rattle.module_grammar.specs.Balanced.{IsBalanced}
 use Rattle.module_grammar.specs.Sorts.{Sort, Holds, written}
 use Rattle.module_grammar.specs.Symbols.{Symbol, balanced, kind_of}

@@ -1,6 +1,6 @@
 -- The grammar of tokens, with text of which nothing is kept.
-use Rattle.gap_grammars.specs.Gapped.{Gapped}
-use Rattle.gap_grammars.specs.Listing.{Gap, gapped}
+use Rattle.predictive.specs.Gapped.{Gapped}
+use Rattle.predictive.specs.GapListing.{Gap, gapped}
 use Rattle.module_grammar.specs.Balanced.{IsBalanced}
 use Rattle.module_grammar.specs.BalancedRules.{balanced_rules}
 use Rattle.module_grammar.specs.Rules.{first_rule, meaning, rules, written_at}

@@ -6,7 +6,7 @@ use Rattle.module_grammar.specs.Sorts.{vocabulary}
 use Rattle.module_grammar.specs.Symbols as symbol
 use Rattle.module_grammar.specs.declared.types.NextCalledText.TheVariants as next_called
 use Rattle.module_grammar.specs.declared.types.TypeText as type_text
-use Rattle.typed_grammars.specs.Typed.{Rule}
+use Rattle.predictive.specs.Typed.{Rule}
 
 -- T {*}
 abbrev pub pointers : Rule vocabulary

@@ -5,7 +5,7 @@ use crate::flow::EntryText;
 use crate::lines::CountText;
 use crate::places::Placed;
 use ir_lexer::Number;
-use typed_grammars::Stack;
+use predictive::Stack;
 
 /// `, align N` or nothing, and metadata.
 #[derive(Drop)]

@@ -5,7 +5,7 @@ use crate::places::Placed;
 use crate::types::TypeText;
 use contents::Boxed;
 use ir_core::Name;
-use typed_grammars::Stack;
+use predictive::Stack;
 
 /// `[ V, LOCAL ]` as it is written, from where its bracket stands: a value, and the block from which control comes.
 pub struct EntryText {

@@ -6,7 +6,7 @@ use crate::places::Placed;
 use crate::types::TypeText;
 use contents::Boxed;
 use ir_core::Name;
-use typed_grammars::Stack;
+use predictive::Stack;
 
 /// A parameter as it is written: a type, attributes, and a name that may be left out.
 pub struct ParamText {

@@ -7,7 +7,7 @@ use crate::types::TypeText;
 use contents::Boxed;
 use ir_core::Name;
 use ir_lexer::Number;
-use typed_grammars::Stack;
+use predictive::Stack;
 
 /// What a type's name stands for, as it is written: nothing that is known, or a struct with the place of its brace.
 pub enum TypeBodyText {

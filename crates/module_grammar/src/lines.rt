@@ -6,7 +6,7 @@ use crate::types::{CalledText, TypeText};
 use contents::Boxed;
 use ir_core::{Name, Pred};
 use ir_lexer::Number;
-use typed_grammars::Stack;
+use predictive::Stack;
 
 /// A binary operator with what it may say behind its word, as it is written: `add` with any number of `nuw` and `nsw`, `udiv` with
 /// or without `exact`, `and` alone.

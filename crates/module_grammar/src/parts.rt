@@ -27,7 +27,7 @@ use crate::types::{CalledText, NextCalledText, TypeText};
 use contents::{Boxed, Text};
 use ir_core::{Name, Pred};
 use ir_lexer::Number;
-use typed_grammars::Stack;
+use predictive::Stack;
 
 /// A token that says more than its kind. Of a mark or a word whose place is kept it is that place.
 #[derive(Drop)]

@@ -1,8 +1,8 @@
 ghost use Rattle.std.specs.Prelude.{◌≡◌, ◌∷◌, [], MatchOption, OnOk};
 
+use predictive::Stack;
 use std::alloc::{AllocError, Global};
 use std::marker::Model;
-use typed_grammars::Stack;
 
 /// The places of stars that contracts see as a list, the one on top first. The lowest stands in place, as most types have one star at most.
 #[derive(Drop)]

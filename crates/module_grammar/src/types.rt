@@ -2,7 +2,7 @@ use crate::places::Placed;
 use contents::{Boxed, Seq};
 use ir_core::Name;
 use ir_lexer::Number;
-use typed_grammars::Stack;
+use predictive::Stack;
 
 /// A type as it is written (LangRef 3.7, Type System), from where its first token stands: `iN` by its width N, a type that the module
 /// names, `T*` with the place of the star, `[N x T]` and `{T, ..}` with the place of the bracket.

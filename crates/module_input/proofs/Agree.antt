@@ -8,13 +8,13 @@ use Rattle.ir_core.specs.Limits.{text_limit}
 use Rattle.ir_shape.specs.declared.fault.ShapeFault.{ShapeFault}
 use Rattle.shape_laws.specs.Laws.{ShapelyModulesAreFaultless}
 use Rattle.ir_shape.specs.Shape.{first_fault}
-use Rattle.text_faults.specs.declared.fault.TextFault.{TextFault}
-use Rattle.text_faults.specs.declared.fault.TextFault.TheVariants as text
+use Rattle.ir_lexer.specs.declared.fault.TextFault.{TextFault}
+use Rattle.ir_lexer.specs.declared.fault.TextFault.TheVariants as text
 use Rattle.ir_naming.specs.Spells.{NamesModule}
-use Rattle.ir_spelling.specs.Faults.{IsTextFault}
-use Rattle.ir_spelling.specs.Forms.{module_form}
-use Rattle.ir_spelling.specs.Spells.{SpellsWellFormed}
-use Rattle.spelling_laws.specs.Laws.{FaultsAreOne, FaultsExclude, IsAlike, ModulesAreOne}
+use Rattle.ir_reader.specs.Faults.{IsTextFault}
+use Rattle.ir_reader.specs.Forms.{module_form}
+use Rattle.ir_reader.specs.Spells.{SpellsWellFormed}
+use Rattle.ir_reader.specs.Laws.{FaultsAreOne, FaultsExclude, IsAlike, ModulesAreOne}
 use Rattle.module_input.specs.declared.fault.ModuleFault.{ModuleFault}
 use Rattle.module_input.specs.declared.fault.ModuleFault.TheVariants as fault
 use Rattle.module_input.specs.Faults.{FirstWithout, IsModuleFault}

@@ -8,12 +8,12 @@ use Rattle.ir_core.specs.Ranges.{AreBytes, IsInRange}
 use Rattle.ir_core.specs.WellFormed.{IsFunctionDefined, IsWellFormed}
 use Rattle.ir_shape.specs.Shape.{first_fault}
 use Rattle.module_limits.specs.Passed.{IsPassed, IsWithin}
-use Rattle.text_faults.specs.declared.fault.TextFault.{TextFault}
-use Rattle.text_faults.specs.declared.fault.TextFault.TheVariants as text
-use Rattle.ir_spelling.specs.Faults.{IsTextFault}
-use Rattle.ir_spelling.specs.Forms.{module_form}
-use Rattle.ir_spelling.specs.Spells.{Spells}
-use Rattle.spelling_laws.specs.Laws.{ModulesHaveShape}
+use Rattle.ir_lexer.specs.declared.fault.TextFault.{TextFault}
+use Rattle.ir_lexer.specs.declared.fault.TextFault.TheVariants as text
+use Rattle.ir_reader.specs.Faults.{IsTextFault}
+use Rattle.ir_reader.specs.Forms.{module_form}
+use Rattle.ir_reader.specs.Spells.{Spells}
+use Rattle.ir_reader.specs.Laws.{ModulesHaveShape}
 use Rattle.module_input.specs.declared.fault.ModuleFault.{ModuleFault}
 use Rattle.module_input.specs.declared.fault.ModuleFault.TheVariants as fault
 use Rattle.module_input.specs.Faults.{IsModuleFault}

@@ -7,10 +7,10 @@ use Rattle.ir_core.specs.declared.modules.Module.{Module}
 use Rattle.ir_core.specs.WellFormed.{IsFunctionDefined}
 use Rattle.ir_shape.specs.Shape.{first_fault}
 use Rattle.definedness.specs.Undefined.{IsFirstUndefined}
-use Rattle.text_faults.specs.declared.fault.TextFault.TheVariants as text
-use Rattle.ir_spelling.specs.Faults.{IsTextFault}
-use Rattle.ir_spelling.specs.Forms.{module_form}
-use Rattle.ir_spelling.specs.Spells.{Spells}
+use Rattle.ir_lexer.specs.declared.fault.TextFault.TheVariants as text
+use Rattle.ir_reader.specs.Faults.{IsTextFault}
+use Rattle.ir_reader.specs.Forms.{module_form}
+use Rattle.ir_reader.specs.Spells.{Spells}
 use Rattle.module_input.specs.declared.fault.ModuleFault.{ModuleFault}
 use Rattle.module_input.specs.declared.fault.ModuleFault.TheVariants as fault
 

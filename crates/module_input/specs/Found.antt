@@ -5,8 +5,8 @@ use Rattle.ir_core.specs.declared.modules.Module.{Module}
 use Rattle.ir_core.specs.WellFormed.{IsFunctionDefined}
 use Rattle.ir_shape.specs.Shape.{first_fault}
 use Rattle.definedness.specs.Undefined.{IsFirstUndefined}
-use Rattle.text_faults.specs.declared.fault.TextFault.{TextFault}
-use Rattle.text_faults.specs.declared.fault.TextFault.TheVariants as text
+use Rattle.ir_lexer.specs.declared.fault.TextFault.{TextFault}
+use Rattle.ir_lexer.specs.declared.fault.TextFault.TheVariants as text
 use Rattle.module_input.specs.declared.fault.ModuleFault.{ModuleFault}
 use Rattle.module_input.specs.declared.fault.ModuleFault.TheVariants as fault
 use Rattle.module_input.specs.Faults.{FirstWithout}

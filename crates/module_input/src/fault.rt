@@ -3,8 +3,8 @@ ghost use Rattle.module_input.specs.declared.fault.ModuleFault.TheVariants as fa
 
 use definedness::Undefined;
 use ir_core::Name;
+use ir_reader::TextFault;
 use ir_shape::ShapeFault;
-use ir_spelling::TextFault;
 use std::alloc::AllocError;
 
 /// Why a text holds no module that can be used: its first fault.

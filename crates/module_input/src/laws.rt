@@ -1,7 +1,7 @@
 ghost use Rattle.module_input.specs.Laws.{FaultsAreOfOneKind, FaultsExcludeModules};
 
+use ir_reader::{faults_and_spelling_exclude, faults_are_one, texts_spell_one};
 use shape_laws::modules_with_shape_are_faultless;
-use spelling_laws::{faults_and_spelling_exclude, faults_are_one, texts_spell_one};
 
 /// The body calls laws alone, since the clauses are laws.
 ///

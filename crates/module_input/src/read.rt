@@ -5,7 +5,7 @@ ghost use Rattle.ir_core.specs.WellFormed.{HasFunctionShape, IsFunctionDefined, 
 ghost use Rattle.ir_shape.specs.Shape.{first_fault};
 ghost use Rattle.module_limits.specs.Passed.{IsWithin};
 ghost use Rattle.shape_kinds.specs.Names.{are_new};
-ghost use Rattle.ir_spelling.specs.Spells.{Spells, SpellsWellFormed};
+ghost use Rattle.ir_reader.specs.Spells.{Spells, SpellsWellFormed};
 ghost use Rattle.module_input.specs.Faults.{IsModuleFault};
 ghost use Rattle.module_input.specs.Found.{HasFault, ShapeAmong, UndefinedAmong, of_text};
 
@@ -13,12 +13,11 @@ use crate::ModuleFault;
 use contents::Exact;
 use definedness::{DefEnd, defined, shape_knows_labels, undefined_uses_are_faults};
 use ir_core::{Function, Module};
-use ir_reader::{TextFault, read_module};
+use ir_reader::{TextFault, read_module, spelled_modules_fit};
 use ir_shape::{ShapeEnd, shape};
 use module_limits::ranges_lie_within;
 use shape_kinds::LentNames;
 use shape_laws::faultless_modules_have_shape;
-use spelling_laws::spelled_modules_fit;
 use std::alloc::{AllocError, Global};
 use whole_functions::is_whole_and_defined;
 

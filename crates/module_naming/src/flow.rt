@@ -14,8 +14,8 @@ use ir_naming::{
     name_of, operand_of, with_room,
 };
 use name_claims::Claim;
+use predictive::Stack;
 use std::alloc::{AllocError, Global};
-use typed_grammars::Stack;
 
 fn entry_of(width: u32, entry: EntryText) -> Entry
     ensures { result ≡ entry_of width entry }

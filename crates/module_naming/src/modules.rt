@@ -21,8 +21,8 @@ use ir_naming::{
     Tally, claim_operation, define, define_function, expression_of, name_of, new_tally, with_room,
 };
 use name_claims::{Claim, Fault, Meaning, first_with};
+use predictive::Stack;
 use std::alloc::{AllocError, Global};
-use typed_grammars::Stack;
 
 fn without_colon(placed: Placed<Name>) -> Placed<Name>
     ensures { result ≡ record { what = placed.what; start = placed.start; end = placed.end - 1 } }

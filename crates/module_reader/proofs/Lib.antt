@@ -1,6 +1,9 @@
+pub mod Agree
 pub mod Cut
 pub mod Deep
+pub mod Judged
 pub mod Lexed
-pub mod Told
 pub mod Read
+pub mod Told
+pub mod ToldFaults
 pub mod Whole

@@ -25,7 +25,7 @@ use Rattle.module_texts.specs.Texts.{HasSymbols, HasTokens, IsTextFault, own_sym
 use Rattle.module_trees.specs.Reading.{IsReading}
 use Rattle.module_trees.specs.declared.unread.Unread.{Unread}
 use Rattle.module_trees.specs.declared.unread.Unread.TheVariants as unread
-use Rattle.text_faults.specs.declared.fault.TextFault.TheVariants as fault
+use Rattle.ir_lexer.specs.declared.fault.TextFault.TheVariants as fault
 
 module _ (bytes : List ℕ) (small : List Token) where
   abbrev pub tokens : List PlacedToken

@@ -11,7 +11,7 @@ use Rattle.module_texts.specs.Texts.{HasSymbols, IsNameFault, IsTextFault, is_le
 use Rattle.module_tokens.specs.LeftOut.{is_left_out}
 use Rattle.name_claims.specs.declared.claims.Reason.{Reason}
 use Rattle.name_claims.specs.declared.claims.Reason.TheVariants as reason
-use Rattle.text_faults.specs.declared.fault.TextFault.TheVariants as fault
+use Rattle.ir_lexer.specs.declared.fault.TextFault.TheVariants as fault
 
 -- ---- names
 

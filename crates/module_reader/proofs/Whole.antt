@@ -14,9 +14,9 @@ use Rattle.module_texts.specs.Texts.{IsTextFault}
 use Rattle.named_modules.specs.Built.{module_of}
 use Rattle.named_modules.specs.Laws.{FaultlessTreesNameWhatIsBuilt, Is}
 use Rattle.named_modules.specs.Modules.{NamesModule}
-use Rattle.tree_naming.specs.Naming.{IsFaultless, IsMisnamed}
-use Rattle.tree_naming.specs.declared.misnamed.Misnamed.{Misnamed}
-use Rattle.tree_naming.specs.declared.misnamed.Misnamed.TheVariants as misnamed
+use Rattle.module_reader.specs.Naming.{IsFaultless, IsMisnamed}
+use Rattle.module_reader.specs.declared.misnamed.Misnamed.{Misnamed}
+use Rattle.module_reader.specs.declared.misnamed.Misnamed.TheVariants as misnamed
 use Rattle.tree_tokens.specs.Laws.{CalledNamesStand, DeclaredNamesStand, NamesRestOnTheseAlone, WithinTreesAreShort}
 use Rattle.module_reader.proofs.Told.{of_reason}
 

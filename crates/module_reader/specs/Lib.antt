@@ -1,2 +1,5 @@
+pub mod Faults
+pub mod Laws
+pub mod Naming
 pub mod Read
 pub mod Told

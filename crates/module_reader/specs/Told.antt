@@ -11,10 +11,10 @@ use Rattle.module_trees.specs.declared.unread.Unread.TheVariants as unread
 use Rattle.name_claims.specs.declared.claims.Fault.{Fault}
 use Rattle.name_claims.specs.declared.claims.Reason.{Reason}
 use Rattle.name_claims.specs.declared.claims.Reason.TheVariants as reason
-use Rattle.text_faults.specs.declared.fault.TextFault.{TextFault}
-use Rattle.text_faults.specs.declared.fault.TextFault.TheVariants as fault
-use Rattle.tree_naming.specs.declared.misnamed.Misnamed.{Misnamed}
-use Rattle.tree_naming.specs.declared.misnamed.Misnamed.TheVariants as misnamed
+use Rattle.ir_lexer.specs.declared.fault.TextFault.{TextFault}
+use Rattle.ir_lexer.specs.declared.fault.TextFault.TheVariants as fault
+use Rattle.module_reader.specs.declared.misnamed.Misnamed.{Misnamed}
+use Rattle.module_reader.specs.declared.misnamed.Misnamed.TheVariants as misnamed
 
 abbrev pub of_lexer : LexFault → TextFault
 of_lexer (lexer.BadByte place) = fault.BadByte place

@@ -3,12 +3,11 @@ ghost use Rattle.std.specs.Prelude.{◌≡◌, length, map};
 ghost use Rattle.module_grammar.specs.Spelled.{placed_in};
 ghost use Rattle.module_reader.specs.Told as told;
 
+use crate::Misnamed;
 use ir_core::Limit;
-use ir_lexer::{LexFault, Token};
+use ir_lexer::{LexFault, TextFault, Token};
 use module_tokens::is_left_out;
 use name_claims::{Fault, Reason};
-use text_faults::TextFault;
-use tree_naming::Misnamed;
 
 pub fn of_lexer(fault: LexFault) -> TextFault
     ensures { result ≡ told.of_lexer fault }

@@ -2,11 +2,21 @@
 //! fault.
 //!
 //! A text is cut into tokens, the tokens are read as a tree, and the tree is given names; each of these steps tells the first fault.
+//! `read_whole` tells what is at fault in the module besides, once its text is read.
 #![tactic(auto)]
 
+mod fault_laws;
 mod faults;
+mod first_fault;
+mod judging;
+mod misnamed;
 mod modules;
+mod naming;
 mod tokens;
 mod trees;
 
+pub use fault_laws::first_faults_agree;
+pub use first_fault::read_whole;
+pub use misnamed::Misnamed;
 pub use modules::read_module;
+pub use naming::name_tree;

@@ -5,13 +5,13 @@ ghost use Rattle.module_spelling.specs.Spells.{Spells};
 ghost use Rattle.module_texts.specs.Texts.{IsTextFault};
 
 use crate::faults::of_names;
+use crate::name_tree;
 use crate::trees::tree_in;
 use ir_core::{Limit, Module};
+use ir_lexer::TextFault;
 use module_texts::texts_spell_one;
 use named_modules::faultless_trees_name_what_is_built;
 use std::alloc::Global;
-use text_faults::TextFault;
-use tree_naming::name_tree;
 use tree_tokens::{
     called_names_stand, declared_names_stand, names_rest_on_these_alone, within_trees_are_short,
 };

@@ -6,9 +6,8 @@ ghost use Rattle.module_texts.specs.Texts.{HasTokens, IsTextFault};
 
 use crate::faults::of_lexer;
 use ir_core::Limit;
-use ir_lexer::{Token, lex};
+use ir_lexer::{TextFault, Token, lex};
 use std::alloc::Global;
-use text_faults::TextFault;
 
 /// The tokens of a text, or its first fault among them.
 pub fn read_tokens(alloc: Global, text: &[u8]) -> Result<Vec<Token>, TextFault>

@@ -12,12 +12,11 @@ ghost use Rattle.module_reader.specs.Told as told;
 use crate::faults::of_grammar;
 use crate::tokens::read_tokens;
 use ir_core::Limit;
-use ir_lexer::Token;
+use ir_lexer::{TextFault, Token};
 use module_grammar::ModuleText;
 use module_surroundings::Around;
 use module_trees::{Unread, read_module};
 use std::alloc::Global;
-use text_faults::TextFault;
 use token_context::kinds_in_context;
 
 /// Why tokens are no tree, where those of these indices would be expected if what stands before them weren't too deep.

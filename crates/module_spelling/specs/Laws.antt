@@ -8,7 +8,7 @@ use Rattle.module_grammar.specs.ItemRules as item
 use Rattle.module_grammar.specs.LineRules as line
 use Rattle.module_grammar.specs.TypeRules as type
 use Rattle.predictive.specs.Grammar.{Forest, End, Leaf, Node}
-use Rattle.typed_grammars.specs.Typed.{Rule, nth}
+use Rattle.predictive.specs.Typed.{Rule, nth}
 use Rattle.module_spelling.specs.Context.{called_number, declared_number}
 use Rattle.module_spelling.specs.Opened.{constant_rules, definition, depths, flow_rules, init_rules, line_rules, lines, pointers, type_rules}
 

@@ -1,9 +1,9 @@
 -- What is read as the types or the parameters of a function is balanced, and has no names of functions and no `unnamed_addr`.
 use Rattle.std.proofs.Common.{◌≡◌, ◌<◌, ℕ, zero, suc, Bool, true, false, cond, not, ◌&&◌, ◌||◌, nat_eq, List, [], ◌∷◌, ◌++◌, length, map, Option, None, Some, refl, ap, sym, ◌∙◌, append_assoc, subst, arith}
 use Rattle.std.proofs.lemmas.Bool.{eqb-true, eq-eqb}
-use Rattle.gap_grammars.proofs.Joint.{kinds_of_text}
-use Rattle.gap_grammars.proofs.Listing.{both}
-use Rattle.gap_grammars.specs.Listing.{opened_rules}
+use Rattle.predictive.proofs.GapJoint.{kinds_of_text}
+use Rattle.predictive.proofs.GapListing.{both}
+use Rattle.predictive.specs.GapListing.{opened_rules}
 use Rattle.module_grammar.proofs.Lawful.{lawful}
 use Rattle.module_grammar.proofs.WithGap.{is_gapped}
 use Rattle.module_grammar.specs.Balanced.{IsBalanced, nothing, token}
@@ -22,8 +22,8 @@ use Rattle.token_context.proofs.Lineless.{lineless}
 use Rattle.token_context.specs.Brackets.{class_of}
 use Rattle.token_context.specs.declared.brackets.Class.{Class}
 use Rattle.token_context.specs.declared.brackets.Class.TheVariants.{Opens, Closes, Plain, Outside}
-use Rattle.typed_grammars.proofs.Sound.{divided}
-use Rattle.typed_grammars.specs.Made.{Made}
+use Rattle.predictive.proofs.Sound.{divided}
+use Rattle.predictive.specs.Made.{Made}
 
 -- ---- a test of the rules: where these brackets are open, the last one first, a right side closes them
 

@@ -21,11 +21,11 @@ use crate::copies::{params_of, types_of};
 use ir_core::Name;
 use ir_lexer::Token;
 use module_grammar::{CalledText, DeclaredText, Placed};
+use predictive::Stack;
 use std::alloc::{AllocError, Global};
 use std::collections::HashMap;
 use token_context::{Brackets, Opened, do_parens_matter};
 use tree_surroundings::Surroundings;
-use typed_grammars::Stack;
 
 /// What stands between parentheses around names of a text, by where these begin.
 #[derive(Drop)]

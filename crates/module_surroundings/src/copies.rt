@@ -4,8 +4,8 @@ use contents::{Boxed, Exact, Seq};
 use ir_core::Name;
 use ir_lexer::{Number, Wide};
 use module_grammar::{CalledText, DeclaredText, ParamAttributeText, ParamText, Placed, TypeText};
+use predictive::Stack;
 use std::alloc::{AllocError, Global};
-use typed_grammars::Stack;
 
 /// What is copied with all that it holds.
 trait Copied: Drop {

@@ -33,8 +33,8 @@ use Rattle.predictive.proofs.Faults.{none_in_text}
 use Rattle.predictive.specs.Grammar.{Forest, Forms, yield}
 use Rattle.predictive.specs.Predictive.{MayEnd}
 use Rattle.predictive.specs.declared.symbol.Symbol.TheVariants.{Non}
-use Rattle.text_faults.specs.declared.fault.TextFault.{TextFault}
-use Rattle.text_faults.specs.declared.fault.TextFault.TheVariants as fault
+use Rattle.ir_lexer.specs.declared.fault.TextFault.{TextFault}
+use Rattle.ir_lexer.specs.declared.fault.TextFault.TheVariants as fault
 use Rattle.token_limits.specs.Laws.{IsWatched, MarksFirst}
 use Rattle.module_texts.proofs.Lists.{all_mapped}
 use Rattle.module_texts.proofs.Needs.{needs, retold}

@@ -1,7 +1,7 @@
 -- Which tokens don't stand in types and in parameters: no opening parenthesis in types, and global names, `unnamed_addr` and text that isn't kept in neither.
 use Rattle.std.proofs.Common.{◌≡◌, ℕ, Bool, true, false, nat_eq, List, [], ◌∷◌, ◌++◌, map, Option, Some, None, refl, ap, sym, ◌∙◌, subst, ◌||◌}
 use Rattle.std.specs.List.{AllByRecursion, flat_map}
-use Rattle.gap_grammars.specs.Fills.{Fills, FillsFrom}
+use Rattle.predictive.specs.Fills.{Fills, FillsFrom}
 use Rattle.ir_lexer.specs.declared.token.Number.{Number}
 use Rattle.ir_types.specs.declared.names.Name.{Name}
 use Rattle.module_grammar.proofs.TypeFolds.{at_array, at_int, at_named, at_ptr, at_struct, by_parts}

@@ -4,7 +4,7 @@ use Rattle.std.proofs.lemmas.Bool.{and_parts, cond_both, eqb-true}
 use Rattle.std.proofs.lemmas.Bool.Decides.{leb_tells}
 use Rattle.std.proofs.lemmas.List.{append-nil, length-append}
 use Rattle.std.specs.List.{AllByRecursion}
-use Rattle.gap_grammars.specs.Listing.{opened_rules}
+use Rattle.predictive.specs.GapListing.{opened_rules}
 use Rattle.ir_core.specs.Limits.{line_limit}
 use Rattle.ir_core.specs.Depths.{deepest}
 use Rattle.ir_core.specs.declared.limits.Limit.TheVariants as limit

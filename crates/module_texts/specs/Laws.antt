@@ -2,8 +2,8 @@
 use Rattle.std.specs.Prelude.{◌≡◌, ℕ, List}
 use Rattle.ir_core.specs.declared.modules.Module.{Module}
 use Rattle.module_spelling.specs.Spells.{Spells}
-use Rattle.text_faults.specs.declared.fault.TextFault.{TextFault}
-use Rattle.text_faults.specs.declared.fault.TextFault.TheVariants as fault
+use Rattle.ir_lexer.specs.declared.fault.TextFault.{TextFault}
+use Rattle.ir_lexer.specs.declared.fault.TextFault.TheVariants as fault
 use Rattle.module_texts.specs.Texts.{IsShort, IsTextFault}
 
 -- no text spells two modules

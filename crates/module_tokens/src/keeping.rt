@@ -10,8 +10,8 @@ use crate::words::word_of;
 use contents::Text;
 use ir_lexer::{Kind, Token, TokenKind, says};
 use module_grammar::{Language, Leaf, Part, Placed, Word};
+use predictive::Stack;
 use std::alloc::{AllocError, Global};
-use typed_grammars::Stack;
 
 fn placed<T>(what: T, token: &Token) -> Placed<T>
     ensures { result ≡ at what token.now.start token.now.end }

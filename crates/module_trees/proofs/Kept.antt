@@ -1,7 +1,7 @@
 -- While no limit is passed a reader's stack is that of the grammar's acts, and its watch is told all.
 use Rattle.std.proofs.Common.{◌≡◌, ℕ, suc, Bool, true, false, cond, nat_eq, nat_lt, List, [], ◌∷◌, length, map, Option, None, Some, refl, ap, sym, ◌∙◌, subst}
 use Rattle.direct_parts.specs.Direct.{act}
-use Rattle.gap_grammars.specs.Gapped as gapped
+use Rattle.predictive.specs.Gapped as gapped
 use Rattle.ir_core.specs.declared.limits.Limit.{Limit}
 use Rattle.module_grammar.specs.Kinds.{kept}
 use Rattle.module_grammar.specs.Rules.{meaning}
@@ -15,7 +15,7 @@ use Rattle.module_trees.specs.Unmarked.{watch_reduced}
 use Rattle.predictive.proofs.Keeping.{Keeps}
 use Rattle.token_limits.specs.Watched as watched
 use Rattle.token_limits.specs.declared.watch.Watch.{Watch}
-use Rattle.typed_grammars.specs.Meaning as typed
+use Rattle.predictive.specs.Meaning as typed
 
 -- ---- what a token leaves on the stack
 

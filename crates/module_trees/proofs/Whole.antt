@@ -2,8 +2,8 @@
 use Rattle.std.proofs.Common.{◌≡◌, ◌++◌, ℕ, List, [], ◌∷◌, map, take, MatchOption, Option, None, Some, Result, Ok, Err, refl, ap, sym, ◌∙◌, subst, arith}
 use Rattle.std.specs.Prelude.{IfSome}
 use Rattle.std.proofs.lemmas.Bool.{ltb-true}
-use Rattle.gap_grammars.proofs.Joint as joint
-use Rattle.gap_grammars.specs.Gapped as gapped
+use Rattle.predictive.proofs.GapJoint as joint
+use Rattle.predictive.specs.Gapped as gapped
 use Rattle.ir_core.specs.declared.limits.Limit.{Limit}
 use Rattle.module_grammar.proofs.Lawful.{lawful}
 use Rattle.module_grammar.proofs.Vocabulary.{back_at}
@@ -27,8 +27,8 @@ use Rattle.predictive.specs.declared.symbol.Symbol.TheVariants.{Non}
 use Rattle.token_limits.specs.Watched as watched
 use Rattle.token_limits.specs.Watched.{fresh}
 use Rattle.token_limits.specs.declared.watch.Watch.{Watch}
-use Rattle.typed_grammars.specs.Meaning as typed
-use Rattle.typed_grammars.specs.Typed.{top}
+use Rattle.predictive.specs.Meaning as typed
+use Rattle.predictive.specs.Typed.{top}
 
 -- ---- what the parser answers
 

@@ -16,12 +16,11 @@ use module_grammar::{Language, MetaText, Part};
 use module_tables::TokenGrammar;
 use module_tokens::keep;
 use part_groups::Parts;
-use predictive::{Action, Table};
+use predictive::{Action, Stack, Table};
 use std::alloc::{AllocError, Global};
 use std::marker::Model;
 use token_limits::Watch;
 use tree_acts::reduce;
-use typed_grammars::Stack;
 
 /// The nonterminals of types, of their stars, of values, of operands, of attachments, of what may stand behind their names and of alignments, and
 /// the kinds of the tokens with which most begin, of a star, of a comma and of the names of metadata.

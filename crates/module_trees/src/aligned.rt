@@ -13,8 +13,8 @@ use crate::acts::{
 use direct_parts::number_said;
 use ir_lexer::{Number, Token};
 use module_grammar::{AlignBehindText, Line, MetaText, Part, Placed};
+use predictive::Stack;
 use std::alloc::{AllocError, Global};
-use typed_grammars::Stack;
 
 /// The kind of `align`.
 const ALIGN: u8 = 49;

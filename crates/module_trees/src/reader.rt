@@ -15,12 +15,11 @@ use module_grammar::{
     TypeText,
 };
 use module_tables::TokenGrammar;
-use predictive::parse;
+use predictive::{Stack, parse};
 use std::alloc::{AllocError, Global};
 use tree_acts::{
     take_called, take_declared, take_expr, take_global, take_local, take_module, take_type,
 };
-use typed_grammars::Stack;
 
 /// Why tokens are no tree, by the limit that one passes and the first fault.
 fn unread_by(limit: Option<Limit>, fault: Option<usize>) -> Option<Unread>

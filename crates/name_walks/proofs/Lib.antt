@@ -1,3 +1,5 @@
-pub mod Told
+pub mod First
+pub mod OwnKinds
 pub mod Things
+pub mod Told
 pub mod Walked

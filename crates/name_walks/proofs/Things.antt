@@ -21,7 +21,7 @@ use Rattle.named_modules.specs.Functions.{blocks_in, told_of}
 use Rattle.named_modules.specs.Lines.{is_dropped, is_kept}
 use Rattle.named_modules.specs.Types.{type_of}
 use Rattle.named_modules.proofs.NamesAre.{block_due, due_over as written_due}
-use Rattle.register_types.specs.Owned.{line_type}
+use Rattle.name_walks.specs.Owned.{line_type}
 use Rattle.name_walks.specs.Walked.{Entry, block_entries, due_over, function_entries, line_entries, line_entry, name_entered, param_entries, param_entry, phi_entries, phi_entry, things_from, written_of}
 use Rattle.name_walks.proofs.Told.{line_due, line_told}
 

@@ -24,8 +24,8 @@ use Rattle.named_modules.specs.Built.{due_after_line, due_behind, line_at, name_
 use Rattle.named_modules.specs.Faults.{Register', Things, register_thing, sets}
 use Rattle.named_modules.specs.Functions.{told_of}
 use Rattle.named_modules.specs.Types.{type_of}
-use Rattle.register_types.specs.Owned.{line_type}
-use Rattle.register_types.proofs.OwnKinds.{indices_are}
+use Rattle.name_walks.specs.Owned.{line_type}
+use Rattle.name_walks.proofs.OwnKinds.{indices_are}
 use Rattle.name_walks.specs.Walked.{call_sets}
 
 -- ---- which calls set something

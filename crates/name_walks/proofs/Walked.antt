@@ -24,7 +24,7 @@ use Rattle.function_names.specs.Seen.{IsKept, found_in, place_of, thing_by, thin
 use Rattle.function_names.proofs.Firsts.{both_kept, things_joined}
 use Rattle.name_walks.specs.declared.walk.Walk.{Walk}
 use Rattle.name_walks.specs.Walked.{AreTaken, Entry, IsWalked, Walks, block_entries, defined_told, due_over, function_entries, got_entries, is_taken, line_entries, name_entered, name_told, param_entries, things_from, undefined, undefined_told, unwritten_told, written_of}
-use Rattle.register_types.specs.Owned.{line_type}
+use Rattle.name_walks.specs.Owned.{line_type}
 use Rattle.name_walks.proofs.Things.{things_append, things_are, written_is}
 use Rattle.type_faults.specs.Noted.{noted}
 use Rattle.type_faults.proofs.Noted.{noted_joined}

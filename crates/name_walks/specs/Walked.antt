@@ -22,7 +22,7 @@ use Rattle.named_modules.specs.Functions.{blocks_in}
 use Rattle.named_modules.specs.Types.{type_of}
 use Rattle.function_names.specs.declared.names.Names.{Names}
 use Rattle.function_names.specs.Seen.{thing_by}
-use Rattle.register_types.specs.Owned.{line_type}
+use Rattle.name_walks.specs.Owned.{line_type}
 use Rattle.name_walks.specs.declared.spots.Spot.{Spot}
 use Rattle.name_walks.specs.declared.walk.Walk.{Walk}
 use Rattle.type_faults.specs.Noted.{noted}

@@ -5,6 +5,7 @@ ghost use Rattle.std.specs.Option.{option_copied};
 ghost use Rattle.name_walks.specs.Walked as walked;
 ghost use Rattle.name_walks.specs.Walked.{Walks, got_entries};
 
+use crate::line_own;
 use crate::setting::sets;
 use crate::spots::{label_spot, spot_of};
 use crate::walk::Walk;
@@ -12,10 +13,9 @@ use contents::Boxed;
 use function_names::{Own, Thing};
 use ir_core::{Name, NamedTypes};
 use module_grammar::{BlockText, LineText, ParamText, PhiText, Placed};
-use register_types::line_own;
+use predictive::Stack;
 use std::alloc::AllocError;
 use type_faults::Lent;
-use typed_grammars::Stack;
 
 #[tactic(auto, using(crate::proofs::Walked::walks_nothing))]
 fn walk_param<'a>(

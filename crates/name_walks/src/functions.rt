@@ -13,9 +13,9 @@ use function_names::Within;
 use ir_core::NamedTypes;
 use module_grammar::DefinitionText;
 use name_claims::Fault;
+use named_modules::global_name;
 use std::alloc::{AllocError, Global};
 use type_faults::Sight;
-use value_building::global_name;
 
 /// All that a function defines, in the order of the text.
 fn walked<'a>(

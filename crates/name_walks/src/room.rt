@@ -2,7 +2,7 @@
 
 use contents::Boxed;
 use module_grammar::{BlockText, DefinitionText};
-use typed_grammars::Stack;
+use predictive::Stack;
 
 fn names_in_block(block: &BlockText) -> usize {
     let phis = block.body.phis.len();

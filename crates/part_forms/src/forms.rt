@@ -2,10 +2,10 @@
 ghost use Rattle.std.specs.Prelude.{◌≡◌, Option};
 ghost use Rattle.ir_grammar.specs.declared.parts.Part.{Part as PartOf};
 ghost use Rattle.ir_grammar.specs.Parts.{a_atom, a_leaf, a_list, a_tree};
-ghost use Rattle.typed_grammars.specs.Typed as stack;
+ghost use Rattle.predictive.specs.Typed as stack;
 
 use ir_grammar::{Atom, Leaf, List, Part, Tree};
-use typed_grammars::Stack;
+use predictive::Stack;
 
 /// A form of part.
 pub trait Form {

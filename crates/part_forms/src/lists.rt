@@ -4,7 +4,7 @@ ghost use Rattle.std.specs.Prelude.{◌≡◌};
 use crate::forms::{Form, list_of};
 use contents::Boxed;
 use ir_grammar::{BlockText, CaseText, EntryText, FlagWord, LineText, List, ParamText, Part};
-use typed_grammars::Stack;
+use predictive::Stack;
 
 pub struct ParamsPart;
 

@@ -3,11 +3,11 @@ ghost use Rattle.std.specs.Prelude.{◌≡◌, ◌∷◌, ◌↔◌, List, Optio
 ghost use Rattle.module_grammar.specs.declared.parts.Part.{Part as PartOf};
 ghost use Rattle.module_grammar.specs.declared.parts.Part.TheVariants as part;
 ghost use Rattle.module_grammar.specs.Parts.{a_atom, a_flow, a_item, a_leaf, a_line, a_list, a_piece};
-ghost use Rattle.typed_grammars.specs.Typed as stack;
+ghost use Rattle.predictive.specs.Typed as stack;
 
 use module_grammar::{Atom, Flow, Item, Leaf, Line, List, Part, Piece};
+use predictive::Stack;
 use std::alloc::AllocError;
-use typed_grammars::Stack;
 
 /// A group of parts.
 pub trait Group: Drop {

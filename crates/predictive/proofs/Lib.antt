@@ -1,13 +1,26 @@
-pub mod Selects
-pub mod Happening
-pub mod Keeping
-mod Stacks
-mod Moving
-mod Framing
 mod Advancing
-mod Holding
+mod Framing
 mod Going
+mod Holding
+mod Loose
+mod Moving
+mod Splitting
+mod Stacks
 mod Standing
+mod Zeros
 pub mod ByTest
-pub mod Laid
 pub mod Faults
+pub mod Filling
+pub mod Follows
+pub mod GapJoint
+pub mod GapListing
+pub mod GapSound
+pub mod Happening
+pub mod Joint
+pub mod Keeping
+pub mod Laid
+pub mod Listing
+pub mod Loads
+pub mod Makes
+pub mod Selects
+pub mod Sound

@@ -3,8 +3,8 @@ use Rattle.std.proofs.Common.{◌≡◌, ◌<◌, ◌≤◌, ◌+◌, ℕ, Bool,
 use Rattle.std.specs.List.{list_all}
 use Rattle.std.proofs.lemmas.Bool.{eqb-true, ltb-true}
 use Rattle.std.proofs.lemmas.List.{append-nil}
-use Rattle.gap_grammars.proofs.Listing.{both}
-use Rattle.gap_grammars.specs.Gapped.{IsLoose, opened}
+use Rattle.predictive.proofs.GapListing.{both}
+use Rattle.predictive.specs.Gapped.{IsLoose, opened}
 use Rattle.ir_core.specs.Depths.{deepest, depth_of}
 use Rattle.module_grammar.specs.declared.types.TypeText.{TypeText}
 use Rattle.module_grammar.specs.Joined.{pointers_to}
@@ -19,8 +19,8 @@ use Rattle.named_modules.proofs.Lists.{all_append}
 use Rattle.predictive.specs.Grammar.{Forest, End, Leaf, Node, Forms}
 use Rattle.predictive.specs.declared.symbol.Symbol.{Symbol as Sign}
 use Rattle.predictive.specs.declared.symbol.Symbol.TheVariants.{Kind, Non}
-use Rattle.typed_grammars.specs.Meaning.{Each}
-use Rattle.typed_grammars.specs.Typed.{nth}
+use Rattle.predictive.specs.Meaning.{Each}
+use Rattle.predictive.specs.Typed.{nth}
 use Rattle.spelled_limits.proofs.Claimed.{AreUpTo}
 use Rattle.spelled_limits.proofs.Depths.{of_pointers}
 use Rattle.spelled_limits.proofs.FitsMade.{UnlessPointers, deeper_is}

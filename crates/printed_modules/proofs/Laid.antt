@@ -3,7 +3,7 @@ use Rattle.std.proofs.Common.{◌≡◌, Bool, true, false, not, ◌||◌, List,
 use Rattle.std.specs.Prelude.{nat_eq}
 use Rattle.std.specs.List.{list_all}
 use Rattle.std.proofs.lemmas.Bool.{and_parts}
-use Rattle.gap_grammars.specs.Fills.{Fills, FillsFrom}
+use Rattle.predictive.specs.Fills.{Fills, FillsFrom}
 use Rattle.ir_types.specs.declared.names.Name.{Name}
 use Rattle.module_grammar.specs.Balanced.{IsBalanced}
 use Rattle.module_grammar.specs.Symbols.{Global, Symbol, balanced, close_paren, kind_of, open_paren, unnamed_addr, void}

@@ -2,8 +2,8 @@
 use Rattle.std.proofs.Common.{◌≡◌, ◌<◌, ◌≤◌, ◌+◌, ℕ, zero, suc, Bool, true, false, ◌&&◌, ◌||◌, cond, nat_eq, nat_le, List, [], ◌∷◌, ◌++◌, length, refl, sym, subst, arith}
 use Rattle.std.specs.List.{AllByRecursion, filter_map}
 use Rattle.std.proofs.lemmas.Bool.{leb-true}
-use Rattle.gap_grammars.proofs.Listing.{both}
-use Rattle.gap_grammars.specs.Gapped.{IsLoose, opened}
+use Rattle.predictive.proofs.GapListing.{both}
+use Rattle.predictive.specs.Gapped.{IsLoose, opened}
 use Rattle.ir_core.specs.Limits.{line_limit}
 use Rattle.module_grammar.specs.declared.items.ItemText.{ItemText}
 use Rattle.module_grammar.specs.declared.items.ItemText.TheVariants as item
@@ -23,8 +23,8 @@ use Rattle.tree_tokens.proofs.Counted.{sum_each}
 use Rattle.tree_tokens.proofs.RuleTests.{Tested, is_inner, of_rule}
 use Rattle.tree_tokens.proofs.Shown.{AllFew}
 use Rattle.tree_tokens.proofs.Weights.{each_rule, item_weight, weight_at}
-use Rattle.typed_grammars.specs.Meaning.{Each}
-use Rattle.typed_grammars.specs.Typed.{Rule, nth}
+use Rattle.predictive.specs.Meaning.{Each}
+use Rattle.predictive.specs.Typed.{Rule, nth}
 use Rattle.printed_modules.proofs.BuiltShort.{AllShort}
 use Rattle.printed_modules.proofs.ReadTrees as trees
 use Rattle.printed_modules.proofs.Told as told

@@ -1,7 +1,7 @@
 -- A derivation that was grown of a value bears out what is claimed of that value.
 use Rattle.std.proofs.Common.{◌≡◌, ◌<◌, ℕ, List, [], ◌∷◌, Some, ap, sym, ◌∙◌, subst}
-use Rattle.gap_grammars.specs.Gapped.{opened}
-use Rattle.gap_grammars.proofs.Filling.{Grown}
+use Rattle.predictive.specs.Gapped.{opened}
+use Rattle.predictive.proofs.Filling.{Grown}
 use Rattle.module_grammar.specs.declared.parts.Part.{Part}
 use Rattle.module_grammar.specs.Rules.{first_rule, meaning, rules, written_at}
 use Rattle.module_grammar.specs.Sorts.{vocabulary}
@@ -14,8 +14,8 @@ use Rattle.predictive.specs.Grammar.{Forest, Forms}
 use Rattle.predictive.specs.declared.symbol.Symbol.{Symbol as Sign}
 use Rattle.predictive.specs.declared.symbol.Symbol.TheVariants.{Non}
 use Rattle.tree_tokens.proofs.Acts.{acts}
-use Rattle.typed_grammars.specs.Meaning.{Each, State}
-use Rattle.typed_grammars.specs.Typed.{made, nth, top}
+use Rattle.predictive.specs.Meaning.{Each, State}
+use Rattle.predictive.specs.Typed.{made, nth, top}
 use Rattle.printed_modules.proofs.Told as told
 
 abbrev pub make : (p : ℕ) → Each meaning (meaning.grammar.right p) → vocabulary.Value (meaning.grammar.left p)

@@ -2,7 +2,7 @@
 use Rattle.std.proofs.Common.{◌≡◌, ◌∙◌, ℕ, Bool, true, false, nat_eq, List, [], ◌∷◌, ◌++◌, map, reverse, ◌⊎◌, inl, inr, ⊎_elim, refl, ap, sym, subst, append_assoc, arith}
 use Rattle.std.proofs.lemmas.List.{reverse-append, reverse-reverse}
 use Rattle.std.specs.List.{AllByRecursion}
-use Rattle.gap_grammars.specs.Fills.{Fills, FillsFrom}
+use Rattle.predictive.specs.Fills.{Fills, FillsFrom}
 use Rattle.ir_lexer.specs.declared.token.Number.{Number}
 use Rattle.ir_types.specs.declared.names.Name.{Name}
 use Rattle.module_grammar.proofs.TypeFolds.{at_array, at_int, at_named, at_ptr, at_struct, by_parts}

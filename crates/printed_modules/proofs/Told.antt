@@ -2,13 +2,13 @@
 use Rattle.std.proofs.Common.{◌≡◌, ◌<◌, ◌≤◌, ℕ, Bool, true, false, nat_eq, nat_lt, List, [], ◌∷◌, ◌++◌, map, refl, ap, sym, ◌∙◌, append_assoc, subst, arith}
 use Rattle.std.proofs.lemmas.Bool.{ltb-true, ltb-false}
 use Rattle.std.proofs.lemmas.List.{append-nil}
-use Rattle.gap_grammars.specs.Gapped.{Gapped, IsGapped, IsTyped, opened, opened_kind, reduced}
-use Rattle.gap_grammars.proofs.Sound.{reads}
+use Rattle.predictive.specs.Gapped.{Gapped, IsGapped, IsTyped, opened, opened_kind, reduced}
+use Rattle.predictive.proofs.GapSound.{reads}
 use Rattle.predictive.specs.Grammar.{Forest, End, Leaf, Node, Forms, yield, after_trees}
 use Rattle.predictive.specs.declared.symbol.Symbol.{Symbol}
 use Rattle.predictive.specs.declared.symbol.Symbol.TheVariants.{Kind, Non}
-use Rattle.typed_grammars.proofs.Sound.{divided}
-use Rattle.typed_grammars.specs.Meaning.{Meaning, Each, IsLawful, State, begun, onto, shifted}
+use Rattle.predictive.proofs.Sound.{divided}
+use Rattle.predictive.specs.Meaning.{Meaning, Each, IsLawful, State, begun, onto, shifted}
 
 module _ (m : Meaning) (x : Gapped m) (is : IsGapped m x) where
   -- a rule is of the meaning where its nonterminal is, and else of fillings

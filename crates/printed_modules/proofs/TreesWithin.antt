@@ -2,7 +2,7 @@
 use Rattle.std.proofs.Common.{◌≡◌, ◌<◌, ◌≤◌, ℕ, zero, suc, List, [], ◌∷◌, get_or, map, refl, arith}
 use Rattle.std.specs.List.{AllByRecursion, filter_map}
 use Rattle.std.proofs.lemmas.Bool.{ltb-true}
-use Rattle.gap_grammars.proofs.Filling.{grown}
+use Rattle.predictive.proofs.Filling.{grown}
 use Rattle.ir_core.specs.declared.limits.Limit.TheVariants as limit
 use Rattle.ir_core.specs.Depths.{depth_of}
 use Rattle.ir_core.specs.Limits.{depth_limit, line_limit}

@@ -1,8 +1,7 @@
 ghost use Rattle.printed_modules.specs.Laws.{PrintedModulesAreRead, PrintingAgainChangesNothing, SpelledModulesAreApart, SpelledModulesArePrinted};
 
 use module_texts::texts_spell_one;
-use spelled_limits::spelled_modules_are_within;
-use spelled_ranges::spelled_modules_are_in_range;
+use spelled_limits::{spelled_modules_are_in_range, spelled_modules_are_within};
 
 /// Empty on purpose: its contract is the law.
 ///

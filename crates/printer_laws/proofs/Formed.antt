@@ -24,7 +24,7 @@ use Rattle.ir_types.specs.declared.names.Name.{Name}
 use Rattle.ir_types.specs.declared.ty.Ty.{Ty}
 use Rattle.ir_types.specs.declared.ty.Ty.TheVariants.{Int}
 use Rattle.ir_naming.specs.Spells.{labels_of}
-use Rattle.ir_naming_laws.proofs.Lists.{all_both, all_from, all_left, all_lists, all_mapped, all_over, all_right, all_to, all_append}
+use Rattle.ir_naming.proofs.Lists.{all_both, all_from, all_left, all_lists, all_mapped, all_over, all_right, all_to, all_append}
 use Rattle.printer_laws.specs.Writable.{IsWritableType}
 use Rattle.printer_laws.proofs.Fit.{FitsAtom, FitsBlock, FitsCase, FitsEntry, FitsFunction, FitsLabel, FitsLine, FitsOperand, FitsParam, FitsPhi, FitsTerm, HasBlockForm, HasForm, HasPhiForm, IsUsedAt, SetsByOperation}
 use Rattle.ir_core.specs.Modules.{not_extended}

@@ -5,7 +5,7 @@ use Rattle.ir_lexer.specs.Cut.{Cut, cut}
 use Rattle.ir_lexer.specs.Cut.{Placed as PlacedToken}
 use Rattle.ir_grammar.specs.declared.words.Language.{Language}
 use Rattle.ir_grammar.specs.Symbols.{Symbol, symbol, symbol_at}
-use Rattle.ir_spelling.specs.Spells.{symbols_cut, symbols_of}
+use Rattle.ir_reader.specs.Spells.{symbols_cut, symbols_of}
 use Rattle.printer_laws.proofs.TokenWords.{kinds_cut, tokens_of}
 
 some_is : (a b : List TokenKind) → Some a ≡ Some b → a ≡ b

@@ -30,10 +30,10 @@ use Rattle.ir_grammar.specs.Written as write
 use Rattle.ir_naming.specs.Naming.{blocks_in, entries_in}
 use Rattle.ir_naming.specs.Spells.{IsCase, IsEntry, IsLine, IsPhi, IsTerm, IsValue, NamesBlock, NamesFunction, labels_of}
 use Rattle.ir_naming.specs.Values.{IsNumber, int_of}
-use Rattle.ir_naming_laws.proofs.Operations.{operation_cases}
-use Rattle.ir_spelling.specs.Spells.{Spells}
-use Rattle.spelling_laws.proofs.Trees.{DefinitionHas, definition_has}
-use Rattle.spelling_laws.proofs.Walked.{operands_walked, term_cases}
+use Rattle.ir_naming.proofs.Operations.{operation_cases}
+use Rattle.ir_reader.specs.Spells.{Spells}
+use Rattle.ir_reader.proofs.Trees.{DefinitionHas, definition_has}
+use Rattle.ir_reader.proofs.Walked.{operands_walked, term_cases}
 use Rattle.printer_laws.proofs.Fit.{FitsFunction, FitsModule, HasBlockForm, HasForm, HasPhiForm, IsNoOperand, IsUsedAt, SetsByOperation}
 use Rattle.printer_laws.proofs.Formed.{fits_function}
 

@@ -1,6 +1,6 @@
 ghost use Rattle.printer_laws.specs.Laws.{PrintedModulesAreRead, PrintedModulesCanBeRun, PrintingAgainChangesNothing, SpelledModulesAreApart, SpelledModulesArePrinted};
 
-use spelling_laws::{spelled_modules_fit, texts_spell_one};
+use ir_reader::{spelled_modules_fit, texts_spell_one};
 
 /// Empty on purpose: its contract is the law.
 ///

@@ -29,12 +29,12 @@ use Rattle.ir_printer.specs.Printed.{printed_module}
 use Rattle.ir_rename.specs.Laws.{OrderStays}
 use Rattle.ir_rename.specs.Named.{named_all, named_function}
 use Rattle.ir_rename.specs.Numbered.{numbered_in_order}
-use Rattle.ir_spelling.specs.Spells.{Spells}
+use Rattle.ir_reader.specs.Spells.{Spells}
 use Rattle.printer_laws.proofs.Functions.{module_spelled}
 use Rattle.printer_laws.proofs.Spelled.{fits_spelled}
 use Rattle.printer_laws.specs.Laws.{SpelledModulesArePrinted}
 use Rattle.printer_laws.specs.Writable.{IsWritableType}
-use Rattle.spelling_laws.specs.Laws.{ModulesAreInOrder, ModulesAreInRange, ModulesAreOverIntegers}
+use Rattle.ir_reader.specs.Laws.{ModulesAreInOrder, ModulesAreInRange, ModulesAreOverIntegers}
 use Rattle.renaming_laws.specs.Laws.{GivesOrder, SpelledCanBeRead}
 use Rattle.renaming_laws.proofs.Given.{names_in}
 use Rattle.renaming_laws.proofs.Names.{by_text, text_in_range}

@@ -18,7 +18,7 @@ use Rattle.ir_rename.specs.Renamed.{AreRenamed}
 use Rattle.ir_rename.proofs.Lists.{length_mapped}
 use Rattle.ir_rename.proofs.Shaped.{all_under}
 use Rattle.module_limits.specs.Passed.{AreShort, IsShort}
-use Rattle.spelling_laws.specs.Laws.{ModulesAreOverIntegers}
+use Rattle.ir_reader.specs.Laws.{ModulesAreOverIntegers}
 use Rattle.printer_laws.specs.Laws.{PrintedModulesAreRead, PrintedModulesCanBeRun}
 use Rattle.renaming_laws.specs.Kept.{DefinednessStays, FunctionNamesStay, NamesStayApart, ShapeStays, WellFormednessStays}
 use Rattle.renaming_laws.specs.Laws.{CanBeRead, CanBeRun, GivesOrder, KeepsDefined, KeepsIntegers, KeepsNamesInRange, KeepsRange, KeepsShape, KeepsWellFormed, SpelledCanBeRun}

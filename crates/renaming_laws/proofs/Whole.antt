@@ -17,7 +17,7 @@ use Rattle.ir_types.specs.declared.names.Name.TheVariants.{Text}
 use Rattle.named_modules.specs.Modules.{global_names, names_in_file}
 use Rattle.printed_modules.specs.Laws.{PrintedModulesAreRead}
 use Rattle.spelled_limits.specs.Laws.{ModulesAreWithin}
-use Rattle.spelled_ranges.specs.Laws.{ModulesAreInRange}
+use Rattle.spelled_limits.specs.Ranges.{ModulesAreInRange}
 use Rattle.renaming_laws.specs.Kept.{LimitsStay, NamesStayApart}
 use Rattle.renaming_laws.specs.Laws.{KeepsRange, KeepsShape}
 use Rattle.renaming_laws.specs.Whole.{IsReadAgain, SpelledIsReadAgain}

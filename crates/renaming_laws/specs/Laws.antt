@@ -11,7 +11,7 @@ use Rattle.ir_printer.specs.Printed.{printed_module}
 use Rattle.ir_rename.specs.Laws.{HasNamesApart, HasNamesInRange, IsText}
 use Rattle.ir_rename.specs.Named.{named_all}
 use Rattle.ir_rename.specs.Numbered.{numbered_in_order}
-use Rattle.ir_spelling.specs.Spells.{Spells, SpellsWellFormed}
+use Rattle.ir_reader.specs.Spells.{Spells, SpellsWellFormed}
 use Rattle.module_limits.specs.Passed.{AreShort}
 
 -- ---- where names become this

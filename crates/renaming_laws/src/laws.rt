@@ -4,13 +4,12 @@ ghost use Rattle.renaming_laws.specs.Kept.{DefinednessStays, FunctionNamesStay, 
 ghost use Rattle.renaming_laws.specs.Whole.{IsReadAgain, SpelledIsReadAgain};
 ghost use Rattle.renaming_laws.specs.Laws.{CanBeRead, CanBeRun, GivesOrder, KeepsDefined, KeepsIntegers, KeepsNamesInRange, KeepsRange, KeepsShape, KeepsWellFormed, NamedHaveNoNumbers, NamingAgainChangesNothing, NumberingAgainChangesNothing, SpelledCanBeRead, SpelledCanBeRun, TextsStay};
 
+use ir_reader::spelled_modules_fit;
 use ir_rename::{
     named_functions_are_renamed, numbered_functions_are_renamed, renamed_functions_keep_their_shape,
 };
 use printer_laws::{printed_modules_are_read, spelled_modules_are_printed};
-use spelled_limits::spelled_modules_are_within;
-use spelled_ranges::spelled_modules_are_in_range;
-use spelling_laws::spelled_modules_fit;
+use spelled_limits::{spelled_modules_are_in_range, spelled_modules_are_within};
 
 /// The body calls a law alone, since the clauses are laws.
 ///

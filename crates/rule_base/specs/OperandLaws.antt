@@ -27,7 +27,7 @@ use Rattle.ir_values.specs.Operations.{IsOutcomeLessDefined}
 use Rattle.ir_values.specs.Selections.{select_outcome}
 use Rattle.ir_values.specs.Values.{IsLessDefined}
 use Rattle.ir_values.proofs.OperationLaws.{less_defined_refl}
-use Rattle.value_laws.proofs.Monotone.{binary_monotone, icmp_monotone, cast_monotone, select_monotone}
+use Rattle.ir_values.proofs.Monotone.{binary_monotone, icmp_monotone, cast_monotone, select_monotone}
 use Rattle.ir_machine.specs.Registers.{atom_value, binary_at, cast_at, icmp_at, operand_value, selects}
 use Rattle.erhl_assert.specs.declared.facts.Fact.{Fact}
 use Rattle.erhl_assert.specs.declared.facts.Fact.TheVariants.{LessDef}

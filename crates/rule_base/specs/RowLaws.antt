@@ -30,7 +30,7 @@ use Rattle.ir_core.specs.Ranges.{may_have}
 use Rattle.ir_values.specs.Results.{breaks_flag, is_past_width, result}
 use Rattle.ir_values.specs.Operations.{IsOutcomeLessDefined, traps, undef_under, binary_value, binary_outcome}
 use Rattle.ir_values.proofs.OperationLaws.{less_defined_refl, outcome_less_defined_trans}
-use Rattle.value_laws.proofs.Zero.{add_zero, sub_zero, or_zero, xor_zero, shl_zero, lshr_zero, ashr_zero}
+use Rattle.ir_values.proofs.Zero.{add_zero, sub_zero, or_zero, xor_zero, shl_zero, lshr_zero, ashr_zero}
 use Rattle.ir_machine.specs.Registers.{atom_value, atom_at}
 use Rattle.erhl_assert.specs.declared.facts.Fact.{Fact}
 use Rattle.erhl_assert.specs.declared.facts.Fact.TheVariants.{LessDef}

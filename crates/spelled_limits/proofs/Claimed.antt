@@ -3,14 +3,14 @@ use Rattle.std.proofs.Common.{◌≡◌, ◌<◌, ◌≤◌, ℕ, Bool, true, fa
 use Rattle.std.specs.List.{AllByRecursion}
 use Rattle.std.proofs.lemmas.Bool.{ltb-true, ltb-false}
 use Rattle.std.proofs.lemmas.List.{append-nil}
-use Rattle.gap_grammars.specs.Gapped.{Gapped, IsGapped, IsTyped, opened, opened_kind, reduced}
-use Rattle.gap_grammars.proofs.Sound.{reads}
+use Rattle.predictive.specs.Gapped.{Gapped, IsGapped, IsTyped, opened, opened_kind, reduced}
+use Rattle.predictive.proofs.GapSound.{reads}
 use Rattle.module_spelling.specs.Opened.{depths}
 use Rattle.predictive.specs.Grammar.{Forest, End, Leaf, Node, Forms, yield, after_trees}
 use Rattle.predictive.specs.declared.symbol.Symbol.{Symbol}
 use Rattle.predictive.specs.declared.symbol.Symbol.TheVariants.{Kind, Non}
-use Rattle.typed_grammars.proofs.Sound.{divided}
-use Rattle.typed_grammars.specs.Meaning.{Meaning, Each, IsLawful, State, begun, onto, shifted}
+use Rattle.predictive.proofs.Sound.{divided}
+use Rattle.predictive.specs.Meaning.{Meaning, Each, IsLawful, State, begun, onto, shifted}
 
 -- each is so much at most
 abbrev pub AreUpTo : ℕ → List ℕ → Type 0

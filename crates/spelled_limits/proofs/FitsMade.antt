@@ -30,8 +30,8 @@ use Rattle.named_modules.specs.Constants.{const_of, init_of}
 use Rattle.named_modules.specs.Types.{type_of}
 use Rattle.predictive.specs.declared.symbol.Symbol.{Symbol}
 use Rattle.predictive.specs.declared.symbol.Symbol.TheVariants.{Kind, Non}
-use Rattle.typed_grammars.specs.Meaning.{Each, EachOf}
-use Rattle.typed_grammars.specs.Typed.{Rule, made, nth}
+use Rattle.predictive.specs.Meaning.{Each, EachOf}
+use Rattle.predictive.specs.Typed.{Rule, made, nth}
 use Rattle.spelled_limits.proofs.Depths.{deepest_within, max_within, of_array, of_array_init, of_bytes, of_cast, of_const, of_element, of_global, of_int, of_named, of_null, of_number, of_struct, of_struct_init, of_undef, of_zero, pair_depth, part_depth}
 use Rattle.spelled_limits.proofs.Fits.{BehindFits, BodyFits, CountFits, DeclaredFits, EntryFits, Fits, NextCountFits, NextEntryFits, NextFits, NextIndexFits, OperandFits, PairFits, PartFits, TypeFits}
 

@@ -1,7 +1,7 @@
 -- Parameters behind a name of debugging are balanced text, of tokens that stand for themselves.
 use Rattle.std.proofs.Common.{◌≡◌, ℕ, Bool, true, false, not, ◌&&◌, nat_eq, List, [], ◌∷◌, ◌++◌, map, Option, Some, None, refl, ap, sym, ◌∙◌, append_assoc, subst}
 use Rattle.std.specs.List.{AllByRecursion, flat_map}
-use Rattle.gap_grammars.specs.Fills.{Fills, FillsFrom}
+use Rattle.predictive.specs.Fills.{Fills, FillsFrom}
 use Rattle.ir_lexer.specs.declared.token.Number.{Number}
 use Rattle.ir_types.specs.declared.names.Name.{Name}
 use Rattle.module_grammar.specs.Attributes.{param_attribute}

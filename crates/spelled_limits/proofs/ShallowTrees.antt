@@ -2,8 +2,8 @@
 use Rattle.std.proofs.Common.{◌≡◌, ◌<◌, ◌≤◌, ◌+◌, ℕ, Bool, true, false, cond, nat_eq, List, [], ◌∷◌, ◌++◌, map, Some, refl, ap, sym, ◌∙◌, subst, arith}
 use Rattle.std.proofs.lemmas.Bool.{eqb-true}
 use Rattle.std.proofs.lemmas.List.{append-nil}
-use Rattle.gap_grammars.specs.Gapped.{opened}
-use Rattle.gap_grammars.proofs.Filling.{grown}
+use Rattle.predictive.specs.Gapped.{opened}
+use Rattle.predictive.proofs.Filling.{grown}
 use Rattle.ir_core.specs.Depths.{deepest, depth_of}
 use Rattle.module_grammar.specs.declared.parts.Part.{Part}
 use Rattle.module_grammar.specs.declared.types.TypeText.{TypeText}
@@ -26,9 +26,9 @@ use Rattle.predictive.specs.Grammar.{Forest, End, Leaf, Node, Forms, yield}
 use Rattle.predictive.specs.declared.symbol.Symbol.{Symbol as Sign}
 use Rattle.predictive.specs.declared.symbol.Symbol.TheVariants.{Kind, Non}
 use Rattle.predictive.specs.Predictive.{MayEnd}
-use Rattle.typed_grammars.specs.Made.{Made}
-use Rattle.typed_grammars.specs.Meaning.{Each, State}
-use Rattle.typed_grammars.specs.Typed.{made, nth, top}
+use Rattle.predictive.specs.Made.{Made}
+use Rattle.predictive.specs.Meaning.{Each, State}
+use Rattle.predictive.specs.Typed.{made, nth, top}
 use Rattle.tree_tokens.proofs.Acts.{acts}
 use Rattle.spelled_limits.proofs.Claimed.{AreUpTo}
 use Rattle.spelled_limits.proofs.Claimed as reading

@@ -1,5 +1,5 @@
+use ir_lexer::TextFault;
 use std::alloc::{AllocError, Global};
-use text_faults::TextFault;
 
 /// The word of a fault, and behind it its places.
 pub(crate) fn told(alloc: Global, fault: TextFault) -> Result<Vec<u8>, AllocError> {

@@ -1,8 +1,8 @@
 use crate::told::{is, starred, told};
 use expression_printer::print_type;
+use expression_reader::read_type;
 use std::alloc::{AllocError, Global};
 use std::test::*;
-use type_reader::read_type;
 
 /// The type that the text spells, as it is printed, or the text's first fault.
 fn shown(alloc: Global, text: &[u8]) -> Result<Vec<u8>, AllocError> {

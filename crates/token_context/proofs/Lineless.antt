@@ -1,8 +1,8 @@
 -- No line begins in types or parameters.
 use Rattle.std.proofs.Common.{◌≡◌, ◌<◌, ℕ, zero, suc, ◌+◌, Bool, true, false, not, cond, ◌&&◌, ◌||◌, nat_eq, List, [], ◌∷◌, ◌++◌, get_or, length, refl, ap, sym, ◌∙◌, subst, arith}
 use Rattle.std.proofs.lemmas.Bool.{eqb-true}
-use Rattle.gap_grammars.proofs.Listing.{both}
-use Rattle.gap_grammars.specs.Listing.{opened_rules}
+use Rattle.predictive.proofs.GapListing.{both}
+use Rattle.predictive.specs.GapListing.{opened_rules}
 use Rattle.ir_core.specs.declared.limits.Limit.TheVariants as limit
 use Rattle.module_grammar.specs.Rules.{rules}
 use Rattle.module_grammar.specs.Tokens.{gap, token_grammar}

@@ -1,6 +1,6 @@
 -- What is read as a nonterminal is written of one tree, or of none.
 use Rattle.std.proofs.Common.{◌≡◌, ◌<◌, ℕ, List, [], ◌∷◌, map, sym, ◌∙◌, subst}
-use Rattle.gap_grammars.proofs.Joint as joint
+use Rattle.predictive.proofs.GapJoint as joint
 use Rattle.ir_core.specs.declared.limits.Limit.TheVariants as limit
 use Rattle.module_grammar.proofs.Lawful.{lawful}
 use Rattle.module_grammar.proofs.Predictive.{is_predictive}

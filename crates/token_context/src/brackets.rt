@@ -3,9 +3,9 @@ ghost use Rattle.module_grammar.specs.Balanced.{is_plain_kind};
 ghost use Rattle.token_context.specs.Brackets.{after, class_of, closing, forgotten, moved, start};
 ghost use Rattle.token_context.specs.declared.brackets.Class.TheVariants.{Opens, Plain};
 
+use predictive::Stack;
 use std::alloc::{AllocError, Global};
 use std::marker::Model;
-use typed_grammars::Stack;
 
 /// What a token does among brackets.
 #[derive(Drop, Clone, Copy)]

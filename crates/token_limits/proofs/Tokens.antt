@@ -1,7 +1,7 @@
 -- The grammar of tokens has what the laws ask of a grammar.
 use Rattle.std.proofs.Common.{◌≡◌, ◌<◌, ◌+◌, ℕ, zero, suc, Bool, true, ◌&&◌, List, [], ◌∷◌, length, refl, subst, arith}
 use Rattle.std.proofs.lemmas.Bool.{and_parts}
-use Rattle.gap_grammars.specs.Listing.{opened_rules}
+use Rattle.predictive.specs.GapListing.{opened_rules}
 use Rattle.module_grammar.specs.Rules.{rules}
 use Rattle.module_grammar.specs.Tokens.{gap, token_grammar}
 use Rattle.predictive.specs.Listed.{Rule, rule_at}

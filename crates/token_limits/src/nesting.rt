@@ -2,8 +2,8 @@ ghost use Rattle.std.specs.Prelude.{◌≡◌, ◌+◌, IfOk, OnOk};
 ghost use Rattle.token_limits.specs.Nested as nested;
 
 use crate::role::Role;
+use predictive::Stack;
 use std::alloc::{AllocError, Global};
-use typed_grammars::Stack;
 
 /// What was open around a type, and how deep its tokens stood so far.
 #[derive(Clone, Copy, Drop)]

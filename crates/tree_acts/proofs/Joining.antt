@@ -1,7 +1,7 @@
 -- The acts of rules that are listed in two parts, one behind the other.
 use Rattle.std.proofs.Common.{◌≡◌, ◌≤◌, ◌<◌, ◌+◌, ℕ, suc, Bool, true, false, cond, List, [], ◌∷◌, ◌++◌, length, nat_eq, refl, ap, ◌∙◌, arith}
 use Rattle.std.proofs.lemmas.Bool.{eqb-false, ne_eqb}
-use Rattle.typed_grammars.specs.Typed.{Rule, Vocabulary, act_at, action}
+use Rattle.predictive.specs.Typed.{Rule, Vocabulary, act_at, action}
 
 else_by : {P : Type 0} (b : Bool) (x y z : P) → (b ≡ false → y ≡ z) → cond b x y ≡ cond b x z
 else_by true x y z e = refl

@@ -3,7 +3,7 @@ use Rattle.std.proofs.Common.{◌≡◌, ◌≤◌, ◌<◌, ◌-◌, ℕ, cond,
 use Rattle.std.proofs.lemmas.Bool.{lt-ltb, le-ltb}
 use Rattle.attribute_acts.specs.Listed.{rules_of_attributes}
 use Rattle.block_acts.specs.Listed.{rules_of_blocks}
-use Rattle.gap_grammars.specs.Listing.{act_with, dropped}
+use Rattle.predictive.specs.GapListing.{act_with, dropped}
 use Rattle.item_acts.specs.Listed.{rules_of_items}
 use Rattle.line_acts.specs.Listed.{rules_of_lines}
 use Rattle.module_grammar.specs.BalancedRules.{balanced_rules}
@@ -12,7 +12,7 @@ use Rattle.module_grammar.specs.Rules.{rules}
 use Rattle.module_grammar.specs.Sorts.{vocabulary}
 use Rattle.module_grammar.specs.Tokens.{gap}
 use Rattle.predictive.specs.Listed.{rule_at}
-use Rattle.typed_grammars.specs.Typed.{Rule, act_at}
+use Rattle.predictive.specs.Typed.{Rule, act_at}
 use Rattle.tree_acts.proofs.Joining.{behind, in_front}
 use Rattle.type_acts.specs.Listed.{rules_of_types}
 

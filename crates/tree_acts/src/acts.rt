@@ -20,7 +20,7 @@ pub fn reduce<P: Parts>(parts: &mut P, alloc: Global, p: u16) -> Result<(), Allo
     } else if p < 206 {
         block_acts::reduce(parts, alloc, p)
     } else {
-        balanced_acts::drop_token(parts, p - 206);
+        attribute_acts::drop_token(parts, p - 206);
         Ok(())
     }
 }

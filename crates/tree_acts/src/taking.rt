@@ -1,6 +1,6 @@
 ghost use Rattle.std.specs.Prelude.{◌≡◌};
 ghost use Rattle.module_grammar.specs.Parts.{the_atom_global, the_item_module, the_item_params, the_leaf_local, the_line_expr, the_piece_called, the_piece_type};
-ghost use Rattle.typed_grammars.specs.Typed as stack;
+ghost use Rattle.predictive.specs.Typed as stack;
 
 use ir_core::Name;
 use item_forms::{DeclaredParamsPart, ModulePart};

@@ -4,7 +4,7 @@ use Rattle.std.proofs.lemmas.Bool.{ltb-true, ltb-false}
 use Rattle.std.proofs.lemmas.List.{append-nil, take-append-drop}
 use Rattle.ir_grammar.specs.Symbols.{Symbol, kind_of}
 use Rattle.tree_reader.specs.Reading.{IsReading}
-use Rattle.typed_grammars.specs.Unexpected.{Begins, GoesNowhere, IsUnexpected}
+use Rattle.predictive.specs.Unexpected.{Begins, GoesNowhere, IsUnexpected}
 
 -- a list that begins with the first q of these begins with the first p and one more, where p is less
 longer : (kinds more : List ℕ) (p q : ℕ) → p < q → q ≤ length kinds

@@ -14,10 +14,10 @@ use Rattle.predictive.specs.Grammar.{Forest, Forms, yield, after_trees, IsFirstF
 use Rattle.predictive.specs.Predictive.{MayEnd}
 use Rattle.tree_reader.specs.Reading.{IsReading, IsRun}
 use Rattle.tree_reader.specs.Tables.{sets}
-use Rattle.typed_grammars.proofs.Joint.{leaves, unexpected, written_once}
-use Rattle.typed_grammars.specs.Made.{Made}
-use Rattle.typed_grammars.specs.Meaning.{State, begun, shifted, reduced}
-use Rattle.typed_grammars.specs.Typed.{top}
+use Rattle.predictive.proofs.Joint.{leaves, unexpected, written_once}
+use Rattle.predictive.specs.Made.{Made}
+use Rattle.predictive.specs.Meaning.{State, begun, shifted, reduced}
+use Rattle.predictive.specs.Typed.{top}
 
 pub kinds_are : (language : Language) (text : List ℕ) (tokens : List Token) → map (kind_in language text) tokens ≡ map kind_of (map (symbol_in language text) tokens)
 kinds_are language text tokens = sym (map-map kind_of (symbol_in language text) tokens)

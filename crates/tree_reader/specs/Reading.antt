@@ -6,7 +6,7 @@ use Rattle.ir_grammar.specs.Sorts.{vocabulary}
 use Rattle.ir_grammar.specs.Symbols.{Symbol, kind_of}
 use Rattle.predictive.specs.declared.symbol.Symbol.TheVariants.{Non}
 use Rattle.predictive.specs.Grammar.{IsFirstFault, IsUnambiguous}
-use Rattle.typed_grammars.specs.Unexpected.{IsUnexpected}
+use Rattle.predictive.specs.Unexpected.{IsUnexpected}
 
 -- The tree that is written as the symbols, where no other tree is written so; or the place of the first unexpected symbol, counted from
 -- 0, which is their number where nothing ends with them.

@@ -3,7 +3,7 @@ use Rattle.std.specs.Prelude.{true, false, List, [], ◌∷◌}
 use Rattle.ir_grammar.specs.Rules.{rules}
 use Rattle.predictive.specs.Listed.{Facts, Listed, sets_of}
 use Rattle.predictive.specs.Predictive.{Sets}
-use Rattle.typed_grammars.specs.Listing.{listed}
+use Rattle.predictive.specs.Listing.{listed}
 
 abbrev pub facts : List Facts
 facts =

@@ -13,10 +13,9 @@ use grammar_acts::{reduce, take_expr, take_global, take_local, take_module};
 use ir_core::{Name, Sigil};
 use ir_grammar::{ExprText, Language, ModuleText, Part, Placed};
 use ir_lexer::Token;
-use predictive::{Action, is_unambiguous, parse};
+use predictive::{Action, Stack, is_unambiguous, parse};
 use std::alloc::{AllocError, Global};
 use std::marker::Model;
-use typed_grammars::Stack;
 
 /// What a parser's acts work on: the text, the language that it is in, its tokens that are left, and the stack.
 #[derive(Drop)]
@@ -31,7 +30,7 @@ impl<'a> Model for Reading<'a> {
     ghost use Rattle.std.specs.Prelude.{map};
     ghost use Rattle.ir_grammar.specs.Rules.{meaning};
     ghost use Rattle.ir_grammar.specs.Symbols.{symbol_in};
-    ghost use Rattle.typed_grammars.specs.Meaning.{State};
+    ghost use Rattle.predictive.specs.Meaning.{State};
 
     ghost Value = { State meaning };
 
@@ -68,7 +67,7 @@ impl<'a> Action for Reading<'a> {
     ghost use Rattle.ir_grammar.specs.Rules.{meaning};
     ghost use Rattle.ir_grammar.specs.Rules as rules;
     ghost use Rattle.tree_reader.specs.Tables as tables;
-    ghost use Rattle.typed_grammars.specs.Meaning as meaning_acts;
+    ghost use Rattle.predictive.specs.Meaning as meaning_acts;
 
     type State = Reading<'a>;
 

@@ -6,8 +6,8 @@ ghost use Rattle.ir_grammar.specs.Symbols.{behind_others, key_number, kind_in, k
 use crate::words::word_of;
 use ir_grammar::{KeyWord, Language, Leaf, Part, Placed, Word};
 use ir_lexer::{Kind, Token, TokenKind, bytes_of, mark_of, says};
+use predictive::Stack;
 use std::alloc::{AllocError, Global};
-use typed_grammars::Stack;
 
 /// The kind of a word that stands alone.
 fn kind_of_key(key: KeyWord) -> u8

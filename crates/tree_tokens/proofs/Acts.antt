@@ -3,8 +3,8 @@ use Rattle.std.proofs.Common.{◌≡◌, ◌<◌, ℕ, zero, suc, List, [], ◌�
 use Rattle.std.proofs.lemmas.Bool.{eq-eqb, eqb-true}
 use Rattle.predictive.specs.declared.symbol.Symbol.{Symbol}
 use Rattle.predictive.specs.declared.symbol.Symbol.TheVariants.{Kind, Non}
-use Rattle.typed_grammars.specs.Meaning.{EachOf, onto}
-use Rattle.typed_grammars.specs.Typed.{IsVocabulary, Rule, Vocabulary, act_at, action, made, meaning_of, nth, take, unload}
+use Rattle.predictive.specs.Meaning.{EachOf, onto}
+use Rattle.predictive.specs.Typed.{IsVocabulary, Rule, Vocabulary, act_at, action, made, meaning_of, nth, take, unload}
 
 differ : (p i : ℕ) → (p ≡ i → ⊥) → nat_eq p i ≡ false
 differ p i h = go (nat_eq p i) (λ e. h (eqb-true p i e))

@@ -2,7 +2,7 @@
 use Rattle.std.proofs.Common.{◌≡◌, ◌+◌, ℕ, Bool, true, false, cond, List, [], ◌∷◌, ◌++◌, refl, ap, sym, ◌∙◌, append_assoc, subst}
 use Rattle.std.specs.List.{Contains, filter_map, flat_map}
 use Rattle.std.proofs.Math.Logic.{⊎_elim}
-use Rattle.gap_grammars.specs.Fills.{Fills}
+use Rattle.predictive.specs.Fills.{Fills}
 use Rattle.ir_types.specs.declared.names.Name.{Name}
 use Rattle.module_grammar.specs.Attributes.{attachments, function_attribute, unnamed_addr as addr}
 use Rattle.module_grammar.specs.Attributes as attributes

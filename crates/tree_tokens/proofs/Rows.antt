@@ -2,7 +2,7 @@
 use Rattle.std.proofs.Common.{◌≡◌, List, [], ◌∷◌, ◌++◌, refl, ap, sym, ◌∙◌, append_assoc, subst}
 use Rattle.std.specs.List.{Contains, flat_map}
 use Rattle.std.proofs.Math.Logic.{⊎_elim}
-use Rattle.gap_grammars.specs.Fills.{Fills}
+use Rattle.predictive.specs.Fills.{Fills}
 use Rattle.tree_tokens.proofs.Splits.{split}
 use Rattle.module_grammar.specs.Balanced.{IsBalanced}
 use Rattle.module_grammar.specs.Symbols.{Symbol}

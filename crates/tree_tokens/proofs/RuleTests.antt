@@ -1,8 +1,8 @@
 -- What the rules of the grammar of tokens have in common, by a test over all of them.
 use Rattle.std.proofs.Common.{◌≡◌, ◌<◌, ◌≤◌, ◌+◌, ℕ, zero, suc, Bool, true, false, not, ◌&&◌, ◌||◌, nat_eq, nat_le, nat_lt, List, [], ◌∷◌, length, refl, subst, ◌⊎◌, inl, inr, arith}
 use Rattle.std.proofs.lemmas.Bool.{eq-eqb, eqb-true, le-leb, ltb-true}
-use Rattle.gap_grammars.proofs.Listing.{both}
-use Rattle.gap_grammars.specs.Listing.{opened_rules}
+use Rattle.predictive.proofs.GapListing.{both}
+use Rattle.predictive.specs.GapListing.{opened_rules}
 use Rattle.module_grammar.specs.Rules.{rules}
 use Rattle.module_grammar.specs.Tokens.{gap, token_grammar}
 use Rattle.module_spelling.specs.Opened.{definition, lines_at}

@@ -3,8 +3,8 @@ use Rattle.std.proofs.Common.{◌≡◌, ◌<◌, ◌≤◌, ◌+◌, ℕ, zero,
 use Rattle.std.specs.List.{AllByRecursion, filter_map}
 use Rattle.std.proofs.lemmas.Bool.{ltb-true}
 use Rattle.std.proofs.lemmas.List.{append-nil}
-use Rattle.gap_grammars.specs.Gapped.{reduced}
-use Rattle.gap_grammars.proofs.Filling.{grown}
+use Rattle.predictive.specs.Gapped.{reduced}
+use Rattle.predictive.proofs.Filling.{grown}
 use Rattle.ir_core.specs.declared.limits.Limit.TheVariants as limit
 use Rattle.ir_core.specs.Limits.{line_limit}
 use Rattle.module_grammar.specs.declared.functions.DefinitionText.{DefinitionText}
@@ -29,9 +29,9 @@ use Rattle.named_modules.proofs.Lists.{all_left, all_right}
 use Rattle.predictive.proofs.Selects.{unambiguous}
 use Rattle.predictive.specs.Grammar.{Forest, End, Leaf, Node, Forms, yield}
 use Rattle.predictive.specs.declared.symbol.Symbol.TheVariants.{Non}
-use Rattle.typed_grammars.proofs.Sound.{divided}
-use Rattle.typed_grammars.specs.Meaning.{Each, State, onto}
-use Rattle.typed_grammars.specs.Typed.{made, nth, top}
+use Rattle.predictive.proofs.Sound.{divided}
+use Rattle.predictive.specs.Meaning.{Each, State, onto}
+use Rattle.predictive.specs.Typed.{made, nth, top}
 use Rattle.tree_tokens.specs.Laws.{WithinTreesAreShort}
 use Rattle.tree_tokens.proofs.Acts.{acts}
 use Rattle.tree_tokens.proofs.BuiltLines.{all_built}

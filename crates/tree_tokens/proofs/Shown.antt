@@ -2,7 +2,7 @@
 use Rattle.std.proofs.Common.{◌≡◌, ◌≤◌, ◌+◌, ℕ, Bool, true, false, ◌||◌, cond, nat_eq, nat_le, List, [], ◌∷◌, ◌++◌, refl, ap, sym, ◌∙◌, subst, ◌⊎◌, inl, inr, arith}
 use Rattle.std.specs.List.{AllByRecursion}
 use Rattle.std.proofs.lemmas.Bool.{eqb-true, leb-true}
-use Rattle.gap_grammars.proofs.Listing.{both}
+use Rattle.predictive.proofs.GapListing.{both}
 use Rattle.ir_core.specs.Limits.{line_limit}
 use Rattle.module_grammar.specs.Tokens.{token_grammar}
 use Rattle.module_spelling.specs.Opened.{lines, lines_at, lines_in}

@@ -1,6 +1,6 @@
 -- Tokens that fill what is written fill its parts, one after another.
 use Rattle.std.proofs.Common.{◌≡◌, Bool, true, false, List, [], ◌∷◌, ◌++◌, refl, ap, ◌∙◌, append_assoc}
-use Rattle.gap_grammars.specs.Fills.{Fills, FillsFrom}
+use Rattle.predictive.specs.Fills.{Fills, FillsFrom}
 
 module _ {T : Type 0} (is_gap : T → Bool) (Fit : List T → Type 0) where
   abbrev pub Split : List T → List T → List T → Type 0

@@ -19,8 +19,8 @@ use Rattle.module_spelling.specs.Opened.{lines_at}
 use Rattle.named_modules.specs.Functions.{blocks_in}
 use Rattle.named_modules.specs.Lines.{is_debug_call, is_dropped, is_dropped_call}
 use Rattle.tree_tokens.proofs.Counted.{sum_each}
-use Rattle.typed_grammars.specs.Meaning.{EachOf}
-use Rattle.typed_grammars.specs.Typed.{Rule, made, nth}
+use Rattle.predictive.specs.Meaning.{EachOf}
+use Rattle.predictive.specs.Typed.{Rule, made, nth}
 
 -- ---- weights
 

@@ -3,7 +3,7 @@ use Rattle.std.specs.Prelude.{List, [], ◌∷◌}
 use Rattle.module_grammar.specs.TypeRules as type_rules
 use Rattle.module_grammar.specs.ConstantRules as constant_rules
 use Rattle.module_grammar.specs.Sorts.{vocabulary}
-use Rattle.typed_grammars.specs.Typed.{Rule}
+use Rattle.predictive.specs.Typed.{Rule}
 
 abbrev pub rules_of_types : List (Rule vocabulary)
 rules_of_types =

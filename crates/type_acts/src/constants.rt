@@ -2,7 +2,7 @@
 ghost use Rattle.std.specs.Prelude.{◌≡◌, OnOk};
 ghost use Rattle.module_grammar.specs.ConstantRules as rule;
 ghost use Rattle.module_grammar.specs.Sorts.{vocabulary};
-ghost use Rattle.typed_grammars.specs.Typed.{action};
+ghost use Rattle.predictive.specs.Typed.{action};
 
 use crate::rows::seq_of;
 use contents::Boxed;
@@ -13,8 +13,8 @@ use leaf_forms::{
 use module_grammar::{ConstText, GlobalNameText, IntText, OperandText, Tag, ValueText};
 use part_groups::Parts;
 use piece_forms::{ConstPart, OperandPart, TypePart, ValuePart};
+use predictive::Stack;
 use std::alloc::{AllocError, Global};
-use typed_grammars::Stack;
 
 /// GLOBAL
 #[inline(never)]

@@ -2,15 +2,15 @@
 ghost use Rattle.std.specs.Prelude.{◌≡◌, OnOk};
 ghost use Rattle.module_grammar.specs.ConstantRules as rule;
 ghost use Rattle.module_grammar.specs.Sorts.{vocabulary};
-ghost use Rattle.typed_grammars.specs.Typed.{action};
+ghost use Rattle.predictive.specs.Typed.{action};
 
 use crate::rows::seq_of;
 use leaf_forms::{AtPart, BytesPart, InitsPart};
 use module_grammar::InitText;
 use part_groups::Parts;
 use piece_forms::{ConstPart, InitPart, TypePart};
+use predictive::Stack;
 use std::alloc::{AllocError, Global};
-use typed_grammars::Stack;
 
 /// A constant that a global holds
 #[inline(never)]

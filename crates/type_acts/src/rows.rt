@@ -2,8 +2,8 @@
 ghost use Rattle.std.specs.Prelude.{◌≡◌, IfOk};
 
 use contents::Seq;
+use predictive::Stack;
 use std::alloc::{AllocError, Global};
-use typed_grammars::Stack;
 
 /// The items of the stack, which are taken, its top first.
 pub(crate) fn seq_of<T: Drop>(alloc: Global, items: &mut Stack<T>) -> Result<Seq<T>, AllocError>

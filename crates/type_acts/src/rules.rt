@@ -1,7 +1,7 @@
 //! The acts of all rules of types, constants and values, by number.
 ghost use Rattle.std.specs.Prelude.{◌≡◌, OnOk};
 ghost use Rattle.module_grammar.specs.Sorts.{vocabulary};
-ghost use Rattle.typed_grammars.specs.Typed.{act_at};
+ghost use Rattle.predictive.specs.Typed.{act_at};
 ghost use Rattle.type_acts.specs.Listed.{rules_of_types};
 
 use crate::{constants, inits, types};

@@ -3,7 +3,7 @@ ghost use Rattle.std.specs.Prelude.{◌≡◌, IfOk, OnOk};
 ghost use Rattle.module_grammar.specs.Joined.{called_from, pointers_to};
 ghost use Rattle.module_grammar.specs.Sorts.{vocabulary};
 ghost use Rattle.module_grammar.specs.TypeRules as rule;
-ghost use Rattle.typed_grammars.specs.Typed.{action};
+ghost use Rattle.predictive.specs.Typed.{action};
 
 use crate::rows::seq_of;
 use contents::Boxed;
@@ -11,8 +11,8 @@ use leaf_forms::{AtPart, LocalPart, NumberPart, StarsPart, TypesPart, WidthPart}
 use module_grammar::{CalledText, NextCalledText, Stars, TypeText};
 use part_groups::Parts;
 use piece_forms::{CalledPart, FunctionTypePart, NextCalledPart, TypePart};
+use predictive::Stack;
 use std::alloc::{AllocError, Global};
-use typed_grammars::Stack;
 
 /// The pointers to the type that the stars make, the first one first.
 fn pointers_to(alloc: Global, ty: TypeText, stars: &mut Stars) -> Result<TypeText, AllocError>

@@ -45,7 +45,7 @@ pub fn int_of(ty: &TypeText, int: &IntText) -> Option<u64>
     ensures { result ≡ meaning.int_of (meaning.type_of ty.now) int.now }
 {
     match ty {
-        TypeText::Int(width) => value_building::int_of(&Ty::Int(width.what), int),
+        TypeText::Int(width) => named_modules::int_of(&Ty::Int(width.what), int),
         TypeText::Named(_) => None,
         TypeText::Ptr(_, _) => None,
         TypeText::Array(_, _) => None,

@@ -13,8 +13,8 @@ use function_names::{Own, Thing, Within, is_own};
 use ir_core::Name;
 use module_grammar::{OperandText, Placed, TypeText, ValueText};
 use name_claims::{Fault, Reason};
+use predictive::Stack;
 use type_faults::{at, note, note_type, note_unless, note_value_type};
-use typed_grammars::Stack;
 
 fn note_block(name: &Placed<Name>, thing: Option<Thing>, fault: &mut Option<Fault>)
     ensures { fault.new ≡ noted (meaning.block_faults_of name.now (option_map thing_seen thing.entry)) fault.old }

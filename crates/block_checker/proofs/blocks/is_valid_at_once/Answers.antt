@@ -2,7 +2,7 @@ use Rattle.std.proofs.Common.{◌∙◌, sym, rules}
 use Rattle.line_align.specs.Lent.{lent_block}
 use Rattle.checked_pair.specs.Asked.{asked}
 use Rattle.checked_pair.specs.Progress.{names_lent}
-use Rattle.agreeing_blocks.proofs.Agreements.{empty_too, agreeing_blocks}
+use Rattle.checked_pair.proofs.Agreements.{empty_too, agreeing_blocks}
 use Rattle.block_checker.proofs.blocks.is_valid_at_once.Goals as goal
 
 pub returns : goal.returns

@@ -3,7 +3,7 @@ use Rattle.std.specs.List.{flat_map}
 use Rattle.expression_reader.proofs.constants.+constants.Given as goal
 use Rattle.expression_reader.specs.Told.{part_faults}
 use Rattle.type_faults.specs.Noted.{noted}
-use Rattle.value_building.proofs.Measures.{of_const, of_part, of_parts}
+use Rattle.named_modules.proofs.Measures.{of_const, of_part, of_parts}
 
 abbrev pub decreases-note_const : goal.decreases-note_const
 decreases-note_const l = of_const l.constant.now

@@ -3,9 +3,9 @@ use Rattle.std.specs.List.{flat_map}
 use Rattle.module_grammar.specs.declared.types.TypeText.{TypeText}
 use Rattle.type_faults.proofs.Noted.{one_more}
 use Rattle.type_faults.specs.Noted.{noted}
-use Rattle.type_reader.proofs.TypeCases.{of_struct}
+use Rattle.expression_reader.proofs.TypeCases.{of_struct}
 use Rattle.expression_reader.proofs.counts.+counts.Goals as goal
-use Rattle.type_reader.specs.Types.{count_faults}
+use Rattle.expression_reader.specs.Types.{count_faults}
 
 pub note_counts-returns-in-Struct : goal.note_counts-returns-in-Struct
 note_counts-returns-in-Struct t c =

@@ -3,7 +3,7 @@ use Rattle.std.proofs.Common.{subst, sym}
 use Rattle.expression_reader.proofs.Lexed.{fault_told}
 use Rattle.expression_reader.proofs.tokens.read_tokens.Goals as goal
 use Rattle.expression_reader.specs.Expressions.{IsExpressionFault}
-use Rattle.type_reader.proofs.Lexed.{tokens_by}
+use Rattle.expression_reader.proofs.TypeLexed.{tokens_by}
 
 pub returns-in-Ok-clause-tokens : goal.returns-in-Ok-clause-tokens
 returns-in-Ok-clause-tokens c = tokens_by c.args.text.now c.in-Ok.tokens.items c.in-Ok.ensures.tokens

@@ -1,7 +1,7 @@
 -- What is told of the tree is told of the text.
 use Rattle.ir_naming.specs.Expressions.{NamesExpression}
-use Rattle.ir_spelling.specs.Forms.{expression_form}
-use Rattle.spelling_laws.proofs.Spans.{expression_spans}
+use Rattle.ir_reader.specs.Forms.{expression_form}
+use Rattle.ir_reader.proofs.Spans.{expression_spans}
 use Rattle.ir_reader.proofs.Whole.{expression_by, fault_by, short_by, spelled_by}
 use Rattle.ir_reader.proofs.expressions.expression_in.Goals as goal
 

@@ -1,5 +1,5 @@
 -- What is spelled is the only expression.
-use Rattle.ir_spelling.specs.Spells.{SpellsExpression}
+use Rattle.ir_reader.specs.Spells.{SpellsExpression}
 use Rattle.ir_reader.proofs.Whole.{only_by}
 use Rattle.ir_reader.proofs.expressions.read_expr.Goals as goal
 

@@ -1,5 +1,5 @@
 -- What is told of the tokens is told of their text.
-use Rattle.ir_spelling.specs.Forms.{expression_form}
+use Rattle.ir_reader.specs.Forms.{expression_form}
 use Rattle.ir_reader.proofs.Whole.{none_past, tree_by, tree_fault_by}
 use Rattle.ir_reader.proofs.expressions.tree_in.Goals as goal
 

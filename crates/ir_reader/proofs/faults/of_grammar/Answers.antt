@@ -1,6 +1,6 @@
 -- The end of the text has its length as its place.
 use Rattle.std.proofs.Common.{length}
-use Rattle.spelling_laws.proofs.Grammars.{end_is}
+use Rattle.ir_reader.proofs.Grammars.{end_is}
 use Rattle.ir_reader.proofs.faults.of_grammar.Goals as goal
 
 pub returns-in-None : goal.returns-in-None

@@ -1,7 +1,7 @@
 -- What is told of the tree is told of the text.
 use Rattle.ir_naming.specs.Spells.{NamesModule}
-use Rattle.ir_spelling.specs.Forms.{module_form}
-use Rattle.spelling_laws.proofs.Spans.{module_spans}
+use Rattle.ir_reader.specs.Forms.{module_form}
+use Rattle.ir_reader.proofs.Spans.{module_spans}
 use Rattle.ir_reader.proofs.Whole.{fault_by, module_by, short_by, spelled_by}
 use Rattle.ir_reader.proofs.modules.module_in.Goals as goal
 

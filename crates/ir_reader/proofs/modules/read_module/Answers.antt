@@ -1,5 +1,5 @@
 -- What is spelled is in order, and is the only module.
-use Rattle.ir_spelling.specs.Spells.{Spells}
+use Rattle.ir_reader.specs.Spells.{Spells}
 use Rattle.ir_reader.proofs.Whole.{only_by, order_by}
 use Rattle.ir_reader.proofs.modules.read_module.Goals as goal
 

@@ -1,7 +1,7 @@
 -- A line past the limit, or a token that isn't expected, whichever comes first.
 use Rattle.std.proofs.Common.{ℕ, MatchOption, length, subst, ◌∙◌}
-use Rattle.ir_spelling.specs.Forms.{module_form}
-use Rattle.spelling_laws.proofs.Grammars.{stuck_in, whole_in}
+use Rattle.ir_reader.specs.Forms.{module_form}
+use Rattle.ir_reader.proofs.Grammars.{stuck_in, whole_in}
 use Rattle.tree_reader.specs.Lines.{IsFirstPast, IsPastLimit}
 use Rattle.ir_reader.proofs.modules.read_tree.Goals as goal
 

@@ -1,5 +1,5 @@
 -- What is told of the tokens is told of their text.
-use Rattle.ir_spelling.specs.Forms.{module_form}
+use Rattle.ir_reader.specs.Forms.{module_form}
 use Rattle.ir_reader.proofs.Whole.{tree_by, tree_fault_by}
 use Rattle.ir_reader.proofs.modules.tree_in.Goals as goal
 

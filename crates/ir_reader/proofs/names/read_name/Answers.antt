@@ -1,5 +1,5 @@
 -- What is spelled is the only name.
-use Rattle.ir_spelling.specs.Spells.{SpellsName}
+use Rattle.ir_reader.specs.Spells.{SpellsName}
 use Rattle.ir_reader.proofs.Whole.{only_by}
 use Rattle.ir_reader.proofs.names.read_name.Goals as goal
 

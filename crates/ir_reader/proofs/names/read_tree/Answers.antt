@@ -1,7 +1,7 @@
 -- The first token that isn't expected, since no line is past a limit.
 use Rattle.std.proofs.Common.{None, length}
-use Rattle.ir_spelling.specs.Forms.{name_form}
-use Rattle.spelling_laws.proofs.Grammars.{stuck_in}
+use Rattle.ir_reader.specs.Forms.{name_form}
+use Rattle.ir_reader.proofs.Grammars.{stuck_in}
 use Rattle.ir_reader.proofs.names.read_tree.Goals as goal
 
 pub returns-in-Err-clause-fault : goal.returns-in-Err-clause-fault

@@ -1,6 +1,6 @@
 -- What is told of the tokens is told of their text.
 use Rattle.std.proofs.Common.{rules}
-use Rattle.ir_spelling.specs.Forms.{name_form}
+use Rattle.ir_reader.specs.Forms.{name_form}
 use Rattle.ir_reader.proofs.Whole.{none_past, tree_by, tree_fault_by}
 use Rattle.ir_reader.proofs.names.tree_in.Goals as goal
 

@@ -1,8 +1,8 @@
 -- What the lexer answers, of the text.
 use Rattle.std.proofs.Common.{subst, sym}
-use Rattle.ir_spelling.specs.Faults.{IsTextFault}
-use Rattle.ir_spelling.specs.Forms.{expression_form, module_form, name_form}
-use Rattle.spelling_laws.proofs.Lexed.{fault_told, tokens_by}
+use Rattle.ir_reader.specs.Faults.{IsTextFault}
+use Rattle.ir_reader.specs.Forms.{expression_form, module_form, name_form}
+use Rattle.ir_reader.proofs.Lexed.{fault_told, tokens_by}
 use Rattle.ir_reader.proofs.tokens.read_tokens.Goals as goal
 
 pub returns-in-Ok-clause-tokens : goal.returns-in-Ok-clause-tokens

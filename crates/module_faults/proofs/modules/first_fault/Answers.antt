@@ -3,8 +3,8 @@ use Rattle.std.specs.Prelude.{◌↔◌, IfSome}
 use Rattle.std.proofs.lemmas.Result.{IfOk-weaker}
 use Rattle.name_claims.specs.declared.claims.Fault.{Fault}
 use Rattle.named_modules.specs.Faults.{faults_of}
-use Rattle.noted_laws.specs.First.{IsFirstOf}
-use Rattle.noted_laws.proofs.First.{first_noted, none_noted}
+use Rattle.name_walks.specs.First.{IsFirstOf}
+use Rattle.name_walks.proofs.First.{first_noted, none_noted}
 use Rattle.type_faults.specs.Noted.{noted}
 use Rattle.module_faults.proofs.modules.first_fault.Goals as goal
 

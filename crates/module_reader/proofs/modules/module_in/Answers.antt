@@ -2,7 +2,7 @@
 use Rattle.std.proofs.Common.{subst, sym}
 use Rattle.module_surroundings.specs.Told as around
 use Rattle.module_texts.specs.Texts.{IsTextFault}
-use Rattle.tree_naming.specs.Naming.{IsNaming}
+use Rattle.module_reader.specs.Naming.{IsNaming}
 use Rattle.module_reader.proofs.Whole.{fault_by, spelled_by}
 use Rattle.module_reader.proofs.modules.module_in.Goals as goal
 

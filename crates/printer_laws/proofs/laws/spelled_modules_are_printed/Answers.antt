@@ -2,8 +2,8 @@
 use Rattle.std.proofs.Common.{ap, subst, sym}
 use Rattle.ir_core.proofs.Narrow.{narrow}
 use Rattle.ir_printer.specs.Printed.{printed_module}
-use Rattle.ir_spelling.specs.Spells.{Spells}
-use Rattle.spelling_laws.specs.Laws.{ModulesAreInRange, ModulesAreOverIntegers}
+use Rattle.ir_reader.specs.Spells.{Spells}
+use Rattle.ir_reader.specs.Laws.{ModulesAreInRange, ModulesAreOverIntegers}
 use Rattle.printer_laws.specs.Laws.{SpelledModulesArePrinted}
 use Rattle.printer_laws.proofs.Functions.{module_spelled}
 use Rattle.printer_laws.proofs.Spelled.{fits_spelled}

@@ -6,7 +6,7 @@ use Rattle.item_acts.specs.Listed.{rules_of_items}
 use Rattle.line_acts.specs.Listed.{rules_of_lines}
 use Rattle.module_grammar.specs.Sorts.{vocabulary}
 use Rattle.module_grammar.specs.declared.parts.Part.{Part}
-use Rattle.typed_grammars.specs.Typed.{act_at}
+use Rattle.predictive.specs.Typed.{act_at}
 use Rattle.type_acts.specs.Listed.{rules_of_types}
 use Rattle.tree_acts.proofs.Numbered.{of_items, of_attributes, of_types, of_lines, of_blocks, of_balanced}
 use Rattle.tree_acts.proofs.acts.reduce.Goals as goal

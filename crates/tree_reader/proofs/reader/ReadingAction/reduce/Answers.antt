@@ -1,7 +1,7 @@
 use Rattle.std.proofs.Common.{◌≡◌, ap, ◌∙◌, map}
 use Rattle.ir_grammar.specs.Rules.{acts, meaning}
 use Rattle.ir_grammar.specs.Symbols.{symbol_in}
-use Rattle.typed_grammars.specs.Meaning.{reduced}
+use Rattle.predictive.specs.Meaning.{reduced}
 use Rattle.tree_reader.proofs.Whole.{where_ok}
 use Rattle.tree_reader.proofs.reader.ReadingAction.reduce.Goals as goal
 

@@ -1,0 +1,51 @@
+-- What a reader of tokens answers, of the text.
+use Rattle.std.proofs.Common.{◌≡◌, ◌∙◌, ℕ, List, length, map, Result, Ok, Err, ap, sym, subst}
+use Rattle.ir_lexer.specs.Cut.{Placed}
+use Rattle.ir_lexer.specs.declared.token.Token.{Token}
+use Rattle.module_grammar.specs.Sorts.{AnyType}
+use Rattle.module_grammar.specs.Spelled.{kind_in, placed_in, symbol_in}
+use Rattle.module_grammar.specs.Symbols.{Symbol, kind_of}
+use Rattle.module_grammar.specs.declared.types.TypeText.{TypeText}
+use Rattle.module_grammar.specs.declared.words.Language.TheVariants.{Ir}
+use Rattle.module_spelling.specs.Context.{AreKinds, all_seen}
+use Rattle.module_texts.specs.Texts.{HasTokens, own_symbols}
+use Rattle.module_trees.specs.Reading.{IsReading}
+use Rattle.module_trees.specs.declared.unread.Unread.{Unread}
+use Rattle.module_trees.specs.declared.unread.Unread.TheVariants as unread
+use Rattle.expression_reader.proofs.TypeLexed.{own_are}
+use Rattle.expression_reader.proofs.TypeOwn.{kinds_are, own_kinds, own_seen}
+use Rattle.expression_reader.proofs.ToldTypes.{limit_told, stuck_told}
+use Rattle.expression_reader.specs.ToldTypes.{IsTreeOf, of_unread}
+use Rattle.expression_reader.specs.Types.{IsTypeFault, type_number}
+
+-- the answer for the tokens by their kinds, where these are held and lent
+module _ (bytes : List ℕ) (small : List Token) (held lent : List ℕ) (same : lent ≡ held) (are : held ≡ map (kind_in Ir bytes) small) where
+  abbrev pub tokens : List Placed
+  tokens = map (placed_in bytes) small
+
+  abbrev pub own : List Symbol
+  own = map (symbol_in Ir bytes) small
+
+  kinds : lent ≡ map kind_of own
+  kinds = same ∙ are ∙ kinds_are Ir bytes small
+
+  pub lent_kinds : AreKinds own lent
+  lent_kinds = subst (AreKinds own) (sym kinds) (own_kinds own)
+
+  seen : all_seen own lent ≡ own_symbols bytes tokens
+  seen = ap (all_seen own) kinds ∙ own_seen own ∙ own_are bytes small
+
+  module _ (has : HasTokens bytes tokens) (read : Result TypeText Unread) (reading : IsReading AnyType type_number (all_seen own lent) read) where
+    reading_of : (answer : Result TypeText Unread) → read ≡ answer → IsReading AnyType type_number (own_symbols bytes tokens) answer
+    reading_of answer is =
+        subst (λ symbols. IsReading AnyType type_number symbols answer) seen (subst (IsReading AnyType type_number (all_seen own lent)) is reading)
+
+    pub tree_by : (tree : TypeText) → read ≡ Ok tree → IsTreeOf bytes tree
+    tree_by tree is = (tokens, has, reading_of (Ok tree) is)
+
+    told : (why : Unread) → IsReading AnyType type_number (own_symbols bytes tokens) (Err why) → IsTypeFault bytes (of_unread tokens (length bytes) why)
+    told (unread.Stuck k) stuck = stuck_told bytes tokens has k stuck
+    told (unread.Limit l) passes = limit_told bytes tokens has l passes
+
+    pub fault_by : (why : Unread) → read ≡ Err why → IsTypeFault bytes (of_unread tokens (length bytes) why)
+    fault_by why is = told why (reading_of (Err why) is)

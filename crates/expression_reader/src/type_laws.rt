@@ -1,0 +1,21 @@
+ghost use Rattle.expression_reader.specs.TypeLaws.{FaultsExclude, TypesAreOne};
+
+use module_grammar::written_once;
+
+/// The body calls laws alone, since the clause is a law.
+///
+/// A text spells one type.
+pub fn texts_spell_one_type()
+    ensures { TypesAreOne }
+{
+    written_once();
+}
+
+/// The body calls laws alone, since the clause is a law.
+///
+/// A text of at most 2 to the 24 bytes that has a fault spells no type.
+pub fn faults_and_types_exclude()
+    ensures { FaultsExclude }
+{
+    written_once();
+}

@@ -1,4 +1,0 @@
-pub mod Fills
-pub mod Gapped
-pub mod Examples
-pub mod Listing

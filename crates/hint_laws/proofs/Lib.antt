@@ -1,3 +1,0 @@
-pub mod PrintedExpressions
-pub mod PrintedFacts
-pub mod PrintedNames

@@ -1,0 +1,71 @@
+-- What was put on the stack is taken from it, so each rule's act is lawful where what it makes is written as its right side.
+use Rattle.std.proofs.Common.{◌≡◌, ◌<◌, ℕ, zero, suc, List, [], ◌∷◌, length, Option, Some, None, cond, nat_lt, nat_eq, ◌+◌, Bool, true, false, refl, ap, ◌∙◌, arith}
+use Rattle.std.proofs.lemmas.Bool.{eq-eqb, eqb-true, ltb-true}
+use Rattle.predictive.specs.declared.symbol.Symbol.{Symbol}
+use Rattle.predictive.specs.declared.symbol.Symbol.TheVariants.{Kind, Non}
+use Rattle.predictive.specs.Meaning.{Meaning, EachOf, onto, Law, IsLawful}
+use Rattle.predictive.specs.Made.{Made, MadeEach}
+use Rattle.predictive.proofs.Makes.{node}
+use Rattle.predictive.specs.Typed.{Vocabulary, Rule, IsVocabulary, AllOf, IsRight, act_at, action, made, meaning_of, nth, take, unload}
+
+differ : (p i : ℕ) → (p ≡ i → ⊥) → nat_eq p i ≡ false
+differ p i h = go (nat_eq p i) (λ e. h (eqb-true p i e))
+  where
+    go : (b : Bool) → (b ≡ true → ⊥) → b ≡ false
+    go true never = absurd (never refl)
+    go false never = refl
+
+module _ (w : Vocabulary) (are : IsVocabulary w) (written : (n : ℕ) → w.Value n → List w.Token) (first : Rule w) (rules : List (Rule w)) where
+  m : Meaning
+  m = meaning_of w written first rules
+
+  took : (n : ℕ) (v : w.Value n) (s : List w.Part) (then : w.Value n → List w.Part → List w.Part) → take (w.value n) (w.part n v ∷ s) then ≡ then v s
+  took n v s then = go (w.value n (w.part n v)) (are.value n v)
+    where
+      go : (o : Option (w.Value n)) → o ≡ Some v → take (λ p. o) (w.part n v ∷ s) then ≡ then v s
+      go None e = cc
+      go (Some x) e = ap (λ o. take (λ p. o) (w.part n v ∷ s) then) e
+
+  unloads :
+      (s : List Symbol) (vs : EachOf w.Content w.Value s) (parts : List w.Part) (then : EachOf w.Content w.Value s → List w.Part → List w.Part)
+      → unload w s (onto (meaning_of w written first rules) s vs parts) then ≡ then vs parts
+  unloads [] vs parts then = refl
+  unloads (Kind k ∷ s) vs parts then =
+      unloads s vs.1 (w.kept (w.token k vs.0) parts) (λ us ps. w.unkept k ps (λ x ps. then (x, us) ps))
+      ∙ are.kept k vs.0 parts (λ x ps. then (x, vs.1) ps)
+  unloads (Non n ∷ s) vs parts then =
+      unloads s vs.1 (w.part n vs.0 ∷ parts) (λ us ps. take (w.value n) ps (λ v ps. then (v, us) ps))
+      ∙ took n vs.0 parts (λ v ps. then (v, vs.1) ps)
+
+  right_at : (rs : List (Rule w)) → AllOf (λ r. IsRight w written r first rules) rs → (p : ℕ) → p < length rs → IsRight w written (nth first rs p) first rules
+  right_at [] all p h = absurd (grind arith)
+  right_at (r ∷ rs) all zero h = all.0
+  right_at (r ∷ rs) all (suc p) h = right_at rs all.1 p (grind arith)
+
+  at_its_number : (i : ℕ) (rs : List (Rule w)) (q : ℕ) → q < length rs → (p : ℕ) → p ≡ i + q → (s : List w.Part) → act_at w i rs p s ≡ action w (nth first rs q) s
+  at_its_number i [] q h p e s = absurd (grind arith)
+  at_its_number i (r ∷ rs) zero h p e s = ap (λ b. cond b (action w r s) (act_at w (i + 1) rs p s)) (eq-eqb p i (grind arith))
+  at_its_number i (r ∷ rs) (suc q) h p e s =
+      ap (λ b. cond b (action w r s) (act_at w (i + 1) rs p s)) (differ p i (λ same. grind arith))
+      ∙ at_its_number (i + 1) rs q (grind arith) p (grind arith) s
+
+  law : AllOf (λ r. IsRight w written r first rules) rules → (p : ℕ) → p < length rules → Law (meaning_of w written first rules) p
+  law all p h vs =
+      let r : Rule w = nth first rules p in (
+        made w (nth first rules p) vs,
+        λ s. at_its_number 0 rules p h p (grind arith) (onto (meaning_of w written first rules) (nth first rules p).right vs s)
+            ∙ unloads (nth first rules p).right vs s (λ vs ps. w.part (nth first rules p).left (made w (nth first rules p) vs) ∷ ps),
+        right_at rules all p h vs,
+      )
+
+  pub lawful_rules : AllOf (λ r. IsRight w written r first rules) rules → IsLawful (meaning_of w written first rules)
+  lawful_rules all = record { law = law all; content = are.content; kind = are.kind; some = are.some }
+
+  pub tree :
+      AllOf (λ r. IsRight w written r first rules) rules → (p : ℕ) → nat_lt p (length rules) ≡ true
+      → (vs : EachOf w.Content w.Value (nth first rules p).right) → MadeEach (meaning_of w written first rules) (nth first rules p).right vs
+      → Made (meaning_of w written first rules) (nth first rules p).left (made w (nth first rules p) vs)
+  unfolding law
+  tree all p h vs kids =
+      let l = law all p (ltb-true p (length rules) h) vs in
+      node (meaning_of w written first rules) (lawful_rules all) p h vs l.0 l.1 l.2 kids

@@ -1,5 +1,0 @@
-pub mod Meaning
-pub mod Made
-pub mod Typed
-pub mod Unexpected
-pub mod Listing
