@@ -1,2 +1,4 @@
 pub mod Agreeing
+pub mod Atoms
 pub mod Divisors
+pub mod Leading

@@ -6,13 +6,13 @@ ghost use Rattle.erhl_assert.specs.Matched.{are_matched};
 ghost use Rattle.erhl_assert.specs.Allowed.{same_operator};
 ghost use Rattle.erhl_assert.specs.Postcondition.{rights_agree, lines_agree};
 
+use crate::{atoms_matched, matched};
 use erhl_assert::FactSet;
 use erhl_sides::Sides;
 use ir_core::{
     Atom, Binary, Calm, Cast, Expr, Flags, Icmp, Name, Operand, Select, Ty, same_cast, same_name,
     same_op, same_pred, same_ty,
 };
-use matched_operands::{atoms_matched, matched};
 
 /// Whether the operators are one, and their type.
 pub(crate) fn are_one_operator(s: &Binary<Name>, t: &Binary<Name>) -> bool

@@ -9,11 +9,11 @@ ghost use Rattle.erhl_assert.specs.declared.verdict.Reason.TheVariants.{Unmatche
 ghost use Rattle.erhl_assert.specs.Allowed.{divides_all, can_trap, first_unmatched, right_fault, line_fault_of};
 
 use crate::agreement::are_one_operator;
+use crate::atoms_matched;
 use contents::Exact;
 use erhl_assert::{FactSet, Reason};
 use erhl_sides::Sides;
 use ir_core::{Atom, BinOp, Binary, Const, Expr, Instr, Name, Operand, Ty, fits};
-use matched_operands::atoms_matched;
 use std::alloc::{AllocError, Global};
 
 fn is_division(op: BinOp) -> bool

@@ -12,11 +12,10 @@ use crate::terms::note_term;
 use contents::Boxed;
 use function_names::Within;
 use line_faults::note_line;
-use module_grammar::{BlockText, DefinitionText, LineText};
+use module_grammar::{BlockText, DefinitionText, LineText, Surroundings};
 use name_claims::Fault;
 use predictive::Stack;
 use std::alloc::{AllocError, Global};
-use tree_surroundings::Surroundings;
 
 fn note_line_got<S: Surroundings>(
     alloc: Global,

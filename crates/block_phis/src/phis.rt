@@ -7,12 +7,12 @@ ghost use Rattle.ir_machine.specs.Machine.{entry_from};
 ghost use Rattle.erhl_assert.specs.Edges.{entries_match, phis_match, phi_setting, is_alike};
 ghost use Rattle.block_phis.specs.Phis.{AreTheirNames, AreItsEntries};
 
+use allowed_lines::atoms_matched;
 use contents::Boxed;
 use erhl_assert::FactSet;
 use erhl_sides::{Sides, Sort};
 use ir_core::{Entry, Name, Phi, Reg, Ty, same_name, same_ty};
 use line_align::ByName;
-use matched_operands::atoms_matched;
 use name_index::NameIndex;
 use std::alloc::{AllocError, Global};
 use std::marker::Model;

@@ -4,13 +4,13 @@ ghost use Rattle.ir_types.specs.Same.{same_list, same_name};
 ghost use Rattle.ir_core.specs.declared.functions.Term.TheVariants as term;
 ghost use Rattle.erhl_assert.specs.Acceptance.{same_case, operand_fault, of_one_kind, term_fault};
 
+use allowed_lines::matched;
 use contents::Exact;
 use erhl_assert::Reason;
 use erhl_sides::Sides;
 use fact_sets::IndexedSet;
 use ir_core::{Case, CondBr, Name, Operand, Switch, Term, same_name, same_ty};
 use line_align::{Likeness, all_alike};
-use matched_operands::matched;
 use std::alloc::{AllocError, Global};
 
 /// One number of one type, and one label.

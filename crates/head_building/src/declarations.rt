@@ -8,11 +8,11 @@ use contents::{Exact, Seq};
 use ir_core::{Declaration, DeclaredParam, Name};
 use module_grammar::{
     DeclarationText, DeclaredNameText, DeclaredText, ItemText, ParamText, Placed, ResultText,
+    Surroundings,
 };
 use named_modules::{extensions_of, item_at, result_of, type_of, with_room};
 use predictive::Stack;
 use std::alloc::{AllocError, Global};
-use tree_surroundings::Surroundings;
 
 fn declared_param(alloc: Global, param: &ParamText) -> Result<DeclaredParam, AllocError>
     ensures { IfOk result (λ built. built ≡ meaning.declared_param param.now) }

@@ -9,11 +9,10 @@ use crate::globals::globals_in;
 use crate::named::types_in;
 use contents::Seq;
 use ir_core::{Function, Module, NamedTypes};
-use module_grammar::{ItemText, ModuleText};
+use module_grammar::{ItemText, ModuleText, Surroundings};
 use named_modules::item_at;
 use predictive::Stack;
 use std::alloc::{AllocError, Global};
-use tree_surroundings::Surroundings;
 
 /// Puts the function that the item defines, if it defines one, without its blocks.
 fn put_function(

@@ -16,7 +16,7 @@ use Rattle.named_modules.specs.Built.{module_of}
 use Rattle.named_modules.specs.Laws.{FaultlessTreesNameWhatIsBuilt}
 use Rattle.named_modules.specs.Modules.{NamesModule}
 use Rattle.token_limits.specs.Laws.{MarksFirst}
-use Rattle.tree_tokens.specs.Laws.{CalledNamesStand, DeclaredNamesStand, NamesRestOnTheseAlone, WithinTreesAreShort}
+use Rattle.module_spelling.specs.TokenLaws.{CalledNamesStand, DeclaredNamesStand, NamesRestOnTheseAlone, WithinTreesAreShort}
 use Rattle.judged_texts.proofs.Around.{params, params_are, params_stand, stated, types_are, types_stand}
 use Rattle.judged_texts.proofs.Least.{first_fault, first_place, not_behind}
 use Rattle.judged_texts.proofs.Limits.{Tree}

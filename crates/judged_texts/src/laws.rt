@@ -1,11 +1,11 @@
 ghost use Rattle.judged_texts.specs.Laws.{EachTextIsJudged};
 
 use module_grammar::written_once;
-use named_modules::faultless_trees_name_what_is_built;
-use token_limits::marks_the_first;
-use tree_tokens::{
+use module_spelling::{
     called_names_stand, declared_names_stand, names_rest_on_these_alone, within_trees_are_short,
 };
+use named_modules::faultless_trees_name_what_is_built;
+use token_limits::marks_the_first;
 
 /// The body calls laws alone, since the clause is a law.
 ///

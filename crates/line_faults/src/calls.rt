@@ -10,14 +10,13 @@ use crate::callees::note_callee;
 use function_names::Within;
 use ir_core::Name;
 use module_grammar::{
-    ArgumentText, CallBodyText, CallEndText, CalledText, Placed, TypeText, VoidCallText,
-    VoidCalleeText,
+    ArgumentText, CallBodyText, CallEndText, CalledText, Placed, Surroundings, TypeText,
+    VoidCallText, VoidCalleeText,
 };
 use name_claims::Fault;
 use named_modules::global_name;
 use predictive::Stack;
 use std::alloc::{AllocError, Global};
-use tree_surroundings::Surroundings;
 use value_faults::{note_known_type, note_result, note_type_of_values, note_value};
 
 fn note_type_got(within: &Within, ty: Option<&TypeText>, fault: &mut Option<Fault>)

@@ -6,10 +6,11 @@ ghost use Rattle.type_faults.specs.Noted.{noted};
 
 use crate::calls::note_call;
 use function_names::Within;
-use module_grammar::{AllocaText, ElementText, InstructionText, LineText, LoadText, StoreText};
+use module_grammar::{
+    AllocaText, ElementText, InstructionText, LineText, LoadText, StoreText, Surroundings,
+};
 use name_claims::Fault;
 use std::alloc::{AllocError, Global};
-use tree_surroundings::Surroundings;
 use value_faults::{
     note_align, note_count, note_known_type, note_operand, note_operands, note_operation,
     note_type_of_values,

@@ -7,11 +7,10 @@ ghost use Rattle.type_faults.specs.Noted.{noted};
 
 use crate::heads::note_head;
 use block_faults::note_blocks;
-use module_grammar::DefinitionText;
+use module_grammar::{DefinitionText, Surroundings};
 use name_claims::Fault;
 use name_walks::names_of;
 use std::alloc::{AllocError, Global};
-use tree_surroundings::Surroundings;
 use type_faults::{Sight, note};
 
 /// What is noted apart.

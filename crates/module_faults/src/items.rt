@@ -12,12 +12,12 @@ use crate::picks::is_dropped;
 use crate::{note_function, note_params, note_result};
 use const_faults::note_init;
 use module_grammar::{
-    DeclarationText, DeclaredNameText, GlobalBodyText, HeldText, ItemText, TypeBodyText, TypeText,
+    DeclarationText, DeclaredNameText, GlobalBodyText, HeldText, ItemText, Surroundings,
+    TypeBodyText, TypeText,
 };
 use name_claims::Fault;
 use predictive::Stack;
 use std::alloc::{AllocError, Global};
-use tree_surroundings::Surroundings;
 use type_faults::{Sight, note_type};
 use value_faults::note_align;
 

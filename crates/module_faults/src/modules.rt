@@ -9,11 +9,10 @@ use crate::dues::note_dues;
 use crate::items::note_items;
 use crate::names::note_twice;
 use crate::picks::Pick;
-use module_grammar::{ItemText, ModuleText};
+use module_grammar::{ItemText, ModuleText, Surroundings};
 use name_claims::Fault;
 use predictive::Stack;
 use std::alloc::{AllocError, Global};
-use tree_surroundings::Surroundings;
 use type_faults::Sight;
 
 /// Names of globals and functions are new, and numbers are counted through the globals and then through the functions.

@@ -1,5 +1,6 @@
 //! How modules and expressions of textual LLVM IR are written as tokens, with places, and the rules of a parser's grammar with what they
-//! make of what stands on its stack. What the trees name is not said here.
+//! make of what stands on its stack. What the trees name is not said here; `Surroundings` tells the text
+//! around a name that a tree doesn't keep.
 #![tactic(auto)]
 
 mod attributes;
@@ -14,6 +15,7 @@ mod operators;
 mod parts;
 mod places;
 mod stars;
+mod surroundings;
 mod types;
 mod words;
 
@@ -45,5 +47,6 @@ pub use operators::{ExactOp, ExtensionWord, FlagWord, LinkageWord, OverflowOp, P
 pub use parts::{Atom, Flow, Item, Leaf, Line, List, Part, Piece};
 pub use places::Placed;
 pub use stars::Stars;
+pub use surroundings::Surroundings;
 pub use types::{CalledText, NextCalledText, TypeText};
 pub use words::{KeyWord, Language, Word};

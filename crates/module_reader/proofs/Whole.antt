@@ -17,7 +17,7 @@ use Rattle.named_modules.specs.Modules.{NamesModule}
 use Rattle.module_reader.specs.Naming.{IsFaultless, IsMisnamed}
 use Rattle.module_reader.specs.declared.misnamed.Misnamed.{Misnamed}
 use Rattle.module_reader.specs.declared.misnamed.Misnamed.TheVariants as misnamed
-use Rattle.tree_tokens.specs.Laws.{CalledNamesStand, DeclaredNamesStand, NamesRestOnTheseAlone, WithinTreesAreShort}
+use Rattle.module_spelling.specs.TokenLaws.{CalledNamesStand, DeclaredNamesStand, NamesRestOnTheseAlone, WithinTreesAreShort}
 use Rattle.module_reader.proofs.Told.{of_reason}
 
 pub record TreeLaws : Type 0 where

@@ -9,10 +9,9 @@ use crate::misnamed::Misnamed;
 use ir_core::Module;
 use large_blocks::first_large;
 use module_faults::first_fault;
-use module_grammar::ModuleText;
+use module_grammar::{ModuleText, Surroundings};
 use name_claims::Fault;
 use std::alloc::{AllocError, Global};
-use tree_surroundings::Surroundings;
 use type_faults::Sight;
 
 /// Of a fault and a place where a block is too large, the one that stands first: the fault, where both stand at one place.

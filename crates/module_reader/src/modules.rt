@@ -9,12 +9,12 @@ use crate::name_tree;
 use crate::trees::tree_in;
 use ir_core::{Limit, Module};
 use ir_lexer::TextFault;
+use module_spelling::{
+    called_names_stand, declared_names_stand, names_rest_on_these_alone, within_trees_are_short,
+};
 use module_texts::texts_spell_one;
 use named_modules::faultless_trees_name_what_is_built;
 use std::alloc::Global;
-use tree_tokens::{
-    called_names_stand, declared_names_stand, names_rest_on_these_alone, within_trees_are_short,
-};
 
 /// The module that the text spells, or its first fault.
 fn module_in(alloc: Global, text: &[u8]) -> Result<Module, TextFault>

@@ -7,9 +7,8 @@ use crate::misnamed::Misnamed;
 use head_building::heads_of_tree;
 use ir_core::Module;
 use module_building::with_bodies;
-use module_grammar::ModuleText;
+use module_grammar::{ModuleText, Surroundings};
 use std::alloc::{AllocError, Global};
-use tree_surroundings::Surroundings;
 
 /// The module that a tree names, with what stands around its names, or what is first at fault in the tree.
 ///

@@ -1,0 +1,12 @@
+pub mod Acts
+pub mod BuiltLines
+pub mod Counted
+pub mod Lists
+pub mod NamesStand
+pub mod RestOnThese
+pub mod Rows
+pub mod RuleTests
+pub mod ShortTrees
+pub mod Shown
+pub mod Splits
+pub mod Weights

@@ -1,6 +1,8 @@
-pub mod Opened
-pub mod Context
+pub mod Around
 pub mod Blocks
-pub mod Spells
+pub mod Context
 pub mod Faults
 pub mod Laws
+pub mod Opened
+pub mod Spells
+pub mod TokenLaws

@@ -20,12 +20,11 @@ use crate::before::{params_before, start_at, types_before};
 use crate::copies::{params_of, types_of};
 use ir_core::Name;
 use ir_lexer::Token;
-use module_grammar::{CalledText, DeclaredText, Placed};
+use module_grammar::{CalledText, DeclaredText, Placed, Surroundings};
 use predictive::Stack;
 use std::alloc::{AllocError, Global};
 use std::collections::HashMap;
 use token_context::{Brackets, Opened, do_parens_matter};
-use tree_surroundings::Surroundings;
 
 /// What stands between parentheses around names of a text, by where these begin.
 #[derive(Drop)]

@@ -19,7 +19,7 @@ use Rattle.name_claims.specs.declared.claims.Reason.TheVariants as reason
 use Rattle.ir_lexer.specs.declared.fault.TextFault.{TextFault}
 use Rattle.ir_lexer.specs.declared.fault.TextFault.TheVariants as fault
 use Rattle.token_limits.specs.Laws.{MarksFirst}
-use Rattle.tree_tokens.specs.Laws.{CalledNamesStand, DeclaredNamesStand}
+use Rattle.module_spelling.specs.TokenLaws.{CalledNamesStand, DeclaredNamesStand}
 use Rattle.module_texts.proofs.OneLimit.{fault_or_read, limit_or_fault, limit_or_read, one_grammar_fault, one_limit}
 use Rattle.module_texts.proofs.OneRead.{name_fault_or_block, one_name_fault}
 use Rattle.module_texts.proofs.Stood.{stand_for_one}

@@ -15,8 +15,8 @@ use Rattle.name_claims.specs.declared.claims.Fault.{Fault}
 use Rattle.named_modules.proofs.Lists.{contains_behind, contains_here}
 use Rattle.named_modules.specs.Built.{module_of}
 use Rattle.named_modules.specs.Faults.{faults_of, heads_of}
-use Rattle.tree_tokens.specs.Around.{called_names, declared_names}
-use Rattle.tree_tokens.specs.Laws.{CalledNamesStand, DeclaredNamesStand}
+use Rattle.module_spelling.specs.Around.{called_names, declared_names}
+use Rattle.module_spelling.specs.TokenLaws.{CalledNamesStand, DeclaredNamesStand}
 use Rattle.module_texts.proofs.Kept.{params_may_stand, types_may_stand}
 use Rattle.module_texts.proofs.Resting.{AreAlike, built_same, faults_same}
 

@@ -28,7 +28,7 @@ use Rattle.named_modules.specs.Faults.{Heads, Things, block_faults, call_faults,
 use Rattle.named_modules.specs.Functions.{blocks_in, is_dropped_name, name_declared}
 use Rattle.named_modules.specs.Modules.{declarations_from, definition_item, global_item}
 use Rattle.named_modules.specs.Values.{extensions_of}
-use Rattle.tree_tokens.specs.Around.{called_in_block, called_in_body, called_in_definition, called_in_instruction, called_in_line, called_names, called_of_void, debug_declared, debug_name, declared_names}
+use Rattle.module_spelling.specs.Around.{called_in_block, called_in_body, called_in_definition, called_in_instruction, called_in_line, called_names, called_of_void, debug_declared, debug_name, declared_names}
 use Rattle.module_texts.proofs.Lists.{all_parted}
 
 -- the same is told of each of these names

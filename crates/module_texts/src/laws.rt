@@ -1,9 +1,9 @@
 ghost use Rattle.module_texts.specs.Laws.{FaultsAreOne, FaultsExclude, ModulesAreOne};
 
 use module_grammar::written_once;
+use module_spelling::{called_names_stand, declared_names_stand};
 use named_modules::named_trees_are_faultless;
 use token_limits::marks_the_first;
-use tree_tokens::{called_names_stand, declared_names_stand};
 
 /// The body calls laws alone, since the clause is a law.
 ///

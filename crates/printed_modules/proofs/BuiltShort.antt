@@ -15,7 +15,7 @@ use Rattle.module_grammar.specs.declared.lines.LineText.{LineText}
 use Rattle.named_modules.specs.Built.{block_from, blocks_from, due_behind, due_behind_line, due_behind_lines, due_behind_phis, due_from, due_in, function_of, kept_lines, lines_from, phis_from}
 use Rattle.named_modules.specs.Functions.{blocks_in}
 use Rattle.named_modules.specs.Lines.{is_dropped, is_kept}
-use Rattle.tree_tokens.proofs.Weights.{blocks_weight, definition_weight, lines_weight, unless_dropped}
+use Rattle.module_spelling.proofs.Weights.{blocks_weight, definition_weight, lines_weight, unless_dropped}
 
 phis_built : (due : ℕ) (ws : List PhiText) → length (phis_from due ws) ≡ length ws
 phis_built due [] = refl

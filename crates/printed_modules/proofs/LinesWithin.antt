@@ -19,10 +19,10 @@ use Rattle.named_modules.proofs.Lists.{all_append}
 use Rattle.predictive.specs.Grammar.{Forest, End, Leaf, Node, Forms}
 use Rattle.predictive.specs.declared.symbol.Symbol.{Symbol as Sign}
 use Rattle.predictive.specs.declared.symbol.Symbol.TheVariants.{Kind, Non}
-use Rattle.tree_tokens.proofs.Counted.{sum_each}
-use Rattle.tree_tokens.proofs.RuleTests.{Tested, is_inner, of_rule}
-use Rattle.tree_tokens.proofs.Shown.{AllFew}
-use Rattle.tree_tokens.proofs.Weights.{each_rule, item_weight, weight_at}
+use Rattle.module_spelling.proofs.Counted.{sum_each}
+use Rattle.module_spelling.proofs.RuleTests.{Tested, is_inner, of_rule}
+use Rattle.module_spelling.proofs.Shown.{AllFew}
+use Rattle.module_spelling.proofs.Weights.{each_rule, item_weight, weight_at}
 use Rattle.predictive.specs.Meaning.{Each}
 use Rattle.predictive.specs.Typed.{Rule, nth}
 use Rattle.printed_modules.proofs.BuiltShort.{AllShort}

@@ -13,7 +13,7 @@ use Rattle.module_grammar.proofs.WithGap.{is_gapped}
 use Rattle.predictive.specs.Grammar.{Forest, Forms}
 use Rattle.predictive.specs.declared.symbol.Symbol.{Symbol as Sign}
 use Rattle.predictive.specs.declared.symbol.Symbol.TheVariants.{Non}
-use Rattle.tree_tokens.proofs.Acts.{acts}
+use Rattle.module_spelling.proofs.Acts.{acts}
 use Rattle.predictive.specs.Meaning.{Each, State}
 use Rattle.predictive.specs.Typed.{made, nth, top}
 use Rattle.printed_modules.proofs.Told as told

@@ -29,7 +29,7 @@ use Rattle.predictive.specs.Predictive.{MayEnd}
 use Rattle.predictive.specs.Made.{Made}
 use Rattle.predictive.specs.Meaning.{Each, State}
 use Rattle.predictive.specs.Typed.{made, nth, top}
-use Rattle.tree_tokens.proofs.Acts.{acts}
+use Rattle.module_spelling.proofs.Acts.{acts}
 use Rattle.spelled_limits.proofs.Claimed.{AreUpTo}
 use Rattle.spelled_limits.proofs.Claimed as reading
 use Rattle.spelled_limits.proofs.Depths.{of_pointers}
