@@ -2,13 +2,11 @@
 use Rattle.std.proofs.Common.{◌≡◌, ◌∙◌, Bool, true, false, cond, List, [], ◌∷◌, ◌++◌, Option, None, Some, refl, sym, ap}
 use Rattle.std.proofs.lemmas.List.{map-append}
 use Rattle.std.specs.Borrow.{Bor}
-use Rattle.std.specs.Map.{lookup}
 use Rattle.std.specs.Option.{is_some, option_or}
-use Rattle.indexmap.specs.IndexMap.{insert_entry}
 use Rattle.ir_types.specs.declared.names.Name.{Name}
 use Rattle.ir_types.specs.NameLaws.{same_name_true}
 use Rattle.ir_types.specs.Same.{same_name}
-use Rattle.shape_kinds.proofs.Entries.{put_entry}
+use Rattle.shape_kinds.proofs.Entries.{Puts}
 use Rattle.function_names.specs.declared.marked.Told.{Told}
 use Rattle.function_names.specs.declared.things.Thing.{Thing}
 use Rattle.function_names.specs.Held.{Entry, entries_told, found_among, told_at}
@@ -50,10 +48,10 @@ told_before es name v there x =
 
 -- where none is there, it is put
 pub put_new : (es news : List Entry) (name : Bor Name) (v : Thing) → found_among es name.now ≡ None
-    → news ≡ insert_entry (λ (x y : Bor Name). same_name x.now y.now) es name v
+    → Puts es news name v
     → (x : Name) → found_among news x ≡ option_or (found_among es x) (told_at name.now v x)
 put_new es news name v none put x =
-    ap (lookup (λ (q : Bor Name). same_name x q.now)) put ∙ put_entry (λ (q : Bor Name). q.now) x name v es ∙ go (same_name x name.now) refl
+    put x ∙ go (same_name x name.now) refl
   where
     go : (b : Bool) → same_name x name.now ≡ b → cond b (Some v) (found_among es x) ≡ option_or (found_among es x) (cond b (Some v) None)
     go false e = sym (or_none (found_among es x))
@@ -61,12 +59,12 @@ put_new es news name v none put x =
 
 -- where one is there, it is put again
 pub put_there : (es others news : List Entry) (name : Bor Name) (v first : Thing) → found_among es name.now ≡ Some first
-    → others ≡ insert_entry (λ (x y : Bor Name). same_name x.now y.now) es name v
-    → news ≡ insert_entry (λ (x y : Bor Name). same_name x.now y.now) others name first
+    → Puts es others name v
+    → Puts others news name first
     → (x : Name) → found_among news x ≡ option_or (found_among es x) (told_at name.now v x)
 put_there es others news name v first there put again x =
-    ap (lookup (λ (q : Bor Name). same_name x q.now)) again ∙ put_entry (λ (q : Bor Name). q.now) x name first others
-    ∙ ap (λ o. cond (same_name x name.now) (Some first) o) (ap (lookup (λ (q : Bor Name). same_name x q.now)) put ∙ put_entry (λ (q : Bor Name). q.now) x name v es)
+    again x
+    ∙ ap (λ o. cond (same_name x name.now) (Some first) o) (put x)
     ∙ go (same_name x name.now) refl
   where
     go : (b : Bool) → same_name x name.now ≡ b → cond b (Some first) (cond b (Some v) (found_among es x)) ≡ option_or (found_among es x) (cond b (Some v) None)

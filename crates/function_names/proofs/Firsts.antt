@@ -2,15 +2,13 @@
 use Rattle.std.proofs.Common.{◌≡◌, ◌∙◌, ℕ, zero, suc, Bool, true, false, cond, List, [], ◌∷◌, ◌++◌, length, Option, None, Some, refl, sym, ap, arith}
 use Rattle.std.specs.Prelude.{nat_eq, slice_get, Result, Ok, Err, IfOk, OnOk}
 use Rattle.std.proofs.lemmas.Bool.{eq-eqb}
-use Rattle.std.specs.Map.{lookup}
 use Rattle.std.specs.Option.{is_some, option_map, option_or}
-use Rattle.indexmap.specs.IndexMap.{get_by, insert_entry}
+use Rattle.std.specs.HashMap.{get_by}
 use Rattle.ir_types.specs.declared.names.Name.{Name}
 use Rattle.ir_types.specs.declared.names.Name.TheVariants as name
 use Rattle.ir_types.specs.NameLaws.{name_equivalence, same_nat_true}
 use Rattle.ir_types.specs.Same.{same_name}
 use Rattle.named_modules.specs.Faults.{Thing as Seen, Things, thing_of}
-use Rattle.shape_kinds.proofs.Entries.{put_entry}
 use Rattle.function_names.specs.declared.held.Held.{Held}
 use Rattle.function_names.specs.declared.names.Names.{Names}
 use Rattle.function_names.specs.declared.things.Thing.{Thing}
@@ -154,7 +152,7 @@ module _ (names : Names) (n : ℕ) (v : Thing) (none : found_number names n ≡ 
       ∙ counted_or (slice_get ts m) stray (nat_eq n m) v (apart m)
 
   -- a number that stands apart
-  pub stray_put : (new : Names) → new.strays.entries ≡ insert_entry same_name names.strays.entries (name.Number n) v → new.texts ≡ names.texts → new.counted ≡ names.counted
+  pub stray_put : (new : Names) → ((q : Name) → get_by (same_name q) new.strays ≡ cond (same_name (name.Number n) q) (Some v) (get_by (same_name q) names.strays)) → new.texts ≡ names.texts → new.counted ≡ names.counted
       → (x : Name) → thing_by new x ≡ option_or (thing_by names x) (thing_of ((name.Number n, thing_seen v) ∷ []) x)
   unfolding thing_by
   stray_put new put texts counted (name.Text a) =
@@ -163,8 +161,6 @@ module _ (names : Names) (n : ℕ) (v : Thing) (none : found_number names n ≡ 
   stray_put new put texts counted (name.Number m) =
       let ts = names.counted.items in
       let x = name.Number m in
-      ap (λ es. option_map thing_seen (option_or (slice_get new.counted.items m) (lookup (same_name x) es))) put
-      ∙ ap (λ o. option_map thing_seen (option_or (slice_get new.counted.items m) o)) (put_entry (λ (q : Name). q) x (name.Number n) v names.strays.entries)
-      ∙ ap (λ b. option_map thing_seen (option_or (slice_get new.counted.items m) (cond b (Some v) (get_by (same_name x) names.strays)))) (turned x (name.Number n))
+      ap (λ o. option_map thing_seen (option_or (slice_get new.counted.items m) o)) (put x)
       ∙ ap (λ c. option_map thing_seen (option_or (slice_get c.items m) (cond (nat_eq n m) (Some v) (get_by (same_name x) names.strays)))) counted
       ∙ stray_or (slice_get ts m) (get_by (same_name x) names.strays) (nat_eq n m) v (apart m)

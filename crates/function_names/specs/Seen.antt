@@ -1,7 +1,7 @@
 -- Words of private functions: the names of a function as they are kept.
 use Rattle.std.specs.Prelude.{◌≡◌, ℕ, Option, slice_get}
 use Rattle.std.specs.Option.{option_map, option_or}
-use Rattle.indexmap.specs.IndexMap.{get_by}
+use Rattle.std.specs.HashMap.{get_by}
 use Rattle.ir_types.specs.declared.names.Name.{Name}
 use Rattle.ir_types.specs.declared.names.Name.TheVariants as name
 use Rattle.ir_types.specs.declared.ty.Ty.{Ty, Int, Ptr}

@@ -7,16 +7,16 @@ ghost use Rattle.function_names.specs.Marks as marks;
 
 use crate::marked::{Told, is_it, mark_of};
 use crate::things::Thing;
-use indexmap::IndexMap;
 use ir_core::Name;
 use std::alloc::{AllocError, Global};
+use std::collections::HashMap;
 
 /// So many are found at once one by one, and more by hash.
 const FEW: usize = 40;
 
 pub(crate) enum Held<'a> {
     Few(Vec<Told<'a>>),
-    Many(IndexMap<&'a Name, Thing<'a>>),
+    Many(HashMap<&'a Name, Thing<'a>>),
 }
 
 impl<'a> Drop for Held<'a> {
@@ -59,7 +59,7 @@ fn take_few<'a>(
 }
 
 fn take_many<'a>(
-    names: &mut IndexMap<&'a Name, Thing<'a>>,
+    names: &mut HashMap<&'a Name, Thing<'a>>,
     name: &'a Name,
     thing: Thing<'a>,
 ) -> Result<bool, AllocError>
@@ -86,7 +86,7 @@ impl<'a> Held<'a> {
         ensures { IfOk result (λ held. entries_held held ≡ []) }
     {
         if names > FEW {
-            return Ok(Held::Many(IndexMap::with_capacity(alloc, names)?));
+            return Ok(Held::Many(HashMap::with_capacity(alloc, names)?));
         }
         Ok(Held::Few(Vec::with_capacity(alloc, names)?))
     }

@@ -3,15 +3,15 @@ ghost use Rattle.std.specs.Prelude.{◌≡◌};
 
 use crate::held::Held;
 use crate::things::Thing;
-use indexmap::IndexMap;
 use ir_core::Name;
 use std::alloc::{AllocError, Global};
+use std::collections::HashMap;
 
 /// What the first of each name is. Numbers are mostly told one after the other from 0 on; those that aren't stand apart.
 pub struct Names<'a> {
     texts: Held<'a>,
     counted: Vec<Thing<'a>>,
-    strays: IndexMap<Name, Thing<'a>>,
+    strays: HashMap<Name, Thing<'a>>,
 }
 
 impl<'a> Drop for Names<'a> {
@@ -59,7 +59,7 @@ impl<'a> Names<'a> {
         Ok(Names {
             texts: Held::with_room(alloc, names)?,
             counted: Vec::new(alloc),
-            strays: IndexMap::new(alloc),
+            strays: HashMap::new(alloc),
         })
     }
 

@@ -1,9 +1,9 @@
 //! The functions of a module, each found by its name without a walk through the others.
 ghost use Rattle.std.specs.Prelude.{◌≡◌};
 
-use indexmap::IndexMap;
 use ir_core::{Declaration, Function, Name};
 use std::alloc::{AllocError, Global};
+use std::collections::HashMap;
 
 /// A function that can be called.
 #[derive(Clone, Copy)]
@@ -14,7 +14,7 @@ pub enum Callee<'a> {
 
 /// The first function of each name.
 pub(crate) struct Callees<'a> {
-    first: IndexMap<&'a Name, Callee<'a>>,
+    first: HashMap<&'a Name, Callee<'a>>,
 }
 
 impl<'a> Drop for Callees<'a> {
@@ -82,7 +82,7 @@ impl<'a> Callees<'a> {
     {
         let count = functions.len().saturating_add(declarations.len());
         let mut callees = Callees {
-            first: IndexMap::with_capacity(alloc, count)?,
+            first: HashMap::with_capacity(alloc, count)?,
         };
         callees.put_definitions(functions)?;
         callees.put_declarations(declarations)?;

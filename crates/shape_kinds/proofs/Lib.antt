@@ -1,4 +1,4 @@
-mod Borrowed
+pub mod Taken
 pub mod Entries
 pub mod Types
 mod Pointers

@@ -4,7 +4,6 @@ use Rattle.std.proofs.lemmas.List.{map-append}
 use Rattle.std.specs.Borrow.{Bor}
 use Rattle.std.specs.Map.{lookup}
 use Rattle.std.specs.Option.{is_some, option_copied}
-use Rattle.indexmap.specs.IndexMap.{insert_entry}
 use Rattle.ir_types.specs.declared.names.Name.{Name}
 use Rattle.ir_types.specs.declared.ty.Ty.{Ty}
 use Rattle.ir_types.specs.NameLaws.{same_name_true}
@@ -13,19 +12,19 @@ use Rattle.shape_kinds.specs.declared.held_types.Told.{Told}
 use Rattle.shape_kinds.specs.declared.lent_types.LentTypes.{LentTypes as Kept}
 use Rattle.shape_kinds.specs.Kept.{Entry, entries_held, entries_told, found_among, found_in, lent, type_in, types_among}
 use Rattle.shape_kinds.specs.Typed.{none_typed, or_else, type_at, with_type}
-use Rattle.shape_kinds.proofs.Entries.{or_none, put_entry}
+use Rattle.shape_kinds.proofs.Entries.{Puts, or_none}
 
 -- where a register of that name is there, its type is put again
 pub put_there : (es others news : List Entry) (name : Bor Name) (t first : Option (Bor Ty)) → found_among es name.now ≡ Some first
-    → others ≡ insert_entry (λ (x y : Bor Name). same_name x.now y.now) es name t
-    → news ≡ insert_entry (λ (x y : Bor Name). same_name x.now y.now) others name first → types_among news ≡ with_type (types_among es) name.now (option_copied t)
+    → Puts es others name t
+    → Puts others news name first → types_among news ≡ with_type (types_among es) name.now (option_copied t)
 unfolding with_type
 put_there es others news name t first there put again = λ i n. at n i
   where
     at : (n : Name) → lent (found_among news n) ≡ or_else (lent (found_among es n)) (type_at name.now (option_copied t) n)
     at n =
-        ap lent (ap (lookup (λ (q : Bor Name). same_name n q.now)) again ∙ put_entry (λ (q : Bor Name). q.now) n name first others)
-        ∙ ap (λ o. lent (cond (same_name n name.now) (Some first) o)) (ap (lookup (λ (q : Bor Name). same_name n q.now)) put ∙ put_entry (λ (q : Bor Name). q.now) n name t es)
+        ap lent (again n)
+        ∙ ap (λ o. lent (cond (same_name n name.now) (Some first) o)) (put n)
         ∙ go (same_name n name.now) refl
       where
         go : (b : Bool) → same_name n name.now ≡ b → lent (cond b (Some first) (cond b (Some t) (found_among es n))) ≡ or_else (lent (found_among es n)) (if b then Some (option_copied t) else None)
@@ -34,13 +33,13 @@ put_there es others news name t first there put again = λ i n. at n i
 
 -- where none is there, it is put
 pub put_new : (es news : List Entry) (name : Bor Name) (t : Option (Bor Ty)) → found_among es name.now ≡ None
-    → news ≡ insert_entry (λ (x y : Bor Name). same_name x.now y.now) es name t → types_among news ≡ with_type (types_among es) name.now (option_copied t)
+    → Puts es news name t → types_among news ≡ with_type (types_among es) name.now (option_copied t)
 unfolding with_type
 put_new es news name t none put = λ i n. at n i
   where
     at : (n : Name) → lent (found_among news n) ≡ or_else (lent (found_among es n)) (type_at name.now (option_copied t) n)
     at n =
-        ap lent (ap (lookup (λ (q : Bor Name). same_name n q.now)) put ∙ put_entry (λ (q : Bor Name). q.now) n name t es)
+        ap lent (put n)
         ∙ go (same_name n name.now) refl
       where
         go : (b : Bool) → same_name n name.now ≡ b → lent (cond b (Some t) (found_among es n)) ≡ or_else (lent (found_among es n)) (if b then Some (option_copied t) else None)

@@ -4,11 +4,10 @@ use Rattle.ir_types.specs.declared.names.Name.{Name}
 use Rattle.shape_kinds.specs.declared.held.Held.{Held}
 use Rattle.shape_kinds.specs.declared.held.Held.TheVariants.{Few, Many}
 use Rattle.shape_kinds.specs.declared.marked.Marked.{Marked}
-use Rattle.shape_kinds.specs.Names.{named}
 
 abbrev pub names_marked : List Marked → List Name
 names_marked = map (λ (it : Marked). it.name.now)
 
 abbrev pub names_held : Held → List Name
 names_held (Few row) = names_marked row.items
-names_held (Many names) = named names.keys
+names_held (Many names) = names

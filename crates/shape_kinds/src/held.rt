@@ -3,10 +3,10 @@ ghost use Rattle.std.specs.Prelude.{◌≡◌, IfOk, OnOk};
 ghost use Rattle.name_index.specs.Among.{is_among, place_among};
 ghost use Rattle.shape_kinds.specs.Held.{names_marked};
 ghost use Rattle.shape_kinds.specs.Marks as marks;
-ghost use Rattle.shape_kinds.specs.Names.{named, with_name};
+ghost use Rattle.shape_kinds.specs.Names.{with_name};
 
+use crate::hashed::Hashed;
 use crate::marked::{Marked, is_it, mark_of};
-use indexmap::IndexSet;
 use ir_core::Name;
 use std::alloc::{AllocError, Global};
 
@@ -15,7 +15,7 @@ const FEW: usize = 24;
 
 pub(crate) enum Held<'a> {
     Few(Vec<Marked<'a>>),
-    Many(IndexSet<&'a Name>),
+    Many(Hashed<'a>),
 }
 
 impl<'a> Drop for Held<'a> {
@@ -65,14 +65,6 @@ fn take_few<'a>(row: &mut Vec<Marked<'a>>, name: &'a Name) -> Result<bool, Alloc
     Ok(false)
 }
 
-fn take_many<'a>(names: &mut IndexSet<&'a Name>, name: &'a Name) -> Result<bool, AllocError>
-    ensures taken { IfOk result (λ taken. taken ≡ is_among name.now (named names.old.keys)) }
-    ensures names { OnOk result (named names.new.keys ≡ with_name (named names.old.keys) name.now) }
-{
-    let new = names.insert(name)?;
-    Ok(!new)
-}
-
 impl<'a> Held<'a> {
     ghost use Rattle.std.specs.Prelude.{[]};
     ghost use Rattle.shape_kinds.specs.Held.{names_held};
@@ -82,7 +74,7 @@ impl<'a> Held<'a> {
         ensures { IfOk result (λ held. names_held held ≡ []) }
     {
         if names > FEW {
-            return Ok(Held::Many(IndexSet::with_capacity(alloc, names)?));
+            return Ok(Held::Many(Hashed::with_room(alloc, names)?));
         }
         Ok(Held::Few(Vec::with_capacity(alloc, names)?))
     }
@@ -91,7 +83,7 @@ impl<'a> Held<'a> {
     pub(crate) fn new(alloc: Global) -> Held<'a>
         ensures { names_held result ≡ [] }
     {
-        Held::Many(IndexSet::new(alloc))
+        Held::Many(Hashed::new(alloc))
     }
 
     pub(crate) fn has(&self, name: &Name) -> bool
@@ -99,7 +91,7 @@ impl<'a> Held<'a> {
     {
         match self {
             Held::Few(row) => is_one_of(row.as_slice(), mark_of(name), name),
-            Held::Many(names) => names.contains(&name),
+            Held::Many(names) => names.has(name),
         }
     }
 
@@ -109,7 +101,7 @@ impl<'a> Held<'a> {
     {
         match self {
             Held::Few(row) => place_of(row.as_slice(), mark_of(name), name),
-            Held::Many(names) => names.get_index_of(&name),
+            Held::Many(names) => names.position(name),
         }
     }
 
@@ -120,7 +112,7 @@ impl<'a> Held<'a> {
     {
         match self {
             Held::Few(row) => take_few(row, name),
-            Held::Many(names) => take_many(names, name),
+            Held::Many(names) => names.take(name),
         }
     }
 }

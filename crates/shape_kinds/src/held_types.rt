@@ -6,9 +6,9 @@ ghost use Rattle.shape_kinds.specs.Marks as marks;
 ghost use Rattle.shape_kinds.specs.Typed.{with_type};
 
 use crate::marked::{Marked, is_it, mark_of};
-use indexmap::IndexMap;
 use ir_core::{Name, Ty};
 use std::alloc::{AllocError, Global};
+use std::collections::HashMap;
 
 /// So many are found at once one by one, and more by hash.
 const FEW: usize = 24;
@@ -22,7 +22,7 @@ pub(crate) struct Told<'a> {
 
 pub(crate) enum HeldTypes<'a> {
     Few(Vec<Told<'a>>),
-    Many(IndexMap<&'a Name, Option<&'a Ty>>),
+    Many(HashMap<&'a Name, Option<&'a Ty>>),
 }
 
 impl<'a> Drop for HeldTypes<'a> {
@@ -83,7 +83,7 @@ fn put_few<'a>(
 }
 
 fn put_many<'a>(
-    types: &mut IndexMap<&'a Name, Option<&'a Ty>>,
+    types: &mut HashMap<&'a Name, Option<&'a Ty>>,
     name: &'a Name,
     ty: Option<&'a Ty>,
 ) -> Result<bool, AllocError>
@@ -110,7 +110,7 @@ impl<'a> HeldTypes<'a> {
         ensures { IfOk result (λ held. entries_held held ≡ []) }
     {
         if names > FEW {
-            return Ok(HeldTypes::Many(IndexMap::with_capacity(alloc, names)?));
+            return Ok(HeldTypes::Many(HashMap::with_capacity(alloc, names)?));
         }
         Ok(HeldTypes::Few(Vec::with_capacity(alloc, names)?))
     }
@@ -119,7 +119,7 @@ impl<'a> HeldTypes<'a> {
     pub(crate) fn new(alloc: Global) -> HeldTypes<'a>
         ensures { entries_held result ≡ [] }
     {
-        HeldTypes::Many(IndexMap::new(alloc))
+        HeldTypes::Many(HashMap::new(alloc))
     }
 
     pub(crate) fn get(&self, name: &Name) -> Option<Option<&'a Ty>>

@@ -1,6 +1,7 @@
 //! The kinds of what can be wrong at a place of a module (LangRef 3.7, Well-Formedness), and names that are lent, with their types.
 #![tactic(auto)]
 
+mod hashed;
 mod held;
 mod held_types;
 mod kind;

@@ -5,7 +5,6 @@ use Rattle.std.proofs.lemmas.List.{drop_more}
 use Rattle.std.specs.Borrow.{Bor}
 use Rattle.std.specs.List.{Contains, list_all}
 use Rattle.std.specs.Map.{lookup}
-use Rattle.indexmap.specs.IndexMap.{insert_entry}
 use Rattle.ir_core.specs.declared.functions.Entry.{Entry}
 use Rattle.ir_types.specs.declared.names.Name.{Name}
 use Rattle.ir_core.specs.declared.operands.Atom.{Atom}
@@ -21,7 +20,7 @@ use Rattle.shape_tests.specs.Kinds.{are_alike, count_of, froms_of, same_counts}
 use Rattle.shape_tests.proofs.Edges.{counts_joined}
 use Rattle.shape_tests.proofs.Entries.{alike_by, are_alike_is, count_cons}
 use Rattle.shape_tests.proofs.Tests.{both_hold, both_left, both_right}
-use Rattle.shape_kinds.proofs.Entries.{put_entry}
+use Rattle.shape_kinds.proofs.Entries.{Puts}
 
 -- ---- counts
 
@@ -33,13 +32,13 @@ unfolding count_in
 none_count counts none = λ i n. number (lookup (λ (q : Bor Name). same_name n q.now) (none i))
 
 pub one_more : (counts new : Counts) (name : Bor Name) (count : ℕ) → count ≡ count_in counts name.now + 1
-    → new.of.entries ≡ insert_entry (λ (x y : Bor Name). same_name x.now y.now) counts.of.entries name count → count_in new ≡ with_count (count_in counts) name.now
+    → Puts counts.of.entries new.of.entries name count → count_in new ≡ with_count (count_in counts) name.now
 unfolding count_in with_count
 one_more counts new name count more put = λ i n. at n i
   where
     at : (n : Name) → number (found_count new n) ≡ (if same_name n name.now then 1 else 0) + number (found_count counts n)
     at n =
-        ap number (ap (lookup (λ (q : Bor Name). same_name n q.now)) put ∙ put_entry (λ (q : Bor Name). q.now) n name count counts.of.entries)
+        ap number (put n)
         ∙ go (same_name n name.now) refl
       where
         go : (b : Bool) → same_name n name.now ≡ b → number (cond b (Some count) (found_count counts n)) ≡ (if b then 1 else 0) + number (found_count counts n)
@@ -54,20 +53,20 @@ unfolding count_in
 first_count counts name none = omega (arith, ap number none)
 
 pub put_first : (counts new : Counts) (name : Bor Name) → found_count counts name.now ≡ None
-    → new.of.entries ≡ insert_entry (λ (x y : Bor Name). same_name x.now y.now) counts.of.entries name 1 → count_in new ≡ with_count (count_in counts) name.now
+    → Puts counts.of.entries new.of.entries name 1 → count_in new ≡ with_count (count_in counts) name.now
 put_first counts new name none put = one_more counts new name 1 (first_count counts name.now none) put
 
 -- one that is there
 pub put_again : (counts other new : Counts) (name : Bor Name) (k : ℕ) → found_count counts name.now ≡ Some k
-    → other.of.entries ≡ insert_entry (λ (x y : Bor Name). same_name x.now y.now) counts.of.entries name 1
-    → new.of.entries ≡ insert_entry (λ (x y : Bor Name). same_name x.now y.now) other.of.entries name (k + 1) → count_in new ≡ with_count (count_in counts) name.now
+    → Puts counts.of.entries other.of.entries name 1
+    → Puts other.of.entries new.of.entries name (k + 1) → count_in new ≡ with_count (count_in counts) name.now
 unfolding count_in with_count
 put_again counts other new name k there put again = λ i n. at n i
   where
     at : (n : Name) → number (found_count new n) ≡ (if same_name n name.now then 1 else 0) + number (found_count counts n)
     at n =
-        ap number (ap (lookup (λ (q : Bor Name). same_name n q.now)) again ∙ put_entry (λ (q : Bor Name). q.now) n name (k + 1) other.of.entries)
-        ∙ ap (λ o. number (cond (same_name n name.now) (Some (k + 1)) o)) (ap (lookup (λ (q : Bor Name). same_name n q.now)) put ∙ put_entry (λ (q : Bor Name). q.now) n name 1 counts.of.entries)
+        ap number (again n)
+        ∙ ap (λ o. number (cond (same_name n name.now) (Some (k + 1)) o)) (put n)
         ∙ go (same_name n name.now) refl
       where
         go : (b : Bool) → same_name n name.now ≡ b → number (cond b (Some (k + 1)) (cond b (Some 1) (found_count counts n))) ≡ (if b then 1 else 0) + number (found_count counts n)
@@ -134,13 +133,13 @@ or_none None = refl
 or_none (Some a) = refl
 
 pub first_again : (firsts new : Firsts) (name : Bor Name) (a v : Bor (Atom Name)) → found_first firsts name.now ≡ Some v → same_atom same_name v.now a.now ≡ true
-    → new.of.entries ≡ insert_entry (λ (x y : Bor Name). same_name x.now y.now) firsts.of.entries name a → first_in new ≡ with_first (first_in firsts) name.now a.now
+    → Puts firsts.of.entries new.of.entries name a → first_in new ≡ with_first (first_in firsts) name.now a.now
 unfolding first_in with_first
 first_again firsts new name a v there same put = λ i n. at n i
   where
     at : (n : Name) → lent_atom (found_first new n) ≡ or_first (lent_atom (found_first firsts n)) (if same_name n name.now then Some a.now else None)
     at n =
-        ap lent_atom (ap (lookup (λ (q : Bor Name). same_name n q.now)) put ∙ put_entry (λ (q : Bor Name). q.now) n name a firsts.of.entries)
+        ap lent_atom (put n)
         ∙ go (same_name n name.now) refl
       where
         go : (b : Bool) → same_name n name.now ≡ b → lent_atom (cond b (Some a) (found_first firsts n)) ≡ or_first (lent_atom (found_first firsts n)) (if b then Some a.now else None)
@@ -151,13 +150,13 @@ first_again firsts new name a v there same put = λ i n. at n i
             sym (ap (λ o. or_first (lent_atom o) (Some a.now)) found ∙ ap (λ (x : Atom Name). let some : Option (Atom Name) = Some x in some) is)
 
 pub first_new : (firsts new : Firsts) (name : Bor Name) (a : Bor (Atom Name)) → found_first firsts name.now ≡ None
-    → new.of.entries ≡ insert_entry (λ (x y : Bor Name). same_name x.now y.now) firsts.of.entries name a → first_in new ≡ with_first (first_in firsts) name.now a.now
+    → Puts firsts.of.entries new.of.entries name a → first_in new ≡ with_first (first_in firsts) name.now a.now
 unfolding first_in with_first
 first_new firsts new name a none put = λ i n. at n i
   where
     at : (n : Name) → lent_atom (found_first new n) ≡ or_first (lent_atom (found_first firsts n)) (if same_name n name.now then Some a.now else None)
     at n =
-        ap lent_atom (ap (lookup (λ (q : Bor Name). same_name n q.now)) put ∙ put_entry (λ (q : Bor Name). q.now) n name a firsts.of.entries)
+        ap lent_atom (put n)
         ∙ go (same_name n name.now) refl
       where
         go : (b : Bool) → same_name n name.now ≡ b → lent_atom (cond b (Some a) (found_first firsts n)) ≡ or_first (lent_atom (found_first firsts n)) (if b then Some a.now else None)

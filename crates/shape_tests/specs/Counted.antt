@@ -1,7 +1,7 @@
 -- Words of private functions: how often names stand, and what is first for each, as they are kept.
 use Rattle.std.specs.Prelude.{ℕ, ◌+◌, ◌&&◌, Bool, true, List, [], ◌∷◌, Option, None, Some, nat_eq, if◌then◌else◌}
 use Rattle.std.specs.Borrow.{Bor}
-use Rattle.indexmap.specs.IndexMap.{get_by}
+use Rattle.std.specs.HashMap.{get_by}
 use Rattle.ir_core.specs.declared.functions.Entry.{Entry}
 use Rattle.ir_types.specs.declared.names.Name.{Name}
 use Rattle.ir_core.specs.declared.operands.Atom.{Atom}

@@ -4,13 +4,13 @@ ghost use Rattle.shape_tests.specs.Counted.{alike_along, count_in, counts_of, fi
 ghost use Rattle.shape_tests.specs.Edges.{named};
 ghost use Rattle.shape_tests.specs.Kinds as meaning;
 
-use indexmap::IndexMap;
 use ir_core::{Atom, Entry, Name, same_name_atom};
 use std::alloc::{AllocError, Global};
+use std::collections::HashMap;
 
 /// How often each name stands among some, found without a walk through them.
 pub struct Counts<'a> {
-    of: IndexMap<&'a Name, usize>,
+    of: HashMap<&'a Name, usize>,
 }
 
 impl<'a> Drop for Counts<'a> {
@@ -26,7 +26,7 @@ impl<'a> Counts<'a> {
         ensures { count_in result ≡ none_counted }
     {
         Counts {
-            of: IndexMap::new(alloc),
+            of: HashMap::new(alloc),
         }
     }
 
@@ -45,7 +45,7 @@ impl<'a> Counts<'a> {
         ensures { IfOk result (λ counts. count_in counts ≡ none_counted) }
     {
         Ok(Counts {
-            of: IndexMap::with_capacity(alloc, names)?,
+            of: HashMap::with_capacity(alloc, names)?,
         })
     }
 
@@ -92,7 +92,7 @@ pub(crate) fn count_entries<'a>(
 
 /// The value of the first entry of each block.
 struct Firsts<'a> {
-    of: IndexMap<&'a Name, &'a Atom<Name>>,
+    of: HashMap<&'a Name, &'a Atom<Name>>,
 }
 
 impl<'a> Drop for Firsts<'a> {
@@ -109,7 +109,7 @@ impl<'a> Firsts<'a> {
         ensures { IfOk result (λ firsts. first_in firsts ≡ none_first) }
     {
         Ok(Firsts {
-            of: IndexMap::with_capacity(alloc, names)?,
+            of: HashMap::with_capacity(alloc, names)?,
         })
     }
 

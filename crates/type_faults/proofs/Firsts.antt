@@ -3,7 +3,6 @@ use Rattle.std.proofs.Common.{◌≡◌, ◌∙◌, ◌||◌, Bool, true, false,
 use Rattle.std.specs.Borrow.{Bor}
 use Rattle.std.specs.Map.{lookup}
 use Rattle.std.specs.Option.{option_copied, option_map, option_or}
-use Rattle.indexmap.specs.IndexMap.{insert_entry}
 use Rattle.ir_core.specs.declared.modules.GlobalVar.{GlobalVar}
 use Rattle.ir_core.specs.Typing.{Signature, contents_of}
 use Rattle.ir_types.specs.declared.names.Name.{Name}
@@ -13,7 +12,7 @@ use Rattle.ir_types.specs.Same.{same_name}
 use Rattle.name_index.specs.Among.{is_among}
 use Rattle.shape_kinds.specs.Names.{with_name, with_names}
 use Rattle.shape_kinds.specs.Typed.{Types, none_typed, or_else, with_type, with_types}
-use Rattle.shape_kinds.proofs.Entries.{put_entry}
+use Rattle.shape_kinds.proofs.Entries.{Puts}
 use Rattle.type_faults.specs.declared.callees.Callee.{Callee}
 use Rattle.type_faults.specs.declared.callees.Callees.{Callees}
 use Rattle.named_modules.specs.Faults.{signature_in}
@@ -67,11 +66,11 @@ put_there callees name s v there x = go (same_name name x) refl
 
 -- where none is there, it is put
 pub put_new : (callees new : Callees) (name : Bor Name) (v : Callee) → callee_in callees name.now ≡ None
-    → new.first.entries ≡ insert_entry (λ (x y : Bor Name). same_name x.now y.now) callees.first.entries name v
+    → Puts callees.first.entries new.first.entries name v
     → (x : Name) → signature_by new x ≡ option_or (signature_by callees x) (signature_in ((name.now, signature_of v) ∷ []) x)
 unfolding signature_by
 put_new callees new name v none put x =
-    ap (option_map signature_of) (ap (lookup (λ (q : Bor Name). same_name x q.now)) put ∙ put_entry (λ (q : Bor Name). q.now) x name v callees.first.entries)
+    ap (option_map signature_of) (put x)
     ∙ go (same_name x name.now) refl
     ∙ ap (λ b. option_or (signature_by callees x) (cond b (Some (signature_of v)) None)) (turned x name.now)
   where

@@ -11,4 +11,4 @@ returns-in_ok-push c =
 pub returns-in_ok-insert : goal.returns-in_ok-insert
 returns-in_ok-insert c =
     stray_put c.args.self.now c.args.number c.args.thing c.requires (record { texts = c.args.self.now.texts; counted = c.args.self.now.counted; strays = c.insert.new.self })
-    c.in_ok-insert.ensures.entries refl refl
+    c.in_ok-insert.ensures.updates.0 refl refl

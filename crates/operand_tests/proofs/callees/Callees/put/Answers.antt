@@ -1,6 +1,7 @@
 use Rattle.std.proofs.Common.{◌∙◌, sym}
 use Rattle.operand_tests.specs.Kept.{signature_of}
 use Rattle.operand_tests.proofs.Firsts.{put_new, put_there}
+use Rattle.shape_kinds.proofs.Entries.{puts}
 use Rattle.operand_tests.proofs.callees.Callees.put.Goals as goal
 
 pub returns-in-Some : goal.returns-in-Some
@@ -8,4 +9,4 @@ returns-in-Some c = put_there c.args.self.now c.args.name.now (signature_of c.ar
 
 pub returns-in_ok-insert-in-None : goal.returns-in_ok-insert-in-None
 returns-in_ok-insert-in-None c =
-    put_new c.args.self.now (record { first = c.insert.new.self }) c.args.name c.args.callee (sym c.get.ensures ∙ c.in-None.is) c.in_ok-insert-in-None.ensures.entries
+    put_new c.args.self.now (record { first = c.insert.new.self }) c.args.name c.args.callee (sym c.get.ensures ∙ c.in-None.is) (puts c.args.self.now.first c.insert.new.self c.args.name c.args.callee c.in_ok-insert-in-None.ensures.updates)
