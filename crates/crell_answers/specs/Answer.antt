@@ -13,8 +13,8 @@ use Rattle.ir_shape.specs.declared.fault.LinePlace.{LinePlace}
 use Rattle.ir_shape.specs.declared.fault.ShapeFault.{ShapeFault}
 use Rattle.ir_shape.specs.Shape.{kind_text}
 use Rattle.definedness.specs.declared.paths.Undefined.{Undefined}
-use Rattle.module_input.specs.declared.fault.ModuleFault.{ModuleFault}
-use Rattle.module_input.specs.declared.fault.ModuleFault.TheVariants as fault
+use Rattle.ir_reader.specs.declared.fault.ModuleFault.{ModuleFault}
+use Rattle.ir_reader.specs.declared.fault.ModuleFault.TheVariants as fault
 use Rattle.json_forms.specs.declared.failure.Fault.{Fault}
 use Rattle.json_forms.specs.declared.failure.Fault.TheVariants.{At, Past}
 use Rattle.crell_answers.specs.declared.answer.Answer.{Answer}

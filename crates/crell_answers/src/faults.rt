@@ -2,7 +2,7 @@
 ghost use Rattle.std.specs.Prelude.{◌≡◌, ◌≢◌, ◌∷◌, ◌++◌, IfOk, OnOk, codes};
 ghost use Rattle.std.specs.Fmt.{decimal};
 ghost use Rattle.expression_printer.specs.Printed.{printed_name};
-ghost use Rattle.module_input.specs.declared.fault.ModuleFault.TheVariants as fault;
+ghost use Rattle.ir_reader.specs.declared.fault.ModuleFault.TheVariants as fault;
 ghost use Rattle.crell_answers.specs.Answer as answer;
 ghost use Rattle.crell_answers.specs.Private.{use_behind};
 
@@ -10,9 +10,8 @@ use crate::answer::{Answer, fault, past_limit};
 use crate::pieces::{push_name, push_number, push_place};
 use definedness::Undefined;
 use ir_core::{Name, Sigil};
-use ir_reader::TextFault;
+use ir_reader::{ModuleFault, TextFault};
 use ir_shape::{LinePlace, ShapeFault};
-use module_input::ModuleFault;
 use std::alloc::{AllocError, Global};
 
 /// The status where a text spells no module.

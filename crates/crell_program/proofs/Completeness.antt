@@ -2,7 +2,7 @@
 use Rattle.std.proofs.Common.{◌≡◌, ◌≢◌, ◌⊎◌, ◌≤◌, ◌<◌, ℕ, List, [], ◌∷◌, length, Option, None, Some, Ok, Err, refl, sym, ◌∙◌, ap, subst, inl, inr, arith}
 use Rattle.ir_core.specs.declared.modules.Module.{Module}
 use Rattle.ir_core.specs.Limits.{text_limit}
-use Rattle.module_input.specs.declared.fault.ModuleFault.{ModuleFault}
+use Rattle.ir_reader.specs.declared.fault.ModuleFault.{ModuleFault}
 use Rattle.json_forms.specs.declared.failure.Fault.{Fault}
 use Rattle.json_forms.specs.declared.failure.Fault.TheVariants.{At, Past}
 use Rattle.json_forms.specs.Forms.{Reading}

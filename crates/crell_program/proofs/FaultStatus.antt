@@ -3,9 +3,9 @@ use Rattle.std.proofs.Common.{◌≡◌, ◌∙◌, ◌≤◌, ℕ, List, length
 use Rattle.ir_core.specs.Limits.{text_limit}
 use Rattle.ir_lexer.specs.declared.fault.TextFault.{TextFault}
 use Rattle.ir_lexer.specs.declared.fault.TextFault.TheVariants as text
-use Rattle.module_input.specs.declared.fault.ModuleFault.{ModuleFault}
-use Rattle.module_input.specs.declared.fault.ModuleFault.TheVariants as faults
-use Rattle.module_input.specs.Laws.{FaultKind, PastLimit, Misspelled, IllFormed, Silent, fault_kind, text_kind}
+use Rattle.ir_reader.specs.declared.fault.ModuleFault.{ModuleFault}
+use Rattle.ir_reader.specs.declared.fault.ModuleFault.TheVariants as faults
+use Rattle.ir_reader.specs.InputLaws.{FaultKind, PastLimit, Misspelled, IllFormed, Silent, fault_kind, text_kind}
 use Rattle.crell_answers.specs.Answer.{text_fault, module_fault}
 use Rattle.crell_program.specs.declared.command.Grammar.{Grammar}
 use Rattle.crell_program.specs.Grammar.{FaultsAreOfOneKind, IsAtFault}

@@ -2,8 +2,8 @@
 use Rattle.std.proofs.Common.{◌≢◌, ℕ, List}
 use Rattle.ir_lexer.specs.declared.fault.TextFault.{TextFault}
 use Rattle.ir_lexer.specs.declared.fault.TextFault.TheVariants as text
-use Rattle.module_input.specs.declared.fault.ModuleFault.TheVariants as faults
-use Rattle.module_input.specs.Laws as small
+use Rattle.ir_reader.specs.declared.fault.ModuleFault.TheVariants as faults
+use Rattle.ir_reader.specs.InputLaws as small
 use Rattle.module_reader.specs.Laws as whole
 use Rattle.crell_program.specs.declared.command.Form.TheVariants.{ModuleText, HintFile}
 use Rattle.crell_program.specs.declared.command.Grammar.{Grammar}

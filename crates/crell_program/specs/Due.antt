@@ -3,7 +3,7 @@
 use Rattle.std.specs.Prelude.{◌≡◌, ◌⊎◌, ◌≤◌, ◌<◌, ℕ, List, [], ◌∷◌, length, Option, None, Some, Ok, Err}
 use Rattle.ir_core.specs.declared.modules.Module.{Module}
 use Rattle.ir_core.specs.declared.limits.Limit.TheVariants as limit
-use Rattle.module_input.specs.declared.fault.ModuleFault.{ModuleFault}
+use Rattle.ir_reader.specs.declared.fault.ModuleFault.{ModuleFault}
 use Rattle.json_forms.specs.declared.failure.Fault.{Fault}
 use Rattle.json_forms.specs.Forms.{Reading}
 use Rattle.hint_format.specs.Form.{IsHintReading}

@@ -5,11 +5,11 @@ use Rattle.ir_core.specs.Limits.{text_limit}
 use Rattle.ir_core.specs.WellFormed.{IsWellFormed}
 use Rattle.ir_reader.specs.Spells as small
 use Rattle.module_spelling.specs.Spells as whole
-use Rattle.module_input.specs.declared.fault.ModuleFault.{ModuleFault}
-use Rattle.module_input.specs.declared.fault.ModuleFault.TheVariants as faults
-use Rattle.module_input.specs.Faults as small_faults
+use Rattle.ir_reader.specs.declared.fault.ModuleFault.{ModuleFault}
+use Rattle.ir_reader.specs.declared.fault.ModuleFault.TheVariants as faults
+use Rattle.ir_reader.specs.InputFaults as small_faults
 use Rattle.module_reader.specs.Faults as whole_faults
-use Rattle.module_input.specs.Laws.{fault_kind}
+use Rattle.ir_reader.specs.InputLaws.{fault_kind}
 use Rattle.crell_program.specs.declared.command.Grammar.{Grammar}
 use Rattle.crell_program.specs.declared.command.Grammar.TheVariants.{Small, Whole}
 

@@ -7,6 +7,6 @@ pub(crate) fn first_faults_agree()
     ensures kinds { FaultsAreOfOneKind }
     ensures spelled { FaultsExcludeModules }
 {
-    module_input::first_faults_agree();
+    ir_reader::first_faults_agree();
     module_reader::first_faults_agree();
 }

@@ -1,5 +1,7 @@
+pub mod Agree
 pub mod Counting
 pub mod Cut
+pub mod First
 pub mod Fit
 pub mod Flat
 pub mod Found
@@ -15,7 +17,9 @@ pub mod Named
 pub mod Past
 pub mod Ranged
 pub mod Ranges
+pub mod Seen
 pub mod Spans
+pub mod Told
 pub mod Tools
 pub mod Trees
 pub mod Walked

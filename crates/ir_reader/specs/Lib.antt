@@ -1,5 +1,8 @@
 pub mod Faults
 pub mod Forms
+pub mod Found
+pub mod InputFaults
+pub mod InputLaws
 pub mod Laws
 pub mod Spells
 pub mod Told

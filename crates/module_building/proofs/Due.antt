@@ -37,10 +37,10 @@ use Rattle.named_modules.specs.Functions.{blocks_in}
 use Rattle.named_modules.specs.Lines.{is_dropped, is_kept}
 use Rattle.named_modules.specs.Modules.{definition_item}
 use Rattle.named_modules.specs.Values.{extensions_of}
-use Rattle.head_building.specs.Counted.{capped, names_of_params}
-use Rattle.head_building.specs.Heads.{bare_of, without_bodies}
-use Rattle.head_building.proofs.Counted as counted
-use Rattle.head_building.proofs.Counted.{alike, behind_capped, from_capped, name_capped}
+use Rattle.module_building.specs.Counted.{capped, names_of_params}
+use Rattle.module_building.specs.Heads.{bare_of, without_bodies}
+use Rattle.module_building.proofs.Counted as counted
+use Rattle.module_building.proofs.Counted.{alike, behind_capped, from_capped, name_capped}
 use Rattle.line_building.specs.Parts.{alloca_of, element_of, load_of}
 use Rattle.module_building.specs.Bodies.{due_or, functions_in, registers_of}
 

@@ -1,2 +1,4 @@
+pub mod Counted
 pub mod Due
+pub mod Items
 pub mod Labels

@@ -1,15 +1,15 @@
 //! The blocks of a function.
 ghost use Rattle.std.specs.Prelude.{◌≡◌, ◌∷◌, IfOk};
 ghost use Rattle.std.specs.List.{filter};
-ghost use Rattle.head_building.specs.Counted.{capped};
+ghost use Rattle.module_building.specs.Counted.{capped};
 ghost use Rattle.module_building.specs.Bodies.{registers_of};
 ghost use Rattle.named_modules.specs.Built as meaning;
 ghost use Rattle.named_modules.specs.Lines.{is_kept};
 
 use crate::lines::lines_of;
 use crate::phis::phis_of;
+use crate::{bare_of, due_behind, due_behind_params};
 use contents::{Boxed, Seq};
-use head_building::{bare_of, due_behind, due_behind_params};
 use ir_core::{Block, Function, Instr, Name, NamedTypes, Phi};
 use line_building::{TypeMaker, term_of};
 use module_grammar::{BlockText, BodyText, DefinitionText, Placed};

@@ -1,14 +1,14 @@
 //! The lines of a block.
 ghost use Rattle.std.specs.Prelude.{◌≡◌, IfOk};
 ghost use Rattle.std.specs.List.{filter};
-ghost use Rattle.head_building.specs.Counted.{capped};
+ghost use Rattle.module_building.specs.Counted.{capped};
 ghost use Rattle.named_modules.specs.Built as meaning;
 ghost use Rattle.named_modules.specs.Lines as written;
 ghost use Rattle.ir_core.specs.Functions.{name_set};
 ghost use Rattle.module_building.specs.Bodies.{due_or};
 
+use crate::due_behind;
 use contents::Seq;
-use head_building::due_behind;
 use ir_core::{Instr, NamedTypes};
 use line_building::{TypeMaker, line_at};
 use module_grammar::{CallBodyText, InstructionText, LineText, VoidCallText};

@@ -1,6 +1,6 @@
 //! The whole module.
 ghost use Rattle.std.specs.Prelude.{◌≡◌, ◌∷◌, ◌++◌, [], IfOk, OnOk};
-ghost use Rattle.head_building.specs.Heads.{without_bodies};
+ghost use Rattle.module_building.specs.Heads.{without_bodies};
 ghost use Rattle.ir_types.specs.declared.names.Name.{Name};
 ghost use Rattle.module_building.specs.Bodies.{functions_in};
 ghost use Rattle.module_grammar.specs.declared.functions.DeclaredText.{DeclaredText};

@@ -1,11 +1,11 @@
 //! The phi nodes of a block.
 ghost use Rattle.std.specs.Prelude.{◌≡◌, IfOk};
-ghost use Rattle.head_building.specs.Counted.{capped};
+ghost use Rattle.module_building.specs.Counted.{capped};
 ghost use Rattle.module_building.specs.Bodies.{registers_of};
 ghost use Rattle.named_modules.specs.Built as meaning;
 
+use crate::due_behind;
 use contents::Seq;
-use head_building::due_behind;
 use ir_core::Phi;
 use line_building::{TypeMaker, phi_at};
 use module_grammar::PhiText;

@@ -12,11 +12,11 @@ use Rattle.ir_lexer.specs.declared.fault.TextFault.{TextFault}
 use Rattle.ir_lexer.specs.declared.fault.TextFault.TheVariants as text
 use Rattle.module_texts.specs.Laws.{FaultsAreOne, FaultsExclude, IsAlike, ModulesAreOne}
 use Rattle.module_texts.specs.Texts.{IsTextFault}
-use Rattle.module_input.specs.declared.fault.ModuleFault.{ModuleFault}
-use Rattle.module_input.specs.declared.fault.ModuleFault.TheVariants as fault
-use Rattle.module_input.specs.Faults.{FirstWithout}
-use Rattle.module_input.specs.Laws.{PastLimit, Misspelled, text_kind, fault_kind}
-use Rattle.module_input.proofs.First.{of_all}
+use Rattle.ir_reader.specs.declared.fault.ModuleFault.{ModuleFault}
+use Rattle.ir_reader.specs.declared.fault.ModuleFault.TheVariants as fault
+use Rattle.ir_reader.specs.InputFaults.{FirstWithout}
+use Rattle.ir_reader.specs.InputLaws.{PastLimit, Misspelled, text_kind, fault_kind}
+use Rattle.ir_reader.proofs.First.{of_all}
 use Rattle.module_reader.specs.Faults.{IsModuleFault, SpellsWellFormed}
 
 -- a fault of a text that isn't want of memory passes a limit or is misspelled

@@ -3,7 +3,7 @@ use Rattle.std.proofs.Common.{◌≡◌, ◌≤◌, ◌<◌, ◌++◌, ◌∙◌
 use Rattle.std.specs.Prelude.{◌↔◌, IfSome, nat_lt}
 use Rattle.std.specs.List.{Contains}
 use Rattle.std.proofs.lemmas.Bool.{ltb-false, ltb-true}
-use Rattle.head_building.specs.Heads.{bare, without_bodies}
+use Rattle.module_building.specs.Heads.{bare, without_bodies}
 use Rattle.ir_core.specs.declared.functions.Function.{Function}
 use Rattle.ir_core.specs.declared.modules.Declaration.{Declaration}
 use Rattle.ir_core.specs.declared.modules.Module.{Module}

@@ -5,9 +5,9 @@ use Rattle.ir_core.specs.declared.modules.Module.{Module}
 use Rattle.ir_core.specs.Ranges.{IsInRange}
 use Rattle.ir_core.specs.WellFormed.{IsFunctionDefined, IsWellFormed}
 use Rattle.ir_shape.specs.Shape.{first_fault}
-use Rattle.module_input.specs.declared.fault.ModuleFault.{ModuleFault}
-use Rattle.module_input.specs.declared.fault.ModuleFault.TheVariants as fault
-use Rattle.module_input.specs.Found.{HasFault, of_text}
+use Rattle.ir_reader.specs.declared.fault.ModuleFault.{ModuleFault}
+use Rattle.ir_reader.specs.declared.fault.ModuleFault.TheVariants as fault
+use Rattle.ir_reader.specs.Found.{HasFault, of_text}
 use Rattle.module_limits.specs.Passed.{IsWithin}
 use Rattle.module_spelling.specs.Spells.{Spells}
 use Rattle.module_texts.specs.Texts.{IsTextFault}

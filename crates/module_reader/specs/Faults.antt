@@ -6,9 +6,9 @@ use Rattle.ir_core.specs.declared.modules.Module.{Module}
 use Rattle.ir_core.specs.WellFormed.{IsFunctionDefined, IsWellFormed}
 use Rattle.ir_shape.specs.Shape.{first_fault}
 use Rattle.definedness.specs.Undefined.{IsFirstUndefined}
-use Rattle.module_input.specs.declared.fault.ModuleFault.{ModuleFault}
-use Rattle.module_input.specs.declared.fault.ModuleFault.TheVariants as fault
-use Rattle.module_input.specs.Faults.{FirstWithout}
+use Rattle.ir_reader.specs.declared.fault.ModuleFault.{ModuleFault}
+use Rattle.ir_reader.specs.declared.fault.ModuleFault.TheVariants as fault
+use Rattle.ir_reader.specs.InputFaults.{FirstWithout}
 use Rattle.module_spelling.specs.Spells.{Spells}
 use Rattle.module_texts.specs.Texts.{IsTextFault}
 use Rattle.ir_lexer.specs.declared.fault.TextFault.TheVariants as text

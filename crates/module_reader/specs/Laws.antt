@@ -2,9 +2,9 @@
 use Rattle.std.specs.Prelude.{◌≡◌, ◌≢◌, ◌≤◌, ℕ, List, length}
 use Rattle.ir_core.specs.declared.modules.Module.{Module}
 use Rattle.ir_core.specs.Limits.{text_limit}
-use Rattle.module_input.specs.declared.fault.ModuleFault.{ModuleFault}
-use Rattle.module_input.specs.declared.fault.ModuleFault.TheVariants as fault
-use Rattle.module_input.specs.Laws.{fault_kind}
+use Rattle.ir_reader.specs.declared.fault.ModuleFault.{ModuleFault}
+use Rattle.ir_reader.specs.declared.fault.ModuleFault.TheVariants as fault
+use Rattle.ir_reader.specs.InputLaws.{fault_kind}
 use Rattle.module_reader.specs.Faults.{IsModuleFault, SpellsWellFormed}
 
 -- of a text of at most 2^24 bytes no two faults are of two kinds, but for want of memory

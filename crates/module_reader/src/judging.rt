@@ -1,6 +1,6 @@
 //! What is first at fault.
 ghost use Rattle.std.specs.Prelude.{◌≡◌, IfOk};
-ghost use Rattle.head_building.specs.Heads.{without_bodies};
+ghost use Rattle.module_building.specs.Heads.{without_bodies};
 ghost use Rattle.named_modules.specs.Built.{module_of};
 ghost use Rattle.named_modules.specs.Faults.{heads_of};
 ghost use Rattle.module_reader.specs.Naming.{IsJudged, first_of};

@@ -4,9 +4,8 @@ ghost use Rattle.module_reader.specs.Naming.{IsNaming};
 
 use crate::judging::judged;
 use crate::misnamed::Misnamed;
-use head_building::heads_of_tree;
 use ir_core::Module;
-use module_building::with_bodies;
+use module_building::{heads_of_tree, with_bodies};
 use module_grammar::{ModuleText, Surroundings};
 use std::alloc::{AllocError, Global};
 

@@ -1,3 +1,6 @@
+pub mod HintLaws
+pub mod Judged
 pub mod Kept
 pub mod Laws
+pub mod Ways
 pub mod Whole

@@ -3,7 +3,7 @@ use Rattle.std.specs.List.{filter}
 use Rattle.module_grammar.specs.declared.lines.AttachedText.{AttachedText}
 use Rattle.named_modules.specs.Built.{due_behind_line, due_behind_lines, lines_from}
 use Rattle.named_modules.specs.Lines.{is_dropped, is_kept}
-use Rattle.head_building.specs.Counted.{capped}
+use Rattle.module_building.specs.Counted.{capped}
 use Rattle.module_building.proofs.Due.{behind_one_line, line_kept, one_line, small}
 use Rattle.module_building.proofs.lines.lines_of.Goals as goal
 

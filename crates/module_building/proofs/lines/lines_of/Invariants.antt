@@ -2,7 +2,7 @@ use Rattle.std.proofs.Common.{◌≡◌, ◌++◌, drop}
 use Rattle.std.specs.List.{filter}
 use Rattle.named_modules.specs.Built.{due_behind_lines, lines_from}
 use Rattle.named_modules.specs.Lines.{is_kept}
-use Rattle.head_building.specs.Counted.{capped}
+use Rattle.module_building.specs.Counted.{capped}
 use Rattle.module_building.proofs.lines.lines_of.Given as goal
 
 abbrev pub invariant-loop-number : goal.invariant-loop-number

@@ -1,6 +1,6 @@
 use Rattle.std.proofs.Common.{◌≡◌, ◌++◌, drop}
 use Rattle.named_modules.specs.Built.{due_from, phis_from}
-use Rattle.head_building.specs.Counted.{capped}
+use Rattle.module_building.specs.Counted.{capped}
 use Rattle.module_building.specs.Bodies.{registers_of}
 use Rattle.module_building.proofs.phis.phis_of.Given as goal
 

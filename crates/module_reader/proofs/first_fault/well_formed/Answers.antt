@@ -1,4 +1,4 @@
-use Rattle.module_input.proofs.Told.{are_bytes}
+use Rattle.ir_reader.proofs.Told.{are_bytes}
 use Rattle.module_reader.proofs.ToldFaults.{fitting, told_of_text}
 use Rattle.module_reader.proofs.first_fault.well_formed.Goals as goal
 

@@ -1,9 +1,0 @@
--- The laws are lemmas of their own.
-use Rattle.input_laws.proofs.PrintedExpressions as law
-use Rattle.input_laws.proofs.hints.printed_expressions_are_read.Goals as goal
-
-pub returns-clause-read : goal.returns-clause-read
-returns-clause-read c = law.printed_expressions_are_read
-
-pub returns-clause-apart : goal.returns-clause-apart
-returns-clause-apart c = law.printed_expressions_are_apart

@@ -1,6 +1,0 @@
--- The law is a lemma of its own.
-use Rattle.input_laws.proofs.PrintedFacts as law
-use Rattle.input_laws.proofs.hints.printed_facts_are_read.Goals as goal
-
-pub returns : goal.returns
-returns c = law.printed_facts_are_read

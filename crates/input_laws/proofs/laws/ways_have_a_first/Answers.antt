@@ -1,5 +1,0 @@
-use Rattle.input_laws.proofs.FirstWays.{ways_have_a_first}
-use Rattle.input_laws.proofs.laws.ways_have_a_first.Goals as goal
-
-pub returns : goal.returns
-returns c g closed to = ways_have_a_first g closed to

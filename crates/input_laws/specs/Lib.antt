@@ -1,3 +1,0 @@
-pub mod HintLaws
-pub mod Judged
-pub mod Ways

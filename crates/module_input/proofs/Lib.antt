@@ -1,4 +1,0 @@
-pub mod Agree
-pub mod First
-pub mod Seen
-pub mod Told

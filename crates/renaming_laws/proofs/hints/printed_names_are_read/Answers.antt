@@ -1,0 +1,12 @@
+-- The laws are lemmas of their own.
+use Rattle.renaming_laws.proofs.PrintedNames as law
+use Rattle.renaming_laws.proofs.hints.printed_names_are_read.Goals as goal
+
+pub returns-clause-read : goal.returns-clause-read
+returns-clause-read c = law.printed_names_are_read
+
+pub returns-clause-apart : goal.returns-clause-apart
+returns-clause-apart c = law.printed_names_are_apart
+
+pub returns-clause-keys : goal.returns-clause-keys
+returns-clause-keys c = law.printed_names_are_keys
