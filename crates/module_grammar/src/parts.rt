@@ -1,3 +1,6 @@
+ghost use Rattle.std.specs.Prelude.{◌≡◌, ◌∷◌, OnOk};
+ghost use Rattle.predictive.specs.Typed as stack;
+
 use crate::attributes::{BangText, FunctionAttributeText, MetaText, ParamAttributeText};
 use crate::commas::{
     AlignBehindText, CountBehindText, EntriesBehindText, IndicesBehindText, NextAlignText,
@@ -28,6 +31,7 @@ use contents::{Boxed, Text};
 use ir_core::{Name, Pred};
 use ir_lexer::Number;
 use predictive::Stack;
+use std::alloc::AllocError;
 
 /// A token that says more than its kind. Of a mark or a word whose place is kept it is that place.
 #[derive(Drop)]
@@ -166,4 +170,22 @@ pub enum Part {
     Line(Line),
     Flow(Flow),
     Item(Item),
+}
+
+impl Part {
+    /// The part on top.
+    #[inline(always)]
+    pub fn put(parts: &mut Stack<Part>, part: Part) -> Result<(), AllocError>
+        ensures { OnOk result (parts.new ≡ part ∷ parts.old) }
+    {
+        parts.push(part)
+    }
+
+    /// The part on top dropped.
+    #[inline(never)]
+    pub fn drop_top(parts: &mut Stack<Part>)
+        ensures { parts.new ≡ stack.below parts.old }
+    {
+        parts.pop();
+    }
 }
