@@ -20,5 +20,5 @@ pub fn put_operand(
     ensures { OnOk result (parts.new ≡ operand_put (part.Piece (piece.Value value) ∷ part.Piece (piece.Type ty) ∷ parts.old)) }
 {
     let operand = Boxed::new(alloc, OperandText { ty, value })?;
-    parts.push(Part::Piece(Piece::Operand(operand)))
+    Part::put(parts, Part::Piece(Piece::Operand(operand)))
 }

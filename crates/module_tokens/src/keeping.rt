@@ -28,7 +28,7 @@ fn placed<T>(what: T, token: &Token) -> Placed<T>
 fn push_leaf(parts: &mut Stack<Part>, leaf: Leaf) -> Result<(), AllocError>
     ensures { OnOk result (parts.new ≡ part.Leaf leaf ∷ parts.old) }
 {
-    parts.push(Part::Leaf(leaf))
+    Part::put(parts, Part::Leaf(leaf))
 }
 
 /// What a word says on top, at the token's place, where that is more than its kind.

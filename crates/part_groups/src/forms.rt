@@ -88,14 +88,6 @@ fn is_top<F: Form>(parts: &Stack<Part>) -> bool
     }
 }
 
-/// The part on top dropped.
-#[inline(never)]
-fn drop_top(parts: &mut Stack<Part>)
-    ensures { parts.new ≡ stack.below parts.old }
-{
-    parts.pop();
-}
-
 impl Parts for Stack<Part> {
     ghost listed = { λ s. s };
 
@@ -107,13 +99,13 @@ impl Parts for Stack<Part> {
                 None => None,
             }
         } else {
-            drop_top(self);
+            Part::drop_top(self);
             None
         }
     }
 
     fn put<F: Form>(&mut self, value: F::Value) -> Result<(), AllocError> {
-        self.push(F::make(value).part())
+        Part::put(self, F::make(value).part())
     }
 }
 
