@@ -2,6 +2,7 @@
 ghost use Rattle.std.specs.Prelude.{◌≡◌, ◌∷◌, IfOk, OnOk};
 ghost use Rattle.ir_grammar.specs.declared.parts.Part.TheVariants as part;
 ghost use Rattle.ir_grammar.specs.declared.parts.Tree.TheVariants as tree;
+ghost use Rattle.ir_grammar.specs.declared.trees.BehindText.TheVariants as behind_text;
 ghost use Rattle.ir_grammar.specs.Rules as rule;
 ghost use Rattle.ir_grammar.specs.Sorts.{vocabulary};
 ghost use Rattle.predictive.specs.Typed.{action};
@@ -10,12 +11,13 @@ use contents::Boxed;
 use ir_core::Name;
 use ir_grammar::{
     Atom, BehindText, BodyText, BranchText, CaseText, ConditionText, EntryText, IntText, LineText,
-    List, NodeText, Part, PhiText, Placed, SwitchText, TermText, Tree,
+    List, NodeText, OperationText, Part, PhiText, Placed, SwitchText, TermText, Tree,
 };
 use part_forms::{
     BehindPart, BlockPart, BlocksPart, BodyPart, BranchPart, CasePart, CasesPart, EntriesPart,
     EntryPart, IntPart, LinesPart, LocalPart, NamePart, NodePart, NumberPart, OperandPart,
-    OperationPart, ReturnedPart, TruthPart, ValuePart, WidthPart, take,
+    OperationPart, ReturnedPart, TruthPart, ValuePart, WidthPart, push_atom, push_list, push_tree,
+    take,
 };
 use predictive::Stack;
 use std::alloc::{AllocError, Global};
@@ -24,14 +26,14 @@ use std::alloc::{AllocError, Global};
 fn push_term(parts: &mut Stack<Part>, alloc: Global, term: TermText) -> Result<(), AllocError>
     ensures { OnOk result (parts.new ≡ part.Tree (tree.Term term) ∷ parts.old) }
 {
-    parts.push(Part::Tree(Tree::Term(Boxed::new(alloc, term)?)))
+    push_tree(parts, Tree::Term(Boxed::new(alloc, term)?))
 }
 
 /// What stands behind `br` on top.
 fn push_branch(parts: &mut Stack<Part>, alloc: Global, branch: BranchText) -> Result<(), AllocError>
     ensures { OnOk result (parts.new ≡ part.Tree (tree.Branch branch) ∷ parts.old) }
 {
-    parts.push(Part::Tree(Tree::Branch(Boxed::new(alloc, branch)?)))
+    push_tree(parts, Tree::Branch(Boxed::new(alloc, branch)?))
 }
 
 /// No more blocks.
@@ -39,7 +41,7 @@ fn push_branch(parts: &mut Stack<Part>, alloc: Global, branch: BranchText) -> Re
 pub fn blocks_end(parts: &mut Stack<Part>, alloc: Global) -> Result<(), AllocError>
     ensures { OnOk result (parts.new ≡ action vocabulary rule.blocks_end parts.old) }
 {
-    parts.push(Part::List(List::Blocks(Stack::new(alloc))))
+    push_list(parts, List::Blocks(Stack::new(alloc)))
 }
 
 /// A block before the others.
@@ -54,7 +56,7 @@ pub fn blocks(parts: &mut Stack<Part>) -> Result<(), AllocError>
         return Ok(());
     };
     blocks.push(block)?;
-    parts.push(Part::List(List::Blocks(blocks)))
+    push_list(parts, List::Blocks(blocks))
 }
 
 /// Nothing before a terminator.
@@ -62,10 +64,46 @@ pub fn blocks(parts: &mut Stack<Part>) -> Result<(), AllocError>
 pub fn body_end(parts: &mut Stack<Part>, alloc: Global) -> Result<(), AllocError>
     ensures { OnOk result (parts.new ≡ action vocabulary rule.body_end parts.old) }
 {
-    parts.push(Part::Tree(Tree::Body(BodyText {
+    push_tree(
+        parts,
+        Tree::Body(BodyText {
+            phis: Stack::new(alloc),
+            lines: Stack::new(alloc),
+        }),
+    )
+}
+
+/// What stands before a terminator, of a register, its phi node and what stands behind that.
+#[inline]
+fn with_phi(
+    register: Option<Placed<Name>>,
+    node: Boxed<NodeText>,
+    mut body: BodyText,
+) -> Result<BodyText, AllocError>
+    ensures { IfOk result (λ made. made ≡ rule.with_register register (behind_text.Phi node body)) }
+{
+    body.phis.push(PhiText { register, node })?;
+    Ok(body)
+}
+
+/// What stands before a terminator, of a register, its operation and the lines behind that.
+#[inline]
+fn with_line(
+    alloc: Global,
+    register: Option<Placed<Name>>,
+    operation: Boxed<OperationText>,
+    mut lines: Stack<LineText>,
+) -> Result<BodyText, AllocError>
+    ensures { IfOk result (λ made. made ≡ rule.with_register register (behind_text.Line operation lines)) }
+{
+    lines.push(LineText {
+        register,
+        operation,
+    })?;
+    Ok(BodyText {
         phis: Stack::new(alloc),
-        lines: Stack::new(alloc),
-    })))
+        lines,
+    })
 }
 
 /// What stands before a terminator, of a register and what stands behind it.
@@ -77,23 +115,8 @@ fn with_register(
     ensures { IfOk result (λ body. body ≡ rule.with_register register behind) }
 {
     match behind {
-        BehindText::Phi { node, mut body } => {
-            body.phis.push(PhiText { register, node })?;
-            Ok(body)
-        }
-        BehindText::Line {
-            operation,
-            mut lines,
-        } => {
-            lines.push(LineText {
-                register,
-                operation,
-            })?;
-            Ok(BodyText {
-                phis: Stack::new(alloc),
-                lines,
-            })
-        }
+        BehindText::Phi { node, body } => with_phi(register, node, body),
+        BehindText::Line { operation, lines } => with_line(alloc, register, operation, lines),
     }
 }
 
@@ -109,7 +132,7 @@ pub fn body(parts: &mut Stack<Part>, alloc: Global) -> Result<(), AllocError>
         return Ok(());
     };
     let body = with_register(alloc, register, behind)?;
-    parts.push(Part::Tree(Tree::Body(body)))
+    push_tree(parts, Tree::Body(body))
 }
 
 /// A phi node without its register, and what stands behind it
@@ -123,7 +146,7 @@ pub fn behind_phi(parts: &mut Stack<Part>) -> Result<(), AllocError>
     let Some(node) = take::<NodePart>(parts) else {
         return Ok(());
     };
-    parts.push(Part::Tree(Tree::Behind(BehindText::Phi { node, body })))
+    push_tree(parts, Tree::Behind(BehindText::Phi { node, body }))
 }
 
 /// An operation without its register, and the lines behind it
@@ -137,7 +160,7 @@ pub fn behind_line(parts: &mut Stack<Part>) -> Result<(), AllocError>
     let Some(operation) = take::<OperationPart>(parts) else {
         return Ok(());
     };
-    parts.push(Part::Tree(Tree::Behind(BehindText::Line { operation, lines })))
+    push_tree(parts, Tree::Behind(BehindText::Line { operation, lines }))
 }
 
 /// `phi TYPE entry entries`
@@ -155,7 +178,7 @@ pub fn node(parts: &mut Stack<Part>, alloc: Global) -> Result<(), AllocError>
         return Ok(());
     };
     let node = NodeText { ty, first, others };
-    parts.push(Part::Tree(Tree::Node(Boxed::new(alloc, node)?)))
+    push_tree(parts, Tree::Node(Boxed::new(alloc, node)?))
 }
 
 /// No more entries.
@@ -163,7 +186,7 @@ pub fn node(parts: &mut Stack<Part>, alloc: Global) -> Result<(), AllocError>
 pub fn entries_end(parts: &mut Stack<Part>, alloc: Global) -> Result<(), AllocError>
     ensures { OnOk result (parts.new ≡ action vocabulary rule.entries_end parts.old) }
 {
-    parts.push(Part::List(List::Entries(Stack::new(alloc))))
+    push_list(parts, List::Entries(Stack::new(alloc)))
 }
 
 /// An entry before the others.
@@ -178,7 +201,7 @@ pub fn entries(parts: &mut Stack<Part>) -> Result<(), AllocError>
         return Ok(());
     };
     entries.push(entry)?;
-    parts.push(Part::List(List::Entries(entries)))
+    push_list(parts, List::Entries(entries))
 }
 
 /// `[ value, LOCAL ]`
@@ -193,7 +216,7 @@ pub fn entry(parts: &mut Stack<Part>, alloc: Global) -> Result<(), AllocError>
         return Ok(());
     };
     let entry = EntryText { value, from };
-    parts.push(Part::Tree(Tree::Entry(Boxed::new(alloc, entry)?)))
+    push_tree(parts, Tree::Entry(Boxed::new(alloc, entry)?))
 }
 
 /// `ret (void | TYPE value)`
@@ -286,7 +309,7 @@ pub fn condition(parts: &mut Stack<Part>, alloc: Global) -> Result<(), AllocErro
 pub fn cases_end(parts: &mut Stack<Part>, alloc: Global) -> Result<(), AllocError>
     ensures { OnOk result (parts.new ≡ action vocabulary rule.cases_end parts.old) }
 {
-    parts.push(Part::List(List::Cases(Stack::new(alloc))))
+    push_list(parts, List::Cases(Stack::new(alloc)))
 }
 
 /// A case before the others.
@@ -301,7 +324,7 @@ pub fn cases(parts: &mut Stack<Part>) -> Result<(), AllocError>
         return Ok(());
     };
     cases.push(case)?;
-    parts.push(Part::List(List::Cases(cases)))
+    push_list(parts, List::Cases(cases))
 }
 
 /// `TYPE integer, label LOCAL`
@@ -319,7 +342,7 @@ pub fn case(parts: &mut Stack<Part>, alloc: Global) -> Result<(), AllocError>
         return Ok(());
     };
     let case = CaseText { ty, number, label };
-    parts.push(Part::Tree(Tree::Case(Boxed::new(alloc, case)?)))
+    push_tree(parts, Tree::Case(Boxed::new(alloc, case)?))
 }
 
 /// NUMBER
@@ -330,7 +353,7 @@ pub fn number(parts: &mut Stack<Part>) -> Result<(), AllocError>
     let Some(number) = take::<NumberPart>(parts) else {
         return Ok(());
     };
-    parts.push(Part::Atom(Atom::Int(IntText::Number(number))))
+    push_atom(parts, Atom::Int(IntText::Number(number)))
 }
 
 /// `true` or `false`
@@ -341,5 +364,5 @@ pub fn truth(parts: &mut Stack<Part>) -> Result<(), AllocError>
     let Some(truth) = take::<TruthPart>(parts) else {
         return Ok(());
     };
-    parts.push(Part::Atom(Atom::Int(IntText::Truth(truth))))
+    push_atom(parts, Atom::Int(IntText::Truth(truth)))
 }

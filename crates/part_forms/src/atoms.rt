@@ -15,12 +15,13 @@ impl Form for ResultPart {
     ghost held_by = { a_result };
 
     fn of(part: Part) -> Option<Option<Placed<u32>>> {
-        match atom_of(part)? {
-            Atom::Result(x) => Some(x),
-            other => {
+        match atom_of(part) {
+            Some(Atom::Result(x)) => Some(x),
+            Some(other) => {
                 drop(other);
                 None
             }
+            None => None,
         }
     }
 }
@@ -35,12 +36,13 @@ impl Form for NamePart {
     ghost held_by = { a_name };
 
     fn of(part: Part) -> Option<Option<Placed<Name>>> {
-        match atom_of(part)? {
-            Atom::Name(x) => Some(x),
-            other => {
+        match atom_of(part) {
+            Some(Atom::Name(x)) => Some(x),
+            Some(other) => {
                 drop(other);
                 None
             }
+            None => None,
         }
     }
 }
@@ -55,12 +57,13 @@ impl Form for ExactnessPart {
     ghost held_by = { a_exactness };
 
     fn of(part: Part) -> Option<bool> {
-        match atom_of(part)? {
-            Atom::Exactness(x) => Some(x),
-            other => {
+        match atom_of(part) {
+            Some(Atom::Exactness(x)) => Some(x),
+            Some(other) => {
                 drop(other);
                 None
             }
+            None => None,
         }
     }
 }
@@ -75,12 +78,13 @@ impl Form for IntPart {
     ghost held_by = { a_int };
 
     fn of(part: Part) -> Option<IntText> {
-        match atom_of(part)? {
-            Atom::Int(x) => Some(x),
-            other => {
+        match atom_of(part) {
+            Some(Atom::Int(x)) => Some(x),
+            Some(other) => {
                 drop(other);
                 None
             }
+            None => None,
         }
     }
 }
@@ -95,12 +99,13 @@ impl Form for ValuePart {
     ghost held_by = { a_value };
 
     fn of(part: Part) -> Option<ValueText> {
-        match atom_of(part)? {
-            Atom::Value(x) => Some(x),
-            other => {
+        match atom_of(part) {
+            Some(Atom::Value(x)) => Some(x),
+            Some(other) => {
                 drop(other);
                 None
             }
+            None => None,
         }
     }
 }

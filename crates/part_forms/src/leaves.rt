@@ -16,12 +16,13 @@ impl Form for LocalPart {
     ghost held_by = { a_local };
 
     fn of(part: Part) -> Option<Placed<Name>> {
-        match leaf_of(part)? {
-            Leaf::Local(x) => Some(x),
-            other => {
+        match leaf_of(part) {
+            Some(Leaf::Local(x)) => Some(x),
+            Some(other) => {
                 drop(other);
                 None
             }
+            None => None,
         }
     }
 }
@@ -36,12 +37,13 @@ impl Form for GlobalPart {
     ghost held_by = { a_global };
 
     fn of(part: Part) -> Option<Placed<Name>> {
-        match leaf_of(part)? {
-            Leaf::Global(x) => Some(x),
-            other => {
+        match leaf_of(part) {
+            Some(Leaf::Global(x)) => Some(x),
+            Some(other) => {
                 drop(other);
                 None
             }
+            None => None,
         }
     }
 }
@@ -56,12 +58,13 @@ impl Form for LabelPart {
     ghost held_by = { a_label };
 
     fn of(part: Part) -> Option<Placed<Name>> {
-        match leaf_of(part)? {
-            Leaf::Label(x) => Some(x),
-            other => {
+        match leaf_of(part) {
+            Some(Leaf::Label(x)) => Some(x),
+            Some(other) => {
                 drop(other);
                 None
             }
+            None => None,
         }
     }
 }
@@ -76,12 +79,13 @@ impl Form for NumberPart {
     ghost held_by = { a_number };
 
     fn of(part: Part) -> Option<Placed<Number>> {
-        match leaf_of(part)? {
-            Leaf::Number(x) => Some(x),
-            other => {
+        match leaf_of(part) {
+            Some(Leaf::Number(x)) => Some(x),
+            Some(other) => {
                 drop(other);
                 None
             }
+            None => None,
         }
     }
 }
@@ -96,12 +100,13 @@ impl Form for WidthPart {
     ghost held_by = { a_width };
 
     fn of(part: Part) -> Option<Placed<u32>> {
-        match leaf_of(part)? {
-            Leaf::Width(x) => Some(x),
-            other => {
+        match leaf_of(part) {
+            Some(Leaf::Width(x)) => Some(x),
+            Some(other) => {
                 drop(other);
                 None
             }
+            None => None,
         }
     }
 }
@@ -116,12 +121,13 @@ impl Form for TruthPart {
     ghost held_by = { a_truth };
 
     fn of(part: Part) -> Option<Placed<bool>> {
-        match leaf_of(part)? {
-            Leaf::Truth(x) => Some(x),
-            other => {
+        match leaf_of(part) {
+            Some(Leaf::Truth(x)) => Some(x),
+            Some(other) => {
                 drop(other);
                 None
             }
+            None => None,
         }
     }
 }
@@ -136,12 +142,13 @@ impl Form for OverflowPart {
     ghost held_by = { a_overflow };
 
     fn of(part: Part) -> Option<OverflowOp> {
-        match leaf_of(part)? {
-            Leaf::Overflow(x) => Some(x),
-            other => {
+        match leaf_of(part) {
+            Some(Leaf::Overflow(x)) => Some(x),
+            Some(other) => {
                 drop(other);
                 None
             }
+            None => None,
         }
     }
 }
@@ -156,12 +163,13 @@ impl Form for ExactPart {
     ghost held_by = { a_exact };
 
     fn of(part: Part) -> Option<ExactOp> {
-        match leaf_of(part)? {
-            Leaf::Exact(x) => Some(x),
-            other => {
+        match leaf_of(part) {
+            Some(Leaf::Exact(x)) => Some(x),
+            Some(other) => {
                 drop(other);
                 None
             }
+            None => None,
         }
     }
 }
@@ -176,12 +184,13 @@ impl Form for PlainPart {
     ghost held_by = { a_plain };
 
     fn of(part: Part) -> Option<PlainOp> {
-        match leaf_of(part)? {
-            Leaf::Plain(x) => Some(x),
-            other => {
+        match leaf_of(part) {
+            Some(Leaf::Plain(x)) => Some(x),
+            Some(other) => {
                 drop(other);
                 None
             }
+            None => None,
         }
     }
 }
@@ -196,12 +205,13 @@ impl Form for CastPart {
     ghost held_by = { a_cast };
 
     fn of(part: Part) -> Option<CastOp> {
-        match leaf_of(part)? {
-            Leaf::Cast(x) => Some(x),
-            other => {
+        match leaf_of(part) {
+            Some(Leaf::Cast(x)) => Some(x),
+            Some(other) => {
                 drop(other);
                 None
             }
+            None => None,
         }
     }
 }
@@ -216,12 +226,13 @@ impl Form for PredPart {
     ghost held_by = { a_pred };
 
     fn of(part: Part) -> Option<Pred> {
-        match leaf_of(part)? {
-            Leaf::Pred(x) => Some(x),
-            other => {
+        match leaf_of(part) {
+            Some(Leaf::Pred(x)) => Some(x),
+            Some(other) => {
                 drop(other);
                 None
             }
+            None => None,
         }
     }
 }
@@ -236,12 +247,13 @@ impl Form for FlagPart {
     ghost held_by = { a_flag };
 
     fn of(part: Part) -> Option<FlagWord> {
-        match leaf_of(part)? {
-            Leaf::Flag(x) => Some(x),
-            other => {
+        match leaf_of(part) {
+            Some(Leaf::Flag(x)) => Some(x),
+            Some(other) => {
                 drop(other);
                 None
             }
+            None => None,
         }
     }
 }

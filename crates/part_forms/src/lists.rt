@@ -16,12 +16,13 @@ impl Form for ParamsPart {
     ghost held_by = { a_params };
 
     fn of(part: Part) -> Option<Stack<ParamText>> {
-        match list_of(part)? {
-            List::Params(x) => Some(x),
-            other => {
+        match list_of(part) {
+            Some(List::Params(x)) => Some(x),
+            Some(other) => {
                 drop(other);
                 None
             }
+            None => None,
         }
     }
 }
@@ -36,12 +37,13 @@ impl Form for BlocksPart {
     ghost held_by = { a_blocks };
 
     fn of(part: Part) -> Option<Stack<Boxed<BlockText>>> {
-        match list_of(part)? {
-            List::Blocks(x) => Some(x),
-            other => {
+        match list_of(part) {
+            Some(List::Blocks(x)) => Some(x),
+            Some(other) => {
                 drop(other);
                 None
             }
+            None => None,
         }
     }
 }
@@ -56,12 +58,13 @@ impl Form for EntriesPart {
     ghost held_by = { a_entries };
 
     fn of(part: Part) -> Option<Stack<EntryText>> {
-        match list_of(part)? {
-            List::Entries(x) => Some(x),
-            other => {
+        match list_of(part) {
+            Some(List::Entries(x)) => Some(x),
+            Some(other) => {
                 drop(other);
                 None
             }
+            None => None,
         }
     }
 }
@@ -76,12 +79,13 @@ impl Form for CasesPart {
     ghost held_by = { a_cases };
 
     fn of(part: Part) -> Option<Stack<CaseText>> {
-        match list_of(part)? {
-            List::Cases(x) => Some(x),
-            other => {
+        match list_of(part) {
+            Some(List::Cases(x)) => Some(x),
+            Some(other) => {
                 drop(other);
                 None
             }
+            None => None,
         }
     }
 }
@@ -96,12 +100,13 @@ impl Form for LinesPart {
     ghost held_by = { a_lines };
 
     fn of(part: Part) -> Option<Stack<LineText>> {
-        match list_of(part)? {
-            List::Lines(x) => Some(x),
-            other => {
+        match list_of(part) {
+            Some(List::Lines(x)) => Some(x),
+            Some(other) => {
                 drop(other);
                 None
             }
+            None => None,
         }
     }
 }
@@ -116,12 +121,13 @@ impl Form for FlagsPart {
     ghost held_by = { a_flags };
 
     fn of(part: Part) -> Option<Stack<FlagWord>> {
-        match list_of(part)? {
-            List::Flags(x) => Some(x),
-            other => {
+        match list_of(part) {
+            Some(List::Flags(x)) => Some(x),
+            Some(other) => {
                 drop(other);
                 None
             }
+            None => None,
         }
     }
 }

@@ -19,12 +19,13 @@ impl Form for ModulePart {
     ghost held_by = { a_module };
 
     fn of(part: Part) -> Option<ModuleText> {
-        match tree_of(part)? {
-            Tree::Module(x) => Some(x),
-            other => {
+        match tree_of(part) {
+            Some(Tree::Module(x)) => Some(x),
+            Some(other) => {
                 drop(other);
                 None
             }
+            None => None,
         }
     }
 }
@@ -39,12 +40,13 @@ impl Form for DefinitionPart {
     ghost held_by = { a_definition };
 
     fn of(part: Part) -> Option<Boxed<DefinitionText>> {
-        match tree_of(part)? {
-            Tree::Definition(x) => Some(x),
-            other => {
+        match tree_of(part) {
+            Some(Tree::Definition(x)) => Some(x),
+            Some(other) => {
                 drop(other);
                 None
             }
+            None => None,
         }
     }
 }
@@ -59,12 +61,13 @@ impl Form for ParamPart {
     ghost held_by = { a_param };
 
     fn of(part: Part) -> Option<ParamText> {
-        match tree_of(part)? {
-            Tree::Param(x) => Some(x),
-            other => {
+        match tree_of(part) {
+            Some(Tree::Param(x)) => Some(x),
+            Some(other) => {
                 drop(other);
                 None
             }
+            None => None,
         }
     }
 }
@@ -79,12 +82,13 @@ impl Form for BlockPart {
     ghost held_by = { a_block };
 
     fn of(part: Part) -> Option<Boxed<BlockText>> {
-        match tree_of(part)? {
-            Tree::Block(x) => Some(x),
-            other => {
+        match tree_of(part) {
+            Some(Tree::Block(x)) => Some(x),
+            Some(other) => {
                 drop(other);
                 None
             }
+            None => None,
         }
     }
 }
@@ -99,12 +103,13 @@ impl Form for BodyPart {
     ghost held_by = { a_body };
 
     fn of(part: Part) -> Option<BodyText> {
-        match tree_of(part)? {
-            Tree::Body(x) => Some(x),
-            other => {
+        match tree_of(part) {
+            Some(Tree::Body(x)) => Some(x),
+            Some(other) => {
                 drop(other);
                 None
             }
+            None => None,
         }
     }
 }
@@ -119,12 +124,13 @@ impl Form for BehindPart {
     ghost held_by = { a_behind };
 
     fn of(part: Part) -> Option<BehindText> {
-        match tree_of(part)? {
-            Tree::Behind(x) => Some(x),
-            other => {
+        match tree_of(part) {
+            Some(Tree::Behind(x)) => Some(x),
+            Some(other) => {
                 drop(other);
                 None
             }
+            None => None,
         }
     }
 }
@@ -139,12 +145,13 @@ impl Form for NodePart {
     ghost held_by = { a_node };
 
     fn of(part: Part) -> Option<Boxed<NodeText>> {
-        match tree_of(part)? {
-            Tree::Node(x) => Some(x),
-            other => {
+        match tree_of(part) {
+            Some(Tree::Node(x)) => Some(x),
+            Some(other) => {
                 drop(other);
                 None
             }
+            None => None,
         }
     }
 }
@@ -159,12 +166,13 @@ impl Form for EntryPart {
     ghost held_by = { a_entry };
 
     fn of(part: Part) -> Option<EntryText> {
-        match tree_of(part)? {
-            Tree::Entry(x) => Some(x.into_inner()),
-            other => {
+        match tree_of(part) {
+            Some(Tree::Entry(x)) => Some(x.into_inner()),
+            Some(other) => {
                 drop(other);
                 None
             }
+            None => None,
         }
     }
 }
@@ -179,12 +187,13 @@ impl Form for TermPart {
     ghost held_by = { a_term };
 
     fn of(part: Part) -> Option<Boxed<TermText>> {
-        match tree_of(part)? {
-            Tree::Term(x) => Some(x),
-            other => {
+        match tree_of(part) {
+            Some(Tree::Term(x)) => Some(x),
+            Some(other) => {
                 drop(other);
                 None
             }
+            None => None,
         }
     }
 }
@@ -199,12 +208,13 @@ impl Form for BranchPart {
     ghost held_by = { a_branch };
 
     fn of(part: Part) -> Option<Boxed<BranchText>> {
-        match tree_of(part)? {
-            Tree::Branch(x) => Some(x),
-            other => {
+        match tree_of(part) {
+            Some(Tree::Branch(x)) => Some(x),
+            Some(other) => {
                 drop(other);
                 None
             }
+            None => None,
         }
     }
 }
@@ -219,12 +229,13 @@ impl Form for CasePart {
     ghost held_by = { a_case };
 
     fn of(part: Part) -> Option<CaseText> {
-        match tree_of(part)? {
-            Tree::Case(x) => Some(x.into_inner()),
-            other => {
+        match tree_of(part) {
+            Some(Tree::Case(x)) => Some(x.into_inner()),
+            Some(other) => {
                 drop(other);
                 None
             }
+            None => None,
         }
     }
 }
@@ -239,12 +250,13 @@ impl Form for ReturnedPart {
     ghost held_by = { a_returned };
 
     fn of(part: Part) -> Option<Option<OperandText>> {
-        match tree_of(part)? {
-            Tree::Returned(x) => Some(x),
-            other => {
+        match tree_of(part) {
+            Some(Tree::Returned(x)) => Some(x),
+            Some(other) => {
                 drop(other);
                 None
             }
+            None => None,
         }
     }
 }
@@ -259,12 +271,13 @@ impl Form for LinePart {
     ghost held_by = { a_line };
 
     fn of(part: Part) -> Option<LineText> {
-        match tree_of(part)? {
-            Tree::Line(x) => Some(x),
-            other => {
+        match tree_of(part) {
+            Some(Tree::Line(x)) => Some(x),
+            Some(other) => {
                 drop(other);
                 None
             }
+            None => None,
         }
     }
 }
@@ -279,12 +292,13 @@ impl Form for OperationPart {
     ghost held_by = { a_operation };
 
     fn of(part: Part) -> Option<Boxed<OperationText>> {
-        match tree_of(part)? {
-            Tree::Operation(x) => Some(x),
-            other => {
+        match tree_of(part) {
+            Some(Tree::Operation(x)) => Some(x),
+            Some(other) => {
                 drop(other);
                 None
             }
+            None => None,
         }
     }
 }
@@ -299,12 +313,13 @@ impl Form for OperatorPart {
     ghost held_by = { a_operator };
 
     fn of(part: Part) -> Option<OperatorText> {
-        match tree_of(part)? {
-            Tree::Operator(x) => Some(x),
-            other => {
+        match tree_of(part) {
+            Some(Tree::Operator(x)) => Some(x),
+            Some(other) => {
                 drop(other);
                 None
             }
+            None => None,
         }
     }
 }
@@ -319,12 +334,13 @@ impl Form for OperandPart {
     ghost held_by = { a_operand };
 
     fn of(part: Part) -> Option<OperandText> {
-        match tree_of(part)? {
-            Tree::Operand(x) => Some(x),
-            other => {
+        match tree_of(part) {
+            Some(Tree::Operand(x)) => Some(x),
+            Some(other) => {
                 drop(other);
                 None
             }
+            None => None,
         }
     }
 }
@@ -339,12 +355,13 @@ impl Form for ExprPart {
     ghost held_by = { a_expr };
 
     fn of(part: Part) -> Option<ExprText> {
-        match tree_of(part)? {
-            Tree::Expr(x) => Some(x.into_inner()),
-            other => {
+        match tree_of(part) {
+            Some(Tree::Expr(x)) => Some(x.into_inner()),
+            Some(other) => {
                 drop(other);
                 None
             }
+            None => None,
         }
     }
 }
