@@ -170,7 +170,7 @@ EMPTY = {"steps": steps(0), "blocks": blocks(0)}
 # The crates that ask whether a module is well-formed.
 JUDGES = {"whole_functions", "ir_shape", "line_shapes", "whole_shapes", "shape_tests", "definedness", "name_index", "flow_solver"}
 # The crates that read the whole grammar, any of whose functions may have been inlined into their callers.
-READERS = {"module_reader", "ir_lexer", "module_tokens", "token_context", "module_trees", "module_surroundings", "tree_naming", "module_grammar"}
+READERS = {"module_reader", "ir_lexer", "module_tokens", "token_context", "module_trees", "module_surroundings", "module_grammar"}
 
 
 def crate_of(symbol):
@@ -204,7 +204,9 @@ def reading(path):
 
 
 def whole(path):
-    return in_calls(path, lambda caller: caller in {"crell", "crell_program", "whole_input"}, lambda callee: callee in READERS)
+    read = in_calls(path, lambda caller: caller in {"crell", "crell_program"}, lambda callee: callee in READERS)
+    # The reader asks module_input whether the module is well-formed.
+    return read - in_calls(path, lambda caller: caller == "module_reader", lambda callee: callee == "module_input")
 
 
 def printing(path):
