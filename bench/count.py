@@ -196,17 +196,17 @@ def in_calls(path, callers, callees):
 
 
 def judging(path):
-    return in_calls(path, lambda caller: caller == "module_input", lambda callee: callee in JUDGES)
+    return in_calls(path, lambda caller: caller == "ir_reader", lambda callee: callee in JUDGES)
 
 
 def reading(path):
-    return in_calls(path, lambda caller: caller == "crell_program", lambda callee: callee == "module_input") - judging(path)
+    return in_calls(path, lambda caller: caller == "crell_program", lambda callee: callee == "ir_reader") - judging(path)
 
 
 def whole(path):
     read = in_calls(path, lambda caller: caller in {"crell", "crell_program"}, lambda callee: callee in READERS)
-    # The reader asks module_input whether the module is well-formed.
-    return read - in_calls(path, lambda caller: caller == "module_reader", lambda callee: callee == "module_input")
+    # The reader asks ir_reader whether the module is well-formed.
+    return read - in_calls(path, lambda caller: caller == "module_reader", lambda callee: callee == "ir_reader")
 
 
 def printing(path):
