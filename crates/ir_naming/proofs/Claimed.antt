@@ -52,7 +52,7 @@ use Rattle.name_claims.specs.Faults.{at_fault, find, is_defined, label, leads, r
 use Rattle.ir_naming.specs.Naming.{Thing, at, block_claims, branch_claims, case_claims, condition_claims, definition_of, definitions_from, due_behind, entries_in, entry_claims, int_claims, kept_claims, label_claims, line_claims, name_claims, name_claims_from, name_due, number_claims, operand_claims, operation_claims, phi_claims, return_claims, switch_claims, term_claims, value_claims}
 use Rattle.ir_naming.specs.Spells.{IsBranch, IsCase, IsCondition, IsEntry, IsLabel, IsLine, IsPhi, IsReturn, IsSwitch, IsTerm, IsValue, NamesBlock}
 use Rattle.ir_naming.specs.Values.{IsNumber, IsOperand, IsOperation, int_of, kept, truth}
-use Rattle.ir_naming.proofs.Built.{next_is}
+use Rattle.ir_naming.proofs.Builds.{next_is}
 use Rattle.ir_naming.proofs.Known.{labels_in, registers_in}
 use Rattle.ir_naming.proofs.Lists.{all_append, contains_behind, contains_cases, contains_here, zip_lists}
 use Rattle.ir_naming.proofs.Operations.{IsClaimed, binary_right, compare_right, operand_right, operation_cases, select_right}

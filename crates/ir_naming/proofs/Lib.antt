@@ -1,6 +1,6 @@
-pub mod Built
+pub mod Builds
 pub mod Claimed
-pub mod Expressions
+pub mod ExpressionLaws
 pub mod Known
 pub mod Lists
 pub mod Named

@@ -22,7 +22,7 @@ use Rattle.ir_naming.specs.Modules.{block_from, blocks_from, function_of, module
 use Rattle.ir_naming.specs.Naming.{block_claims, block_things, blocks_in, claims_of, definitions_from, due_behind, due_from, function_thing, item_of, label_name, line_claims, module_item, name_claims_from, param_thing, phi_claims, phi_thing, term_claims, things_of}
 use Rattle.ir_naming.specs.Spells.{NamesBlock, NamesFunction, NamesModule, labels_of}
 use Rattle.ir_naming.specs.Laws.{IsFaultless, IsWithinLines, lines_in}
-use Rattle.ir_naming.proofs.Built.{function_is}
+use Rattle.ir_naming.proofs.Builds.{function_is}
 use Rattle.ir_naming.proofs.Claimed.{block_right, names_right}
 use Rattle.ir_naming.proofs.Known.{labels_are, labels_in, names_are, registers_are, registers_in}
 use Rattle.ir_naming.proofs.Lists.{all_append, all_from, all_left, all_lists, all_mapped, all_right, all_to, zip_lists, zip_mapped}

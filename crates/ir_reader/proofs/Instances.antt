@@ -21,7 +21,7 @@ use Rattle.grammar_decides.specs.Decision.{decided}
 use Rattle.ir_naming.specs.Expressions.{IsNameOf, NamesExpression, logic_expression}
 use Rattle.ir_naming.specs.Modules.{module_of}
 use Rattle.ir_naming.specs.Spells.{NamesModule}
-use Rattle.ir_naming.proofs.Expressions.{expression_built, expression_right}
+use Rattle.ir_naming.proofs.ExpressionLaws.{expression_built, expression_right}
 use Rattle.ir_naming.proofs.Named.{module_named, module_right}
 use Rattle.ir_reader.specs.Forms.{expression_form, module_form, name_form}
 use Rattle.ir_reader.proofs.Counting.{all_few, all_within, is_past, passes}

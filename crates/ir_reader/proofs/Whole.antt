@@ -21,7 +21,7 @@ use Rattle.ir_naming.specs.Expressions.{NamesExpression, logic_expression}
 use Rattle.ir_naming.specs.Modules.{module_of}
 use Rattle.ir_naming.specs.Spells.{NamesModule}
 use Rattle.ir_naming.specs.Laws.{IsFaultless, IsFaultlessExpression}
-use Rattle.ir_naming.proofs.Expressions.{expression_built}
+use Rattle.ir_naming.proofs.ExpressionLaws.{expression_built}
 use Rattle.ir_naming.proofs.Named.{module_named}
 use Rattle.ir_lexer.specs.declared.fault.TextFault.{TextFault}
 use Rattle.ir_reader.specs.Faults.{HasTokens, IsTextFault}

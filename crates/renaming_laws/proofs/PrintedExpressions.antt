@@ -21,7 +21,7 @@ use Rattle.ir_grammar.specs.Words.{key_text}
 use Rattle.ir_grammar.specs.Symbols.{Fixed, key_number}
 use Rattle.ir_grammar.specs.Written as write
 use Rattle.ir_naming.specs.Expressions.{IsLogicAtom, MeansRegister, NamesExpression, register_of}
-use Rattle.ir_naming.proofs.Expressions.{expression_right}
+use Rattle.ir_naming.proofs.ExpressionLaws.{expression_right}
 use Rattle.ir_naming.proofs.Lists.{all_over}
 use Rattle.ir_reader.specs.Spells.{SpellsExpression}
 use Rattle.expression_printer.specs.Printed.{printed_expr, printed_local, printed_register, spaced}

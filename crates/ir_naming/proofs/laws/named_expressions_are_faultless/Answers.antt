@@ -1,4 +1,4 @@
-use Rattle.ir_naming.proofs.Expressions.{expression_right}
+use Rattle.ir_naming.proofs.ExpressionLaws.{expression_right}
 use Rattle.ir_naming.proofs.laws.named_expressions_are_faultless.Goals as goal
 
 pub returns : goal.returns

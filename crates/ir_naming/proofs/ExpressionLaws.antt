@@ -13,7 +13,7 @@ use Rattle.name_claims.specs.declared.claims.Fault.{Fault}
 use Rattle.name_claims.specs.Faults.{HasFault}
 use Rattle.ir_naming.specs.Expressions.{IsLogicAtom, NamesExpression, expression_claims, logic_atom, logic_expression, number_range, operation_ranges, ranges_of, register_of}
 use Rattle.ir_naming.specs.Values.{IsOperation, int_of}
-use Rattle.ir_naming.proofs.Built.{number_is}
+use Rattle.ir_naming.proofs.Builds.{number_is}
 use Rattle.ir_naming.proofs.Claimed.{int_right}
 use Rattle.ir_naming.proofs.Named.{all_right_items, no_fault_of}
 use Rattle.ir_naming.proofs.Operations.{Determines, IsClaimed, IsNamedSo, binary_is, binary_named, binary_right, cast_is, cast_named, compare_is, compare_named, compare_right, operand_is, operand_named, operand_right, operation_cases, select_is, select_named, select_right}
