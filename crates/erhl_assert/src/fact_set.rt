@@ -1,5 +1,5 @@
 //! Sets of facts, each a list without repeats, and what takes facts out of them.
-ghost use Rattle.std.specs.Prelude.{◌≡◌, [], length, slice_get, OnOk};
+ghost use Rattle.std.specs.Prelude.{◌≡◌, [], length, slice_get, OnErr, OnOk};
 ghost use Rattle.std.specs.List.{list_any};
 ghost use Rattle.std.specs.Option.{option_copied};
 ghost use Rattle.ir_core.specs.declared.expressions.Reg.{Reg};
@@ -50,7 +50,8 @@ pub trait FactSet: Drop {
 
     /// Puts the fact at the end, where it isn't there yet.
     fn add(&mut self, fact: Fact) -> Result<(), AllocError>
-        ensures { OnOk result (contents self.new ≡ with_fact fact (contents self.old)) };
+        ensures ok { OnOk result (contents self.new ≡ with_fact fact (contents self.old)) }
+        ensures err { OnErr result (contents self.new ≡ contents self.old) };
 
     /// Takes out what the kill takes. No memory is taken.
     fn kill(&mut self, kill: &Kill)

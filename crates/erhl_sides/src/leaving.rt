@@ -1,6 +1,7 @@
 //! Registers that may differ where a block begins, and mustn't: the one that is told of.
 ghost use Rattle.std.specs.Prelude.{◌≡◌, IfOk};
-ghost use Rattle.std.specs.Option.{option_copied};
+ghost use Rattle.std.specs.Option.{option_copied, option_map};
+ghost use Rattle.expression_printer.specs.Printed.{printed_register};
 ghost use Rattle.erhl_assert.specs.Acceptance.{comes_first, first_of_two, first_printed, left_over};
 ghost use Rattle.erhl_sides.specs.Differing.{is_left_over, first_with};
 
@@ -9,30 +10,40 @@ use fact_sets::RegisterSet;
 use ir_core::Reg;
 use std::alloc::{AllocError, Global};
 
-/// Whether the first register's printed form comes before the second's.
-fn comes_first(alloc: Global, r: &Reg, s: &Reg) -> Result<bool, AllocError>
-    ensures { IfOk result (λ first. first ≡ comes_first r.now s.now) }
-{
-    let mine = print_register(alloc, r)?;
-    let theirs = print_register(alloc, s)?;
-    Ok(mine.as_slice().cmp(theirs.as_slice()).is_lt())
+/// A register with its printed form.
+#[derive(Drop)]
+struct Printed<'a> {
+    register: &'a Reg,
+    text: Vec<u8>,
+    ghost is_printed: { text.items ≡ printed_register register.now },
 }
 
-/// Of two registers the one whose printed form comes first. Where there is one alone, no memory is taken.
-fn first_of_two<'a>(
-    alloc: Global,
-    register: &'a Reg,
-    other: Option<&'a Reg>,
-) -> Result<&'a Reg, AllocError>
-    ensures { IfOk result (λ first. first.now ≡ first_of_two register.now (option_copied other.entry)) }
+/// Prints the register.
+fn with_text<'a>(alloc: Global, register: &'a Reg) -> Result<Printed<'a>, AllocError>
+    ensures { IfOk result (λ printed. printed.register.now ≡ register.now) }
+{
+    let text = print_register(alloc, register)?;
+    Ok(Printed { register, text })
+}
+
+/// Whether the first register's printed form comes before the second's.
+fn comes_first(r: &Printed, s: &Printed) -> bool
+    ensures { result ≡ comes_first r.now.register.now s.now.register.now }
+{
+    r.text.as_slice().cmp(s.text.as_slice()).is_lt()
+}
+
+/// Of two registers the one whose printed form comes first.
+fn first_of_two<'a>(register: Printed<'a>, other: Option<Printed<'a>>) -> Printed<'a>
+    ensures { result.register.now ≡ first_of_two register.entry.register.now (option_map (λ p. p.register.now) other.entry) }
 {
     match other {
-        None => Ok(register),
+        None => register,
         Some(other) => {
-            if comes_first(alloc, other, register)? {
-                Ok(other)
+            if comes_first(&other, &register) {
+                other
             } else {
-                Ok(register)
+                register
             }
         }
     }
@@ -50,20 +61,21 @@ fn first_with<'a>(
     alloc: Global,
     wanted: &RegisterSet,
     register: &'a Reg,
-    behind: Option<&'a Reg>,
-) -> Result<Option<&'a Reg>, AllocError>
+    behind: Option<Printed<'a>>,
+) -> Result<Option<Printed<'a>>, AllocError>
     ensures { IfOk result
-        (λ first. option_copied first ≡ first_with wanted.now register.now (option_copied behind.entry)) }
+        (λ first. option_map (λ p. p.register.now) first ≡ first_with wanted.now register.now (option_map (λ p. p.register.now) behind.entry)) }
 {
     if is_left_over(wanted, register) {
-        Ok(Some(first_of_two(alloc, register, behind)?))
+        let register = with_text(alloc, register)?;
+        Ok(Some(first_of_two(register, behind)))
     } else {
         Ok(behind)
     }
 }
 
 /// Of the registers that may differ, are not old and aren't wanted, the one whose printed form comes first. They are walked from the
-/// last.
+/// last, and each that is left over is printed once.
 pub(crate) fn first_left_over<'a>(
     alloc: Global,
     wanted: &RegisterSet,
@@ -76,5 +88,8 @@ pub(crate) fn first_left_over<'a>(
         let register = &registers[registers.len() - 1 - done];
         first = first_with(alloc, wanted, register, first)?;
     }
-    Ok(first)
+    match first {
+        Some(printed) => Ok(Some(printed.register)),
+        None => Ok(None),
+    }
 }

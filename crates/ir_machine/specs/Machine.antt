@@ -76,7 +76,8 @@ abbrev pub set_to : Option Kind → Name → Outcome → Frame → List Pending 
 set_to k x (Gives v) frame rest world = Does [] (Running (record frame { registers = set frame.registers x k v }) rest world)
 set_to k x Trap frame rest world = wrong
 
--- The frame stands after the line. No well-formed module has an alloca, a store or a call yet; they are undefined behaviour.
+-- The frame stands after the line. An alloca, a store and a call are undefined behaviour until memory and calls are there; no module that
+-- `check` reads has one.
 abbrev pub line_step : Instr → Frame → List Pending → World → Asks
 line_step (line.Calm l) frame rest world = set_to (kind_of (type_of l.right)) l.name (outcome (read frame.registers) l.right) frame rest world
 line_step i frame rest world = wrong

@@ -100,7 +100,7 @@ abbrev pub selects : Ty → Ty → Ty → Bool
 selects condition left right = same_ty condition (ty.Int 1) && same_ty left right
 
 -- The outcome of an expression: an operand is worth its value, and an operator works on the values of its operands. Where its types are
--- none that the operator takes it gives poison; no well-formed module has such a line.
+-- none that the operator takes it gives poison, as do a load and an address until memory is there; no module that `check` reads has such a line.
 abbrev pub outcome : {R : Type 0} → (Kind → R → Value) → Expr R → Outcome
 outcome reading (Plain o) = Gives (operand_value reading o)
 outcome reading (Binary b) =
