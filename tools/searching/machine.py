@@ -39,8 +39,9 @@ def binary(operator, flags, width, a, b):
         return POISON if flags else UNDEF
     x, y = signed(a, width), signed(b, width)
     if operator in ("add", "sub", "mul", "shl"):
+        shift = 2 ** b if operator == "shl" else 1
         unsigned_result, signed_result = {"add": (a + b, x + y), "sub": (a - b, x - y), "mul": (a * b, x * y),
-                                          "shl": (a * 2 ** b, x * 2 ** b)}[operator]
+                                          "shl": (a * shift, x * shift)}[operator]
         if "nuw" in flags and not 0 <= unsigned_result < 2 ** width:
             return POISON
         if "nsw" in flags and not fits_signed(signed_result, width):

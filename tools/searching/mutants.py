@@ -2,8 +2,9 @@
 import copy
 import re
 
-from .functions import (BINARY, CASTS, FLAGS, PREDICATES, definitions, expression_text, function_text, is_register, is_well_formed,
-                        read_function, width_of)
+from .functions import (BINARY, CASTS, DIVISIONS, FLAGS, PREDICATES, definitions, expression_text, function_text, is_register,
+                        is_well_formed, labels_of, read_function, term_text, width_of)
+from .generate import available, some_expression, some_operand
 from .pairs import aged, plain, rule, text
 
 WORDS = sorted({*BINARY, *CASTS, *PREDICATES, "nuw", "nsw", "exact", "undef"}, key=len, reverse=True)
@@ -205,6 +206,65 @@ def line_goes(rng, case, functions):
     return True
 
 
+def line_comes(rng, case, functions):
+    """A line comes to one side alone, often one that can trap, and its register may differ everywhere."""
+    which = rng.choice((0, 1, 1))
+    function = functions[which]
+    block = rng.choice(function.blocks)
+    entry = next((b for b in case.blocks() if b["at"] == "%" + block.name), None)
+    if entry is None or "lines" not in entry or len(entry["lines"].replace("ts"[which], "")) != len(block.lines):
+        return False
+    line, register = rng.randrange(len(block.lines) + 1), "%n9"
+    registers = available(function, block.name, line)
+    width = rng.choice((1, 2, 3))
+    expr = some_expression(rng, registers, width)
+    if rng.random() < 0.6:
+        divisor = rng.choice([0, 1, 2 ** width - 1, "undef", some_operand(rng, registers, width)])
+        expr = ("bin", rng.choice(DIVISIONS), (), width, some_operand(rng, registers, width), divisor)
+    places = [k for k, letter in enumerate(entry["lines"] + "b") if letter != "ts"[which]]
+    entry["lines"] = entry["lines"][:places[line]] + "st"[which] + entry["lines"][places[line]:]
+    for later in case.blocks():
+        later.setdefault("diff", []).append(register)
+    lines = (case.source, case.target)[which]
+    starts = lines.index(block.name + ":") + 1 + len(block.phis)
+    lines.insert(starts + line, f"  {register} = {expression_text(expr)}")
+    return True
+
+
+def term_changes(rng, case, functions):
+    """A terminator of one side becomes another: a label, a case more or less, a branch in place of a switch, or none."""
+    which = rng.choice((0, 1, 1))
+    function, lines = functions[which], (case.source, case.target)[which]
+    block, how = rng.choice(function.blocks), rng.randrange(5)
+    term = block.term
+    labels = [b.name for b in function.blocks[1:]]
+    if not labels:
+        return False
+    if how == 0 and term[0] in ("cond", "switch"):
+        new = ("br", rng.choice(labels_of(term)))
+    elif how == 1 and term[0] == "br":
+        new = ("cond", rng.choice((0, 1, "undef")), term[1], rng.choice(labels))
+    elif how == 2 and term[0] == "switch":
+        cases, number = list(term[4]), rng.randrange(2 ** term[1])
+        if cases and rng.random() < 0.5:
+            cases.pop(rng.randrange(len(cases)))
+        elif number not in [n for n, _ in cases]:
+            cases.insert(rng.randrange(len(cases) + 1), (number, rng.choice(labels)))
+        new = term[:4] + (tuple(cases),)
+    elif how == 3 and term[0] == "switch" and len(term[4]) > 1:
+        cases = list(term[4])
+        rng.shuffle(cases)
+        new = term[:4] + (tuple(cases),)
+    elif labels_of(term):
+        new = term[:1] + tuple(rng.choice(labels) if part in labels and rng.random() < 0.5 else part for part in term[1:])
+    else:
+        new = ("unreachable",)
+    starts = lines.index(block.name + ":")
+    at = next(k for k in range(starts + 1, len(lines)) if lines[k] == "  " + term_text(term))
+    lines[at] = "  " + term_text(new)
+    return True
+
+
 def lines_change_places(rng, case, functions):
     which = rng.choice(("source", "target"))
     lines = getattr(case, which)
@@ -299,7 +359,9 @@ def letters_change(rng, case, functions):
     block = rng.choice(blocks)
     letters = list(block["lines"])
     k = rng.randrange(len(letters) - 1)
-    if letters[k] == "b" and rng.random() < 0.5:
+    if rng.random() < 0.25:
+        del letters[rng.randrange(len(letters)):]
+    elif letters[k] == "b" and rng.random() < 0.5:
         letters[k] = rng.choice(("st", "ts"))
     else:
         letters[k], letters[k + 1] = letters[k + 1], letters[k]
@@ -333,6 +395,109 @@ def age_changes(rng, case, functions):
         if "rule" in step:
             step["from"] = [[fact[0]] + [re.sub(old, new, part) for part in fact[1:]] for fact in step["from"]]
             step["to"] = [step["to"][0]] + [re.sub(old, new, part) for part in step["to"][1:]]
+    return True
+
+
+def first_claims(rng, case, functions):
+    """Of the first block something is claimed: a fact of another block, or one over what is returned."""
+    blocks = case.blocks()
+    if not blocks:
+        return False
+    first = next((block for block in blocks if block["at"] == "%" + functions[0].blocks[0].name), blocks[0])
+    side = rng.choice(("src", "tgt"))
+    claimed = [fact for block in blocks for member in ("src", "tgt") for fact in block.get(member, [])]
+    known = [(r, w) for r, w in widths(functions[0]).items()]
+    if claimed and rng.random() < 0.5 or not known:
+        first.setdefault(side, []).extend(claimed[:1])
+    else:
+        register, width = rng.choice(known)
+        other = some_operand(rng, known, width)
+        first.setdefault(side, []).append(text((plain(width, register), plain(width, other))))
+    return True
+
+
+def parts_go(rng, case, functions):
+    """A member of the hint goes, the entry of a block, or that of the whole function; or a function and blocks come that nobody has."""
+    how = rng.randrange(5)
+    if how == 0:
+        case.hint["functions"].pop("@f", None)
+    elif how == 1 and case.blocks():
+        case.blocks().pop(rng.randrange(len(case.blocks())))
+    elif how == 2 and case.blocks():
+        block = rng.choice(case.blocks())
+        members = [member for member in block if member != "at"]
+        if members:
+            del block[rng.choice(members)]
+    elif how == 3:
+        case.hint["functions"]["@g"] = {"blocks": copy.deepcopy(case.blocks())}
+    elif case.blocks():
+        case.blocks().append(dict(copy.deepcopy(rng.choice(case.blocks())), at="%nowhere"))
+    return True
+
+
+def ghosts_differ(rng, case, functions):
+    """A ghost may differ at starts of blocks."""
+    for block in case.blocks():
+        if rng.random() < 0.6:
+            block.setdefault("diff", []).append(rng.choice(("ghost %g1", "ghost %g1", "ghost %g2", "ghost %g9")))
+    return True
+
+
+def types_change(rng, case, functions):
+    """In facts and steps a register or a number stands at another type; in all places where it stands at that type, or in some."""
+    found = []
+    map_texts(case.hint, lambda part: found.extend(re.findall(r"\bi[1-9]\d? (?:old |ghost )?[^\s,]+", part)) or part)
+    if not found:
+        return False
+    old, share = rng.choice(found), rng.choice((1, 1, 0.5))
+    new = re.sub(r"\bi\d+", f"i{rng.choice((1, 2, 3, 4))}", old)
+    map_texts(case.hint, lambda part: re.sub(re.escape(old) + r"(?![\w.])", lambda m: new if rng.random() < share else old, part))
+    return True
+
+
+def edge_steps(rng, case, functions):
+    """Steps come to an edge: what its phis give, a ghost, a same; the edge may stand twice, and may lead nowhere."""
+    which = rng.randrange(2)
+    block = rng.choice(case.blocks() or [None])
+    function = next((b for b in functions[which].blocks if block and "%" + b.name == block["at"]), None)
+    if function is None or not labels_of(function.term):
+        return False
+    label = rng.choice(labels_of(function.term))
+    phis = next(b for b in functions[which].blocks if b.name == label).phis
+    side, steps = ("src", "tgt")[which], []
+    for register, width, entries in phis[:2]:
+        now, old = plain(width, register), plain(width, aged(dict((l, o) for o, l in reversed(entries)).get(function.name, 0)))
+        how = rng.randrange(5)
+        if how == 0:
+            other = rng.choice([r for r, w, _ in phis if w == width])
+            steps.append(rule("trans", (now, plain(width, other)), (now, old), (old, plain(width, other)), side=side))
+        elif how == 1:
+            steps.append({"ghost": "%g1", "is": expression_text(rng.choice((now, old)))})
+        elif how == 2:
+            steps.append({"same": register, "by": expression_text(old)})
+        elif how == 3:
+            steps.append(rule("trans", (now, plain(width, "ghost %g1")), (now, old), (old, plain(width, "ghost %g1")), side=side))
+        else:
+            steps.append(rule("refl", (now, now), side=side))
+    label = rng.choice(case.blocks())["at"] if rng.random() < 0.15 else "%" + label
+    block.setdefault("edges", []).insert(rng.randrange(len(block.get("edges", [])) + 1), {"to": label, "steps": steps})
+    return True
+
+
+def ghosts_early(rng, case, functions):
+    """A register's ghost is chosen before its line, and the register is the same by it, or a claim names it."""
+    known = widths(functions[rng.randrange(2)])
+    if not known or not case.blocks():
+        return False
+    register, block = rng.choice(list(known)), rng.choice(case.blocks())
+    ghost = plain(known[register], "ghost %g1")
+    now = plain(known[register], register)
+    block.setdefault("steps", []).insert(0, {"at": 0, "ghost": "%g1", "is": expression_text(now)})
+    if rng.random() < 0.5:
+        block["steps"].append({"at": rng.randrange(4), "same": register, "by": expression_text(ghost)})
+    else:
+        for one in case.blocks()[1:]:
+            one.setdefault(rng.choice(("src", "tgt")), []).append(text(rng.choice(((now, ghost), (ghost, now)))))
     return True
 
 
@@ -382,9 +547,10 @@ def likely_step(rng, case, functions):
     return True
 
 
-OF_TEXTS = (one_token, one_token, one_token, one_token, every_token, every_token, swapped, line_goes, lines_change_places)
-OF_HINTS = (step_changes, step_changes, fact_changes, diff_changes, letters_change, edge_changes, age_changes,
-            likely_step, likely_step)
+OF_TEXTS = (one_token, one_token, one_token, one_token, every_token, every_token, swapped, line_goes, line_comes, line_comes,
+            term_changes, lines_change_places)
+OF_HINTS = (step_changes, step_changes, fact_changes, diff_changes, letters_change, edge_changes, age_changes, first_claims, parts_go,
+            ghosts_differ, types_change, edge_steps, ghosts_early, likely_step, likely_step)
 
 
 def mutant(rng, source, target, hint, changes):

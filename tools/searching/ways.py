@@ -420,6 +420,93 @@ def twin_loop(rng, function, kept):
     return edit
 
 
+def swapping_loop(rng, function, kept):
+    """Two phis that begin alike and change places in each turn are one."""
+    found = loops(function)
+    if not found:
+        return None
+    name, outside, inside = rng.choice(found)
+    block = next(b for b in function.blocks if b.name == name)
+    width, a = rng.choice((1, 2, 2, 3)), fresh(function, "w")
+    b = a + "b"
+    over, into = dominators(function), predecessors(function)[name]
+    registers = [(r, w) for r, (w, place) in definitions(function).items() if place[0] is None or place[0] in over[name] - {name}]
+    begin = some_operand(rng, registers, width)
+    other = some_operand(rng, registers, width) if slips(rng) else begin
+    nexts = ((b, begin), (rng.choice((b, rng.randrange(2 ** width))) if slips(rng) else a, other))
+    entries = [[(again if label in inside else first, label) for label in into] for again, first in nexts]
+    block.phis += [(a, width, entries[0]), (b, width, entries[1])]
+    kept |= {a, b}
+    use(rng, function, b, kept)
+
+    def edit(pair):
+        if {a, b, begin} & pair.touched:
+            return False
+        as_a, as_b = plain(width, a), plain(width, b)
+        for left, right in ((as_b, as_a), (as_a, as_b)):
+            if left == as_a and slips(rng):
+                break
+            pair.claim(pair.src, [name] + pair.below(name), (left, right))
+            for label in outside:
+                between = plain(width, aged(begin))
+                pair.on_edge(label, name, [trans((left, between), (between, right))[0]])
+            old_left, old_right = plain(width, aged(left[2])), plain(width, aged(right[2]))
+            for label in inside if not slips(rng) else ():
+                step, fact = trans((left, old_right), (old_right, old_left))
+                pair.on_edge(label, name, [step, trans(fact, (old_left, right))[0]])
+        settle_phi(rng, pair, name, b, a)
+        return True
+    return edit
+
+
+def two_widths(rng, function, kept):
+    """A register that nobody needs has another width in the target."""
+    block, y = some_reached(rng, function), fresh(function, "t")
+    line = some_line(rng, function, block)
+    registers = available(function, block, line)
+    first, second = rng.sample((1, 2, 3), 2)
+    insert(function, block, line, y, some_expression(rng, registers, first))
+    kept.add(y)
+
+    def edit(pair):
+        _, row = pair.place(y)
+        other = some_expression(rng, registers, second, traps=False)
+        if any(use[0] == y for use in uses(pair.old) + uses(pair.new)) or can_trap(other) or can_trap(row.source[1]):
+            return False
+        row.target = (y, other)
+        pair.differ(y)
+        return True
+    return edit
+
+
+def wide(rng, function, kept):
+    """A line over wide numbers is folded; what is used is cut from it."""
+    block, width, narrow = some_reached(rng, function), rng.choice((7, 8, 31, 32, 33, 63, 64)), rng.choice((1, 2, 3))
+    line, y = some_line(rng, function, block), fresh(function, "y")
+    ends = (0, 1, 2, 2 ** width - 1, 2 ** (width - 1), 2 ** (width - 1) - 1, width, width - 1, 2 ** (width // 2))
+    operator = rng.choice(BINARY)
+    flags = tuple(flag for flag in FLAGS.get(operator, ()) if rng.random() < 0.3)
+    expr = ("bin", operator, flags, width, *(rng.choice(ends + (rng.randrange(2 ** width),)) for _ in range(2)))
+    insert(function, block, line, y, expr)
+    z = fresh(function, "z")
+    insert(function, block, line + 1, z, ("cast", "trunc", width, y, narrow))
+    kept |= {y, z}
+    use(rng, function, z, kept)
+
+    def edit(pair):
+        result = may_become(rng, expr)
+        _, row = pair.place(y)
+        row.behind.append(rule("fold", (expr, plain(width, result))))
+        step, fact = trans((plain(width, y), expr), (expr, plain(width, result)))
+        row.behind.append(step)
+        pair.claim(pair.src, pair.below(block), fact)
+        pair.in_target(y, result)
+        row.target = None
+        pair.differ(y)
+        return True
+    return edit
+
+
 def undef_number(rng, function, kept):
     """Undef at some places becomes a number."""
     over = dominators(function)
@@ -517,8 +604,8 @@ def unreached(rng, function, kept):
     return edit
 
 
-WAYS = (algebra, algebra, fold_twice, common, common, dead, moved, moved, twin_phi, single_phi, loop_number, twin_loop, undef_number,
-        swapped_phis, fewer_flags, fewer_flags, unreached)
+WAYS = (algebra, algebra, fold_twice, common, common, dead, moved, moved, twin_phi, single_phi, loop_number, twin_loop, swapping_loop,
+        undef_number, two_widths, wide, swapped_phis, fewer_flags, fewer_flags, unreached)
 
 
 def some_pair(rng):
