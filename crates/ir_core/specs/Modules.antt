@@ -22,7 +22,7 @@ pub record Scope : Type 0 where
 abbrev pub no_scope : Scope
 no_scope = record { types = []; globals = [] }
 
--- no text names a type or a global yet
+-- no text that `check` reads names a type or a global
 abbrev pub scope_of : Module → Scope
 scope_of m = no_scope
 

@@ -11,13 +11,14 @@ use Rattle.ir_core.specs.declared.modules.Init as init
 use Rattle.ir_core.specs.declared.modules.Linkage.{Linkage}
 use Rattle.ir_core.specs.declared.modules.Linkage.TheVariants.{External, Internal}
 use Rattle.ir_types.specs.declared.names.Name.{Name}
+use Rattle.ir_types.specs.declared.names.Name.TheVariants.{Text}
 use Rattle.ir_core.specs.declared.operands.Atom.TheVariants.{Constant}
 use Rattle.ir_core.specs.declared.operands.Const.{Const, Number, Undef, Null, Global}
 use Rattle.ir_core.specs.declared.operands.Const as constant
 use Rattle.ir_types.specs.declared.ty.Ty.{Ty, Int, Ptr, Array, Struct, Named, Void}
 use Rattle.ir_core.specs.Examples.{f, held, x, y}
 use Rattle.ir_core.specs.MemoryLaws.{unchanged}
-use Rattle.ir_core.specs.Ranges.{IsAlignInRange, IsAtomInRange, IsCountInRange, IsGlobalInRange, IsLineInRange, IsResultInRange, IsTypeInRange, StandBehind}
+use Rattle.ir_core.specs.Ranges.{IsAlignInRange, IsAtomInRange, IsCountInRange, IsDeclarationInRange, IsGlobalInRange, IsLineInRange, IsResultInRange, IsTypeInRange, StandBehind}
 
 -- An integer has 64 bits at most, also behind a pointer, and an array fewer than 2^64 elements. `void` is a result's type alone.
 pub record TypesHaveRanges : Type 0 where
@@ -77,7 +78,11 @@ global linkage ty init = record { name = x; linkage = linkage; constant = false;
 abbrev pub elements : ℕ → Init
 elements n = init.Array ((Int 8, init.Const (Number 0)) ∷ (Int 8, init.Const (Number n)) ∷ [])
 
--- A global without initialiser is `external`. An initialiser has bytes, and numbers of their types.
+-- @x = i8 zeroinitializer, align align
+abbrev pub aligned : Option ℕ → GlobalVar
+aligned align = record { name = x; linkage = External; constant = false; ty = Int 8; init = Some Zero; align = align }
+
+-- A global without initialiser is `external`. An initialiser has bytes, and numbers of their types. An alignment is one that text can say.
 pub record GlobalsHaveRanges : Type 0 where
   pub external : IsGlobalInRange (global External (Int 8) None)
   pub nothing_held : IsGlobalInRange (global Internal (Int 8) None) → ⊥
@@ -86,10 +91,34 @@ pub record GlobalsHaveRanges : Type 0 where
   pub no_byte : IsGlobalInRange (global Internal (Array 1 (Int 8)) (Some (Bytes (256 ∷ [])))) → ⊥
   pub array : IsGlobalInRange (global Internal (Array 2 (Int 8)) (Some (elements 255)))
   pub wide : IsGlobalInRange (global Internal (Array 2 (Int 8)) (Some (elements 256))) → ⊥
+  pub at_greatest : IsGlobalInRange (aligned (Some 536870912))
+  pub at_greater : IsGlobalInRange (aligned (Some 1073741824)) → ⊥
+  pub at_zero : IsGlobalInRange (aligned (Some 0)) → ⊥
 
 -- declare void @f(), behind so many definitions
 abbrev pub declared_behind : ℕ → Declaration
 declared_behind before = record { result_extensions = unchanged; result = Void; name = f; params = []; variadic = false; before = before }
+
+-- declare result @name(i1, ty)
+abbrev pub declaring : Name → Ty → Ty → Declaration
+declaring name result ty = record {
+  result_extensions = unchanged;
+  result = result;
+  name = name;
+  params = record { ty = Int 1; extensions = unchanged } ∷ record { ty = ty; extensions = unchanged } ∷ [];
+  variadic = false;
+  before = 0;
+}
+
+-- A declaration has a name, and types in range. `void` is its result's alone.
+pub record DeclarationsHaveRanges : Type 0 where
+  pub plain : IsDeclarationInRange (declaring f (Int 64) (Int 64))
+  pub no_params : IsDeclarationInRange (declared_behind 0)
+  pub void_result : IsDeclarationInRange (declaring f Void (Ptr (Int 8)))
+  pub void_param : IsDeclarationInRange (declaring f (Int 64) Void) → ⊥
+  pub wide_param : IsDeclarationInRange (declaring f (Int 64) (Int 65)) → ⊥
+  pub wide_result : IsDeclarationInRange (declaring f (Int 65) (Int 64)) → ⊥
+  pub no_name : IsDeclarationInRange (declaring (Text []) (Int 64) (Int 64)) → ⊥
 
 -- of two definitions: declarations before both and behind both, behind a third, and the later before the earlier
 pub record DeclarationsStandInOrder : Type 0 where
@@ -97,9 +126,9 @@ pub record DeclarationsStandInOrder : Type 0 where
   pub too_many : StandBehind 0 2 (declared_behind 3 ∷ []) → ⊥
   pub disorder : StandBehind 0 2 (declared_behind 1 ∷ declared_behind 0 ∷ []) → ⊥
 
--- %x = alloca ty
-abbrev pub allocating : Ty → Instr
-allocating ty = line.Alloca (record { name = x; of = ty; to = Ptr ty; count = None; align = None })
+-- %x = alloca ty, count, align align
+abbrev pub allocating : Ty → Option (Ty × ℕ) → Option ℕ → Instr
+allocating ty count align = line.Alloca (record { name = x; of = ty; to = Ptr ty; count = count; align = align })
 
 -- %x = load i8, i8* %y, align align
 abbrev pub loading : Option ℕ → Instr
@@ -117,10 +146,17 @@ stepping ty = line.Calm (record { name = x; right = expr.Element (record { inbou
 abbrev pub calling : Ty → Instr
 calling ty = line.Call (record { name = None; result = ty; result_extensions = unchanged; callee = f; arguments = [] })
 
--- each type and alignment that a line states is in range
+-- each type, count and alignment that a line states is in range
 pub record LinesHaveRanges : Type 0 where
-  pub alloca : IsLineInRange (allocating (Array 4 (Int 8)))
-  pub wide_alloca : IsLineInRange (allocating (Array 4 (Int 65))) → ⊥
+  pub alloca : IsLineInRange (allocating (Array 4 (Int 8)) None None)
+  pub wide_alloca : IsLineInRange (allocating (Array 4 (Int 65)) None None) → ⊥
+  pub counted : IsLineInRange (allocating (Int 8) (Some (Int 8, 255)) None)
+  pub counted_wide : IsLineInRange (allocating (Int 8) (Some (Int 8, 256)) None) → ⊥
+  pub counted_one : IsLineInRange (allocating (Int 8) (Some (Int 8, 1)) None) → ⊥
+  pub counted_by_pointers : IsLineInRange (allocating (Int 8) (Some (Ptr (Int 8), 2)) None) → ⊥
+  pub allocated_at_greatest : IsLineInRange (allocating (Int 8) (Some (Int 8, 2)) (Some 536870912))
+  pub allocated_at_greater : IsLineInRange (allocating (Int 8) None (Some 1073741824)) → ⊥
+  pub allocated_at_zero : IsLineInRange (allocating (Int 8) None (Some 0)) → ⊥
   pub load : IsLineInRange (loading (Some 4))
   pub loaded_at_zero : IsLineInRange (loading (Some 0)) → ⊥
   pub store : IsLineInRange (storing None)

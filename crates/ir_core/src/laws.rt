@@ -6,7 +6,7 @@ ghost use Rattle.ir_core.specs.Laws.{ConversionsChangeWidths, SelectionsHaveOneT
 ghost use Rattle.ir_core.specs.TypeLaws.{IntegersHaveKinds, NamedTypesAreInRange, NamedTypesAreKnown, OtherTypesAreNot};
 ghost use Rattle.ir_core.specs.MemoryLaws.{AddressesAreRead, IntegersHaveNoMemory, MemoryLinesAreRead};
 ghost use Rattle.ir_core.specs.Placed.{PlacesAreKept};
-ghost use Rattle.ir_core.specs.RangeLaws.{AlignmentsAndCountsHaveRanges, ConstantsHaveRanges, DeclarationsStandInOrder, GlobalsHaveRanges, LinesHaveRanges, TypesHaveRanges};
+ghost use Rattle.ir_core.specs.RangeLaws.{AlignmentsAndCountsHaveRanges, ConstantsHaveRanges, DeclarationsHaveRanges, DeclarationsStandInOrder, GlobalsHaveRanges, LinesHaveRanges, TypesHaveRanges};
 ghost use Rattle.ir_core.specs.FlowLaws.{JumpsGoToBlocks, PhisFollowEdges, CasesAreApart, PathsDefine, SuccessorsInOrder};
 ghost use Rattle.ir_core.specs.TypingLaws.{AllocasAreTyped, AccessesAreTyped, ElementsAreTyped, IndicesLead, MemoryIsWellFormed};
 ghost use Rattle.ir_core.specs.TypingLaws.{ArgumentsAreTyped, CallsAreTyped, ConstantsAreTyped, GlobalsAreTyped, InitialisersAreTyped};
@@ -149,20 +149,23 @@ pub fn examples_of_typing()
 /// Empty on purpose: its contract is the law.
 ///
 /// Integers have 64 bits at most, arrays fewer than 2^64 elements, alignments are powers of two up to 2^29, and numbers have no more bits
-/// than their types, each also inside of others. A global without initialiser is `external`. Declarations stand in the order of the file.
-#[tactic(auto, using(crate::proofs::RangeExamples::types_have_ranges, crate::proofs::RangeExamples::alignments_and_counts_have_ranges, crate::proofs::RangeExamples::constants_have_ranges, crate::proofs::RangeExamples::globals_have_ranges, crate::proofs::RangeExamples::declarations_stand_in_order, crate::proofs::RangeExamples::lines_have_ranges))]
+/// than their types, each also inside of others. Lines and globals have such types, counts and alignments. A global without initialiser is
+/// `external`. Declarations have a name and types in range, and stand in the order of the file.
+#[tactic(auto, using(crate::proofs::RangeExamples::types_have_ranges, crate::proofs::RangeExamples::alignments_and_counts_have_ranges, crate::proofs::RangeExamples::constants_have_ranges, crate::proofs::RangeExamples::globals_have_ranges, crate::proofs::RangeExamples::declarations_stand_in_order, crate::proofs::RangeExamples::declarations_have_ranges, crate::proofs::RangeExamples::lines_have_ranges))]
 pub fn examples_of_ranges()
     ensures types { TypesHaveRanges }
     ensures alignments { AlignmentsAndCountsHaveRanges }
     ensures constants { ConstantsHaveRanges }
     ensures globals { GlobalsHaveRanges }
     ensures declarations { DeclarationsStandInOrder }
+    ensures declared { DeclarationsHaveRanges }
     ensures lines { LinesHaveRanges }
 {}
 
 /// Empty on purpose: its contract is the law.
 ///
-/// A definition in its own place is itself, and one that is put in the place of another again stays as it is.
+/// A definition in its own place is itself, and one that is put in the place of another again stays as it is. Blocks, and the names and
+/// types of parameters, are those of what is put there; the linkage, the name, the result, and what widens are those of what stood there.
 #[tactic(auto, using(crate::proofs::Placed::places_are_kept))]
 pub fn places_are_kept()
     ensures { PlacesAreKept }
