@@ -64,7 +64,7 @@ bytes_at text place size = take size (drop place text)
 abbrev pub misspelled : List ℕ → ℕ → List ℕ → Answer
 misspelled file place what = fault_of 3 file (58 ∷ (decimal place ++ codes ": " ++ what))
 
--- a name, a word or a label is shown as it is written, a label without its `:`
+-- a name, a word or a label is shown as it is written, a label without its `:`; want of memory is never due as one
 abbrev pub text_fault : TextFault → List ℕ → List ℕ → Answer
 text_fault (text.BadByte place) bytes file = misspelled file place (codes "bad byte")
 text_fault (text.BadString place) bytes file = misspelled file place (codes "bad string")
@@ -102,7 +102,7 @@ undefined function u file = fault_of 4 file
     (codes ": " ++ printed_name sigil.Global function ++ line_text u.block u.line ++ codes ": " ++ printed_name sigil.Local u.name
     ++ codes " not defined on path" ++ path_text u.path)
 
--- the text of a module, in that file, has this first fault
+-- the text of a module, in that file, has this first fault; want of memory is never due as one
 abbrev pub module_fault : ModuleFault → List ℕ → List ℕ → Answer
 module_fault (fault.Text f) bytes file = text_fault f bytes file
 module_fault (fault.Shape f) bytes file = shape_fault f file

@@ -21,7 +21,8 @@ use Rattle.erhl_assert.specs.Sides.{SideState, IsSideInKind, worth, AreRelated}
 abbrev pub kind_of_expr : Expr0 → Option Kind
 kind_of_expr e = kind_of (type_of e)
 
--- A lessdef fact says that the first expression is less defined than the second; between two kinds it holds nowhere.
+-- A lessdef fact says that the first expression is less defined than the second; between two kinds it holds nowhere. Two that both have no
+-- kind are both worth poison, and it holds between them; no text that `check` reads has such.
 abbrev pub Holds : SideState → Fact → Type 0
 Holds side (LessDef a b) = (kind_of_expr a ≡ kind_of_expr b) × IsOutcomeLessDefined (worth side a) (worth side b)
 

@@ -20,7 +20,7 @@ has_values (Int width) = is_width width
 has_values t = false
 
 -- The expression has a type. `add i8 %x, 300` has one, though no i8 is 300; `add exact i8 %x, 1`, `zext i16 %x to i8` and `select i8 %c, ..`
--- have none. No text writes an element or a load yet.
+-- have none. No text that `check` reads has an element or a load.
 abbrev pub has_type : Expr0 → Bool
 has_type (Plain o) = has_values o.ty
 has_type (Binary b) = has_values b.ty && may_have b.op b.flags

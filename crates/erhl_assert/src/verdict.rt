@@ -26,7 +26,7 @@ impl Drop for Spot {
 pub enum Reason {
     /// The headers, the numbers of blocks or the names of blocks differ, or a block's lines don't give back both bodies.
     AlignmentDiffers,
-    /// The terminators are of two kinds, or lead to other labels, or have other cases.
+    /// The terminators are of two kinds, or lead to other labels, or have other cases; or an aligned line has an alloca, a store or a call.
     KindsDiffer,
     /// These operands, the source's and the target's, aren't known to be related.
     Unmatched(Operand<Name>, Operand<Name>),

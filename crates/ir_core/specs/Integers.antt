@@ -1,4 +1,4 @@
--- Modules over integers alone: what texts write today, and what runs today.
+-- Modules over integers alone, as all are that `check` reads, and all that can be run.
 use Rattle.std.specs.Prelude.{◌≡◌, Bool, true, false, not, List, []}
 use Rattle.std.specs.List.{AllByRecursion, flat_map}
 use Rattle.ir_core.specs.declared.expressions.Expr.{Expr}

@@ -1,5 +1,5 @@
-//! The syntax tree of textual LLVM IR (Language Reference 3.7), as far as it is built: the operations on integers, phis
-//! and the terminators `ret`, `br`, `switch` and `unreachable`, and the expressions over operations that facts of the logic speak of.
+//! The syntax tree of textual LLVM IR (Language Reference 3.7): modules with their named types, globals, declarations and functions, the phis,
+//! lines and terminators of these, and the expressions over operations that facts of the logic speak of.
 //!
 //! A value of these types is plain data to a contract: two are equal exactly where `Exact::is` says so.
 #![tactic(auto)]

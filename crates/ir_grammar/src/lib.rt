@@ -1,5 +1,5 @@
-//! How modules and expressions of textual LLVM IR are written as tokens, with places, and the rules of a parser's grammar with what they
-//! make of what stands on its stack. What the trees name is not said here.
+//! How modules and expressions of textual LLVM IR are written as tokens by the smaller grammar, with places, and the rules of a parser's
+//! grammar with what they make of what stands on its stack. What the trees name is not said here.
 #![tactic(auto)]
 
 mod laws;

@@ -50,7 +50,7 @@ ModulesAreShort = (bytes : List ℕ) (m : Module) → Spells bytes m → AllByRe
 abbrev pub ModulesAreInRange : Type 0
 ModulesAreInRange = (bytes : List ℕ) (m : Module) → AreBytes bytes → Spells bytes m → IsInRange m
 
--- and it is over integers alone, as texts write nothing else yet
+-- and it is over integers alone, as the smaller grammar writes nothing else
 abbrev pub ModulesAreOverIntegers : Type 0
 ModulesAreOverIntegers = (bytes : List ℕ) (m : Module) → Spells bytes m → IsOverIntegers m
 

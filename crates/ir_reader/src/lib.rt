@@ -1,4 +1,4 @@
-//! Textual LLVM IR (Language Reference 3.7) read as data, as far as it is built: modules of functions over integers of 1
+//! Textual LLVM IR (Language Reference 3.7) read as data by the smaller grammar, that of `check`: modules of functions over integers of 1
 //! to 64 bits, with binary operators, `icmp`, conversions, `select`, phis and terminators, and the expressions and names of the logic.
 //!
 //! A text is cut into tokens, the tokens are read as a tree, and the tree is given names; each of these steps tells the first fault.

@@ -170,7 +170,7 @@ fn past<S: FactSet>(
     }
 }
 
-/// What is known after a line, of what was known before it, where the line is allowed. No line of today asks the module. After an error
+/// What is known after a line, of what was known before it, where the line is allowed. No allowed line asks the module. After an error
 /// nothing is said of the sides, which are to be given up.
 #[tactic(auto, using(crate::proofs::LineFacts::known_after, crate::proofs::LineFacts::few_after, crate::proofs::LineFacts::too_many_after))]
 pub fn after_line<S: FactSet>(

@@ -19,7 +19,7 @@ PrintedModulesAreRead = (m : Module) → IsInFileOrder m → HasShape m → IsIn
 abbrev pub SpelledModulesArePrinted : Type 0
 SpelledModulesArePrinted = (bytes : List ℕ) (m : Module) → AreBytes bytes → Spells bytes m → HasShape m → Spells (printed_module m) m
 
--- What is read of that text is printed as that text again, byte by byte.
+-- What that text spells is printed as that text again, byte by byte.
 abbrev pub PrintingAgainChangesNothing : Type 0
 PrintingAgainChangesNothing =
     (bytes : List ℕ) (m n : Module) → AreBytes bytes → Spells bytes m → HasShape m → Spells (printed_module m) n → printed_module n ≡ printed_module m

@@ -5,7 +5,7 @@ use spelled_limits::{spelled_modules_are_in_range, spelled_modules_are_within};
 
 /// Empty on purpose: its contract is the law.
 ///
-/// A printed module is read as that module, however long its text is: one whose names are in the order of the file, that has shape, is in
+/// A printed module spells that module, however long its text is: one whose names are in the order of the file, that has shape, is in
 /// range and passes no limit.
 pub fn printed_modules_are_read()
     ensures { PrintedModulesAreRead }
@@ -13,7 +13,7 @@ pub fn printed_modules_are_read()
 
 /// The body calls laws alone, since the clauses are laws.
 ///
-/// Each module of shape that is read of a text is printed as a text that is read as that module. So printing it again gives the same bytes,
+/// Each module of shape that a text spells is printed as a text that spells that module. So printing it again gives the same bytes,
 /// and no two such modules are printed alike.
 pub fn spelled_modules_are_printed()
     ensures read { SpelledModulesArePrinted }

@@ -166,7 +166,7 @@ abbrev pub stand_apart : List (List ℕ) → Bool
 stand_apart [] = true
 stand_apart (x ∷ xs) = not (list_any (same_list nat_eq x) xs) && stand_apart xs
 
--- no row asks anything of types and globals, as none can be written yet
+-- no row asks anything of types and globals, as no text that `check` reads has any
 abbrev pub takes_row : Rule → Scope → Schema → Bool
 takes_row Refl scope schema = is_refl schema.from schema.to
 takes_row Trans scope schema = is_trans schema.from schema.to

@@ -4,7 +4,8 @@ ghost use Rattle.shape_kinds.specs.Kinds.{kind_text, order_of};
 /// What is wrong at a place of a module.
 #[derive(Drop, Clone, Copy)]
 pub enum ShapeKind {
-    /// A name stands twice where it is no block's, or names no register; or a function's begins with `llvm.dbg.`.
+    /// A name stands twice, and not as a block's both times, or names no register, type, global or callee that is there; or a function's begins
+    /// with `llvm.dbg.`.
     Name,
     /// A block has an earlier one's name, a label names no block, or a function has no block.
     Label,
@@ -12,7 +13,9 @@ pub enum ShapeKind {
     EntryEntered,
     /// A phi has no entry, or not one for each edge into its block, or two of one block that differ.
     PhiEntries,
-    /// An operand isn't of the type that is stated for it, an operator or a branch doesn't take it, or a register is of type `void`.
+    /// An operand, or a part of a constant or an initialiser, isn't of the type that is due; an operator or a branch doesn't take it; a pointer
+    /// points to another type than is stated; a register, a parameter or a result is of a type that none is of; or a call names a result that
+    /// is `void`, or leaves another unnamed.
     OperandType,
     /// A call isn't for the result of what it calls, or with other arguments than it takes.
     CallType,
