@@ -46,7 +46,8 @@ pub record KeepsRows (run : Run) (status : ℕ) : Type 0 where
   pub usage_shown : status ≡ 2 → GotNothing run.out × ((text : List ℕ) × GotAll run.err text)
   pub no_command : run.command ≡ None → (status ≡ 2) ⊎ (status ≡ 8) ⊎ ((status ≡ 7) × HasRisen run.err.faults run.err.faults_after)
   -- A text spells no module, within the limits; a module isn't well-formed; hints aren't of their form; reading failed; writing
-  -- failed; a file, the lines of a function, a text of the hints, or the facts that are known, pass a limit; a file is absent.
+  -- failed; a file, the lines of a function, the depth of types and constants, memory that is wanted at once, a text of the hints, or the
+  -- facts that are known, pass a limit; a file is absent.
   pub unfit : status ≡ 3 → SomeFileIsUnfit 3 run.shelf.told run.command
   pub ill_formed : status ≡ 4 → SomeFileIsUnfit 4 run.shelf.told run.command
   pub hints_unfit : status ≡ 5 → HintsAreAtFault IsPlace run.shelf.told run.command
