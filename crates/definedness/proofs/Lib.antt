@@ -11,3 +11,4 @@ pub mod Judged
 pub mod BlocksReached
 pub mod Shaped
 pub mod NotDefined
+pub mod OneFirst

@@ -1,4 +1,4 @@
-ghost use Rattle.definedness.specs.Laws.{ShapeKnowsLabels, UndefinedUsesAreFaults};
+ghost use Rattle.definedness.specs.Laws.{FirstUndefinedIsOne, ShapeKnowsLabels, UndefinedUsesAreFaults};
 
 /// Empty on purpose: its contract is the law.
 ///
@@ -12,4 +12,11 @@ pub fn shape_knows_labels()
 /// A function with shape that has a first use that isn't defined isn't defined: what `defined` tells is one or the other.
 pub fn undefined_uses_are_faults()
     ensures { UndefinedUsesAreFaults }
+{}
+
+/// Empty on purpose: its contract is the law.
+///
+/// A function whose labels are known has at most one first use that isn't defined, with one first path: `defined` tells it and no other.
+pub fn first_undefined_is_one()
+    ensures { FirstUndefinedIsOne }
 {}

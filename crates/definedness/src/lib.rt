@@ -8,5 +8,5 @@ mod paths;
 mod settled;
 mod uses;
 
-pub use laws::{shape_knows_labels, undefined_uses_are_faults};
+pub use laws::{first_undefined_is_one, shape_knows_labels, undefined_uses_are_faults};
 pub use paths::{DefEnd, Undefined, defined, reachable, reached};
