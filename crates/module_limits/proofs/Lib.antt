@@ -5,3 +5,4 @@ pub mod Small
 pub mod Decided
 pub mod Ranges
 pub mod Clear
+pub mod Firsts

@@ -1,6 +1,6 @@
 -- The examples of specs/Examples compute.
 use Rattle.std.proofs.Common.{refl}
-use Rattle.rule_base.specs.Examples.{DropFlagsTakesThese, FoldTakesThese, ReflTakesThese, SubstTakesThese}
+use Rattle.rule_base.specs.Examples.{DropFlagsTakesThese, FoldTakesThese, ReflTakesThese, SubstTakesThese, TheseStandApart}
 
 pub refl_takes_these : ReflTakesThese
 refl_takes_these = record {
@@ -73,3 +73,6 @@ fold_takes_these = record {
   another_number = refl;
   undef_alone = refl;
 }
+
+pub these_stand_apart : TheseStandApart
+these_stand_apart = record { different = refl; side_by_side = refl; another_between = refl }

@@ -17,7 +17,7 @@ use Rattle.ir_core.specs.declared.expressions.Reg.TheVariants.{Now, Old}
 use Rattle.ir_core.specs.declared.expressions.Expr.TheVariants as expr
 use Rattle.ir_core.specs.Expressions.{Expr0}
 use Rattle.erhl_assert.specs.declared.facts.Fact.TheVariants.{LessDef}
-use Rattle.rule_base.specs.Rows.{is_refl, is_subst, is_drop_flags, is_fold}
+use Rattle.rule_base.specs.Rows.{is_refl, is_subst, is_drop_flags, is_fold, stand_apart}
 
 -- ---- what the examples are written with
 
@@ -144,3 +144,9 @@ pub record FoldTakesThese : Type 0 where
   pub number_itself : fold (plain 8 (number 7)) (plain 8 (number 7)) ≡ true
   pub another_number : fold (plain 8 (number 7)) (plain 8 (number 8)) ≡ false
   pub undef_alone : fold (plain 8 undef) (plain 8 (number 7)) ≡ false
+
+-- A name that stands twice is noticed, whatever stands between.
+pub record TheseStandApart : Type 0 where
+  pub different : stand_apart (codes "refl" ∷ codes "trans" ∷ codes "fold" ∷ []) ≡ true
+  pub side_by_side : stand_apart (codes "trans" ∷ codes "refl" ∷ codes "refl" ∷ []) ≡ false
+  pub another_between : stand_apart (codes "refl" ∷ codes "trans" ∷ codes "refl" ∷ []) ≡ false
