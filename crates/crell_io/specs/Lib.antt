@@ -4,3 +4,4 @@ pub mod Sink
 pub mod MemShelf
 pub mod MemSink
 pub mod Host
+pub mod Examples

@@ -6,12 +6,14 @@
 
 mod count;
 mod host;
+mod laws;
 mod mem_shelf;
 mod mem_sink;
 mod shelf;
 mod sink;
 
 pub use host::{HostShelf, HostSink};
+pub use laws::examples_of_sinks;
 pub use mem_shelf::{Entry, MemShelf};
 pub use mem_sink::MemSink;
 pub use shelf::{Shelf, ShelfEnd};
