@@ -1,5 +1,5 @@
 // What came is compared with what a row wants.
-use crate::running::Stage;
+use crell_program::MemoryRun;
 use row_table::Wanted;
 use std::alloc::{AllocError, Global};
 use std::str;
@@ -7,30 +7,29 @@ use std::str;
 /// What came otherwise than is wanted; nothing where all came so.
 pub(crate) fn told_of_run(
     alloc: Global,
-    status: u8,
-    stage: &Stage,
+    run: &MemoryRun,
     wanted: &Wanted,
 ) -> Result<String, AllocError> {
     let mut told = String::new(alloc);
-    push_texts(&mut told, stage, wanted)?;
-    push_counts(&mut told, status, stage, wanted)?;
+    push_texts(&mut told, run, wanted)?;
+    push_counts(&mut told, run, wanted)?;
     Ok(told)
 }
 
-fn push_texts(told: &mut String, stage: &Stage, wanted: &Wanted) -> Result<(), AllocError> {
-    push_text(told, "out", stage.out.bytes(), wanted.stdout.as_slice())?;
-    push_text(told, "err", stage.err.bytes(), wanted.stderr.as_slice())
+fn push_texts(told: &mut String, run: &MemoryRun, wanted: &Wanted) -> Result<(), AllocError> {
+    push_text(told, "out", run.out.bytes(), wanted.stdout.as_slice())?;
+    push_text(told, "err", run.err.bytes(), wanted.stderr.as_slice())
 }
 
-fn push_counts(
-    told: &mut String,
-    status: u8,
-    stage: &Stage,
-    wanted: &Wanted,
-) -> Result<(), AllocError> {
-    let faults = stage.shelf.faults();
-    let taken = stage.shelf.taken();
-    push_count(told, "status", u64::from(status), u64::from(wanted.status))?;
+fn push_counts(told: &mut String, run: &MemoryRun, wanted: &Wanted) -> Result<(), AllocError> {
+    let faults = run.shelf.faults();
+    let taken = run.shelf.taken();
+    push_count(
+        told,
+        "status",
+        u64::from(run.status),
+        u64::from(wanted.status),
+    )?;
     push_count(told, "faults", faults, wanted.faults.unwrap_or(faults))?;
     push_count(told, "bytes taken", taken, wanted.taken.unwrap_or(taken))
 }

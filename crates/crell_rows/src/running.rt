@@ -1,57 +1,85 @@
-// A row is run.
+// A row is run: by a book of rules, and over texts in memory by the shipped rules.
 ghost use Rattle.std.specs.Prelude.{◌≤◌};
 
 use crate::comparing::told_of_run;
 use crell_io::{Entry, MemShelf, MemSink};
-use crell_program::crell_with_shipped_rules;
+use crell_program::{MemoryRun, crell, crell_in_memory};
 use row_table::{Fault, File, Given, Plan, Row, Table};
+use rule_base::RuleBook;
 use std::alloc::{AllocError, Global};
 use std::mem;
 
-/// The shelf and the sinks that a row is run over.
-pub(crate) struct Stage {
-    pub shelf: MemShelf,
-    pub out: MemSink,
-    pub err: MemSink,
-}
-
-impl Drop for Stage {
-    fn drop(self) {
-        let Stage {
-            shelf: _,
-            out: _,
-            err: _,
-        } = self;
+/// What came otherwise than the row at that place wants; nothing where it passes both ways.
+pub(crate) fn told_of(
+    alloc: Global,
+    book: &RuleBook,
+    table: &Table,
+    place: usize,
+) -> Result<String, Fault> {
+    let told = told_by_book(alloc, book, table, place)?;
+    if told.is_empty() {
+        return told_in_memory(alloc, table, place);
     }
+    Ok(told)
 }
 
-/// What came otherwise than the row at that place wants; nothing where it passes.
-pub(crate) fn told_of(alloc: Global, table: &Table, place: usize) -> Result<String, Fault> {
+fn told_by_book(
+    alloc: Global,
+    book: &RuleBook,
+    table: &Table,
+    place: usize,
+) -> Result<String, Fault> {
     let mut row = table.row(alloc, place)?;
-    Ok(told_of_row(alloc, &mut row)?)
+    let run = run_by_book(alloc, book, &mut row)?;
+    Ok(told_of_run(alloc, &run, &row.wanted)?)
 }
 
-fn told_of_row(alloc: Global, row: &mut Row) -> Result<String, AllocError> {
-    let mut stage = stage_of(alloc, row)?;
-    let status = status_of(alloc, &row.given.words, &mut stage);
-    told_of_run(alloc, status, &stage, &row.wanted)
+/// A run by the book, over a shelf and sinks that fail where the row says so.
+fn run_by_book(alloc: Global, book: &RuleBook, row: &mut Row) -> Result<MemoryRun, AllocError> {
+    let mut out = sink_of(alloc, &mut row.out)?;
+    let mut err = sink_of(alloc, &mut row.err)?;
+    let mut shelf = shelf_of(alloc, &mut row.given)?;
+    let words = &row.given.words;
+    let status = crell(alloc, words, book, &[], &mut shelf, &mut out, &mut err);
+    Ok(MemoryRun {
+        status,
+        shelf,
+        out,
+        err,
+    })
 }
 
-fn status_of(alloc: Global, words: &[String], stage: &mut Stage) -> u8 {
-    crell_with_shipped_rules(
-        alloc,
-        words,
-        &mut stage.shelf,
-        &mut stage.out,
-        &mut stage.err,
-    )
+fn told_in_memory(alloc: Global, table: &Table, place: usize) -> Result<String, Fault> {
+    let mut row = table.row(alloc, place)?;
+    if fails_somewhere(&row) {
+        return Ok(String::new(alloc));
+    }
+    let run = run_in_memory(alloc, &mut row)?;
+    Ok(marked(told_of_run(alloc, &run, &row.wanted)?)?)
 }
 
-fn stage_of(alloc: Global, row: &mut Row) -> Result<Stage, AllocError> {
-    let out = sink_of(alloc, &mut row.out)?;
-    let err = sink_of(alloc, &mut row.err)?;
-    let shelf = shelf_of(alloc, &mut row.given)?;
-    Ok(Stage { shelf, out, err })
+/// Whether a call is to fail, or the sinks have room for different numbers of bytes.
+fn fails_somewhere(row: &Row) -> bool {
+    !row.given.failing_gets.is_empty()
+        || !row.out.failing.is_empty()
+        || !row.err.failing.is_empty()
+        || row.out.room != row.err.room
+}
+
+/// A run by the shipped rules over texts in memory.
+fn run_in_memory(alloc: Global, row: &mut Row) -> Result<MemoryRun, AllocError> {
+    let files = mem::replace(&mut row.given.files, Vec::new(alloc));
+    let entries = entries_of(alloc, files)?;
+    crell_in_memory(alloc, &row.given.words, entries, row.out.room as usize)
+}
+
+/// Where something is told, it is said of which run.
+fn marked(told: String) -> Result<String, AllocError> {
+    let mut told = told;
+    if !told.is_empty() {
+        told.push_str(" (in memory)")?;
+    }
+    Ok(told)
 }
 
 fn sink_of(alloc: Global, plan: &mut Plan) -> Result<MemSink, AllocError> {

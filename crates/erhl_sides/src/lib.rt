@@ -8,4 +8,4 @@ mod sides;
 
 pub use joined::Joined;
 pub use naming::{OldRegisters, Sort, fact_has, names_old};
-pub use sides::{Sides, sides_for, sides_of};
+pub use sides::{Sides, sides_of};

@@ -63,20 +63,6 @@ fn facts_for(alloc: Global, lines: usize) -> Result<IndexedSet, AllocError>
     IndexedSet::with_room(alloc, lines.saturating_mul(2).min(most), lines.min(most))
 }
 
-/// Nothing is known, and no register may differ. There is room for what so many lines of each side leave known.
-pub fn sides_for(
-    alloc: Global,
-    source: usize,
-    target: usize,
-) -> Result<Sides<IndexedSet>, AllocError>
-    ensures { IfOk result (λ sides. sides ≡ no_facts) }
-{
-    let src = Joined::of_none(alloc, facts_for(alloc, source)?);
-    let tgt = Joined::of_none(alloc, facts_for(alloc, target)?);
-    let diff = RegisterSet::of(alloc, Seq::new(alloc))?;
-    Ok(Sides { src, tgt, diff })
-}
-
 /// Adds facts to the side's, one after the other, as far as the limit on facts allows: whether it allows all.
 #[tactic(auto, using(crate::proofs::Walks::one_in, crate::proofs::Walks::one_too_many))]
 fn put<S: FactSet>(
@@ -97,7 +83,7 @@ fn put<S: FactSet>(
 }
 
 /// The facts of the lists are put in one after the other, those of the source first, and the registers that may differ as they stand.
-/// None where more facts would be known than the limit allows. There is room as in `sides_for`.
+/// None where more facts would be known than the limit allows. There is room for what so many lines of each side leave known.
 #[tactic(auto, using(erhl_assert::proofs::Courses::within_more, erhl_assert::proofs::Courses::within_none))]
 pub fn sides_of(
     alloc: Global,

@@ -23,15 +23,6 @@ pub fn print_expr(alloc: Global, expr: &Expr0) -> Result<Vec<u8>, AllocError>
     Ok(text)
 }
 
-/// The right side of a line.
-pub fn print_right(alloc: Global, right: &Expr<Name>) -> Result<Vec<u8>, AllocError>
-    ensures { IfOk result (λ text. text.items ≡ printed_expr printed_local right.now) }
-{
-    let mut text = Vec::new(alloc);
-    push_right(&mut text, right)?;
-    Ok(text)
-}
-
 /// Puts the right side of a line at the end of the text.
 pub fn push_right(text: &mut Vec<u8>, right: &Expr<Name>) -> Result<(), AllocError>
     ensures { OnOk result (text.new.items ≡ text.old.items ++ printed_expr printed_local right.now) }

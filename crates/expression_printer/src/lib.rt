@@ -11,7 +11,7 @@ mod types;
 mod values;
 
 pub use expressions::{
-    print_expr, print_right, print_value, push_align, push_right, push_typed_value, push_value,
+    print_expr, print_value, push_align, push_right, push_typed_value, push_value,
 };
 pub use laws::{examples_of_printed_expressions, examples_of_printed_types};
 pub use names::{print_name, push_name, push_name_text, push_quoted};

@@ -1,10 +1,17 @@
-//! Tests of the crates that hold, read and print texts, for what no contract and no row shows. Nothing else stands here.
+//! Tests of the crates that hold, read and print texts, and of those that judge what was read, for what no contract and no row shows. Nothing
+//! else stands here.
 #![tactic(auto)]
 
+#[cfg(test)]
+mod checking;
 #[cfg(test)]
 mod copies;
 #[cfg(test)]
 mod expressions;
+#[cfg(test)]
+mod functions;
+#[cfg(test)]
+mod numbers;
 #[cfg(test)]
 mod printing;
 #[cfg(test)]
