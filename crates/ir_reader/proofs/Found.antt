@@ -1,6 +1,6 @@
--- By which step a fault of a text is found, and at which place. A text has one such step, and one fault there.
-use Rattle.std.proofs.Common.{◌≡◌, ◌<◌, ◌≤◌, ◌+◌, ℕ, zero, suc, false, cond, List, length, map, Some, Ok, Err, ⊎_elim, refl, ap, sym, ◌∙◌, subst, arith}
-use Rattle.std.specs.Prelude.{◌==◌, ◌&&◌, ◌||◌, nat_lt}
+-- By which step a fault of a text is found, and what it is there. A text has one such step, and one fault there.
+use Rattle.std.proofs.Common.{◌≡◌, ◌<◌, ◌≤◌, ◌+◌, ◌-◌, ℕ, zero, suc, true, false, cond, List, [], ◌∷◌, length, map, Some, Ok, Err, ⊎_elim, refl, ap, sym, ◌∙◌, subst, arith}
+use Rattle.std.specs.Prelude.{◌==◌, ◌&&◌, ◌||◌, nat_lt, slice_get}
 use Rattle.std.proofs.lemmas.Bool.Decides.{leb_tells}
 use Rattle.std.proofs.lemmas.List.{length-map, take-map}
 use Rattle.ir_core.specs.declared.limits.Limit.TheVariants as limit
@@ -11,11 +11,10 @@ use Rattle.ir_lexer.specs.Cut.{Placed, cut}
 use Rattle.ir_grammar.specs.declared.words.Language.{Language}
 use Rattle.ir_grammar.specs.Symbols.{kind_of, kind_of_token, symbol}
 use Rattle.name_claims.specs.declared.claims.Fault.{Fault}
-use Rattle.name_claims.specs.declared.claims.Item.{Item}
-use Rattle.name_claims.specs.declared.claims.Reason.{Reason}
 use Rattle.name_claims.specs.declared.claims.Reason.TheVariants as reason
 use Rattle.name_claims.specs.Faults.{HasFault, IsFirst, rank}
 use Rattle.predictive.specs.Unexpected.{Begins, IsUnexpected}
+use Rattle.tree_reader.specs.LeftOut.{is_left_out}
 use Rattle.tree_reader.proofs.Single.{none_longer, none_where_written, one_place}
 use Rattle.ir_lexer.specs.declared.fault.TextFault.{TextFault}
 use Rattle.ir_lexer.specs.declared.fault.TextFault.TheVariants as fault
@@ -23,77 +22,56 @@ use Rattle.ir_reader.specs.Faults.{HasLexFault, HasNameFault, HasTokens, IsGramm
 use Rattle.ir_reader.specs.Forms.{Form}
 use Rattle.ir_reader.specs.Spells.{IsSpelled, symbols_cut, symbols_of}
 use Rattle.ir_reader.specs.Laws.{IsAlike, IsToldFault}
-use Rattle.ir_reader.specs.Told.{of_lexer, of_reason}
-use Rattle.ir_reader.proofs.Grammars.{at_token, kinds_are}
+use Rattle.ir_reader.specs.Told.{of_grammar, of_lexer, of_names, of_place}
+use Rattle.ir_reader.proofs.Grammars.{kinds_are}
 use Rattle.ir_reader.proofs.Lawful.{AreNamed, IsLawfulForm, IsWrittenOnce}
+use Rattle.ir_reader.proofs.Starts.{tokens_in_turn}
 use Rattle.ir_reader.proofs.Tools.{some_is}
 
--- ---- kind and place
+-- ---- one fault
 
--- without its size and the number that is due
-abbrev bare : TextFault → TextFault
-bare (fault.LeftOut place size) = fault.LeftOut place 0
-bare (fault.Unknown place size) = fault.Unknown place 0
-bare (fault.Twice place size) = fault.Twice place 0
-bare (fault.WrongNumber place expected) = fault.WrongNumber place 0
-bare f = f
-
-itself : (f : TextFault) → (f ≡ fault.Memory → ⊥) → IsAlike f (bare f)
+itself : (f : TextFault) → (f ≡ fault.Memory → ⊥) → IsAlike f f
 itself (fault.BadByte place) some = refl
 itself (fault.BadString place) some = refl
 itself (fault.BadNumber place) some = refl
 itself (fault.Expected place) some = refl
-itself (fault.LeftOut place size) some = refl
-itself (fault.Unknown place size) some = refl
-itself (fault.Twice place size) some = refl
-itself (fault.WrongNumber place expected) some = refl
+itself (fault.LeftOut place size) some = (refl, refl)
+itself (fault.Unknown place size) some = (refl, refl)
+itself (fault.Twice place size) some = (refl, refl)
+itself (fault.WrongNumber place expected) some = (refl, refl)
 itself (fault.WrongType place) some = refl
 itself (fault.Limit l) some = refl
 itself fault.Memory some = absurd (some refl)
 
-filled : (f g : TextFault) → IsAlike f (bare g) → IsAlike f g
-filled (fault.BadByte p) (fault.BadByte q) is = is
-filled (fault.BadString p) (fault.BadString q) is = is
-filled (fault.BadNumber p) (fault.BadNumber q) is = is
-filled (fault.Expected p) (fault.Expected q) is = is
-filled (fault.LeftOut p m) (fault.LeftOut q n) is = is
-filled (fault.Unknown p m) (fault.Unknown q n) is = is
-filled (fault.Twice p m) (fault.Twice q n) is = is
-filled (fault.WrongNumber p due) (fault.WrongNumber q expected) is = is
-filled (fault.WrongType p) (fault.WrongType q) is = is
-filled (fault.Limit l) (fault.Limit m) is = is
-filled _ _ is = absurd is
+alike : (f g : TextFault) → (f ≡ fault.Memory → ⊥) → f ≡ g → IsAlike f g
+alike f g some e = subst (IsAlike f) e (itself f some)
 
-alike : (f g : TextFault) → (f ≡ fault.Memory → ⊥) → bare f ≡ bare g → IsAlike f g
-alike f g some e = filled f g (subst (λ h. IsAlike f h) e (itself f some))
+-- a token that isn't expected, or the end
+expected_at : (end : ℕ) (tokens : List Placed) (k : ℕ) → is_left_out_at tokens k ≡ false → fault.Expected (place_at end tokens k) ≡ of_grammar tokens end k
+expected_at end [] k other = refl
+expected_at end (t ∷ tokens) zero other = sym (ap (λ b. cond b (fault.LeftOut t.start (t.end - t.start)) (fault.Expected t.start)) other)
+expected_at end (t ∷ tokens) (suc k) other = expected_at end tokens k other
 
--- the token of this index isn't expected
-abbrev unexpected_at : List Placed → ℕ → ℕ → TextFault
-unexpected_at tokens end k =
-    cond (is_left_out_at tokens k) (fault.LeftOut (place_at end tokens k) 0) (fault.Expected (place_at end tokens k))
+-- a word that is left out
+left_out_at : (end : ℕ) (tokens : List Placed) (k place size : ℕ) (t : Placed) → slice_get tokens k ≡ Some t → is_left_out t.kind ≡ true → place ≡ t.start → place + size ≡ t.end → fault.LeftOut place size ≡ of_grammar tokens end k
+left_out_at end tokens k place size t there left at ends =
+    let sized : size ≡ t.end - t.start = omega (arith, at, ends) in
+    ap (λ n. fault.LeftOut place n) sized
+    ∙ ap (λ n. fault.LeftOut n (t.end - t.start)) at
+    ∙ sym (ap (of_place end) there ∙ ap (λ b. cond b (fault.LeftOut t.start (t.end - t.start)) (fault.Expected t.start)) left)
 
-abbrev at_rank : ℕ → ℕ → TextFault
-at_rank place zero = fault.Twice place 0
-at_rank place (suc zero) = fault.WrongNumber place 0
-at_rank place (suc (suc zero)) = fault.Unknown place 0
-at_rank place (suc (suc (suc zero))) = fault.LeftOut place 0
-at_rank place (suc (suc (suc (suc more)))) = fault.WrongType place
-
-ranked : (start end : ℕ) (why : Reason) → bare (of_reason start end why) ≡ at_rank start (rank why)
-ranked start end reason.Twice = refl
-ranked start end (reason.WrongNumber due) = refl
-ranked start end reason.Unknown = refl
-ranked start end reason.LeftOut = refl
-ranked start end reason.WrongType = refl
+-- so many bytes from a place on
+reached : (place size : ℕ) → size ≡ place + size - place
+reached place size = omega arith
 
 -- ---- the steps
 
 pub data Found (form : Form) (bytes : List ℕ) (f : TextFault) : Type 0 where
-  Long : text_limit < length bytes → bare f ≡ fault.Limit limit.Text → Found form bytes f
-  Lexed : (l : LexFault) → HasLexFault bytes l → bare f ≡ of_lexer l → Found form bytes f
-  Stuck : (tokens : List Placed) → HasTokens bytes tokens → (k : ℕ) → IsGrammarFault form tokens k → bare f ≡ unexpected_at tokens (length bytes) k → Found form bytes f
-  Lines : (tokens : List Placed) → HasTokens bytes tokens → (k : ℕ) → PassesLines form tokens k → bare f ≡ fault.Limit limit.Lines → Found form bytes f
-  Named : (g : Fault) → HasNameFault form bytes g → bare f ≡ at_rank g.start (rank g.reason) → Found form bytes f
+  Long : text_limit < length bytes → f ≡ fault.Limit limit.Text → Found form bytes f
+  Lexed : (l : LexFault) → HasLexFault bytes l → f ≡ of_lexer l → Found form bytes f
+  Stuck : (tokens : List Placed) → HasTokens bytes tokens → (k : ℕ) → IsGrammarFault form tokens k → f ≡ of_grammar tokens (length bytes) k → Found form bytes f
+  Lines : (tokens : List Placed) → HasTokens bytes tokens → (k : ℕ) → PassesLines form tokens k → f ≡ fault.Limit limit.Lines → Found form bytes f
+  Named : (g : Fault) → HasNameFault form bytes g → f ≡ of_names g → Found form bytes f
 
 pub found : (form : Form) (bytes : List ℕ) (f : TextFault) → IsTextFault form bytes f → (f ≡ fault.Memory → ⊥) → Found form bytes f
 found form bytes (fault.Limit limit.Text) is some = Long is refl
@@ -105,19 +83,17 @@ found form bytes (fault.Limit limit.Block) is some = absurd is
 found form bytes (fault.BadByte place) is some = Lexed (lexer.BadByte place) is refl
 found form bytes (fault.BadString place) is some = Lexed (lexer.BadString place) is refl
 found form bytes (fault.BadNumber place) is some = Lexed (lexer.BadNumber place) is refl
-found form bytes (fault.Expected place) (tokens, has, (k, is, left, at)) some =
-    Stuck tokens has k is (ap fault.Expected at ∙ sym (ap (λ b. cond b (fault.LeftOut (place_at (length bytes) tokens k) 0) (fault.Expected (place_at (length bytes) tokens k))) left))
+found form bytes (fault.Expected place) (tokens, has, (k, is, other, at)) some =
+    Stuck tokens has k is (ap fault.Expected at ∙ expected_at (length bytes) tokens k other)
 found form bytes (fault.LeftOut place size) is some =
     ⊎_elim
     (λ (grammar : (tokens : List Placed) × _ × _).
     let tokens = grammar.0 in
     let k = grammar.2.0 in
-    let at = at_token (length bytes) tokens k grammar.2.1 grammar.2.3 in
-    Stuck tokens grammar.1 k grammar.2.2
-    (ap (λ p. fault.LeftOut p 0) (grammar.2.5 ∙ at.0) ∙ sym (ap (λ b. cond b (fault.LeftOut (place_at (length bytes) tokens k) 0) (fault.Expected (place_at (length bytes) tokens k))) (sym at.1 ∙ grammar.2.4))))
-    (λ names. Named (name_fault place size reason.LeftOut) names refl) is
-found form bytes (fault.Unknown place size) is some = Named (name_fault place size reason.Unknown) is refl
-found form bytes (fault.Twice place size) is some = Named (name_fault place size reason.Twice) is refl
+    Stuck tokens grammar.1 k grammar.2.2 (left_out_at (length bytes) tokens k place size grammar.2.1 grammar.2.3 grammar.2.4 grammar.2.5 grammar.2.6))
+    (λ names. Named (name_fault place size reason.LeftOut) names (ap (fault.LeftOut place) (reached place size))) is
+found form bytes (fault.Unknown place size) is some = Named (name_fault place size reason.Unknown) is (ap (fault.Unknown place) (reached place size))
+found form bytes (fault.Twice place size) is some = Named (name_fault place size reason.Twice) is (ap (fault.Twice place) (reached place size))
 found form bytes (fault.WrongNumber place expected) is some = Named (record { start = place; end = is.0; reason = reason.WrongNumber expected }) is.1 refl
 found form bytes (fault.WrongType place) is some = Named (record { start = place; end = is.0; reason = reason.WrongType }) is.1 refl
 found form bytes fault.Memory is some = absurd (some refl)
@@ -172,11 +148,6 @@ length_kinds language tokens = length-map tokens (kind_of_token language)
 level : (p a q b : ℕ) → (nat_lt p q || ((p == q) && nat_lt a b)) ≡ false → (nat_lt q p || ((q == p) && nat_lt b a)) ≡ false → (p ≡ q) × (a ≡ b)
 level p a q b e f = (grind (arith, e, f), grind (arith, e, f))
 
-one_first : (items : List Item) (f g : Fault) → IsFirst items f → IsFirst items g → at_rank f.start (rank f.reason) ≡ at_rank g.start (rank g.reason)
-one_first items f g first second =
-    let same = level f.start (rank f.reason) g.start (rank g.reason) (second.1 f first.0) (first.1 g second.0) in
-    ap (λ p. at_rank p (rank f.reason)) same.0 ∙ ap (λ r. at_rank g.start r) same.1
-
 module _ (form : Form) (once : IsWrittenOnce form) (lawful : IsLawfulForm form) (bytes : List ℕ) where
   -- the grammar's fault and a line past the limit
   stuck_lines : (tokens : List Placed) (k j : ℕ) → IsGrammarFault form tokens k → PassesLines form tokens j → ⊥
@@ -200,18 +171,20 @@ module _ (form : Form) (once : IsWrittenOnce form) (lawful : IsLawfulForm form) 
       let there : form.is_past (map (kind_of_token form.language) others) j = subst (λ ts. form.is_past (map (kind_of_token form.language) ts) j) (one_tokens bytes tokens others has other) past.0 in
       within j there (subst (λ n. j < n) (length_kinds form.language others) (lawful.inside (map (kind_of_token form.language) others) j there))
 
-  stuck_stuck : (a b : List Placed) (j k : ℕ) → HasTokens bytes a → HasTokens bytes b → IsGrammarFault form a j → IsGrammarFault form b k → unexpected_at a (length bytes) j ≡ unexpected_at b (length bytes) k
+  stuck_stuck : (a b : List Placed) (j k : ℕ) → HasTokens bytes a → HasTokens bytes b → IsGrammarFault form a j → IsGrammarFault form b k → of_grammar a (length bytes) j ≡ of_grammar b (length bytes) k
   stuck_stuck a b j k first second at other =
       let same : a ≡ b = one_tokens bytes a b first second in
       let place : j ≡ k = one_place kind_of form.written (map (kind_of_token form.language) b) j k (subst (λ ts. IsUnexpected kind_of form.written (map (kind_of_token form.language) ts) j) same at.0) other.0 in
-      ap (λ ts. unexpected_at ts (length bytes) j) same ∙ ap (λ n. unexpected_at b (length bytes) n) place
+      ap (λ ts. of_grammar ts (length bytes) j) same ∙ ap (of_grammar b (length bytes)) place
 
-  named_named : (f g : Fault) → HasNameFault form bytes f → HasNameFault form bytes g → at_rank f.start (rank f.reason) ≡ at_rank g.start (rank g.reason)
+  named_named : (f g : Fault) → HasNameFault form bytes f → HasNameFault form bytes g → f ≡ g
   named_named f g (a, first, within, (v, w, is)) (b, second, below, (u, x, other)) =
       let same : v ≡ u = once v u (sym w ∙ ap (map (symbol form.language)) (one_tokens bytes a b first second) ∙ x) in
-      one_first (form.claims u) f g (subst (λ tree. IsFirst (form.claims tree) f) same is) other
+      let here : IsFirst (form.claims u) f = subst (λ tree. IsFirst (form.claims tree) f) same is in
+      let at = level f.start (rank f.reason) g.start (rank g.reason) (other.1 f here.0) (here.1 g other.0) in
+      lawful.apart b u f g (tokens_in_turn bytes b second.1) (sym x) here.0 other.0 at.0 at.1
 
-  one_step : (f g : TextFault) → Found form bytes f → Found form bytes g → bare f ≡ bare g
+  one_step : (f g : TextFault) → Found form bytes f → Found form bytes g → f ≡ g
   one_step f g (Long long e) (Long other d) = e ∙ sym d
   one_step f g (Long long e) (Lexed m less d) = absurd (too_long bytes long less.0)
   one_step f g (Long long e) (Stuck b less k at d) = absurd (too_long bytes long less.0)
@@ -236,7 +209,7 @@ module _ (form : Form) (once : IsWrittenOnce form) (lawful : IsLawfulForm form) 
   one_step f g (Named i has e) (Lexed m none d) = absurd (no_tokens bytes m has.0 none has.1)
   one_step f g (Named i has e) (Stuck b other k at d) = absurd (stuck_named b k i other at has)
   one_step f g (Named i has e) (Lines b other k at d) = absurd (lines_named b k i other at has)
-  one_step f g (Named i has e) (Named h other d) = e ∙ named_named i h has other ∙ sym d
+  one_step f g (Named i has e) (Named h other d) = e ∙ ap of_names (named_named i h has other) ∙ sym d
 
   pub one_fault : (f g : TextFault) → IsToldFault form bytes f → IsToldFault form bytes g → IsAlike f g
   one_fault f g is other = alike f g is.1 (one_step f g (found form bytes f is.0 is.1) (found form bytes g other.0 other.1))

@@ -27,7 +27,7 @@ kinds_are language tokens = sym (map-map kind_of (symbol language) tokens)
 
 -- ---- places
 
-pub at_token : (end : ℕ) (tokens : List Placed) (k : ℕ) (t : Placed) → slice_get tokens k ≡ Some t → (t.start ≡ place_at end tokens k) × (is_left_out t.kind ≡ is_left_out_at tokens k)
+at_token : (end : ℕ) (tokens : List Placed) (k : ℕ) (t : Placed) → slice_get tokens k ≡ Some t → (t.start ≡ place_at end tokens k) × (is_left_out t.kind ≡ is_left_out_at tokens k)
 at_token end [] k t e = cc
 at_token end (x ∷ xs) zero t e =
     let same : t ≡ x = cc in (ap (λ (t : Placed). t.start) same, ap (λ (t : Placed). is_left_out t.kind) same)

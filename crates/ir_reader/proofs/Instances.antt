@@ -27,7 +27,7 @@ use Rattle.ir_reader.specs.Forms.{expression_form, module_form, name_form}
 use Rattle.ir_reader.proofs.Counting.{all_few, all_within, is_past, passes}
 use Rattle.ir_reader.proofs.Lawful.{AreNamed, IsLawfulForm, IsWrittenOnce}
 use Rattle.ir_reader.proofs.Past.{first_past}
-use Rattle.ir_reader.proofs.Spans.{expression_spans, module_spans, no_spans}
+use Rattle.ir_reader.proofs.Spans.{expression_spans, expressions_apart, module_apart, module_spans, names_apart, no_spans}
 
 -- ---- symbols are those of a tree, or one of them isn't expected
 
@@ -56,6 +56,7 @@ module_lawful = record {
   read = λ symbols. read_at 0 module_text symbols module_ends;
   past = first_past;
   spans = module_spans;
+  apart = module_apart;
 }
 
 pub modules_named : AreNamed module_form NamesModule
@@ -73,6 +74,7 @@ expression_lawful = record {
   read = λ symbols. read_at 19 expression_text symbols expression_ends;
   past = λ symbols. inr (λ k past. past);
   spans = expression_spans;
+  apart = expressions_apart;
 }
 
 pub expressions_named : AreNamed expression_form NamesExpression
@@ -94,6 +96,7 @@ name_lawful sigil = record {
   read = name_read sigil;
   past = λ symbols. inr (λ k past. past);
   spans = no_spans sigil;
+  apart = names_apart sigil;
 }
 
 pub names_named : (sigil : Sigil) → AreNamed (name_form sigil) IsNameOf

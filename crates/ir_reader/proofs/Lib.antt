@@ -19,6 +19,8 @@ pub mod Ranged
 pub mod Ranges
 pub mod Seen
 pub mod Spans
+pub mod Stands
+pub mod Starts
 pub mod Told
 pub mod Tools
 pub mod Trees

@@ -1,353 +1,334 @@
--- What a tree of a text claims stands from a place up to one that isn't before it.
-use Rattle.std.proofs.Common.{◌<◌, ◌≤◌, ◌+◌, ◌^◌, ℕ, Bool, true, false, cond, List, [], ◌∷◌, ◌++◌, map, Option, Some, None, sym, subst, arith}
-use Rattle.std.specs.Prelude.{◌==◌, nat_lt}
-use Rattle.std.specs.List.{AllByRecursion, flat_map}
+-- What a tree of a text claims stands at a token of the text, and the numbers that are due there at one place each.
+use Rattle.std.proofs.Common.{◌≡◌, ◌<◌, ◌≤◌, ◌+◌, ℕ, List, [], ◌∷◌, ◌++◌, map, Option, Some, None, ◌⊎◌, inl, inr, refl, ap, sym, ◌∙◌, subst, append_assoc, arith}
+use Rattle.std.specs.List.{AllByRecursion, Contains, flat_map}
+use Rattle.std.proofs.lemmas.List.Elements.{Contains-append_left, Contains-append_right}
 use Rattle.ir_types.specs.declared.names.Name.{Name}
-use Rattle.ir_types.specs.declared.names.Name.TheVariants.{Text, Number}
 use Rattle.ir_types.specs.declared.names.Sigil.{Sigil}
 use Rattle.ir_lexer.specs.declared.token.TokenKind.{TokenKind}
 use Rattle.ir_lexer.specs.declared.token.TokenKind.TheVariants as kind
 use Rattle.ir_lexer.specs.Cut.{Placed as PlacedToken}
 use Rattle.ir_grammar.specs.declared.trees.BlockText.{BlockText}
-use Rattle.ir_grammar.specs.declared.trees.BranchText.{BranchText}
-use Rattle.ir_grammar.specs.declared.trees.BranchText.TheVariants as branches
-use Rattle.ir_grammar.specs.declared.trees.CaseText.{CaseText}
 use Rattle.ir_grammar.specs.declared.trees.DefinitionText.{DefinitionText}
-use Rattle.ir_grammar.specs.declared.trees.EntryText.{EntryText}
 use Rattle.ir_grammar.specs.declared.trees.ExprText.{ExprText}
-use Rattle.ir_grammar.specs.declared.trees.ExprText.TheVariants.{Plain, Operation}
-use Rattle.ir_grammar.specs.declared.trees.IntText.{IntText}
-use Rattle.ir_grammar.specs.declared.trees.IntText.TheVariants as integer
 use Rattle.ir_grammar.specs.declared.trees.LineText.{LineText}
 use Rattle.ir_grammar.specs.declared.trees.ModuleText.{ModuleText}
-use Rattle.ir_grammar.specs.declared.trees.OperandText.{OperandText}
-use Rattle.ir_grammar.specs.declared.trees.OperationText.{OperationText}
-use Rattle.ir_grammar.specs.declared.trees.OperationText.TheVariants as form
 use Rattle.ir_grammar.specs.declared.trees.ParamText.{ParamText}
 use Rattle.ir_grammar.specs.declared.trees.PhiText.{PhiText}
 use Rattle.ir_grammar.specs.declared.trees.Placed.{Placed}
-use Rattle.ir_grammar.specs.declared.trees.SelectText.{SelectText}
-use Rattle.ir_grammar.specs.declared.trees.SwitchText.{SwitchText}
-use Rattle.ir_grammar.specs.declared.trees.TermText.{TermText}
-use Rattle.ir_grammar.specs.declared.trees.TermText.TheVariants as terms
-use Rattle.ir_grammar.specs.declared.trees.ValueText.{ValueText}
-use Rattle.ir_grammar.specs.declared.trees.ValueText.TheVariants as text
 use Rattle.ir_grammar.specs.declared.words.Language.{Language}
 use Rattle.ir_grammar.specs.declared.words.Language.TheVariants.{Ir, Logic}
-use Rattle.ir_grammar.specs.declared.words.Word.{Word}
-use Rattle.ir_grammar.specs.declared.words.Word.TheVariants as word
-use Rattle.ir_grammar.specs.Symbols.{Symbol, mark_symbol, symbol, symbol_at, word_symbol}
+use Rattle.ir_grammar.specs.Symbols.{Symbol, symbol, symbol_at}
 use Rattle.ir_grammar.specs.Symbols as symbols
-use Rattle.ir_grammar.specs.Words.{word_of}
 use Rattle.ir_grammar.specs.Written as write
-use Rattle.name_claims.specs.declared.claims.Claim.{Claim}
 use Rattle.name_claims.specs.declared.claims.Fault.{Fault}
-use Rattle.name_claims.specs.declared.claims.Item.{Item}
-use Rattle.name_claims.specs.Faults.{HasFault}
-use Rattle.ir_naming.specs.Expressions.{expression_claims, number_range, operation_ranges, ranges_of}
-use Rattle.ir_naming.specs.Naming.{Thing, block_claims, block_things, blocks_in, branch_claims, case_claims, claims_of, due_behind, entries_in, entry_claims, function_thing, int_claims, item_of, kept_claims, label_claims, label_name, line_claims, line_thing, module_item, name_claims, name_claims_from, number_claims, operand_claims, operation_claims, param_thing, phi_claims, phi_thing, return_claims, switch_claims, term_claims, things_of, value_claims}
-use Rattle.ir_naming.specs.Values.{kept, truth}
+use Rattle.name_claims.specs.declared.claims.Reason.{Reason}
+use Rattle.name_claims.specs.declared.claims.Reason.TheVariants.{Twice, WrongNumber, Unknown, LeftOut, WrongType}
+use Rattle.name_claims.specs.Faults.{HasFault, rank}
+use Rattle.ir_naming.specs.Expressions.{expression_claims}
+use Rattle.ir_naming.specs.Naming.{Thing, block_things, claims_of, due_behind, due_from, function_thing, label_name, line_thing, param_thing, phi_thing, things_of}
+use Rattle.ir_naming.proofs.Lists.{all_to, contains_behind, contains_here}
 use Rattle.ir_reader.specs.Forms.{expression_form, module_form, name_form}
-use Rattle.ir_naming.proofs.Lists.{all_append, all_to}
-use Rattle.ir_reader.proofs.Lists.{all_lists}
-use Rattle.ir_reader.proofs.Trees.{BlockHas, BranchHas, CaseHas, DefinitionHas, EntryHas, LineHas, OperationHas, PairHas, ParamHas, PhiHas, SwitchHas, TermHas, definition_has, operation_has}
 use Rattle.ir_reader.specs.Told.{HasSpans, HaveBytes}
+use Rattle.ir_reader.proofs.Lawful.{AreApart}
+use Rattle.ir_reader.proofs.Stands.{AreMarked, AreMarkedIn, FaultStands, IsMarked, SymbolStands, TokenStands, end_of, expression_stands, fault_stands, module_stands, token_stands, tokens_stand}
+use Rattle.ir_reader.proofs.Starts.{AreInTurn, Rise, one_at, start_of}
 
--- ---- symbols
+-- ---- numbers that are due, at their places
 
-abbrev Spans : {T : Type 0} → Placed T → Type 0
-Spans w = w.start < w.end
+record Mark : Type 0 where
+  pub start : ℕ
+  pub due : ℕ
 
-abbrev SymbolSpans : Symbol → Type 0
-SymbolSpans (symbols.Local w) = Spans w
-SymbolSpans (symbols.Global w) = Spans w
-SymbolSpans (symbols.Label w) = Spans w
-SymbolSpans (symbols.Numeral w) = Spans w
-SymbolSpans (symbols.Width w) = Spans w
-SymbolSpans (symbols.Truth w) = Spans w
-SymbolSpans s = Unit {0}
+abbrev begin_of : Mark → ℕ
+begin_of m = m.start
 
-abbrev AllSpan : List Symbol → Type 0
-AllSpan = AllByRecursion SymbolSpans
+abbrev mark_at : ℕ → ℕ → Mark
+mark_at start due = record { start = start; due = due }
 
-either : (b : Bool) (s t : Symbol) → SymbolSpans s → SymbolSpans t → SymbolSpans (cond b s t)
-either true s t here there = here
-either false s t here there = there
+abbrev mark : ℕ → Option (Placed Name) → List Mark
+mark due None = []
+mark due (Some w) = mark_at w.start due ∷ []
 
-word_spans : (w : Word) (start end : ℕ) → start < end → SymbolSpans (word_symbol w start end)
-word_spans (word.Width n) start end less = less
-word_spans (word.Truth b) start end less = less
-word_spans (word.Overflow op) start end less = tt
-word_spans (word.Exact op) start end less = tt
-word_spans (word.Plain op) start end less = tt
-word_spans (word.Cast op) start end less = tt
-word_spans (word.Pred pred) start end less = tt
-word_spans (word.Flag flag) start end less = tt
-word_spans (word.Key k) start end less = tt
-word_spans word.Foreign start end less = tt
+abbrev marks : ℕ → List Thing → List Mark
+marks due [] = []
+marks due (t ∷ ts) = mark due t.written ++ marks (due_behind due t.written) ts
 
-mark_spans : (b : ℕ) → SymbolSpans (mark_symbol b)
-unfolding mark_symbol
-mark_spans b =
-    either (b == 44) _ _ tt
-    (either (b == 61) _ _ tt
-    (either (b == 40) _ _ tt
-    (either (b == 41) _ _ tt
-    (either (b == 123) _ _ tt
-    (either (b == 125) _ _ tt
-    (either (b == 91) _ _ tt
-    (either (b == 93) _ _ tt tt)))))))
+-- at the name of each function, and at the names in it
+abbrev marks_in : ℕ → List DefinitionText → List Mark
+marks_in due [] = []
+marks_in due (d ∷ ds) = mark_at d.name.start due ∷ (marks 0 (things_of d) ++ marks_in (due_behind due (Some d.name)) ds)
 
-token_spans : (language : Language) (k : TokenKind) (start end : ℕ) → start < end → SymbolSpans (symbol_at language k start end)
-token_spans language (kind.Local name) start end less = less
-token_spans language (kind.Global name) start end less = less
-token_spans language (kind.Label name) start end less = less
-token_spans language (kind.Number number) start end less = less
-token_spans language (kind.Word w) start end less = word_spans (word_of language w) start end less
-token_spans language (kind.Mark b) start end less = mark_spans b
-token_spans language (kind.Attribute digits) start end less = tt
-token_spans language kind.Bang start end less = tt
-token_spans language (kind.Metadata run) start end less = tt
-token_spans language kind.Dots start end less = tt
-token_spans language (kind.Text bytes) start end less = tt
+marks_append : (due : ℕ) (ts us : List Thing) → marks due (ts ++ us) ≡ marks due ts ++ marks (due_from due ts) us
+marks_append due [] us = refl
+marks_append due (t ∷ ts) us =
+    let next = due_behind due t.written in
+    ap (λ l. mark due t.written ++ l) (marks_append next ts us) ∙ sym (append_assoc (mark due t.written) (marks next ts) (marks (due_from next ts) us))
 
-tokens_span : (language : Language) (tokens : List PlacedToken) → HaveBytes tokens → AllSpan (map (symbol language) tokens)
-tokens_span language [] each = tt
-tokens_span language (t ∷ tokens) each = (token_spans language t.kind t.start t.end each.0, tokens_span language tokens each.1)
+-- ---- among symbols
 
--- ---- claims of values
+-- a name that begins there
+abbrev IsAt : Symbol → ℕ → Type 0
+IsAt (symbols.Local w) p = w.start ≡ p
+IsAt (symbols.Global w) p = w.start ≡ p
+IsAt (symbols.Label w) p = w.start ≡ p
+IsAt s p = ⊥
 
-abbrev ClaimSpans : Claim → Type 0
-ClaimSpans c = c.start ≤ c.end
+-- each at one of the symbols, in their order
+abbrev Among : List Mark → List Symbol → Type 0
+Among [] ss = Unit {0}
+Among (m ∷ ms) [] = ⊥
+Among (m ∷ ms) (s ∷ ss) = (IsAt s m.start × Among ms ss) ⊎ Among (m ∷ ms) ss
 
-abbrev Claims : List Claim → Type 0
-Claims = AllByRecursion ClaimSpans
+further_on : (ms : List Mark) (front ss : List Symbol) → Among ms ss → Among ms (front ++ ss)
+further_on ms [] ss among = among
+further_on [] (s ∷ front) ss among = tt
+further_on (m ∷ ms) (s ∷ front) ss among = inr (further_on (m ∷ ms) front ss among)
 
-kept_spans : {T : Type 0} (w : Placed T) (n : Option ℕ) → Spans w → Claims (kept_claims w n)
-kept_spans w None spans = (omega (arith, spans), tt)
-kept_spans w (Some n) spans = tt
+before_more : (ms : List Mark) (ss more : List Symbol) → Among ms ss → Among ms (ss ++ more)
+before_more [] ss more among = tt
+before_more (m ∷ ms) [] more among = absurd among
+before_more (m ∷ ms) (s ∷ ss) more (inl here) = inl (here.0, before_more ms ss more here.1)
+before_more (m ∷ ms) (s ∷ ss) more (inr later) = inr (before_more (m ∷ ms) ss more later)
 
-int_spans : (width : ℕ) (i : IntText) → SymbolSpans (write.int i) → Claims (int_claims width i)
-int_spans width (integer.Number w) spans = kept_spans w (kept width w.what) spans
-int_spans width (integer.Truth w) spans = kept_spans w (truth width w.what) spans
+both_among : (ms ns : List Mark) (ss ts : List Symbol) → Among ms ss → Among ns ts → Among (ms ++ ns) (ss ++ ts)
+both_among [] ns ss ts first second = further_on ns ss ts second
+both_among (m ∷ ms) ns [] ts first second = absurd first
+both_among (m ∷ ms) ns (s ∷ ss) ts (inl here) second = inl (here.0, both_among ms ns ss ts here.1 second)
+both_among (m ∷ ms) ns (s ∷ ss) ts (inr later) second = inr (both_among (m ∷ ms) ns ss ts later second)
 
-value_spans : (width : ℕ) (v : ValueText) → AllSpan (write.value v) → Claims (value_claims width v)
-value_spans width (text.Int i) spans = int_spans width i spans.0
-value_spans width text.Undef spans = tt
-value_spans width (text.Local w) spans = let less : w.start < w.end = spans.0 in (omega (arith, less), tt)
-value_spans width (text.Tagged t w) spans = let less : w.start < w.end = spans.1.0 in (omega (arith, less), tt)
+-- of things one behind the other
+joined : (due : ℕ) (ts us : List Thing) (first second : List Symbol) → Among (marks due ts) first → Among (marks (due_from due ts) us) second → Among (marks due (ts ++ us)) (first ++ second)
+joined due ts us first second here later =
+    subst (λ ms. Among ms (first ++ second)) (sym (marks_append due ts us)) (both_among (marks due ts) (marks (due_from due ts) us) first second here later)
 
-number_in_range : (width : ℕ) (v : ValueText) → AllSpan (write.value v) → Claims (number_range width v)
-number_in_range width (text.Int i) spans = int_spans width i spans.0
-number_in_range width text.Undef spans = tt
-number_in_range width (text.Local w) spans = tt
-number_in_range width (text.Tagged t w) spans = tt
+module _ {X : Type 0} (thing : X → Thing) (written : X → List Symbol) (each : (due : ℕ) (x : X) → Among (mark due (thing x).written) (written x)) where
+  in_each : (due : ℕ) (xs : List X) → Among (marks due (map thing xs)) (flat_map written xs)
+  in_each due [] = tt
+  in_each due (x ∷ xs) =
+      let next = due_behind due (thing x).written in
+      both_among (mark due (thing x).written) (marks next (map thing xs)) (written x) (flat_map written xs) (each due x) (in_each next xs)
 
--- what is claimed of values is claimed of operands
-module _ (claims : ℕ → ValueText → List Claim) (each : (width : ℕ) (v : ValueText) → AllSpan (write.value v) → Claims (claims width v)) where
-  operand_spans : (o : OperandText) → AllSpan (write.operand o) → Claims (claims o.ty.what o.value)
-  operand_spans o spans = each o.ty.what o.value spans.1
+of_local : (due : ℕ) (w : Option (Placed Name)) → Among (mark due w) (write.local w)
+of_local due None = tt
+of_local due (Some w) = inl (refl, tt)
 
-  pair_spans : (left : OperandText) (right : ValueText) → PairHas SymbolSpans left right → Claims (claims left.ty.what left.value ++ claims left.ty.what right)
-  pair_spans left right spans =
-      all_append ClaimSpans (claims left.ty.what left.value) (claims left.ty.what right) (operand_spans left spans.0) (each left.ty.what right spans.1)
+of_register : (due : ℕ) (w : Option (Placed Name)) → Among (mark due w) (write.register w)
+of_register due None = tt
+of_register due (Some w) = inl (refl, tt)
 
-  select_spans : (s : SelectText) → OperationHas SymbolSpans (form.Select s) → Claims (claims s.condition.ty.what s.condition.value ++ claims s.then.ty.what s.then.value ++ claims s.other.ty.what s.other.value)
-  select_spans s spans =
-      let condition = claims s.condition.ty.what s.condition.value in
-      let then = claims s.then.ty.what s.then.value in
-      all_append ClaimSpans (condition ++ then) (claims s.other.ty.what s.other.value)
-      (all_append ClaimSpans condition then (operand_spans s.condition spans.0) (operand_spans s.then spans.1))
-      (operand_spans s.other spans.2)
+of_label : (due : ℕ) (w : Option (Placed Name)) → Among (mark due (label_name w)) (write.label w)
+of_label due None = tt
+of_label due (Some w) = inl (refl, tt)
 
-operation_spans : (o : OperationText) → OperationHas SymbolSpans o → Claims (operation_claims o)
-operation_spans (form.Binary b) spans = pair_spans value_claims value_spans b.left b.right spans
-operation_spans (form.Compare c) spans = pair_spans value_claims value_spans c.left c.right spans
-operation_spans (form.Cast c) spans = operand_spans value_claims value_spans c.from spans.0
-operation_spans (form.Select s) spans = select_spans value_claims value_spans s spans
+module _ (function : Placed Name) where
+  of_param : (due : ℕ) (p : ParamText) → Among (mark due p.name) (write.param p)
+  of_param due p = further_on (mark due p.name) (symbols.Width p.ty ∷ []) (write.local p.name) (of_local due p.name)
 
-lines_span : (ls : List LineText) → AllByRecursion (LineHas SymbolSpans) ls → Claims (flat_map line_claims ls)
-lines_span [] spans = tt
-lines_span (l ∷ ls) spans =
-    all_append ClaimSpans (line_claims l) (flat_map line_claims ls) (operation_spans l.operation spans.0.1) (lines_span ls spans.1)
+  of_next_param : (due : ℕ) (p : ParamText) → Among (mark due p.name) (write.next_param p)
+  of_next_param due p = further_on (mark due p.name) (symbols.comma ∷ []) (write.param p) (of_param due p)
 
-return_spans : (o : Option OperandText) → AllSpan (write.returned o) → Claims (return_claims o)
-return_spans None spans = tt
-return_spans (Some o) spans = operand_spans value_claims value_spans o spans
+  of_params : (due : ℕ) (ps : List ParamText) → Among (marks due (map (param_thing function) ps)) (write.params ps)
+  of_params due [] = tt
+  of_params due (p ∷ ps) =
+      let next = due_behind due p.name in
+      both_among (mark due p.name) (marks next (map (param_thing function) ps)) (write.param p) (flat_map write.next_param ps) (of_param due p) (in_each (param_thing function) write.next_param of_next_param next ps)
 
-target_spans : (w : Placed Name) → Spans w → Claims (label_claims w)
-target_spans w spans = (omega (arith, spans), tt)
+  of_phi : (due : ℕ) (p : PhiText) → Among (mark due p.register) (write.phi_node p)
+  of_phi due p = before_more (mark due p.register) (write.register p.register) (write.node p.node) (of_register due p.register)
 
-entries_span : (width : ℕ) (es : List EntryText) → AllByRecursion (EntryHas SymbolSpans) es → Claims (flat_map (entry_claims width) es)
-entries_span width [] spans = tt
-entries_span width (e ∷ es) spans =
-    all_append ClaimSpans (entry_claims width e) (flat_map (entry_claims width) es)
-    (all_append ClaimSpans (value_claims width e.value) (label_claims e.from) (value_spans width e.value spans.0.0) (target_spans e.from spans.0.1))
-    (entries_span width es spans.1)
+  of_line : (due : ℕ) (l : LineText) → Among (mark due l.register) (write.line l)
+  of_line due l = before_more (mark due l.register) (write.register l.register) (write.operation l.operation) (of_register due l.register)
 
-phis_span : (ps : List PhiText) → AllByRecursion (PhiHas SymbolSpans) ps → Claims (flat_map phi_claims ps)
-phis_span [] spans = tt
-phis_span (p ∷ ps) spans =
-    all_append ClaimSpans (phi_claims p) (flat_map phi_claims ps) (entries_span p.node.ty.what (entries_in p.node) spans.0.1.1) (phis_span ps spans.1)
+  of_block : (due : ℕ) (b : BlockText) → Among (marks due (block_things function b)) (write.block b)
+  of_block due b =
+      let label = label_name b.label in
+      let next = due_behind due label in
+      let phis = map (phi_thing function) b.body.phis in
+      let lines = map (line_thing function) b.body.lines in
+      both_among (mark due label) (marks next (phis ++ lines)) (write.label b.label) (write.body b.body ++ write.term b.term) (of_label due b.label)
+      (before_more (marks next (phis ++ lines)) (write.body b.body) (write.term b.term)
+      (joined next phis lines (flat_map write.phi_node b.body.phis) (flat_map write.line b.body.lines) (in_each (phi_thing function) write.phi_node of_phi next b.body.phis) (in_each (line_thing function) write.line of_line (due_from next phis) b.body.lines)))
 
-branch_spans : (b : BranchText) → BranchHas SymbolSpans b → Claims (branch_claims b)
-branch_spans (branches.Always w) spans = target_spans w spans
-branch_spans (branches.Condition c) spans =
-    all_append ClaimSpans (operand_claims c.condition ++ label_claims c.on_true) (label_claims c.on_false)
-    (all_append ClaimSpans (operand_claims c.condition) (label_claims c.on_true) (operand_spans value_claims value_spans c.condition spans.0) (target_spans c.on_true spans.1))
-    (target_spans c.on_false spans.2)
+  of_blocks : (due : ℕ) (bs : List BlockText) → Among (marks due (flat_map (block_things function) bs)) (flat_map write.block bs)
+  of_blocks due [] = tt
+  of_blocks due (b ∷ bs) =
+      let things = block_things function b in
+      joined due things (flat_map (block_things function) bs) (write.block b) (flat_map write.block bs) (of_block due b) (of_blocks (due_from due things) bs)
 
-cases_span : (cs : List CaseText) → AllByRecursion (CaseHas SymbolSpans) cs → Claims (flat_map case_claims cs)
-cases_span [] spans = tt
-cases_span (c ∷ cs) spans =
-    all_append ClaimSpans (case_claims c) (flat_map case_claims cs)
-    (all_append ClaimSpans (int_claims c.ty.what c.number) (label_claims c.label) (int_spans c.ty.what c.number spans.0.1) (target_spans c.label spans.0.2))
-    (cases_span cs spans.1)
+of_definition : (due : ℕ) (d : DefinitionText) → Among (mark_at d.name.start due ∷ marks 0 (things_of d)) (write.definition d)
+of_definition due d =
+    let params = map (param_thing d.name) d.params in
+    let next = due_from 0 params in
+    let entry = block_things d.name d.entry in
+    let others = flat_map (block_things d.name) d.others in
+    let behind = flat_map write.block d.others ++ (symbols.close_brace ∷ []) in
+    let blocks = write.block d.entry ++ behind in
+    let braced = symbols.close_paren ∷ symbols.open_brace ∷ blocks in
+    let bodies : Among (marks next (entry ++ others)) blocks =
+    joined next entry others (write.block d.entry) behind (of_block d.name next d.entry)
+    (before_more (marks (due_from next entry) others) (flat_map write.block d.others) (symbols.close_brace ∷ []) (of_blocks d.name (due_from next entry) d.others)) in
+    let inner : Among (marks 0 (things_of d)) (write.params d.params ++ braced) =
+    joined 0 params (entry ++ others) (write.params d.params) braced (of_params d.name 0 d.params)
+    (further_on (marks next (entry ++ others)) (symbols.close_paren ∷ symbols.open_brace ∷ []) blocks bodies) in
+    further_on (mark_at d.name.start due ∷ marks 0 (things_of d)) (symbols.define ∷ write.result d.result) (symbols.Global d.name ∷ symbols.open_paren ∷ (write.params d.params ++ braced))
+    (inl (refl, further_on (marks 0 (things_of d)) (symbols.open_paren ∷ []) (write.params d.params ++ braced) inner))
 
-switch_spans : (s : SwitchText) → SwitchHas SymbolSpans s → Claims (switch_claims s)
-switch_spans s spans =
-    all_append ClaimSpans (operand_claims s.value ++ label_claims s.default) (flat_map case_claims s.cases)
-    (all_append ClaimSpans (operand_claims s.value) (label_claims s.default) (operand_spans value_claims value_spans s.value spans.0) (target_spans s.default spans.1))
-    (cases_span s.cases spans.2)
+of_definitions : (due : ℕ) (ds : List DefinitionText) → Among (marks_in due ds) (flat_map write.definition ds)
+of_definitions due [] = tt
+of_definitions due (d ∷ ds) =
+    let next = due_behind due (Some d.name) in
+    both_among (mark_at d.name.start due ∷ marks 0 (things_of d)) (marks_in next ds) (write.definition d) (flat_map write.definition ds) (of_definition due d) (of_definitions next ds)
 
-term_spans : (t : TermText) → TermHas SymbolSpans t → Claims (term_claims t)
-term_spans (terms.Ret o) spans = return_spans o spans
-term_spans (terms.Br b) spans = branch_spans b spans
-term_spans (terms.Switch s) spans = switch_spans s spans
-term_spans terms.Unreachable spans = tt
+-- ---- as tokens they begin one behind the other
 
-blocks_span : (bs : List BlockText) → AllByRecursion (BlockHas SymbolSpans) bs → Claims (flat_map block_claims bs)
-blocks_span [] spans = tt
-blocks_span (b ∷ bs) spans =
-    let phis = flat_map phi_claims b.body.phis in
-    let lines = flat_map line_claims b.body.lines in
-    all_append ClaimSpans (block_claims b) (flat_map block_claims bs)
-    (all_append ClaimSpans (phis ++ lines) (term_claims b.term)
-    (all_append ClaimSpans phis lines (phis_span b.body.phis spans.0.phis) (lines_span b.body.lines spans.0.lines))
-    (term_spans b.term spans.0.term))
-    (blocks_span bs spans.1)
+abbrev From : ℕ → ℕ → ℕ → Type 0
+From start begin end = start ≡ begin
 
--- ---- claims of names
+begins : (start p : ℕ) (s : Symbol) → SymbolStands (From start) s → IsAt s p → start ≡ p
+begins start p (symbols.Local w) stands at = stands ∙ at
+begins start p (symbols.Global w) stands at = stands ∙ at
+begins start p (symbols.Label w) stands at = stands ∙ at
+begins start p s stands at = absurd at
 
--- a thing's names, of which a label is without its `:`
-abbrev WrittenSpans : Option (Placed Name) → Type 0
-WrittenSpans None = Unit {0}
-WrittenSpans (Some w) = w.start ≤ w.end
+rise : (language : Language) (n : ℕ) (tokens : List PlacedToken) (ms : List Mark) → AreInTurn n tokens → Among ms (map (symbol language) tokens) → Rise begin_of n ms
+rise language n tokens [] turn among = tt
+rise language n [] (m ∷ ms) turn among = absurd among
+rise language n (t ∷ tokens) (m ∷ ms) turn (inl here) =
+    let same : t.start ≡ m.start = begins t.start m.start (symbol language t) (token_stands (From t.start) language t.kind t.start t.end refl) here.0 in
+    (omega (arith, turn.0, same), subst (λ k. Rise begin_of (k + 1) ms) same (rise language (t.start + 1) tokens ms turn.1 here.1))
+rise language n (t ∷ tokens) (m ∷ ms) turn (inr later) =
+    let more = rise language (t.start + 1) tokens (m ∷ ms) turn.1 later in
+    (let less = more.0 in omega (arith, turn.0, less), more.1)
 
-abbrev ThingSpans : Thing → Type 0
-ThingSpans t = (t.function.start ≤ t.function.end) × WrittenSpans t.written
+-- ---- where faults stand
 
-number_spans : (due : ℕ) (w : Placed Name) (name : Name) → w.start ≤ w.end → Claims (number_claims due w name)
-number_spans due w (Text bytes) spans = tt
-number_spans due w (Number n) spans = (spans, tt)
+-- one of these tokens goes from there up to there
+abbrev IsToken : List PlacedToken → ℕ → ℕ → Type 0
+IsToken tokens start end = (t : PlacedToken) × Contains tokens t × (t.start ≡ start) × (end_of t.kind t.end ≡ end)
 
-unnamed_spans : (b : Bool) (c : Claim) → ClaimSpans c → Claims (cond b [] (c ∷ []))
-unnamed_spans true c spans = tt
-unnamed_spans false c spans = (spans, tt)
+-- this number is due there
+abbrev IsMark : List Mark → ℕ → ℕ → Type 0
+IsMark all start due = Contains all (mark_at start due)
 
-name_spans : (function : Placed Name) (index due : ℕ) (w : Option (Placed Name)) → function.start ≤ function.end → WrittenSpans w → Claims (name_claims function index due w)
-name_spans function index due None outer spans = unnamed_spans (nat_lt due (2 ^ 32)) _ outer
-name_spans function index due (Some w) outer spans = (spans, number_spans due w w.what spans)
+are_tokens : (all tokens : List PlacedToken) → ((t : PlacedToken) → Contains tokens t → Contains all t) → AllByRecursion (TokenStands (IsToken all)) tokens
+are_tokens all [] each = tt
+are_tokens all (t ∷ tokens) each = ((t, each t (contains_here t tokens), refl, refl), are_tokens all tokens (λ u there. each u (contains_behind t u tokens there)))
 
-things_span : (index due : ℕ) (ts : List Thing) → AllByRecursion ThingSpans ts → Claims (name_claims_from index due ts)
-things_span index due [] spans = tt
-things_span index due (t ∷ ts) spans =
-    all_append ClaimSpans (name_claims t.function index due t.written) (name_claims_from (index + 1) (due_behind due t.written) ts)
-    (name_spans t.function index due t.written spans.0.0 spans.0.1)
-    (things_span (index + 1) (due_behind due t.written) ts spans.1)
+symbols_stand : (language : Language) (tokens : List PlacedToken) (ss : List Symbol) → ss ≡ map (symbol language) tokens → AllByRecursion (SymbolStands (IsToken tokens)) ss
+symbols_stand language tokens ss same =
+    subst (AllByRecursion (SymbolStands (IsToken tokens))) (sym same) (tokens_stand (IsToken tokens) language tokens (are_tokens tokens tokens (λ t there. there)))
 
-local_spans : (w : Option (Placed Name)) → AllSpan (write.local w) → WrittenSpans w
-local_spans None spans = tt
-local_spans (Some w) spans = let less : w.start < w.end = spans.0 in omega (arith, less)
+token_ends : (k : TokenKind) (start end : ℕ) → start < end → start ≤ end_of k end
+token_ends (kind.Label name) start end less = omega (arith, less)
+token_ends (kind.Local name) start end less = omega (arith, less)
+token_ends (kind.Global name) start end less = omega (arith, less)
+token_ends (kind.Number number) start end less = omega (arith, less)
+token_ends (kind.Word w) start end less = omega (arith, less)
+token_ends (kind.Mark b) start end less = omega (arith, less)
+token_ends (kind.Attribute digits) start end less = omega (arith, less)
+token_ends kind.Bang start end less = omega (arith, less)
+token_ends (kind.Metadata run) start end less = omega (arith, less)
+token_ends kind.Dots start end less = omega (arith, less)
+token_ends (kind.Text bytes) start end less = omega (arith, less)
 
-register_spans : (w : Option (Placed Name)) → AllSpan (write.register w) → WrittenSpans w
-register_spans None spans = tt
-register_spans (Some w) spans = let less : w.start < w.end = spans.0 in omega (arith, less)
+-- a reason is told by its rank, and a wrong number by the one that is due
+same_reason : (r s : Reason) → rank r ≡ rank s → ((due given : ℕ) → r ≡ WrongNumber due → s ≡ WrongNumber given → due ≡ given) → r ≡ s
+same_reason Twice Twice ranks dues = refl
+same_reason (WrongNumber due) (WrongNumber given) ranks dues = ap WrongNumber (dues due given refl refl)
+same_reason Unknown Unknown ranks dues = refl
+same_reason LeftOut LeftOut ranks dues = refl
+same_reason WrongType WrongType ranks dues = refl
+same_reason Twice s ranks dues = absurd (omega (arith, ranks))
+same_reason (WrongNumber due) s ranks dues = absurd (omega (arith, ranks))
+same_reason Unknown s ranks dues = absurd (omega (arith, ranks))
+same_reason LeftOut s ranks dues = absurd (omega (arith, ranks))
+same_reason WrongType s ranks dues = absurd (omega (arith, ranks))
 
-label_spans : (w : Option (Placed Name)) → AllSpan (write.label w) → WrittenSpans (label_name w)
-label_spans None spans = tt
-label_spans (Some w) spans = let less : w.start < w.end = spans.0 in omega (arith, less)
+abbrev fault_at : ℕ → ℕ → Reason → Fault
+fault_at start end why = record { start = start; end = end; reason = why }
 
-param_things_span : (function : Placed Name) (ps : List ParamText) → function.start ≤ function.end → AllByRecursion (ParamHas SymbolSpans) ps → AllByRecursion ThingSpans (map (param_thing function) ps)
-param_things_span function [] outer spans = tt
-param_things_span function (p ∷ ps) outer spans = ((outer, local_spans p.name spans.0.1), param_things_span function ps outer spans.1)
+module _ (tokens : List PlacedToken) (all : List Mark) where
+  abbrev Marked : ℕ → List Thing → Type 0
+  Marked = AreMarked (IsToken tokens) (IsMark all)
 
-line_things_span : (function : Placed Name) (ls : List LineText) → function.start ≤ function.end → AllByRecursion (LineHas SymbolSpans) ls → AllByRecursion ThingSpans (map (line_thing function) ls)
-line_things_span function [] outer spans = tt
-line_things_span function (l ∷ ls) outer spans = ((outer, register_spans l.register spans.0.0), line_things_span function ls outer spans.1)
+  is_marked : (due : ℕ) (w : Option (Placed Name)) → ((m : Mark) → Contains (mark due w) m → Contains all m) → IsMarked (IsToken tokens) (IsMark all) due w
+  is_marked due None each = tt
+  is_marked due (Some w) each = each (mark_at w.start due) (contains_here (mark_at w.start due) [])
 
-phi_things_span : (function : Placed Name) (ps : List PhiText) → function.start ≤ function.end → AllByRecursion (PhiHas SymbolSpans) ps → AllByRecursion ThingSpans (map (phi_thing function) ps)
-phi_things_span function [] outer spans = tt
-phi_things_span function (p ∷ ps) outer spans = ((outer, register_spans p.register spans.0.0), phi_things_span function ps outer spans.1)
+  are_marked : (due : ℕ) (ts : List Thing) → ((m : Mark) → Contains (marks due ts) m → Contains all m) → Marked due ts
+  are_marked due [] each = tt
+  are_marked due (t ∷ ts) each =
+      let here = mark due t.written in
+      let next = due_behind due t.written in (
+        is_marked due t.written (λ m there. each m (Contains-append_left here (marks next ts) m there)),
+        are_marked next ts (λ m there. each m (Contains-append_right here (marks next ts) m there)),
+      )
 
-block_things_span : (function : Placed Name) (bs : List BlockText) → function.start ≤ function.end → AllByRecursion (BlockHas SymbolSpans) bs → AllByRecursion ThingSpans (flat_map (block_things function) bs)
-block_things_span function [] outer spans = tt
-block_things_span function (b ∷ bs) outer spans =
-    all_append ThingSpans (block_things function b) (flat_map (block_things function) bs)
-    ((outer, label_spans b.label spans.0.label), all_append ThingSpans (map (phi_thing function) b.body.phis) (map (line_thing function) b.body.lines) (phi_things_span function b.body.phis outer spans.0.phis) (line_things_span function b.body.lines outer spans.0.lines))
-    (block_things_span function bs outer spans.1)
+  definitions_marked : (due : ℕ) (ds : List DefinitionText) → ((m : Mark) → Contains (marks_in due ds) m → Contains all m) → AllByRecursion (AreMarkedIn (IsToken tokens) (IsMark all)) ds × Marked due (map function_thing ds)
+  definitions_marked due [] each = (tt, tt)
+  definitions_marked due (d ∷ ds) each =
+      let first = mark_at d.name.start due in
+      let inner = marks 0 (things_of d) in
+      let next = due_behind due (Some d.name) in
+      let behind = λ (m : Mark) (there : Contains (inner ++ marks_in next ds) m). each m (contains_behind first m (inner ++ marks_in next ds) there) in
+      let rest = definitions_marked next ds (λ m there. behind m (Contains-append_right inner (marks_in next ds) m there)) in (
+        (are_marked 0 (things_of d) (λ m there. behind m (Contains-append_left inner (marks_in next ds) m there)), rest.0),
+        (each first (contains_here first (inner ++ marks_in next ds)), rest.1),
+      )
 
-abbrev DefinitionSpans : DefinitionText → Type 0
-DefinitionSpans = DefinitionHas SymbolSpans
+  abbrev Stands : Fault → Type 0
+  Stands = FaultStands (IsToken tokens) (IsMark all)
 
-abbrev ItemSpans : Item → Type 0
-ItemSpans item = Claims item.claims
+  -- faults that stand so end behind their starts
+  ends_behind : HaveBytes tokens → (f : Fault) → Stands f → f.start ≤ f.end
+  ends_behind order f stands =
+      let t = stands.0.0 in
+      let ends = token_ends t.kind t.start t.end (all_to (λ (t : PlacedToken). t.start < t.end) tokens order t stands.0.1) in
+      omega (arith, ends, stands.0.2, stands.0.3)
 
-outer_spans : (d : DefinitionText) → DefinitionSpans d → d.name.start ≤ d.name.end
-outer_spans d s = let less : d.name.start < d.name.end = s.name in omega (arith, less)
+  -- and of one place and rank there is one
+  alone : AreInTurn 0 tokens → Rise begin_of 0 all → (f g : Fault) → Stands f → Stands g → f.start ≡ g.start → rank f.reason ≡ rank g.reason → f ≡ g
+  alone turn rises f g first second place ranks =
+      let same : first.0.0 ≡ second.0.0 = one_at start_of 0 tokens turn first.0.0 second.0.0 first.0.1 second.0.1 (first.0.2 ∙ place ∙ sym second.0.2) in
+      let ends : f.end ≡ g.end = sym first.0.3 ∙ ap (λ (t : PlacedToken). end_of t.kind t.end) same ∙ second.0.3 in
+      let why : f.reason ≡ g.reason =
+      same_reason f.reason g.reason ranks
+      (λ due given e d. ap (λ (m : Mark). m.due) (one_at begin_of 0 all rises (mark_at f.start due) (mark_at g.start given) (first.1 due e) (second.1 given d) place)) in
+      ap (λ n. fault_at n f.end f.reason) place ∙ ap (λ n. fault_at g.start n f.reason) ends ∙ ap (fault_at g.start g.end) why
 
-item_spans : (d : DefinitionText) → DefinitionSpans d → ItemSpans (item_of d)
-item_spans d s =
-    let outer = outer_spans d s in
-    let blocks = flat_map (block_things d.name) (blocks_in d) in
-    all_append ClaimSpans (name_claims_from 0 0 (things_of d)) (flat_map block_claims (blocks_in d))
-    (things_span 0 0 (things_of d) (all_append ThingSpans (map (param_thing d.name) d.params) blocks (param_things_span d.name d.params outer s.params) (block_things_span d.name (blocks_in d) outer s.blocks)))
-    (blocks_span (blocks_in d) s.blocks)
+-- ---- modules, expressions and names
 
-items_span : (ds : List DefinitionText) → AllByRecursion DefinitionSpans ds → AllByRecursion ItemSpans (map item_of ds)
-items_span [] spans = tt
-items_span (d ∷ ds) spans = (item_spans d spans.0, items_span ds spans.1)
-
-function_things_span : (ds : List DefinitionText) → AllByRecursion DefinitionSpans ds → AllByRecursion ThingSpans (map function_thing ds)
-function_things_span [] spans = tt
-function_things_span (d ∷ ds) spans =
-    let outer = outer_spans d spans.0 in
-    ((outer, outer), function_things_span ds spans.1)
-
-claims_span : (m : ModuleText) → AllByRecursion DefinitionSpans m.definitions → AllByRecursion ItemSpans (claims_of m)
-claims_span m spans =
-    all_append ItemSpans (map item_of m.definitions) (module_item m ∷ []) (items_span m.definitions spans)
-    (things_span 0 0 (map function_thing m.definitions) (function_things_span m.definitions spans), tt)
-
--- ---- faults
-
-spans_of : (items : List Item) → AllByRecursion ItemSpans items → (f : Fault) → HasFault items f → f.start ≤ f.end
-spans_of items each f (item, there, (claim, inside, is)) =
-    let claims = all_to ItemSpans items each item there in
-    let spans : claim.start ≤ claim.end = all_to ClaimSpans item.claims claims claim inside in
-    subst (λ n. n ≤ f.end) (sym is.0) (subst (λ n. claim.start ≤ n) (sym is.1) spans)
+module_faults : (tokens : List PlacedToken) (m : ModuleText) (f : Fault) → write.written m ≡ map (symbol Ir) tokens → HasFault (claims_of m) f → FaultStands (IsToken tokens) (IsMark (marks_in 0 m.definitions)) f
+module_faults tokens m f same has =
+    let all = marks_in 0 m.definitions in
+    let marked = definitions_marked tokens all 0 m.definitions (λ m there. there) in
+    fault_stands (IsToken tokens) (IsMark all) (claims_of m) (module_stands (IsToken tokens) (IsMark all) m (symbols_stand Ir tokens (write.written m) same) marked.0 marked.1) f has
 
 pub module_spans : HasSpans module_form
-module_spans tokens m f order same has =
-    let symbols_span = subst AllSpan (sym same) (tokens_span Ir tokens order) in
-    let definitions = all_lists SymbolSpans DefinitionSpans write.definition m.definitions (definition_has SymbolSpans) symbols_span in
-    spans_of (claims_of m) (claims_span m definitions) f has
+module_spans tokens m f order same has = ends_behind tokens (marks_in 0 m.definitions) order f (module_faults tokens m f same has)
 
--- ---- expressions and names
+pub module_apart : AreApart module_form
+module_apart tokens m f g turn same has also =
+    let all = marks_in 0 m.definitions in
+    let rises = rise Ir 0 tokens all turn (subst (Among all) same (of_definitions 0 m.definitions)) in
+    alone tokens all turn rises f g (module_faults tokens m f same has) (module_faults tokens m g same also)
 
-operation_in_range : (o : OperationText) → OperationHas SymbolSpans o → Claims (operation_ranges o)
-operation_in_range (form.Binary b) spans = pair_spans number_range number_in_range b.left b.right spans
-operation_in_range (form.Compare c) spans = pair_spans number_range number_in_range c.left c.right spans
-operation_in_range (form.Cast c) spans = operand_spans number_range number_in_range c.from spans.0
-operation_in_range (form.Select s) spans = select_spans number_range number_in_range s spans
-
-ranges_span : (e : ExprText) → AllSpan (write.expression e) → Claims (ranges_of e)
-ranges_span (Plain o) spans = operand_spans number_range number_in_range o spans
-ranges_span (Operation o) spans = operation_in_range o (operation_has SymbolSpans o spans)
+expression_faults : (tokens : List PlacedToken) (e : ExprText) (f : Fault) → write.expression e ≡ map (symbol Logic) tokens → HasFault (expression_claims e) f → FaultStands (IsToken tokens) (IsMark []) f
+expression_faults tokens e f same has =
+    fault_stands (IsToken tokens) (IsMark []) (expression_claims e) (expression_stands (IsToken tokens) (IsMark []) e (symbols_stand Logic tokens (write.expression e) same)) f has
 
 pub expression_spans : HasSpans expression_form
-expression_spans tokens e f order same has =
-    spans_of (expression_claims e) (ranges_span e (subst AllSpan (sym same) (tokens_span Logic tokens order)), tt) f has
+expression_spans tokens e f order same has = ends_behind tokens [] order f (expression_faults tokens e f same has)
+
+pub expressions_apart : AreApart expression_form
+expressions_apart tokens e f g turn same has also =
+    alone tokens [] turn tt f g (expression_faults tokens e f same has) (expression_faults tokens e g same also)
+
+no_faults : (tokens : List PlacedToken) (f : Fault) → HasFault [] f → FaultStands (IsToken tokens) (IsMark []) f
+no_faults tokens f has = fault_stands (IsToken tokens) (IsMark []) [] tt f has
 
 pub no_spans : (sigil : Sigil) → HasSpans (name_form sigil)
-no_spans sigil tokens name f order same has = spans_of [] tt f has
+no_spans sigil tokens name f order same has = ends_behind tokens [] order f (no_faults tokens f has)
+
+pub names_apart : (sigil : Sigil) → AreApart (name_form sigil)
+names_apart sigil tokens name f g turn same has also = alone tokens [] turn tt f g (no_faults tokens f has) (no_faults tokens g also)

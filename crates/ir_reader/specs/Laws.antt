@@ -64,21 +64,21 @@ IsToldFault form bytes f = IsTextFault form bytes f × (f ≡ fault.Memory → �
 abbrev pub FaultsExclude : (form : Form) {X : Type 0} → (form.Tree → X → Type 0) → Type 0
 FaultsExclude form {X} Names = (bytes : List ℕ) (f : TextFault) (x : X) → length bytes ≤ text_limit → IsToldFault form bytes f → IsSpelled form Names bytes x → ⊥
 
--- one kind of fault, at one place; `Limit` has none
+-- one fault, with all that is told of it
 abbrev pub IsAlike : TextFault → TextFault → Type 0
 IsAlike (fault.BadByte p) (fault.BadByte q) = p ≡ q
 IsAlike (fault.BadString p) (fault.BadString q) = p ≡ q
 IsAlike (fault.BadNumber p) (fault.BadNumber q) = p ≡ q
 IsAlike (fault.Expected p) (fault.Expected q) = p ≡ q
-IsAlike (fault.LeftOut p m) (fault.LeftOut q n) = p ≡ q
-IsAlike (fault.Unknown p m) (fault.Unknown q n) = p ≡ q
-IsAlike (fault.Twice p m) (fault.Twice q n) = p ≡ q
-IsAlike (fault.WrongNumber p due) (fault.WrongNumber q expected) = p ≡ q
+IsAlike (fault.LeftOut p m) (fault.LeftOut q n) = (p ≡ q) × (m ≡ n)
+IsAlike (fault.Unknown p m) (fault.Unknown q n) = (p ≡ q) × (m ≡ n)
+IsAlike (fault.Twice p m) (fault.Twice q n) = (p ≡ q) × (m ≡ n)
+IsAlike (fault.WrongNumber p due) (fault.WrongNumber q expected) = (p ≡ q) × (due ≡ expected)
 IsAlike (fault.WrongType p) (fault.WrongType q) = p ≡ q
 IsAlike (fault.Limit l) (fault.Limit m) = l ≡ m
 IsAlike _ _ = ⊥
 
--- Of two faults that are told of a text both have one kind and one place: there is one first fault.
+-- two faults that are told of a text are one: there is one first fault
 abbrev pub FaultsAreOne : Form → Type 0
 FaultsAreOne form = (bytes : List ℕ) (f g : TextFault) → IsToldFault form bytes f → IsToldFault form bytes g → IsAlike f g
 

@@ -45,7 +45,7 @@ pub fn faults_and_spelling_exclude()
 
 /// The body calls a law alone, since the clauses are laws.
 ///
-/// A text has one first fault at most: its kind and its place.
+/// A text has one first fault at most: its kind, its place, and the length or the number that is told with it.
 pub fn faults_are_one()
     ensures modules { FaultsAreOne module_form }
     ensures expressions { FaultsAreOne expression_form }

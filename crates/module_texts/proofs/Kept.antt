@@ -18,7 +18,7 @@ use Rattle.module_texts.proofs.Plain.{InParams, InTypes, called_tokens, declared
 
 -- ---- tokens by themselves, and what they stand for
 
-abbrev Own : Symbol → Symbol → Type 0
+abbrev pub Own : Symbol → Symbol → Type 0
 Own s t = (s ≡ t) ⊎ ((t ≡ foreign) × (may_change s ≡ true))
 
 own_unless : (P : Type 0) (s t : Symbol) → may_change s ≡ true → Unless P s t → Own s t
@@ -29,7 +29,7 @@ own_addr : (P : Type 0) (s t : Symbol) → UnlessAddr P (kind_of s) s t → Own 
 own_addr P s t (inl a) = own_unless P s t (or_right _ _ (eq-eqb (kind_of s) (kind_of unnamed_addr) a.0)) a.1
 own_addr P s t (inr a) = inl (sym a.1)
 
-own : (before : List Symbol) (s t : Symbol) → StandsFor before s t → Own s t
+pub own : (before : List Symbol) (s t : Symbol) → StandsFor before s t → Own s t
 own before (Global x) t a = own_unless (IsUnstated before) (Global x) t refl a
 own before s t a = own_addr (IsUndeclared before) s t a
 

@@ -11,6 +11,9 @@ pub mod Excluded
 pub mod Rises
 pub mod Kept
 pub mod Resting
+pub mod Standing
+pub mod Marked
+pub mod Apart
 pub mod OneLimit
 pub mod OneRead
 pub mod OneFault

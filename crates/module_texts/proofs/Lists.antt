@@ -1,6 +1,7 @@
 -- What holds of each element of a list, and how lists are put together.
-use Rattle.std.proofs.Common.{◌≡◌, List, [], ◌∷◌, ◌++◌, refl, ap, sym, subst, ◌∙◌}
-use Rattle.std.specs.List.{AllByRecursion}
+use Rattle.std.proofs.Common.{◌≡◌, List, [], ◌∷◌, ◌++◌, refl, ap, sym, subst, ◌∙◌, ⊎_elim}
+use Rattle.std.specs.List.{AllByRecursion, Contains}
+use Rattle.named_modules.proofs.Lists.{contains_cases, contains_none}
 
 module _ {X : Type 0} where
   pub all_joined : (P : X → Type 0) (xs ys : List X) → AllByRecursion P xs → AllByRecursion P ys → AllByRecursion P (xs ++ ys)
@@ -10,6 +11,11 @@ module _ {X : Type 0} where
   pub all_parted : (P : X → Type 0) (xs ys : List X) → AllByRecursion P (xs ++ ys) → AllByRecursion P xs × AllByRecursion P ys
   all_parted P [] ys h = (tt, h)
   all_parted P (x ∷ xs) ys h = let rest = all_parted P xs ys h.1 in ((h.0, rest.0), rest.1)
+
+  pub all_to : (P : X → Type 0) (xs : List X) → AllByRecursion P xs → (x : X) → Contains xs x → P x
+  all_to P [] all x there = absurd (contains_none x there)
+  all_to P (y ∷ ys) all x there =
+      ⊎_elim (λ e. subst P e all.0) (λ more. all_to P ys all.1 x more) (contains_cases y x ys there)
 
   pub all_zipped : (P Q T : X → Type 0) → ((x : X) → P x → Q x → T x) → (xs : List X) → AllByRecursion P xs → AllByRecursion Q xs → AllByRecursion T xs
   all_zipped P Q T f [] h k = tt

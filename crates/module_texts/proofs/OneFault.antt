@@ -1,5 +1,5 @@
--- By which step a fault of a text is found, and at which place. A text has one such step, and one fault there.
-use Rattle.std.proofs.Common.{◌≡◌, ◌<◌, ℕ, zero, suc, true, false, cond, List, [], ◌∷◌, length, Some, inl, inr, refl, ap, sym, ◌∙◌, subst, arith}
+-- By which step a fault of a text is found, and what it is there. A text has one such step, and one fault there.
+use Rattle.std.proofs.Common.{◌≡◌, ◌<◌, ◌-◌, ℕ, zero, suc, true, false, cond, List, [], ◌∷◌, length, Some, inl, inr, refl, ap, sym, ◌∙◌, subst, arith}
 use Rattle.std.specs.Prelude.{slice_get}
 use Rattle.ir_core.specs.Limits.{text_limit}
 use Rattle.ir_core.specs.declared.limits.Limit.{Limit}
@@ -20,50 +20,31 @@ use Rattle.ir_lexer.specs.declared.fault.TextFault.{TextFault}
 use Rattle.ir_lexer.specs.declared.fault.TextFault.TheVariants as fault
 use Rattle.token_limits.specs.Laws.{MarksFirst}
 use Rattle.module_spelling.specs.TokenLaws.{CalledNamesStand, DeclaredNamesStand}
+use Rattle.module_texts.proofs.Apart.{told}
 use Rattle.module_texts.proofs.OneLimit.{fault_or_read, limit_or_fault, limit_or_read, one_grammar_fault, one_limit}
 use Rattle.module_texts.proofs.OneRead.{name_fault_or_block, one_name_fault}
+use Rattle.module_texts.proofs.Starts.{tokens_from}
 use Rattle.module_texts.proofs.Stood.{stand_for_one}
 use Rattle.module_texts.specs.Laws.{IsAlike, IsToldFault}
 use Rattle.module_texts.specs.Texts.{HasLexFault, IsNameFault, IsShort, IsTextFault, OfSymbols, is_left_out_at, own_symbols, place_at}
 
--- ---- kind and place
+-- ---- one fault
 
--- without its size and the number that is due
-abbrev bare : TextFault → TextFault
-bare (fault.LeftOut place size) = fault.LeftOut place 0
-bare (fault.Unknown place size) = fault.Unknown place 0
-bare (fault.Twice place size) = fault.Twice place 0
-bare (fault.WrongNumber place expected) = fault.WrongNumber place 0
-bare f = f
-
-itself : (f : TextFault) → (f ≡ fault.Memory → ⊥) → IsAlike f (bare f)
+itself : (f : TextFault) → (f ≡ fault.Memory → ⊥) → IsAlike f f
 itself (fault.BadByte place) some = refl
 itself (fault.BadString place) some = refl
 itself (fault.BadNumber place) some = refl
 itself (fault.Expected place) some = refl
-itself (fault.LeftOut place size) some = refl
-itself (fault.Unknown place size) some = refl
-itself (fault.Twice place size) some = refl
-itself (fault.WrongNumber place expected) some = refl
+itself (fault.LeftOut place size) some = (refl, refl)
+itself (fault.Unknown place size) some = (refl, refl)
+itself (fault.Twice place size) some = (refl, refl)
+itself (fault.WrongNumber place expected) some = (refl, refl)
 itself (fault.WrongType place) some = refl
 itself (fault.Limit l) some = refl
 itself fault.Memory some = absurd (some refl)
 
-filled : (f g : TextFault) → IsAlike f (bare g) → IsAlike f g
-filled (fault.BadByte p) (fault.BadByte q) is = is
-filled (fault.BadString p) (fault.BadString q) is = is
-filled (fault.BadNumber p) (fault.BadNumber q) is = is
-filled (fault.Expected p) (fault.Expected q) is = is
-filled (fault.LeftOut p m) (fault.LeftOut q n) is = is
-filled (fault.Unknown p m) (fault.Unknown q n) is = is
-filled (fault.Twice p m) (fault.Twice q n) is = is
-filled (fault.WrongNumber p due) (fault.WrongNumber q expected) is = is
-filled (fault.WrongType p) (fault.WrongType q) is = is
-filled (fault.Limit l) (fault.Limit m) is = is
-filled _ _ is = absurd is
-
-alike : (f g : TextFault) → (f ≡ fault.Memory → ⊥) → bare f ≡ bare g → IsAlike f g
-alike f g some e = filled f g (subst (λ h. IsAlike f h) e (itself f some))
+alike : (f g : TextFault) → (f ≡ fault.Memory → ⊥) → f ≡ g → IsAlike f g
+alike f g some e = subst (IsAlike f) e (itself f some)
 
 abbrev of_lexer : LexFault → TextFault
 of_lexer (lexer.BadByte place) = fault.BadByte place
@@ -72,46 +53,55 @@ of_lexer (lexer.BadNumber place) = fault.BadNumber place
 of_lexer lexer.Memory = fault.Memory
 of_lexer (lexer.Limit l) = fault.Limit l
 
--- the token of this index isn't expected
+-- a token that isn't expected
+abbrev of_token : Placed → TextFault
+of_token t = cond (is_left_out t.kind) (fault.LeftOut t.start (t.end - t.start)) (fault.Expected t.start)
+
+-- the same, or the end of the text
 abbrev unexpected_at : List Placed → ℕ → ℕ → TextFault
-unexpected_at tokens end k =
-    cond (is_left_out_at tokens k) (fault.LeftOut (place_at end tokens k) 0) (fault.Expected (place_at end tokens k))
+unexpected_at [] end k = fault.Expected end
+unexpected_at (t ∷ tokens) end zero = of_token t
+unexpected_at (t ∷ tokens) end (suc k) = unexpected_at tokens end k
 
-abbrev at_rank : ℕ → ℕ → TextFault
-at_rank place zero = fault.Twice place 0
-at_rank place (suc zero) = fault.WrongNumber place 0
-at_rank place (suc (suc zero)) = fault.Unknown place 0
-at_rank place (suc (suc (suc zero))) = fault.LeftOut place 0
-at_rank place (suc (suc (suc (suc more)))) = fault.WrongType place
+-- by its rank, its place, and what is told beside them
+abbrev of_rank : ℕ → ℕ → ℕ → TextFault
+of_rank zero start told = fault.Twice start (told - start)
+of_rank (suc zero) start told = fault.WrongNumber start told
+of_rank (suc (suc zero)) start told = fault.Unknown start (told - start)
+of_rank (suc (suc (suc zero))) start told = fault.LeftOut start (told - start)
+of_rank (suc (suc (suc (suc more)))) start told = fault.WrongType start
 
-at_token : (end : ℕ) (tokens : List Placed) (k : ℕ) (t : Placed) → slice_get tokens k ≡ Some t → (t.start ≡ place_at end tokens k) × (is_left_out t.kind ≡ is_left_out_at tokens k)
-at_token end [] k t e = cc
-at_token end (x ∷ xs) zero t e =
-    let same : t ≡ x = cc in (ap (λ (t : Placed). t.start) same, ap (λ (t : Placed). is_left_out t.kind) same)
-at_token end (x ∷ xs) (suc k) t e = at_token end xs k t e
+abbrev of_names : Fault → TextFault
+of_names f = of_rank (rank f.reason) f.start (told f)
 
 -- ---- the steps
 
 abbrev IsStuckSo : List ℕ → TextFault → List Placed → List Symbol → Type 0
-IsStuckSo bytes f tokens symbols = (k : ℕ) × IsGrammarFault (own_symbols bytes tokens) symbols k × (bare f ≡ unexpected_at tokens (length bytes) k)
+IsStuckSo bytes f tokens symbols = (k : ℕ) × IsGrammarFault (own_symbols bytes tokens) symbols k × (f ≡ unexpected_at tokens (length bytes) k)
 
 data Found (bytes : List ℕ) (f : TextFault) : Type 0 where
-  Long : text_limit < length bytes → bare f ≡ fault.Limit limit.Text → Found bytes f
-  Lexed : (l : LexFault) → HasLexFault bytes l → bare f ≡ of_lexer l → Found bytes f
-  Passed : (l : Limit) → OfSymbols bytes (λ tokens symbols. HasLimit (own_symbols bytes tokens) symbols l) → bare f ≡ fault.Limit l → Found bytes f
+  Long : text_limit < length bytes → f ≡ fault.Limit limit.Text → Found bytes f
+  Lexed : (l : LexFault) → HasLexFault bytes l → f ≡ of_lexer l → Found bytes f
+  Passed : (l : Limit) → OfSymbols bytes (λ tokens symbols. HasLimit (own_symbols bytes tokens) symbols l) → f ≡ fault.Limit l → Found bytes f
   Stuck : OfSymbols bytes (IsStuckSo bytes f) → Found bytes f
-  Named : (g : Fault) → IsNameFault bytes g → bare f ≡ at_rank g.start (rank g.reason) → Found bytes f
-  Large : OfSymbols bytes (λ tokens symbols. HasLargeBlock symbols) → bare f ≡ fault.Limit limit.Block → Found bytes f
+  Named : (g : Fault) → IsNameFault bytes g → f ≡ of_names g → Found bytes f
+  Large : OfSymbols bytes (λ tokens symbols. HasLargeBlock symbols) → f ≡ fault.Limit limit.Block → Found bytes f
 
-expected : (bytes : List ℕ) (tokens : List Placed) (k place : ℕ) → is_left_out_at tokens k ≡ false → place ≡ place_at (length bytes) tokens k → fault.Expected place ≡ unexpected_at tokens (length bytes) k
-expected bytes tokens k place other at =
-    ap fault.Expected at ∙ sym (ap (λ b. cond b (fault.LeftOut (place_at (length bytes) tokens k) 0) (fault.Expected (place_at (length bytes) tokens k))) other)
+expected : (end : ℕ) (tokens : List Placed) (k : ℕ) → is_left_out_at tokens k ≡ false → fault.Expected (place_at end tokens k) ≡ unexpected_at tokens end k
+expected end [] k other = refl
+expected end (t ∷ tokens) zero other = sym (ap (λ b. cond b (fault.LeftOut t.start (t.end - t.start)) (fault.Expected t.start)) other)
+expected end (t ∷ tokens) (suc k) other = expected end tokens k other
 
-left_out : (bytes : List ℕ) (tokens : List Placed) (k place : ℕ) (t : Placed) → slice_get tokens k ≡ Some t → is_left_out t.kind ≡ true → place ≡ t.start → fault.LeftOut place 0 ≡ unexpected_at tokens (length bytes) k
-left_out bytes tokens k place t is left at =
-    let there = at_token (length bytes) tokens k t is in
-    ap (λ p. fault.LeftOut p 0) (at ∙ there.0)
-    ∙ sym (ap (λ b. cond b (fault.LeftOut (place_at (length bytes) tokens k) 0) (fault.Expected (place_at (length bytes) tokens k))) (sym there.1 ∙ left))
+at_token : (end : ℕ) (tokens : List Placed) (k : ℕ) (t : Placed) → slice_get tokens k ≡ Some t → unexpected_at tokens end k ≡ of_token t
+at_token end [] k t there = cc
+at_token end (x ∷ tokens) zero t there = let same : x ≡ t = cc in ap of_token same
+at_token end (x ∷ tokens) (suc k) t there = at_token end tokens k t there
+
+left_out : (end : ℕ) (tokens : List Placed) (k place size : ℕ) (t : Placed) → slice_get tokens k ≡ Some t → is_left_out t.kind ≡ true → place ≡ t.start → size ≡ t.end - t.start → fault.LeftOut place size ≡ unexpected_at tokens end k
+left_out end tokens k place size t there left at sized =
+    ap (fault.LeftOut place) sized
+    ∙ ap (λ n. fault.LeftOut n (t.end - t.start)) at
+    ∙ sym (at_token end tokens k t there ∙ ap (λ b. cond b (fault.LeftOut t.start (t.end - t.start)) (fault.Expected t.start)) left)
 
 found : (bytes : List ℕ) (f : TextFault) → IsTextFault bytes f → (f ≡ fault.Memory → ⊥) → Found bytes f
 found bytes (fault.Limit limit.Text) is some = Long is refl
@@ -124,12 +114,12 @@ found bytes (fault.BadByte place) is some = Lexed (lexer.BadByte place) is refl
 found bytes (fault.BadString place) is some = Lexed (lexer.BadString place) is refl
 found bytes (fault.BadNumber place) is some = Lexed (lexer.BadNumber place) is refl
 found bytes (fault.Expected place) (tokens, symbols, has, (k, is, other, at)) some =
-    Stuck (tokens, symbols, has, (k, is, expected bytes tokens k place other at))
+    Stuck (tokens, symbols, has, (k, is, ap fault.Expected at ∙ expected (length bytes) tokens k other))
 found bytes (fault.LeftOut place size) (inl (tokens, symbols, has, (k, t, is, there, left, at, sized))) some =
-    Stuck (tokens, symbols, has, (k, is, left_out bytes tokens k place t there left at))
-found bytes (fault.LeftOut place size) (inr is) some = Named (record { start = place; end = is.0; reason = reason.LeftOut }) is.1 refl
-found bytes (fault.Unknown place size) is some = Named (record { start = place; end = is.0; reason = reason.Unknown }) is.1 refl
-found bytes (fault.Twice place size) is some = Named (record { start = place; end = is.0; reason = reason.Twice }) is.1 refl
+    Stuck (tokens, symbols, has, (k, is, left_out (length bytes) tokens k place size t there left at sized))
+found bytes (fault.LeftOut place size) (inr is) some = Named (record { start = place; end = is.0; reason = reason.LeftOut }) is.1 (ap (fault.LeftOut place) is.2)
+found bytes (fault.Unknown place size) is some = Named (record { start = place; end = is.0; reason = reason.Unknown }) is.1 (ap (fault.Unknown place) is.2)
+found bytes (fault.Twice place size) is some = Named (record { start = place; end = is.0; reason = reason.Twice }) is.1 (ap (fault.Twice place) is.2)
 found bytes (fault.WrongNumber place due) is some = Named (record { start = place; end = is.0; reason = reason.WrongNumber due }) is.1 refl
 found bytes (fault.WrongType place) is some = Named (record { start = place; end = is.0; reason = reason.WrongType }) is.1 refl
 found bytes fault.Memory is some = absurd (some refl)
@@ -186,7 +176,7 @@ module _ (once : WritesOneTree ModuleSort) (marks : MarksFirst) (calls : CalledN
       let both = meet bytes (Passes bytes l) IsLarge a b in
       limit_or_read marks (own_symbols bytes both.0) both.1 l both.3.0 both.3.1.0
 
-  stuck_stuck : (f g : TextFault) → OfSymbols bytes (IsStuckSo bytes f) → OfSymbols bytes (IsStuckSo bytes g) → bare f ≡ bare g
+  stuck_stuck : (f g : TextFault) → OfSymbols bytes (IsStuckSo bytes f) → OfSymbols bytes (IsStuckSo bytes g) → f ≡ g
   stuck_stuck f g a b =
       let both = meet bytes (IsStuckSo bytes f) (IsStuckSo bytes g) a b in
       let same : both.3.0.0 ≡ both.3.1.0 = one_grammar_fault marks (own_symbols bytes both.0) both.1 both.3.0.0 both.3.1.0 both.3.0.1 both.3.1.1 in
@@ -202,18 +192,19 @@ module _ (once : WritesOneTree ModuleSort) (marks : MarksFirst) (calls : CalledN
       let both = meet bytes (IsStuckSo bytes f) IsLarge a b in
       fault_or_read marks (own_symbols bytes both.0) both.1 both.3.0.0 both.3.0.1 both.3.1.0
 
-  named_named : (f g : Fault) → IsNameFault bytes f → IsNameFault bytes g → at_rank f.start (rank f.reason) ≡ at_rank g.start (rank g.reason)
+  named_named : (f g : Fault) → IsNameFault bytes f → IsNameFault bytes g → of_names f ≡ of_names g
   named_named f g a b =
       let both = meet bytes (IsNamed f) (IsNamed g) a b in
-      let same = one_name_fault once calls declares (own_symbols bytes both.0) both.1 both.2.1 f g both.3.0 both.3.1 in
-      ap (λ p. at_rank p (rank f.reason)) same.0 ∙ ap (λ r. at_rank g.start r) same.1
+      let from = tokens_from bytes both.0 both.2.0.1 in
+      let same = one_name_fault once calls declares bytes both.0 from both.1 both.2.1 f g both.3.0 both.3.1 in
+      ap (λ r. of_rank r f.start (told f)) same.rank ∙ ap (λ p. of_rank (rank g.reason) p (told f)) same.start ∙ ap (of_rank (rank g.reason) g.start) same.told
 
   named_large : (f : Fault) → IsNameFault bytes f → OfSymbols bytes IsLarge → ⊥
   named_large f a b =
       let both = meet bytes (IsNamed f) IsLarge a b in
-      name_fault_or_block once calls declares (own_symbols bytes both.0) both.1 both.2.1 f both.3.0 both.3.1
+      name_fault_or_block once calls declares bytes both.0 (tokens_from bytes both.0 both.2.0.1) both.1 both.2.1 f both.3.0 both.3.1
 
-  one_step : (f g : TextFault) → Found bytes f → Found bytes g → bare f ≡ bare g
+  one_step : (f g : TextFault) → Found bytes f → Found bytes g → f ≡ g
   one_step f g (Long long e) (Long other d) = e ∙ sym d
   one_step f g (Long long e) (Lexed m less d) = too_long bytes long less.0
   one_step f g (Long long e) (Passed m less d) = too_long bytes long less.2.0.0

@@ -1,12 +1,46 @@
--- The tokens of a text begin one behind the other.
-use Rattle.std.proofs.Common.{◌≡◌, ◌+◌, ◌-◌, ◌≤◌, ℕ, zero, suc, List, [], ◌∷◌, Ok, Err, subst, arith}
+-- The tokens of a text begin one behind the other, so that at one place there is one.
+use Rattle.std.proofs.Common.{◌≡◌, ◌+◌, ◌-◌, ◌≤◌, ℕ, zero, suc, List, [], ◌∷◌, Ok, Err, ⊎_elim, ap, sym, ◌∙◌, subst, arith}
+use Rattle.std.specs.List.{Contains}
 use Rattle.ir_lexer.specs.Cut.{Cut, Placed, cut, joined}
 use Rattle.ir_lexer.specs.Pieces.{Piece, piece, piece_len}
+use Rattle.named_modules.proofs.Lists.{contains_cases}
+
+-- ---- what begins one behind the other
 
 -- each begins behind where the one in front of it does, and the first here or behind that
+abbrev pub Rise : {A : Type 0} → (A → ℕ) → ℕ → List A → Type 0
+Rise start n [] = Unit {0}
+Rise start n (x ∷ xs) = (n ≤ start x) × Rise start (start x + 1) xs
+
+pub no_sooner : {A : Type 0} (start : A → ℕ) (n : ℕ) (xs : List A) → Rise start n xs → (a : A) → Contains xs a → n ≤ start a
+no_sooner start n [] rise a there = absurd (omega (arith, there.1))
+no_sooner start n (x ∷ xs) rise a there =
+    ⊎_elim (λ e. subst (λ y. n ≤ start y) e rise.0)
+    (λ more. let later = no_sooner start (start x + 1) xs rise.1 a more in omega (arith, rise.0, later))
+    (contains_cases x a xs there)
+
+not_again : {A : Type 0} (start : A → ℕ) (x : A) (xs : List A) → Rise start (start x + 1) xs → (a b : A) → x ≡ a → Contains xs b → start a ≡ start b → ⊥
+not_again start x xs rise a b is more same =
+    let later = no_sooner start (start x + 1) xs rise b more in
+    let here : start x ≡ start a = ap start is in
+    omega (arith, later, here, same)
+
+-- two that begin at one place are one
+pub one_at : {A : Type 0} (start : A → ℕ) (n : ℕ) (xs : List A) → Rise start n xs → (a b : A) → Contains xs a → Contains xs b → start a ≡ start b → a ≡ b
+one_at start n [] rise a b here there same = absurd (omega (arith, here.1))
+one_at start n (x ∷ xs) rise a b here there same =
+    ⊎_elim
+    (λ e. ⊎_elim (λ d. sym e ∙ d) (λ more. absurd (not_again start x xs rise.1 a b e more same)) (contains_cases x b xs there))
+    (λ more. ⊎_elim (λ d. absurd (not_again start x xs rise.1 b a d more (sym same))) (λ rest. one_at start (start x + 1) xs rise.1 a b more rest same) (contains_cases x b xs there))
+    (contains_cases x a xs here)
+
+-- ---- tokens
+
+abbrev pub start_of : Placed → ℕ
+start_of t = t.start
+
 abbrev pub AreFrom : ℕ → List Placed → Type 0
-AreFrom n [] = Unit {0}
-AreFrom n (t ∷ ts) = (n ≤ t.start) × AreFrom (t.start + 1) ts
+AreFrom = Rise start_of
 
 abbrev IsFrom : ℕ → Cut → Type 0
 IsFrom n (Ok tokens) = AreFrom n tokens

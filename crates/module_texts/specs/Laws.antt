@@ -18,20 +18,20 @@ IsToldFault bytes f = IsTextFault bytes f × (f ≡ fault.Memory → ⊥)
 abbrev pub FaultsExclude : Type 0
 FaultsExclude = (bytes : List ℕ) (f : TextFault) (m : Module) → IsShort bytes → IsToldFault bytes f → Spells bytes m → ⊥
 
--- one kind of fault, at one place; `Limit` has none
+-- one fault, with all that is told of it
 abbrev pub IsAlike : TextFault → TextFault → Type 0
 IsAlike (fault.BadByte p) (fault.BadByte q) = p ≡ q
 IsAlike (fault.BadString p) (fault.BadString q) = p ≡ q
 IsAlike (fault.BadNumber p) (fault.BadNumber q) = p ≡ q
 IsAlike (fault.Expected p) (fault.Expected q) = p ≡ q
-IsAlike (fault.LeftOut p m) (fault.LeftOut q n) = p ≡ q
-IsAlike (fault.Unknown p m) (fault.Unknown q n) = p ≡ q
-IsAlike (fault.Twice p m) (fault.Twice q n) = p ≡ q
-IsAlike (fault.WrongNumber p due) (fault.WrongNumber q expected) = p ≡ q
+IsAlike (fault.LeftOut p m) (fault.LeftOut q n) = (p ≡ q) × (m ≡ n)
+IsAlike (fault.Unknown p m) (fault.Unknown q n) = (p ≡ q) × (m ≡ n)
+IsAlike (fault.Twice p m) (fault.Twice q n) = (p ≡ q) × (m ≡ n)
+IsAlike (fault.WrongNumber p due) (fault.WrongNumber q expected) = (p ≡ q) × (due ≡ expected)
 IsAlike (fault.WrongType p) (fault.WrongType q) = p ≡ q
 IsAlike (fault.Limit l) (fault.Limit m) = l ≡ m
 IsAlike _ _ = ⊥
 
--- of two faults that are told of a text both have one kind and one place
+-- two faults that are told of a text are one: there is one first fault
 abbrev pub FaultsAreOne : Type 0
 FaultsAreOne = (bytes : List ℕ) (f g : TextFault) → IsToldFault bytes f → IsToldFault bytes g → IsAlike f g

@@ -28,7 +28,7 @@ pub fn faults_and_spelling_exclude()
 
 /// The body calls laws alone, since the clause is a law.
 ///
-/// A text has one first fault at most: its kind and its place.
+/// A text has one first fault at most: its kind, its place, and the length or the number that is told with it.
 pub fn faults_are_one()
     ensures { FaultsAreOne }
 {
