@@ -17,7 +17,7 @@ use Rattle.ir_grammar.specs.declared.trees.PhiText.{PhiText}
 use Rattle.ir_grammar.specs.declared.trees.Placed.{Placed}
 use Rattle.ir_grammar.specs.declared.words.Language.{Language}
 use Rattle.ir_grammar.specs.declared.words.Language.TheVariants.{Ir, Logic}
-use Rattle.ir_grammar.specs.Symbols.{Symbol, symbol, symbol_at}
+use Rattle.ir_grammar.specs.Symbols.{Symbol, symbol}
 use Rattle.ir_grammar.specs.Symbols as symbols
 use Rattle.ir_grammar.specs.Written as write
 use Rattle.name_claims.specs.declared.claims.Fault.{Fault}
