@@ -1,8 +1,8 @@
 //! Runs rows of data through `crell`, over a shelf and two sinks in memory: `crell_rows FILE..`.
 //!
-//! Each file is a table of rows (`row_table`). The rules are a book of the shipped ones. A row in which no call is to fail is run through
-//! `crell_in_memory` too, and both must come out as it says. A row that fails is told on a line, and so is a row or a table that can't be read; the last
-//! line counts. The status is 0 where all rows pass and there is one, else 1.
+//! Each file is a table of rows (`row_table`). The rules are a book of the shipped ones. A row in which no call is to fail, and no file is
+//! large, is run through `crell_in_memory` too, and both must come out as it says. A row that fails is told on a line, and so is a row or a
+//! table that can't be read; the last line counts. The status is 0 where all rows pass and there is one, else 1.
 #![tactic(auto)]
 
 mod comparing;

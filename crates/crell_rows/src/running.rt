@@ -9,6 +9,9 @@ use rule_base::RuleBook;
 use std::alloc::{AllocError, Global};
 use std::mem;
 
+/// Files of so many bytes and more are run once.
+const MOST_RUN_TWICE: usize = 100_000;
+
 /// What came otherwise than the row at that place wants; nothing where it passes both ways.
 pub(crate) fn told_of(
     alloc: Global,
@@ -51,19 +54,28 @@ fn run_by_book(alloc: Global, book: &RuleBook, row: &mut Row) -> Result<MemoryRu
 
 fn told_in_memory(alloc: Global, table: &Table, place: usize) -> Result<String, Fault> {
     let mut row = table.row(alloc, place)?;
-    if fails_somewhere(&row) {
+    if !is_plain(&row) || !is_short(&row.given.files) {
         return Ok(String::new(alloc));
     }
     let run = run_in_memory(alloc, &mut row)?;
     Ok(marked(told_of_run(alloc, &run, &row.wanted)?)?)
 }
 
-/// Whether a call is to fail, or the sinks have room for different numbers of bytes.
-fn fails_somewhere(row: &Row) -> bool {
-    !row.given.failing_gets.is_empty()
-        || !row.out.failing.is_empty()
-        || !row.err.failing.is_empty()
-        || row.out.room != row.err.room
+/// Whether no call is to fail, and both sinks have room for as many bytes.
+fn is_plain(row: &Row) -> bool {
+    row.given.failing_gets.is_empty()
+        && row.out.failing.is_empty()
+        && row.err.failing.is_empty()
+        && row.out.room == row.err.room
+}
+
+/// Whether the files are so short that they are run twice.
+fn is_short(files: &[File]) -> bool {
+    let mut count: usize = 0;
+    for file in files {
+        count = count.saturating_add(file.bytes.len());
+    }
+    count < MOST_RUN_TWICE
 }
 
 /// A run by the shipped rules over texts in memory.
