@@ -69,7 +69,10 @@ fn has_shape(alloc: Global, module: &Module, function: &Function) -> bool
     ensures { IsTrue result → HasFunctionShape «module».now «function».now }
 {
     functions_have_shape_or_a_fault();
-    shape_function(alloc, module, function).is_ok()
+    match shape_function(alloc, module, function) {
+        Ok(()) => true,
+        Err(_) => false,
+    }
 }
 
 /// Whether these are the marks of the function, which has shape.
