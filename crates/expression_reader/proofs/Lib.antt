@@ -1,13 +1,16 @@
 pub mod ConstCases
+pub mod Found
 pub mod Items
 pub mod Lexed
 pub mod Lineless
+pub mod OneFault
 pub mod Read
 pub mod Spelled
 pub mod Told
 pub mod ToldTypes
 pub mod TypeCases
 pub mod TypeCut
+pub mod TypeFound
 pub mod TypeLexed
 pub mod TypeOwn
 pub mod TypeRead

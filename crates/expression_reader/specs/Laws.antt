@@ -17,3 +17,7 @@ IsToldFault bytes f = IsExpressionFault bytes f × (f ≡ fault.Memory → ⊥)
 -- a short text that has a fault spells no expression
 abbrev pub FaultsExclude : Type 0
 FaultsExclude = (bytes : List ℕ) (f : TextFault) (e : Expr0) → IsShort bytes → IsToldFault bytes f → SpellsExpression bytes e → ⊥
+
+-- two faults that are told of a text are one: of one kind, at one place and, where a word is left out, of one length
+abbrev pub ExpressionFaultsAreOne : Type 0
+ExpressionFaultsAreOne = (bytes : List ℕ) (f g : TextFault) → IsToldFault bytes f → IsToldFault bytes g → f ≡ g

@@ -17,3 +17,7 @@ IsToldFault bytes f = IsTypeFault bytes f × (f ≡ fault.Memory → ⊥)
 -- a short text that has a fault spells no type
 abbrev pub FaultsExclude : Type 0
 FaultsExclude = (bytes : List ℕ) (f : TextFault) (t : Ty) → IsShort bytes → IsToldFault bytes f → SpellsType bytes t → ⊥
+
+-- two faults that are told of a text are one: of one kind, at one place and, where a word is left out, of one length
+abbrev pub TypeFaultsAreOne : Type 0
+TypeFaultsAreOne = (bytes : List ℕ) (f g : TextFault) → IsToldFault bytes f → IsToldFault bytes g → f ≡ g

@@ -18,6 +18,8 @@ mod type_trees;
 mod types;
 
 pub use expressions::read_expr;
-pub use laws::{faults_and_expressions_exclude, texts_spell_one_expression};
-pub use type_laws::{faults_and_types_exclude, texts_spell_one_type};
+pub use laws::{
+    expression_faults_are_one, faults_and_expressions_exclude, texts_spell_one_expression,
+};
+pub use type_laws::{faults_and_types_exclude, texts_spell_one_type, type_faults_are_one};
 pub use types::read_type;

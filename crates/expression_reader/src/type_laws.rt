@@ -1,4 +1,4 @@
-ghost use Rattle.expression_reader.specs.TypeLaws.{FaultsExclude, TypesAreOne};
+ghost use Rattle.expression_reader.specs.TypeLaws.{FaultsExclude, TypeFaultsAreOne, TypesAreOne};
 
 use module_grammar::written_once;
 
@@ -16,6 +16,15 @@ pub fn texts_spell_one_type()
 /// A text of at most 2 to the 24 bytes that has a fault spells no type.
 pub fn faults_and_types_exclude()
     ensures { FaultsExclude }
+{
+    written_once();
+}
+
+/// The body calls laws alone, since the clause is a law.
+///
+/// A text has one first fault at most: its kind, its place and, where a word is left out, its length.
+pub fn type_faults_are_one()
+    ensures { TypeFaultsAreOne }
 {
     written_once();
 }
