@@ -15,8 +15,11 @@ use Rattle.crell_program.specs.Grammar.{FaultsExcludeModules}
 use Rattle.crell_program.specs.Delivery.{SinkSeen, sink_seen, IsDelivered}
 use Rattle.crell_program.specs.Rows.{Run, IsAnswered, KeepsRows, NoFault}
 use Rattle.crell_program.specs.Statuses.{HasVerdict, AreJudged, IsRefinementOfBytes}
-use Rattle.crell_program.specs.InMemory.{new_shelf, new_sink, memory_run, Fits, EndsWell}
+use Rattle.crell_program.specs.InMemory.{new_shelf, new_sink, memory_run, Fits, TextsWithinRoomFit, EndsWell}
 use Rattle.crell_program.proofs.Completeness.{SinksAreFine, due_well, all_well, judged_as}
+
+pub texts_within_room_fit : TextsWithinRoomFit
+texts_within_room_fit rules command entries room shelf out err answer to_out to_err = (omega (arith, to_out), omega (arith, to_err))
 
 not_risen : (old new : ℕ) → new ≡ old → old ≡ 0 → HasRisen old new → ⊥
 not_risen old new e z (inl risen) = absurd (omega arith)

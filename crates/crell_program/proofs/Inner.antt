@@ -88,7 +88,7 @@ module _ {E : Type 0} (rules : Rules) (names : CheckFiles) (source target hints 
       texts_judged h hp (Err end) e = e
 
 -- refinement of the two modules that two texts spell alone is refinement of the texts
-refined : (source target : List ℕ) (s t : Module) → SpellsOnly Small source s → SpellsOnly Small target t → Refines s t → AreRefined source target
+pub refined : (source target : List ℕ) (s t : Module) → SpellsOnly Small source s → SpellsOnly Small target t → Refines s t → AreRefined source target
 refined source target s t sp tp refines = (
   (s, sp.0.0, sp.1),
   (t, tp.0.0, tp.1),
@@ -97,6 +97,10 @@ refined source target s t sp tp refines = (
       let et : t ≡ y = sym (tp.1 y yp) in
       subst (λ (m : Module). Refines m y) es (subst (λ (m : Module). Refines s m) et refines),
 )
+
+-- and the other way
+pub refined_modules : (source target : List ℕ) (s t : Module) → SpellsOnly Small source s → SpellsOnly Small target t → AreRefined source target → Refines s t
+refined_modules source target s t sp tp are = are.2 s t sp.0.0 tp.0.0
 
 pub texts_refined : {E : Type 0} (source target : List ℕ) (s t : Module) → SpellsOnly Small source s → SpellsOnly Small target t
     → (r : Result Answer E) → IfOk r (λ a. a.status ≡ 0 → Refines s t) → IfOk r (λ a. a.status ≡ 0 → AreRefined source target)

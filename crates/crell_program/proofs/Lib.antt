@@ -6,5 +6,6 @@ pub mod Fetches
 pub mod Grammars
 pub mod InMemory
 pub mod Inner
+pub mod Judged
 pub mod Rows
 pub mod Writing

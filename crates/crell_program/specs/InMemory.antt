@@ -34,6 +34,12 @@ memory_run rules command entries room shelf out err = record {
 abbrev pub Fits : Run → Answer → Type 0
 Fits run answer = (length answer.out ≤ run.out.room_left) × (length answer.err ≤ run.err.room_left)
 
+-- where the sinks have room for an answer's texts they are sure to take them
+abbrev pub TextsWithinRoomFit : Type 0
+TextsWithinRoomFit =
+    (rules : Rules) (command : Option Command) (entries : List (List ℕ × List ℕ)) (room : ℕ) (shelf : ShelfState) (out err : SinkState) (answer : Answer)
+    → length answer.out ≤ room → length answer.err ≤ room → Fits (memory_run rules command entries room shelf out err) answer
+
 -- how such a run ends
 pub record EndsWell (run : Run) (status : ℕ) : Type 0 where
   pub rows : KeepsRows run status

@@ -4,5 +4,6 @@ pub mod Due
 pub mod Fetching
 pub mod Grammar
 pub mod InMemory
+pub mod Judged
 pub mod Rows
 pub mod Statuses

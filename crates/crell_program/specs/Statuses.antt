@@ -1,11 +1,8 @@
 -- What the statuses say of the words and the files.
-use Rattle.std.specs.Prelude.{◌≡◌, ◌≢◌, ◌⊎◌, ◌≤◌, ◌<◌, ◌==◌, ℕ, List, [], ◌∷◌, length, Option, None, Some, IsTrue}
+use Rattle.std.specs.Prelude.{◌≡◌, ◌≢◌, ◌↔◌, ◌⊎◌, ◌≤◌, ◌<◌, ◌==◌, ℕ, List, [], ◌∷◌, length, Option, None, Some, IsTrue}
 use Rattle.std.specs.List.{list_any, AllByRecursion, AllZip}
-use Rattle.ir_types.specs.declared.names.Name.{Name}
 use Rattle.ir_core.specs.declared.modules.Module.{Module}
-use Rattle.ir_machine.specs.declared.items.Item.{Item}
-use Rattle.ir_machine.specs.declared.items.Input.{Input}
-use Rattle.ir_machine.specs.Refinement.{Shows, MayShow}
+use Rattle.ir_machine.specs.Refinement.{Refines}
 use Rattle.ir_lexer.specs.declared.fault.TextFault.{TextFault}
 use Rattle.ir_lexer.specs.declared.fault.TextFault.TheVariants as text
 use Rattle.ir_reader.specs.declared.fault.ModuleFault.{ModuleFault}
@@ -29,12 +26,16 @@ use Rattle.crell_program.specs.Command.{File, most_bytes, files_of}
 use Rattle.crell_program.specs.Due.{ShelfSeen, Missing, Long, MayCome, Lists}
 use Rattle.crell_program.specs.Grammar.{IsAtFault, Spells, SpellsOne, SpellsOnly, SpellsWellFormed}
 
--- By the smaller grammar each of the texts spells one module. Whatever is shown by the target's, in whatever number of steps, whichever
--- of its functions is entered on whatever input, the source's may show too, unless it has undefined behaviour first.
+-- By the smaller grammar each of the texts spells one module, and the target's refines the source's: whatever it shows, the source's may show
+-- too, unless that has undefined behaviour first.
 abbrev pub AreRefined : List ℕ → List ℕ → Type 0
-AreRefined source target = SpellsOne Small source × SpellsOne Small target
-    × ((s t : Module) → Spells Small source s → Spells Small target t
-    → (f : Name) (input : Input) (n : ℕ) (items : List Item) → Shows t f input n items → MayShow s f input items)
+AreRefined source target =
+    SpellsOne Small source × SpellsOne Small target × ((s t : Module) → Spells Small source s → Spells Small target t → Refines s t)
+
+-- of texts that spell these modules alone it says that these refine, and no more
+abbrev pub RefinementIsOfModules : Type 0
+RefinementIsOfModules =
+    (source target : List ℕ) (s t : Module) → SpellsOnly Small source s → SpellsOnly Small target t → AreRefined source target ↔ Refines s t
 
 -- The texts of a command's files are such that the command has done what it is for. Those of `check` refine; that of `defs` or `fmt` spells one module
 -- by the whole grammar, and the rows say what is printed of it.

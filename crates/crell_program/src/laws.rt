@@ -1,4 +1,7 @@
 ghost use Rattle.crell_program.specs.Grammar.{FaultsAreOfOneKind, FaultsExcludeModules};
+ghost use Rattle.crell_program.specs.InMemory.{TextsWithinRoomFit};
+ghost use Rattle.crell_program.specs.Judged.{RunsAreJudged, StillRunsHaveNoFault};
+ghost use Rattle.crell_program.specs.Statuses.{RefinementIsOfModules};
 
 /// The body calls laws alone, since the clauses are laws.
 ///
@@ -10,3 +13,26 @@ pub(crate) fn first_faults_agree()
     ir_reader::first_faults_agree();
     module_reader::first_faults_agree();
 }
+
+/// Empty on purpose: its contract is the law.
+///
+/// Two texts are refined exactly where the modules are that they spell, each of them alone.
+pub fn refinement_is_of_modules()
+    ensures { RefinementIsOfModules }
+{}
+
+/// Empty on purpose: its contract is the law.
+///
+/// Where of each file of a command it is told that it is absent, or bytes that are judged, one of the premises holds under which the rows fix the
+/// status; and where the counts of faults stay there is no fault.
+pub fn runs_are_judged()
+    ensures judged { RunsAreJudged }
+    ensures no_fault { StillRunsHaveNoFault }
+{}
+
+/// Empty on purpose: its contract is the law.
+///
+/// Sinks in memory with room for an answer's texts are sure to take them.
+pub fn texts_within_room_fit()
+    ensures { TextsWithinRoomFit }
+{}

@@ -22,7 +22,7 @@ use Rattle.ir_reader.specs.InputFaults.{FirstWithout}
 use Rattle.renaming_laws.specs.Judged.{FunctionsAreJudged, IsAtFault, IsFitting}
 
 -- the first of the functions that isn't defined, with its first use that isn't
-abbrev HasFirstUndefined : List Function → Type 0
+abbrev pub HasFirstUndefined : List Function → Type 0
 HasFirstUndefined fs = (f : Function) × (u : Undefined) × FirstWithout IsFunctionDefined fs f × IsFirstUndefined f u
 
 first_here : (f : Function) (fs : List Function) → (IsFunctionDefined f → ⊥) → FirstWithout IsFunctionDefined (f ∷ fs) f
@@ -43,7 +43,7 @@ first_later g fs such (f, u, first, is) = (
 )
 
 module _ (knows : ShapeKnowsLabels) (faults : UndefinedUsesAreFaults) (judged : FunctionsAreJudged) where
-  of_functions : (m : Module) (fs : List Function) → AllByRecursion (HasFunctionShape m) fs → AllByRecursion IsFunctionDefined fs ⊎ HasFirstUndefined fs
+  pub of_functions : (m : Module) (fs : List Function) → AllByRecursion (HasFunctionShape m) fs → AllByRecursion IsFunctionDefined fs ⊎ HasFirstUndefined fs
   of_functions m [] shape = inl tt
   of_functions m (f ∷ fs) shape =
       ⊎_elim (λ (defined : IsFunctionDefined f).

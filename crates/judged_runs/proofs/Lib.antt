@@ -1,0 +1,3 @@
+mod Hints
+mod Runs
+mod Texts

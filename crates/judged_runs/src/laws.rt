@@ -1,0 +1,48 @@
+ghost use Rattle.judged_runs.specs.Runs.{ToldRunsAreJudged};
+ghost use Rattle.judged_runs.specs.Texts.{HintFilesAreJudged, WholeTextsAreJudged};
+
+use crell_program::runs_are_judged;
+use definedness::{shape_knows_labels, undefined_uses_are_faults};
+use hint_format::hint_files_are_read;
+use judged_texts::each_text_is_judged;
+use renaming_laws::{functions_are_judged, texts_are_judged};
+use shape_laws::faultless_modules_have_shape;
+use spelled_limits::{spelled_modules_are_in_range, spelled_modules_are_within};
+
+/// The body calls laws alone, since the clause is a law.
+///
+/// A text of the whole grammar of at most 2 to the 24 bytes spells a well-formed module, or something is first at fault in it; in a longer one
+/// that is its length.
+pub fn whole_texts_are_judged()
+    ensures { WholeTextsAreJudged }
+{
+    shape_knows_labels();
+    undefined_uses_are_faults();
+    functions_are_judged();
+    faultless_modules_have_shape();
+    spelled_modules_are_in_range();
+    spelled_modules_are_within();
+    each_text_is_judged();
+}
+
+/// The body calls a law alone, since the clause is a law.
+///
+/// The bytes of a hint file are those of hints, or something is first at fault in them.
+pub fn hint_files_are_judged()
+    ensures { HintFilesAreJudged }
+{
+    hint_files_are_read();
+}
+
+/// The body calls laws alone, since the clause is a law.
+///
+/// Where of each file of a command it is told that it is absent, or which bytes it has, one of the premises holds under which the rows of
+/// `crell_program` fix the status.
+pub fn told_runs_are_judged()
+    ensures { ToldRunsAreJudged }
+{
+    texts_are_judged();
+    whole_texts_are_judged();
+    hint_files_are_judged();
+    runs_are_judged();
+}
