@@ -95,7 +95,7 @@ fn functions_seen(
 }
 
 /// What is said of the modules, and of their functions.
-fn seen(alloc: Global, book: &RuleBook) -> (Seen, Seen) {
+fn both_seen(alloc: Global, book: &RuleBook) -> (Seen, Seen) {
     match (
         read_module(alloc, SOURCE),
         read_module(alloc, TARGET),
@@ -116,8 +116,8 @@ fn modules_and_functions_are_checked_by_a_book(rt: HostRuntime) -> Result<(), Fa
     for rule in Rule::ALL {
         rules.push(Box::new(alloc, rule)?)?;
     }
-    assert!(rt; seen(alloc, &RuleBook::new(rules)) == (Seen::Valid, Seen::Valid));
+    assert!(rt; both_seen(alloc, &RuleBook::new(rules)) == (Seen::Valid, Seen::Valid));
     let none = RuleBook::new(Vec::new(alloc));
-    assert!(rt; seen(alloc, &none) == (Seen::Unknown, Seen::Unknown));
+    assert!(rt; both_seen(alloc, &none) == (Seen::Unknown, Seen::Unknown));
     Ok(())
 }
