@@ -45,6 +45,13 @@ fn refused(block: &Name, spot: &Spot, reason: &Reason) -> Seen {
     }
 }
 
+fn refused_in(function: &Name, block: &Name, spot: &Spot, reason: &Reason) -> Seen {
+    match function {
+        Name::Number(0) => refused(block, spot, reason),
+        _ => Seen::Other,
+    }
+}
+
 fn function_seen(verdict: &Result<Verdict, CheckEnd>) -> Seen {
     match verdict {
         Ok(Verdict::Valid) => Seen::Valid,
@@ -64,13 +71,13 @@ fn module_seen(verdict: &Result<ModuleVerdict, CheckEnd>) -> Seen {
         Ok(ModuleVerdict::Valid) => Seen::Valid,
         Ok(
             ModuleVerdict::Refused {
-                function: Name::Number(0),
+                function,
                 block,
                 spot,
                 reason,
             },
-        ) => refused(block, spot, reason),
-        _ => Seen::Other,
+        ) => refused_in(function, block, spot, reason),
+        Ok(ModuleVerdict::Differs(_)) | Err(_) => Seen::Other,
     }
 }
 
