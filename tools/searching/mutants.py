@@ -260,7 +260,9 @@ def term_changes(rng, case, functions):
     else:
         new = ("unreachable",)
     starts = lines.index(block.name + ":")
-    at = next(k for k in range(starts + 1, len(lines)) if lines[k] == "  " + term_text(term))
+    at = next((k for k in range(starts + 1, len(lines)) if lines[k] == "  " + term_text(term)), None)
+    if at is None:                      # another change came before, and wrote the line otherwise
+        return False
     lines[at] = "  " + term_text(new)
     return True
 
