@@ -13,7 +13,7 @@ mod shelf;
 mod sink;
 
 pub use host::{HostShelf, HostSink};
-pub use laws::examples_of_sinks;
+pub use laws::{examples_of_counts, examples_of_sinks};
 pub use mem_shelf::{Entry, MemShelf};
 pub use mem_sink::MemSink;
 pub use shelf::{Shelf, ShelfEnd};

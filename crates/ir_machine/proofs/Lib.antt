@@ -18,3 +18,4 @@ pub mod Branching
 pub mod Flow
 pub mod Finding
 pub mod Setting
+pub mod Reaching

@@ -10,7 +10,7 @@ use Rattle.ir_core.specs.WellFormed.{HasShape}
 use Rattle.ir_machine.specs.declared.items.Input.{Input}
 use Rattle.ir_machine.specs.declared.items.Item.{Item}
 use Rattle.ir_machine.specs.Laws.{Leads}
-use Rattle.ir_machine.specs.Machine.{block_named, entry_from, start}
+use Rattle.ir_machine.specs.Machine.{Follows, Made, asks, block_named, entry_from, start}
 use Rattle.ir_machine.specs.State.{Frame, State, Running, Over}
 
 -- some run of the module comes to the state
@@ -22,6 +22,14 @@ pub record IsReached (m : Module) (s : State) : Type 0 where
   pub steps : ℕ
   pub items : List Item
   pub leads : Leads m steps first items s
+
+-- the start of a run is reached
+abbrev pub StartsAreReached : Type 0
+StartsAreReached = (m : Module) (f : Name) (input : Input) (s : State) → start m f input ≡ Some s → IsReached m s
+
+-- and so is what a step of a reached state leads to
+abbrev pub StepsAreReached : Type 0
+StepsAreReached = (m : Module) (s : State) (made : Made) → IsReached m s → Follows (asks m s) made → IsReached m made.after
 
 -- a jump to that label finds its block, and each phi of that block an entry for the one that is left
 pub record IsFound (frame : Frame) (to : Name) : Type 0 where

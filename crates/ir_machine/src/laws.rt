@@ -1,5 +1,5 @@
 ghost use Rattle.ir_machine.specs.Laws.{ConstantsRefineByValue, NumbersAreKept, NumbersStayDefined, UndefIsAnyNumber, PoisonIsNoNumber, WrongIsRefined, ArgumentsAreSeen, TrapsAreWrong, VoidReturnsAreShown, LinesGiveThese, StepsMakeRuns, RunsAreSteps, OneBlockRunsEnd, FirstsAreShown, StartsAreKept, RefinedRunsAreShown};
-ghost use Rattle.ir_machine.specs.Reached.{NothingIsLost};
+ghost use Rattle.ir_machine.specs.Reached.{NothingIsLost, StartsAreReached, StepsAreReached};
 ghost use Rattle.ir_machine.specs.Reads.{ReadsAreSet};
 ghost use Rattle.ir_machine.specs.FlowLaws.{JumpsAreTurns, PhisAreTakenAtOnce, FirstEntriesAreTaken, PhisWithoutEntriesArePoison, BranchesGo, SwitchesGo, EndsAreWrong};
 
@@ -86,4 +86,13 @@ pub fn examples_of_control_flow()
 pub fn well_formed_runs_go_on()
     ensures found { NothingIsLost }
     ensures set { ReadsAreSet }
+{}
+
+/// Empty on purpose: its contract is the law.
+///
+/// A run's start is reached, and so is what a step of a reached state leads to.
+#[tactic(auto, using(crate::proofs::Reaching::starts_are_reached, crate::proofs::Reaching::steps_are_reached))]
+pub fn runs_reach_what_they_lead_to()
+    ensures start { StartsAreReached }
+    ensures step { StepsAreReached }
 {}

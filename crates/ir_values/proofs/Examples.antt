@@ -1,6 +1,7 @@
 -- The examples compute.
-use Rattle.std.proofs.Common.{refl}
-use Rattle.ir_values.specs.Examples.{ComparisonsAreThese, ConversionsAreThese, DivisionsTrap, FlagsBreak, ResultsAreThese, SelectionsAreThese, ShiftsEndAtTheWidth, UndefAndPoisonSpread}
+use Rattle.std.proofs.Common.{◌≡◌, refl, arith}
+use Rattle.ir_core.specs.declared.values.Value.TheVariants.{Num, Undef, Poison}
+use Rattle.ir_values.specs.Examples.{ComparisonsAreThese, ConversionsAreThese, DivisionsTrap, FlagsBreak, NumbersAreThese, OutcomesAreOrdered, ResultsAreThese, SelectionsAreThese, ShiftsEndAtTheWidth, UndefAndPoisonSpread, WidthsAreThese}
 
 pub results_are_these : ResultsAreThese
 results_are_these = record {
@@ -184,4 +185,32 @@ selections_are_these = record {
   select_undef_poison_7 = refl;
   select_undef_7_poison = refl;
   select_undef_undef_7 = refl;
+}
+
+pub outcomes_are_ordered : OutcomesAreOrdered
+outcomes_are_ordered = record {
+  trap = λ o. tt;
+  no_trap = λ v l. l;
+  poison = λ v. tt;
+  undef = λ n. tt;
+  undef_no_poison = λ l. l;
+  number = λ n. refl;
+  number_no_other = λ (l : Num 8 ≡ Num 7). cc;
+  number_no_undef = λ (l : Undef ≡ Num 7). cc;
+  number_no_poison = λ (l : Poison ≡ Num 7). cc;
+}
+
+pub numbers_are_these : NumbersAreThese
+numbers_are_these = record {
+  number = λ n. tt;
+  undef = λ l. l;
+  poison = λ l. l;
+}
+
+pub widths_are_these : WidthsAreThese
+widths_are_these = record {
+  least = (omega arith, omega arith);
+  most = (omega arith, omega arith);
+  none = λ l. let one = l.0 in omega arith;
+  more = λ l. let most = l.1 in omega arith;
 }

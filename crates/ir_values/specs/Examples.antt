@@ -1,5 +1,6 @@
 -- What operations give of given operands, worked out by hand from the LangRef: an example of each case.
 use Rattle.std.specs.Prelude.{◌≡◌, ℕ, true, false}
+use Rattle.ir_core.specs.declared.values.Value.{Value}
 use Rattle.ir_core.specs.declared.values.Value.TheVariants.{Num, Undef, Poison}
 use Rattle.ir_core.specs.declared.values.Kind.TheVariants.{Int}
 use Rattle.ir_core.specs.declared.operands.BinOp.TheVariants as op
@@ -10,8 +11,10 @@ use Rattle.ir_values.specs.declared.operations.Outcome.{Outcome}
 use Rattle.ir_values.specs.declared.operations.Outcome.TheVariants.{Gives, Trap}
 use Rattle.ir_values.specs.Comparisons.{icmp_outcome}
 use Rattle.ir_values.specs.Conversions.{cast_outcome}
-use Rattle.ir_values.specs.Operations.{binary_outcome}
+use Rattle.ir_values.specs.Operations.{IsOutcomeLessDefined, binary_outcome}
 use Rattle.ir_values.specs.Selections.{select_outcome}
+use Rattle.ir_values.specs.ValueLaws.{IsNumber}
+use Rattle.ir_values.specs.Values.{HasWidth}
 
 abbrev pub gives : ℕ → Outcome
 gives n = Gives (Num n)
@@ -203,3 +206,29 @@ pub record SelectionsAreThese : Type 0 where
   pub select_undef_poison_7 : select_outcome Undef Poison (Num 7) ≡ Gives Poison
   pub select_undef_7_poison : select_outcome Undef (Num 7) Poison ≡ Gives Poison
   pub select_undef_undef_7 : select_outcome Undef Undef (Num 7) ≡ Gives Undef
+
+-- Undefined behaviour is less defined than each outcome, and no value than it; of values poison is the least defined, then undef, and a
+-- number is less defined than itself alone.
+pub record OutcomesAreOrdered : Type 0 where
+  pub trap : (o : Outcome) → IsOutcomeLessDefined Trap o
+  pub no_trap : (v : Value) → IsOutcomeLessDefined (Gives v) Trap → ⊥
+  pub poison : (v : Value) → IsOutcomeLessDefined (Gives Poison) (Gives v)
+  pub undef : (n : ℕ) → IsOutcomeLessDefined (Gives Undef) (gives n)
+  pub undef_no_poison : IsOutcomeLessDefined (Gives Undef) (Gives Poison) → ⊥
+  pub number : (n : ℕ) → IsOutcomeLessDefined (gives n) (gives n)
+  pub number_no_other : IsOutcomeLessDefined (gives 7) (gives 8) → ⊥
+  pub number_no_undef : IsOutcomeLessDefined (gives 7) (Gives Undef) → ⊥
+  pub number_no_poison : IsOutcomeLessDefined (gives 7) (Gives Poison) → ⊥
+
+-- a number is one; undef and poison are none
+pub record NumbersAreThese : Type 0 where
+  pub number : (n : ℕ) → IsNumber (Num n)
+  pub undef : IsNumber Undef → ⊥
+  pub poison : IsNumber Poison → ⊥
+
+-- integers of 1 to 64 bits
+pub record WidthsAreThese : Type 0 where
+  pub least : HasWidth (Int 1)
+  pub most : HasWidth (Int 64)
+  pub none : HasWidth (Int 0) → ⊥
+  pub more : HasWidth (Int 65) → ⊥

@@ -48,3 +48,11 @@ pub fn examples_of_other_operations()
     ensures conversions { example.ConversionsAreThese }
     ensures selections { example.SelectionsAreThese }
 {}
+
+/// When an outcome is less defined than another, what is a number, and how wide integers are.
+#[tactic(auto, using(crate::proofs::Examples::outcomes_are_ordered, crate::proofs::Examples::numbers_are_these, crate::proofs::Examples::widths_are_these))]
+pub fn examples_of_outcomes_and_kinds()
+    ensures order { example.OutcomesAreOrdered }
+    ensures numbers { example.NumbersAreThese }
+    ensures widths { example.WidthsAreThese }
+{}

@@ -15,8 +15,8 @@ mod selections;
 pub use comparisons::eval_icmp;
 pub use conversions::eval_cast;
 pub use kinds_kept::{
-    examples_of_binary_operations, examples_of_other_operations, numbers_give_numbers,
-    operations_are_monotone, operations_stay_in_kind,
+    examples_of_binary_operations, examples_of_other_operations, examples_of_outcomes_and_kinds,
+    numbers_give_numbers, operations_are_monotone, operations_stay_in_kind,
 };
 pub use laws::less_defined_is_an_order;
 pub use operations::{Outcome, eval_binary, refines};
