@@ -11,3 +11,9 @@ use Rattle.added_facts.specs.declared.ends.AddEnd.TheVariants as add_end
 abbrev pub Follows : {X : Type 0} → Result X AddEnd → Assertion → Course Assertion → Type 0
 Follows (Ok x) known c = within c ≡ Some (Gives known)
 Follows (Err fault) known c = (l : Limit) → fault ≡ add_end.Limit l → (l ≡ Facts) × (within c ≡ None)
+
+-- No limit but that on facts is told, and none where the course gives what is known.
+pub record LimitsAreApart : Type 0 where
+  pub facts : (l : Limit) (known : Assertion) (c : Course Assertion) → Follows {X = Unit {0}} (Err (add_end.Limit l)) known c → l ≡ Facts
+  pub course : (l : Limit) (known other : Assertion) (c : Course Assertion)
+      → Follows {X = Unit {0}} (Ok tt) known c → Follows {X = Unit {0}} (Err (add_end.Limit l)) other c → ⊥

@@ -3,8 +3,10 @@
 
 mod adding;
 mod ends;
+mod laws;
 mod naming;
 
 pub use adding::add_equal;
 pub use ends::{AddEnd, LineEnd};
+pub use laws::limits_are_apart;
 pub use naming::{left_side, names, now_expr, old_atom, old_fact, old_register};

@@ -81,3 +81,13 @@ lines_answer w b k ls known = judged_answer (lines_judged w b k ls known)
 
 abbrev pub end_answer : Beside → AlignedBlock → ℕ → Assertion → Option Verdict
 end_answer w b k known = judged_answer (end_judged w b k known)
+
+-- No limit but that on facts is told, and none where there is an answer, or a course gives what is known.
+pub record LimitsAreApart : Type 0 where
+  pub facts : (l : Limit) (due : Option Verdict) → Answers (Err (check_end.Limit l)) due → l ≡ Facts
+  pub answer : (l : Limit) (v : Verdict) (due : Option Verdict) → Answers (Ok v) due → Answers (Err (check_end.Limit l)) due → ⊥
+  pub came : (l : Limit) (refusal : Option Reason) (known other : Assertion) (due : Option (Ends Assertion))
+      → CameOf (Ok refusal) known due → CameOf (Err (check_end.Limit l)) other due → ⊥
+  pub course : (l : Limit) (known other : Assertion) (c : Course Assertion)
+      → Follows {X = Unit {0}} (Ok tt) known c → Follows {X = Unit {0}} (Err (check_end.Limit l)) other c → ⊥
+  pub gave : (l : Limit) (known : Assertion) (due : Option (Ends Assertion)) → Gave (Ok known) due → Gave (Err (check_end.Limit l)) due → ⊥

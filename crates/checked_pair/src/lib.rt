@@ -6,10 +6,12 @@
 mod agreeing;
 mod asking;
 mod ends;
+mod laws;
 mod pair;
 mod terms;
 
 pub use agreeing::block_agrees;
 pub use ends::CheckEnd;
+pub use laws::limits_are_apart;
 pub use pair::Pair;
 pub use terms::term_fault;

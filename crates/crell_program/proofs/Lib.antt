@@ -1,6 +1,7 @@
 pub mod Bytes
 pub mod Causes
 pub mod Completeness
+pub mod Examples
 pub mod FaultStatus
 pub mod Fetches
 pub mod Grammars

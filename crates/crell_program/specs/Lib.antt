@@ -1,6 +1,7 @@
 pub mod Command
 pub mod Delivery
 pub mod Due
+pub mod Examples
 pub mod Fetching
 pub mod Grammar
 pub mod InMemory

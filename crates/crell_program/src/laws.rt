@@ -1,3 +1,4 @@
+ghost use Rattle.crell_program.specs.Examples.{HeadlinesAreOfTexts, PartsAreNotAll, ReadingsAreOne, StatusesOfExamples};
 ghost use Rattle.crell_program.specs.Grammar.{FaultsAreOfOneKind, FaultsExcludeModules};
 ghost use Rattle.crell_program.specs.InMemory.{TextsWithinRoomFit};
 ghost use Rattle.crell_program.specs.Judged.{RunsAreJudged, StillRunsHaveNoFault};
@@ -24,7 +25,7 @@ pub fn refinement_is_of_modules()
 /// Empty on purpose: its contract is the law.
 ///
 /// Where of each file of a command it is told that it is absent, or bytes that are judged, one of the premises holds under which the rows fix the
-/// status; and where the counts of faults stay there is no fault.
+/// status; and where the counts of faults stay, below their last value, there is no fault.
 pub fn runs_are_judged()
     ensures judged { RunsAreJudged }
     ensures no_fault { StillRunsHaveNoFault }
@@ -35,4 +36,16 @@ pub fn runs_are_judged()
 /// Sinks in memory with room for an answer's texts are sure to take them.
 pub fn texts_within_room_fit()
     ensures { TextsWithinRoomFit }
+{}
+
+/// Empty on purpose: its contract is the law.
+///
+/// Which statuses there are; what the headline says of told texts; that a hint file's text is read as one thing, and that a sink which
+/// got a part of a text didn't get all of it.
+#[tactic(auto, using(crate::proofs::Examples::statuses_of_examples, crate::proofs::Examples::headlines_are_of_texts, crate::proofs::Examples::readings_are_one, crate::proofs::Examples::parts_are_not_all))]
+pub fn answers_are_told_apart()
+    ensures statuses { StatusesOfExamples }
+    ensures headlines { HeadlinesAreOfTexts }
+    ensures readings { ReadingsAreOne }
+    ensures deliveries { PartsAreNotAll }
 {}

@@ -9,5 +9,7 @@ mod laws;
 mod program;
 
 pub use in_memory::{MemoryRun, crell_in_memory};
-pub use laws::{refinement_is_of_modules, runs_are_judged, texts_within_room_fit};
+pub use laws::{
+    answers_are_told_apart, refinement_is_of_modules, runs_are_judged, texts_within_room_fit,
+};
 pub use program::{WANT_OF_MEMORY, crell, crell_with_shipped_rules};

@@ -3,10 +3,12 @@
 #![tactic(auto)]
 
 mod indexed_set;
+mod laws;
 mod naming;
 mod near_facts;
 mod register_set;
 
 pub use indexed_set::IndexedSet;
+pub use laws::examples_of_near_facts;
 pub use near_facts::NearFacts;
 pub use register_set::RegisterSet;

@@ -12,3 +12,4 @@ pub mod Ranges
 pub mod Texts
 pub mod Uses
 pub mod Whole
+pub mod OneFresh

@@ -2,6 +2,7 @@
 use Rattle.std.specs.Prelude.{◌≡◌, ℕ, List, []}
 use Rattle.std.specs.List.{AllByRecursion}
 use Rattle.ir_core.specs.declared.modules.Module.{Module}
+use Rattle.ir_types.specs.declared.names.Name.{Name}
 use Rattle.ir_core.specs.Functions.{function_names, names_of}
 use Rattle.ir_core.specs.Integers.{IsOverIntegers}
 use Rattle.ir_core.specs.Order.{AreInOrder, IsInOrder}
@@ -9,7 +10,7 @@ use Rattle.ir_core.specs.Ranges.{AreBytes, IsInRange}
 use Rattle.ir_core.specs.WellFormed.{HasFunctionShape, HasShape, IsDefined, IsWellFormed}
 use Rattle.ir_printer.specs.Printed.{printed_module}
 use Rattle.ir_rename.specs.Laws.{HasNamesApart, HasNamesInRange, IsText}
-use Rattle.ir_rename.specs.Named.{named_all}
+use Rattle.ir_rename.specs.Named.{IsFresh, named_all}
 use Rattle.ir_rename.specs.Numbered.{numbered_in_order}
 use Rattle.ir_reader.specs.Spells.{Spells, SpellsWellFormed}
 use Rattle.module_limits.specs.Passed.{AreShort}
@@ -76,3 +77,9 @@ NumberingAgainChangesNothing = (m : Module) → HasNamesApart m → numbered_in_
 -- what is named has nothing to number
 abbrev pub NamedHaveNoNumbers : Type 0
 NamedHaveNoNumbers = (m : Module) → numbered_in_order (named_all m) ≡ named_all m
+
+-- ---- free names
+
+-- Of one text there is one free name: the one with the fewest dots.
+abbrev pub FreshNamesAreOne : Type 0
+FreshNamesAreOne = (taken : List Name) (text a b : List ℕ) → IsFresh taken text a → IsFresh taken text b → a ≡ b

@@ -2,7 +2,7 @@ ghost use Rattle.ir_rename.specs.Named.{named_all};
 ghost use Rattle.ir_rename.specs.Numbered.{numbered_in_order};
 ghost use Rattle.renaming_laws.specs.Kept.{DefinednessStays, FunctionNamesStay, IntegersStay, LimitsStay, NamesStayApart, RangeStays, ShapeStays, WellFormednessStays};
 ghost use Rattle.renaming_laws.specs.Whole.{IsReadAgain, SpelledIsReadAgain};
-ghost use Rattle.renaming_laws.specs.Laws.{CanBeRead, CanBeRun, GivesOrder, KeepsDefined, KeepsIntegers, KeepsNamesInRange, KeepsRange, KeepsShape, KeepsWellFormed, NamedHaveNoNumbers, NamingAgainChangesNothing, NumberingAgainChangesNothing, SpelledCanBeRead, SpelledCanBeRun, TextsStay};
+ghost use Rattle.renaming_laws.specs.Laws.{CanBeRead, CanBeRun, FreshNamesAreOne, GivesOrder, KeepsDefined, KeepsIntegers, KeepsNamesInRange, KeepsRange, KeepsShape, KeepsWellFormed, NamedHaveNoNumbers, NamingAgainChangesNothing, NumberingAgainChangesNothing, SpelledCanBeRead, SpelledCanBeRun, TextsStay};
 
 use ir_reader::spelled_modules_fit;
 use ir_rename::{
@@ -132,3 +132,11 @@ pub fn renamed_modules_are_read_again()
     spelled_modules_are_in_range();
     spelled_modules_are_within();
 }
+
+/// Empty on purpose: its contract is the law.
+///
+/// A text has one free name, beside whatever is taken.
+#[tactic(auto, using(crate::proofs::OneFresh::fresh_names_are_one))]
+pub fn fresh_names_are_one()
+    ensures { FreshNamesAreOne }
+{}

@@ -10,7 +10,7 @@ mod laws;
 pub use hints::{printed_expressions_are_read, printed_facts_are_read, printed_names_are_read};
 pub use judging::{functions_are_judged, texts_are_judged, ways_have_a_first};
 pub use laws::{
-    named_modules_can_be_run, named_modules_stay_well_formed, numbered_modules_can_be_run,
-    numbered_modules_stay_well_formed, renamed_modules_are_read_again,
+    fresh_names_are_one, named_modules_can_be_run, named_modules_stay_well_formed,
+    numbered_modules_can_be_run, numbered_modules_stay_well_formed, renamed_modules_are_read_again,
     renamed_modules_stay_well_formed, renaming_again_changes_nothing, spelled_modules_are_renamed,
 };

@@ -13,3 +13,4 @@ pub mod Examples
 pub mod TypeExamples
 pub mod StatedExamples
 pub mod MemoryExamples
+pub mod OneEnd

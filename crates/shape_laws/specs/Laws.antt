@@ -17,8 +17,10 @@ use Rattle.ir_core.specs.Order.{AreNew}
 use Rattle.ir_core.specs.Typing.{Signature, signatures_of}
 use Rattle.ir_types.specs.declared.names.Name.{Name}
 use Rattle.shape_laws.specs.Examples.{add, alloca, alone, block, branching, call, calling, cast, cast_of, debug, declared, declaring, element, entering, entry, f, fitting, function, held, icmp, icmp_of, in_f, in_header, in_named, in_y, index, jumping, last, leading_nowhere, load, naming, null_to_x, number_of, of_blocks, of_globals, of_lines, of_memory, params, phi, phi_to_x, returning, returning_recast, select, setting, store, struct, switching, to_x, used, beside_types, given, x, y}
+use Rattle.ir_shape.specs.declared.fault.ShapeEnd.{ShapeEnd}
+use Rattle.ir_shape.specs.declared.fault.ShapeEnd.TheVariants as end
 use Rattle.ir_shape.specs.declared.fault.ShapeFault.{ShapeFault}
-use Rattle.ir_shape.specs.Shape.{first_fault, first_of, in_function}
+use Rattle.ir_shape.specs.Shape.{IsEndOf, IsEndOfFunction, first_fault, first_of, in_function}
 use Rattle.ir_core.specs.Modules.{plain_function, plain_module, plain_param}
 
 -- A module has no fault exactly where it has shape.
@@ -35,6 +37,20 @@ FaultlessFunctionsHaveShape = (m : Module) (f : Function) → in_function m fals
 abbrev pub ShapelyFunctionsAreFaultless : Type 0
 ShapelyFunctionsAreFaultless =
     (m : Module) → AreNew [] (map (λ (s : Name × Signature). s.0) (signatures_of m)) → (f : Function) → HasFunctionShape m f → in_function m false f ≡ []
+
+-- an end that tells of a module, as all do but want of memory
+abbrev pub IsOfModule : ShapeEnd → Type 0
+IsOfModule (end.Fault f) = Unit {0}
+IsOfModule (end.Limit l) = Unit {0}
+IsOfModule end.Memory = ⊥
+
+-- One such end at most is a module's: a limit that is passed, or the first fault where none is. So it is of a function beside a module.
+abbrev pub EndsAreOne : Type 0
+EndsAreOne = (m : Module) (a b : ShapeEnd) → IsOfModule a → IsOfModule b → IsEndOf m a → IsEndOf m b → a ≡ b
+
+abbrev pub EndsOfFunctionsAreOne : Type 0
+EndsOfFunctionsAreOne =
+    (m : Module) (f : Function) (a b : ShapeEnd) → IsOfModule a → IsOfModule b → IsEndOfFunction m f a → IsEndOfFunction m f b → a ≡ b
 
 -- ---- examples
 

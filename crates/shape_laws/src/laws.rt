@@ -1,4 +1,4 @@
-ghost use Rattle.shape_laws.specs.Laws.{FaultlessModulesHaveShape, ShapelyModulesAreFaultless, FaultlessFunctionsHaveShape, ShapelyFunctionsAreFaultless};
+ghost use Rattle.shape_laws.specs.Laws.{EndsAreOne, EndsOfFunctionsAreOne, FaultlessModulesHaveShape, ShapelyModulesAreFaultless, FaultlessFunctionsHaveShape, ShapelyFunctionsAreFaultless};
 ghost use Rattle.shape_laws.specs.Laws.{FittingLinesHaveNone, OperandsOfNoInteger, ConditionsAndArms, Conversions, Results, Phis, EnteredEntries, Branches, Cases, NamedTypes, StatedTypes, Names, Labels, Operands, Registers};
 ghost use Rattle.shape_laws.specs.Laws.{Accesses, Addresses, Calls, Declarations, DeclarationsComeInOrder, Globals, RecursiveCalls, UsesOfAddresses};
 ghost use Rattle.shape_laws.specs.Laws.{LinesComeBeforeEnds, NamesComeBeforeLines, TypesComeFirst, FunctionsComeInOrder, KindsComeInOrder};
@@ -24,6 +24,15 @@ pub fn modules_with_shape_are_faultless()
 pub fn functions_have_shape_or_a_fault()
     ensures faultless { FaultlessFunctionsHaveShape }
     ensures shapely { ShapelyFunctionsAreFaultless }
+{}
+
+/// Empty on purpose: its contract is the law.
+///
+/// One end at most that isn't want of memory is a module's, or a function's beside a module.
+#[tactic(auto, using(crate::proofs::OneEnd::ends_are_one, crate::proofs::OneEnd::ends_of_functions_are_one))]
+pub fn ends_are_one()
+    ensures modules { EndsAreOne }
+    ensures functions { EndsOfFunctionsAreOne }
 {}
 
 /// Empty on purpose: its contract is the law.

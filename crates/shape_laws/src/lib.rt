@@ -5,7 +5,7 @@
 mod laws;
 
 pub use laws::{
-    examples_of_memory_faults, examples_of_order, examples_of_shape_faults,
+    ends_are_one, examples_of_memory_faults, examples_of_order, examples_of_shape_faults,
     examples_of_type_faults, faultless_modules_have_shape, functions_have_shape_or_a_fault,
     modules_with_shape_are_faultless,
 };
