@@ -22,7 +22,7 @@ starts_are_reached m f input s starts = record { entry = f; input = input; first
 pub steps_are_reached : StepsAreReached
 steps_are_reached m s made reached follows =
     let on : (all : List Item) × Leads m (suc reached.steps) reached.first all made.after
-        = led_on m reached.steps reached.first reached.items s made reached.leads follows in
+    = led_on m reached.steps reached.first reached.items s made reached.leads follows in
     record {
       entry = reached.entry;
       input = reached.input;
