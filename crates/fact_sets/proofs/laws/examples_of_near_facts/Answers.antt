@@ -4,6 +4,7 @@ use Rattle.fact_sets.specs.Examples.{three_is_seven}
 use Rattle.fact_sets.proofs.laws.examples_of_near_facts.Goals as goal
 
 pub returns : goal.returns
+unfolding Rattle.fact_sets.specs.Near.AreNear
 returns c = record {
   left = refl;
   right = refl;
