@@ -1,14 +1,16 @@
 //! Over the edges that leave a block.
-ghost use Rattle.std.specs.Prelude.{◌≡◌, ◌++◌, [], ◌∷◌, map, IfOk, OnOk};
+ghost use Rattle.std.specs.Prelude.{◌≡◌, ◌++◌, [], ◌∷◌, map, true, IfErr, IfOk, IfSome, OnOk};
 ghost use Rattle.erhl_assert.specs.Alignment.{block_hint};
 ghost use Rattle.erhl_assert.specs.Course.{within, judged_answer};
-ghost use Rattle.erhl_assert.specs.Edges.{without_old, edge_between};
+ghost use Rattle.erhl_assert.specs.Edges.{without_old, edge_between, phis_at};
 ghost use Rattle.erhl_assert.specs.Growth.{over_edge};
 ghost use Rattle.erhl_assert.specs.Steps.{steps_on};
 ghost use Rattle.erhl_assert.specs.Acceptance as judged;
 ghost use Rattle.checked_pair.specs.Asked.{asked};
-ghost use Rattle.checked_pair.specs.Progress.{Answers, Gave, fault_at, after_edge_steps, names_lent};
+ghost use Rattle.checked_pair.specs.Progress.{Answers, Gave, Stopped, fault_at, after_edge_steps, names_lent};
+ghost use Rattle.block_checker.specs.Plain.{IsOverPlain, IsPlainEdge};
 
+use block_phis::Phis;
 use checked_pair::{CheckEnd, Pair};
 use contents::{Exact, Seq};
 use erhl_assert::{HintBlock, HintEdge, HintStep, Reason, Side, Spot, Verdict};
@@ -148,6 +150,67 @@ fn arrive<B: RuleSet>(
     }
 }
 
+/// Whether there is none.
+#[tactic(auto, using(crate::proofs::Plain::none_there))]
+fn are_none(phis: &Phis<'_>) -> bool
+    ensures { result ≡ true → phis.now ≡ [] }
+{
+    phis.all().is_empty()
+}
+
+/// Whether neither side has a phi in the block.
+fn has_no_phis<B: RuleSet>(pair: &Pair<'_, '_, '_, B>, to: &Name) -> bool
+    ensures { result ≡ true → (phis_at to.now (asked B.rules pair.now).source ≡ []) × (phis_at to.now (asked B.rules pair.now).target ≡ []) }
+{
+    are_none(pair.source_phis(to)) && are_none(pair.target_phis(to))
+}
+
+/// Finds what is known over an edge without steps, to a block without phis, unless it is found. It is the same on each such edge.
+#[tactic(auto, using(crate::proofs::Plain::plain_over, checked_pair::proofs::Progressing::edge_stopped))]
+fn find_plain<B: RuleSet>(
+    alloc: Global,
+    pair: &Pair<'_, '_, '_, B>,
+    from: &Name,
+    to: &Name,
+    known: &Sides<IndexedSet>,
+    plain: &mut Option<Sides<IndexedSet>>,
+) -> Result<(), CheckEnd>
+    requires edge { IsPlainEdge (asked B.rules pair.now) from.now to.now }
+    requires found { IfSome plain.old (IsOverPlain from.now known.now) }
+    ensures found { IfSome plain.new (IsOverPlain from.now known.now) }
+    ensures end { IfErr result (λ end. Stopped end (fault_at (within (judged.along_edge (asked B.rules pair.now) from.now to.now known.now)))) }
+{
+    if plain.is_none() {
+        *plain = Some(cross(alloc, pair, from, to, known)?);
+    }
+    Ok(())
+}
+
+/// Over an edge without steps, to a block without phis.
+#[tactic(auto, using(crate::proofs::Plain::plain_arrived))]
+fn along_plain_edge<B: RuleSet>(
+    alloc: Global,
+    pair: &Pair<'_, '_, '_, B>,
+    from: &Name,
+    to: &Name,
+    known: &Sides<IndexedSet>,
+    plain: &mut Option<Sides<IndexedSet>>,
+) -> Result<Option<Reason>, CheckEnd>
+    requires edge { IsPlainEdge (asked B.rules pair.now) from.now to.now }
+    requires found { IfSome plain.old (IsOverPlain from.now known.now) }
+    ensures answer { Answers result (fault_at (within (judged.along_edge (asked B.rules pair.now) from.now to.now known.now))) }
+    ensures found { IfSome plain.new (IsOverPlain from.now known.now) }
+{
+    find_plain(alloc, pair, from, to, known, plain)?;
+    match &*plain {
+        Some(crossed) => {
+            let fault = arrival_fault(alloc, pair.hint_of(to), crossed)?;
+            Ok(fault)
+        }
+        None => Err(CheckEnd::Memory),
+    }
+}
+
 /// Over the edge with its phis, the steps on it, and what the block claims that it enters.
 #[tactic(auto, using(checked_pair::proofs::Progressing::edge_stopped))]
 fn along_edge<B: RuleSet>(
@@ -157,11 +220,17 @@ fn along_edge<B: RuleSet>(
     from: &Name,
     to: &Name,
     known: &Sides<IndexedSet>,
+    plain: &mut Option<Sides<IndexedSet>>,
 ) -> Result<Option<Reason>, CheckEnd>
-    requires { edges.now ≡ (block_hint (asked B.rules pair.now).hint from.now).edges }
-    ensures { Answers result (fault_at (within (judged.along_edge (asked B.rules pair.now) from.now to.now known.now))) }
+    requires edges { edges.now ≡ (block_hint (asked B.rules pair.now).hint from.now).edges }
+    requires found { IfSome plain.old (IsOverPlain from.now known.now) }
+    ensures answer { Answers result (fault_at (within (judged.along_edge (asked B.rules pair.now) from.now to.now known.now))) }
+    ensures found { IfSome plain.new (IsOverPlain from.now known.now) }
 {
     let steps = steps_on(alloc, edges, to)?;
+    if steps.is_empty() && has_no_phis(pair, to) {
+        return along_plain_edge(alloc, pair, from, to, known, plain);
+    }
     let mut crossed = cross(alloc, pair, from, to, known)?;
     arrive(alloc, pair, steps.as_slice(), to, &mut crossed)
 }
@@ -174,11 +243,14 @@ fn edge_answer<B: RuleSet>(
     from: &Name,
     to: &Name,
     known: &Sides<IndexedSet>,
+    plain: &mut Option<Sides<IndexedSet>>,
 ) -> Result<Verdict, CheckEnd>
-    requires { edges.now ≡ (block_hint (asked B.rules pair.now).hint from.now).edges }
-    ensures { Answers result (judged_answer (judged.edge_judged (asked B.rules pair.now) from.now known.now to.now)) }
+    requires edges { edges.now ≡ (block_hint (asked B.rules pair.now).hint from.now).edges }
+    requires found { IfSome plain.old (IsOverPlain from.now known.now) }
+    ensures answer { Answers result (judged_answer (judged.edge_judged (asked B.rules pair.now) from.now known.now to.now)) }
+    ensures found { IfSome plain.new (IsOverPlain from.now known.now) }
 {
-    match along_edge(alloc, pair, edges, from, to, known)? {
+    match along_edge(alloc, pair, edges, from, to, known, plain)? {
         None => Ok(Verdict::Valid),
         Some(reason) => {
             let verdict = refused_on_edge(alloc, from, to, reason)?;
@@ -200,8 +272,9 @@ pub(crate) fn edges_answer<B: RuleSet>(
     ensures { Answers result (judged_answer (judged.edges_judged (asked B.rules pair.now) from.now known.now (names_lent labels.now))) }
 {
     let edges = ByName::new(alloc, hint.edges.as_slice())?;
+    let mut plain = None;
     for to in labels {
-        match edge_answer(alloc, pair, &edges, from, to, known) {
+        match edge_answer(alloc, pair, &edges, from, to, known, &mut plain) {
             Ok(verdict) => match verdict {
                 Verdict::Valid => {}
                 Verdict::Refused {

@@ -5,7 +5,7 @@ use Rattle.checked_pair.specs.Asked.{asked}
 use Rattle.checked_pair.proofs.Progressing.{answers_so, edge_crossed}
 use Rattle.block_checker.proofs.edges.along_edge.Goals as goal
 
-pub returns : goal.returns
-returns g c =
+pub returns-clause-answer : goal.returns-clause-answer
+returns-clause-answer g c =
     answers_so (edge_crossed (asked g.B.RuleSet.rules c.args.pair.now) c.args.from.now c.args.to.now c.args.known.now (map (λ (s : Bor HintStep). s.now) c.as_slice.result.now)
     c.in_ok-crossed.crossed (search rules) c.in_ok-crossed.ensures) c.arrive.result c.arrive.ensures

@@ -4,7 +4,7 @@ use Rattle.checked_pair.specs.Asked.{asked}
 use Rattle.checked_pair.proofs.Progressing.{edge_refused}
 use Rattle.block_checker.proofs.edges.edge_answer.Goals as goal
 
-pub returns-in_ok-verdict-in-Some : goal.returns-in_ok-verdict-in-Some
-returns-in_ok-verdict-in-Some g c =
-    edge_refused (asked g.B.RuleSet.rules c.args.pair.now) c.args.from.now c.args.to.now c.args.known.now c.in-Some.reason (c.in_ok-along_edge.ensures ∙ ap (λ o. Some o) c.in-Some.is)
+pub returns-in_ok-verdict-in-Some-clause-answer : goal.returns-in_ok-verdict-in-Some-clause-answer
+returns-in_ok-verdict-in-Some-clause-answer g c =
+    edge_refused (asked g.B.RuleSet.rules c.args.pair.now) c.args.from.now c.args.to.now c.args.known.now c.in-Some.reason (c.in_ok-along_edge.ensures.answer ∙ ap (λ o. Some o) c.in-Some.is)
     ∙ ap (λ v. Some v) (sym c.in_ok-verdict-in-Some.ensures)

@@ -4,15 +4,17 @@ use Rattle.block_checker.proofs.edges.edges_answer.Goals as goal
 
 pub returns-in-Err : goal.returns-in-Err
 returns-in-Err g c = λ l limit.
-    let more = c.in-Err.ensures l limit in
-    (more.0, edge_stops (asked g.B.RuleSet.rules c.args.pair.now) c.args.from.now c.args.known.now c.args.labels.now c.loop-to.to-index _ c.loop-to.invariant c.to-item.result c.loop-to-test.true c.to-item.is more.1)
+    let more = c.in-Err.ensures.answer l limit in
+    (more.0, edge_stops (asked g.B.RuleSet.rules c.args.pair.now) c.args.from.now c.args.known.now c.args.labels.now c.loop-to.to-index _ c.loop-to.invariant.0 c.to-item.result c.loop-to-test.true c.to-item.is more.1)
 
 pub returns-in-Refused : goal.returns-in-Refused
 returns-in-Refused g c =
-    edge_refuses (asked g.B.RuleSet.rules c.args.pair.now) c.args.from.now c.args.known.now c.args.labels.now c.loop-to.to-index _ c.loop-to.invariant c.to-item.result c.loop-to-test.true c.to-item.is
-    c.in-Ok.verdict c.in-Refused.block c.in-Refused.spot c.in-Refused.reason c.in-Ok.ensures c.in-Refused.is
+    edge_refuses (asked g.B.RuleSet.rules c.args.pair.now) c.args.from.now c.args.known.now c.args.labels.now c.loop-to.to-index _ c.loop-to.invariant.0 c.to-item.result c.loop-to-test.true c.to-item.is
+    c.in-Ok.verdict c.in-Refused.block c.in-Refused.spot c.in-Refused.reason c.in-Ok.ensures.answer c.in-Refused.is
 
 pub loop-to-preserved : goal.loop-to-preserved
-loop-to-preserved g c =
-    edge_passes (asked g.B.RuleSet.rules c.args.pair.now) c.args.from.now c.args.known.now c.args.labels.now c.loop-to.to-index _ c.loop-to.invariant c.to-item.result c.loop-to-test.true c.to-item.is
-    c.in-Ok.verdict c.in-Ok.ensures c.in-Valid.is
+loop-to-preserved g c = (
+  edge_passes (asked g.B.RuleSet.rules c.args.pair.now) c.args.from.now c.args.known.now c.args.labels.now c.loop-to.to-index _ c.loop-to.invariant.0 c.to-item.result c.loop-to-test.true c.to-item.is
+      c.in-Ok.verdict c.in-Ok.ensures.answer c.in-Valid.is,
+  c.in-Ok.ensures.found,
+)
