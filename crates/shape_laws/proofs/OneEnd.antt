@@ -1,5 +1,5 @@
 -- Of a module, and of a function beside one, there is one end.
-use Rattle.std.proofs.Common.{◌≡◌, List, Option, Some, refl, ap, sym, ◌∙◌}
+use Rattle.std.proofs.Common.{◌≡◌, false, List, Option, Some, refl, ap, sym, ◌∙◌}
 use Rattle.ir_core.specs.declared.functions.Function.{Function}
 use Rattle.ir_core.specs.declared.limits.Limit.{Limit}
 use Rattle.ir_core.specs.declared.limits.Limit.TheVariants as limit
