@@ -136,7 +136,6 @@ pub fn renamed_modules_are_read_again()
 /// Empty on purpose: its contract is the law.
 ///
 /// A text has one free name, beside whatever is taken.
-#[tactic(auto, using(crate::proofs::OneFresh::fresh_names_are_one))]
 pub fn fresh_names_are_one()
     ensures { FreshNamesAreOne }
 {}
