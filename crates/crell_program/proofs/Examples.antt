@@ -1,14 +1,11 @@
 -- What statuses, headlines, readings and deliveries are not.
-use Rattle.std.proofs.Common.{◌≡◌, ◌++◌, ℕ, List, [], Option, Some, refl, sym, ◌∙◌, ap, subst}
+use Rattle.std.proofs.Common.{◌≡◌, ◌++◌, ℕ, true, false, List, [], Option, Some, refl, sym, ◌∙◌, ap}
 use Rattle.std.proofs.lemmas.List.{append-nil, append_cancel_left}
-use Rattle.json_forms.specs.Forms.{Reading}
-use Rattle.erhl_assert.specs.declared.hints.Hints.{Hints}
 use Rattle.crell_io.specs.Sink.{appended}
-use Rattle.crell_program.specs.Delivery.{GotAll, GotPart, SinkSeen}
 use Rattle.crell_program.specs.Examples.{HeadlinesAreOfTexts, PartsAreNotAll, ReadingsAreOne, StatusesOfExamples}
 
 pub statuses_of_examples : StatusesOfExamples
-statuses_of_examples = record { least = tt; most = tt; more = λ s. s }
+statuses_of_examples = record { least = refl; most = refl; more = λ (s : false ≡ true). cc }
 
 pub headlines_are_of_texts : HeadlinesAreOfTexts
 headlines_are_of_texts = record {

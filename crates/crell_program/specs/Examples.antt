@@ -1,5 +1,5 @@
 -- What statuses, headlines, readings and deliveries are not: laws that hold their words to what they mean.
-use Rattle.std.specs.Prelude.{◌≡◌, ◌↔◌, ℕ, List, Option, None, Some}
+use Rattle.std.specs.Prelude.{◌≡◌, ◌↔◌, ℕ, List, None, Some}
 use Rattle.json_forms.specs.Forms.{Reading}
 use Rattle.erhl_assert.specs.declared.hints.Hints.{Hints}
 use Rattle.crell_io.specs.Shelf.{Told}

@@ -42,7 +42,6 @@ pub fn texts_within_room_fit()
 ///
 /// Which statuses there are; what the headline says of told texts; that a hint file's text is read as one thing, and that a sink which
 /// got a part of a text didn't get all of it.
-#[tactic(auto, using(crate::proofs::Examples::statuses_of_examples, crate::proofs::Examples::headlines_are_of_texts, crate::proofs::Examples::readings_are_one, crate::proofs::Examples::parts_are_not_all))]
 pub fn answers_are_told_apart()
     ensures statuses { StatusesOfExamples }
     ensures headlines { HeadlinesAreOfTexts }
