@@ -3,7 +3,7 @@
 #![tactic(auto)]
 
 ghost use Rattle.std.specs.Prelude.{◌≡◌, ◌⊎◌, None, IfOk, OnErr, map, string_bytes};
-ghost use Rattle.command_line.specs.Words.{command_of};
+ghost use Rattle.crell_program.specs.CommandLine.Words.{command_of};
 ghost use Rattle.crell_program.specs.Statuses.{IsStatus};
 
 use crell_io::{HostShelf, HostSink};

@@ -16,11 +16,11 @@ use Rattle.json_forms.specs.declared.failure.Fault.TheVariants.{At, Past}
 use Rattle.crell_io.specs.Count.{HasRisen}
 use Rattle.crell_io.specs.Shelf.{IfTold}
 use Rattle.crell_io.specs.Sink.{appended}
-use Rattle.crell_answers.specs.declared.answer.Answer.{Answer}
-use Rattle.crell_answers.specs.Answer.{usage, module_fault, text_fault, at_fault, printed, read_failed, past_limit, absent}
-use Rattle.command_line.specs.declared.request.Listing.{Listing}
+use Rattle.crell_program.specs.declared.crell_answers.answer.Answer.{Answer}
+use Rattle.crell_program.specs.CrellAnswers.Answer.{usage, module_fault, text_fault, at_fault, printed, read_failed, past_limit, absent}
+use Rattle.crell_program.specs.declared.command_line.request.Listing.{Listing}
 use Rattle.crell_program.specs.declared.command.Form.TheVariants.{ModuleText, HintFile}
-use Rattle.command_line.specs.Words.{CheckFiles, Command, Check, Print}
+use Rattle.crell_program.specs.CommandLine.Words.{CheckFiles, Command, Check, Print}
 use Rattle.crell_program.specs.Command.{File, limit_of, files_of}
 use Rattle.crell_program.specs.Due.{ShelfSeen, Held, Missing, Long, Broken, MayCome, DueOfFile, DueOfFiles, DueOfCheck, DueOfListing, DueOfTexts, IsReadOnlyAs, checked}
 use Rattle.crell_program.specs.declared.command.Grammar.{Grammar}
@@ -36,7 +36,7 @@ use Rattle.crell_program.proofs.Grammars.{holds_no_hints, told_as_text}
 abbrev pub Says : Run → ℕ → Type 0
 Says run zero = HasListing run.shelf.told run.command (λ text. GotAll run.out text)
 Says run (suc zero) = IsAnswer IsInvalid run.rules run.shelf.told run.command
-Says run (suc (suc zero)) = (run.command ≡ None) × GotNothing run.out × ((text : List ℕ) × GotAll run.err text)
+Says run (suc (suc zero)) = (run.command ≡ None) × GotNothing run.out × ((text : List ℕ) × (text ≢ []) × GotAll run.err text)
 Says run (suc (suc (suc zero))) = SomeFileIsUnfit 3 run.shelf.told run.command × GotNothing run.out
 Says run (suc (suc (suc (suc zero)))) = SomeFileIsUnfit 4 run.shelf.told run.command × GotNothing run.out
 Says run (suc (suc (suc (suc (suc zero))))) = HintsAreAtFault IsPlace run.shelf.told run.command × GotNothing run.out
@@ -235,19 +235,19 @@ module _ (rules : Rules) (shelf : ShelfSeen) (out err : SinkSeen) (command : Com
       subst P (sym e) (inr part.0)
 
 -- other words than a command's get a text that says so
-said_of_others : (rules : Rules) (shelf : ShelfSeen) (out err : SinkSeen) (text : List ℕ) (status : ℕ)
+said_of_others : (rules : Rules) (shelf : ShelfSeen) (out err : SinkSeen) (text : List ℕ) (status : ℕ) → text ≢ []
     → IsDelivered (usage text) out err status → Says (other_run rules shelf out err) status
-said_of_others rules shelf out err text status (inl (e, to_out, to_err)) =
-    let P : ℕ → Type 0 = λ n. Says (other_run rules shelf out err) n in subst P (sym e) (refl, nothing_of out to_out, (text, to_err))
-said_of_others rules shelf out err text status (inr (inl (e, part, nothing))) = absurd (part_of_nothing out part)
-said_of_others rules shelf out err text status (inr (inr (e, all, part))) =
+said_of_others rules shelf out err text status some (inl (e, to_out, to_err)) =
+    let P : ℕ → Type 0 = λ n. Says (other_run rules shelf out err) n in subst P (sym e) (refl, nothing_of out to_out, (text, some, to_err))
+said_of_others rules shelf out err text status some (inr (inl (e, part, nothing))) = absurd (part_of_nothing out part)
+said_of_others rules shelf out err text status some (inr (inr (e, all, part))) =
     let P : ℕ → Type 0 = λ n. Says (other_run rules shelf out err) n in subst P (sym e) (inr part.0)
 
 said_by : (rules : Rules) (shelf : ShelfSeen) (out err : SinkSeen) (command : Option Command) (status : ℕ)
     → IsAnswered (record { rules = rules; command = command; shelf = shelf; out = out; err = err }) status
     → Says (record { rules = rules; command = command; shelf = shelf; out = out; err = err }) status
 said_by rules shelf out err None status (inl (answer, due, delivered)) =
-    let P : Answer → Type 0 = λ a. IsDelivered a out err status in said_of_others rules shelf out err due.0 status (subst P due.1 delivered)
+    let P : Answer → Type 0 = λ a. IsDelivered a out err status in said_of_others rules shelf out err due.0 status due.1 (subst P due.2 delivered)
 said_by rules shelf out err (Some command) status (inl (answer, due, delivered)) = said_of_command rules shelf out err command answer status due delivered
 said_by rules shelf out err command status (inr (e, to_out, to_err)) =
     let P : ℕ → Type 0 = λ n. Says (record { rules = rules; command = command; shelf = shelf; out = out; err = err }) n in subst P (sym e) to_out.0
@@ -293,9 +293,9 @@ other_status_by : (rules : Rules) (shelf : ShelfSeen) (out err : SinkSeen) (comm
     → IsAnswered (record { rules = rules; command = command; shelf = shelf; out = out; err = err }) status
     → command ≡ None → (status ≡ 2) ⊎ (status ≡ 8) ⊎ ((status ≡ 7) × HasRisen err.faults err.faults_after)
 other_status_by rules shelf out err (Some command) status answered e = absurd (some_isnt_none command e)
-other_status_by rules shelf out err None status (inl (answer, due, inl (e, to_out, to_err))) none = inl (e ∙ ap (λ (a : Answer). a.status) due.1)
+other_status_by rules shelf out err None status (inl (answer, due, inl (e, to_out, to_err))) none = inl (e ∙ ap (λ (a : Answer). a.status) due.2)
 other_status_by rules shelf out err None status (inl (answer, due, inr (inl (e, part, nothing)))) none =
-    let P : Answer → Type 0 = λ a. GotPart out a.out in absurd (part_of_nothing out (subst P due.1 part))
+    let P : Answer → Type 0 = λ a. GotPart out a.out in absurd (part_of_nothing out (subst P due.2 part))
 other_status_by rules shelf out err None status (inl (answer, due, inr (inr (e, all, part)))) none = inr (inr (e, part.0))
 other_status_by rules shelf out err None status (inr (e, to_out, to_err)) none = inr (inl e)
 

@@ -15,12 +15,12 @@ use Rattle.erhl_assert.specs.Acceptance.{module_answer}
 use Rattle.crell_io.specs.Count.{HasRisen}
 use Rattle.crell_io.specs.Shelf.{Told, IfTold}
 use Rattle.crell_io.specs.Shelf.Told.{NoSuch, Bytes}
-use Rattle.crell_answers.specs.declared.answer.Answer.{Answer}
-use Rattle.command_line.specs.declared.request.Listing.{Listing}
-use Rattle.crell_answers.specs.Answer.{module_fault, at_fault}
-use Rattle.command_line.specs.Words.{CheckFiles, Command, Check, Print}
+use Rattle.crell_program.specs.declared.crell_answers.answer.Answer.{Answer}
+use Rattle.crell_program.specs.declared.command_line.request.Listing.{Listing}
+use Rattle.crell_program.specs.CrellAnswers.Answer.{module_fault, at_fault}
+use Rattle.crell_program.specs.CommandLine.Words.{CheckFiles, Command, Check, Print}
 use Rattle.crell_program.specs.Command.{File, most_bytes, files_of}
-use Rattle.crell_answers.specs.VerdictText.{verdict_status}
+use Rattle.crell_program.specs.CrellAnswers.VerdictText.{verdict_status}
 use Rattle.crell_program.specs.Due.{ShelfSeen, Held, Missing, Long, Broken, DueOfFile, DueOfFiles, DueOfCheck, DueOfListing, DueOfTexts, checked}
 use Rattle.crell_program.specs.declared.command.Grammar.{Grammar}
 use Rattle.crell_program.specs.declared.command.Grammar.TheVariants.{Small, Whole}
@@ -49,13 +49,13 @@ held shelf file answer next bytes told within fine (Long, m, d) =
 held shelf file answer next bytes told within fine (Broken, m, d) = absurd (fine m)
 
 -- of hints and faults, as readings
-hints_same : (a b : Hints) → ◌≡◌ {A = Reading Hints} (Ok a) (Ok b) → a ≡ b
+pub hints_same : (a b : Hints) → ◌≡◌ {A = Reading Hints} (Ok a) (Ok b) → a ≡ b
 hints_same a b e = cc
 
-faults_same : (a b : Fault) → ◌≡◌ {A = Reading Hints} (Err a) (Err b) → a ≡ b
+pub faults_same : (a b : Fault) → ◌≡◌ {A = Reading Hints} (Err a) (Err b) → a ≡ b
 faults_same a b e = cc
 
-not_both : (h : Hints) (fault : Fault) → ◌≡◌ {A = Reading Hints} (Ok h) (Err fault) → ⊥
+pub not_both : (h : Hints) (fault : Fault) → ◌≡◌ {A = Reading Hints} (Ok h) (Err fault) → ⊥
 not_both h fault e = cc
 
 -- the texts of files are within the files' limits

@@ -6,7 +6,7 @@ use Rattle.ir_lexer.specs.declared.fault.TextFault.TheVariants as text
 use Rattle.ir_reader.specs.declared.fault.ModuleFault.{ModuleFault}
 use Rattle.ir_reader.specs.declared.fault.ModuleFault.TheVariants as faults
 use Rattle.ir_reader.specs.InputLaws.{FaultKind, PastLimit, Misspelled, IllFormed, Silent, fault_kind, text_kind}
-use Rattle.crell_answers.specs.Answer.{text_fault, module_fault}
+use Rattle.crell_program.specs.CrellAnswers.Answer.{text_fault, module_fault}
 use Rattle.crell_program.specs.declared.command.Grammar.{Grammar}
 use Rattle.crell_program.specs.Grammar.{FaultsAreOfOneKind, IsAtFault}
 use Rattle.crell_program.specs.Statuses.{module_status, text_status}

@@ -5,7 +5,7 @@ use Rattle.std.proofs.Math.Seq.{drop-cons}
 use Rattle.std.proofs.lemmas.List.{map-append, take_more, take-append-drop}
 use Rattle.crell_io.specs.Count.{HasRisen, HasRisenAbove}
 use Rattle.crell_io.specs.Shelf.{Told, StaysWell}
-use Rattle.crell_answers.specs.declared.answer.Answer.{Answer}
+use Rattle.crell_program.specs.declared.crell_answers.answer.Answer.{Answer}
 use Rattle.crell_program.specs.declared.fetch.Stop.{Stop}
 use Rattle.crell_program.specs.declared.fetch.Stop.TheVariants as stop
 use Rattle.crell_program.specs.Fetching.{IsHeld, AreHeld, IfDue}

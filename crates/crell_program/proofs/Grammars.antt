@@ -8,7 +8,7 @@ use Rattle.module_reader.specs.Laws as whole
 use Rattle.crell_program.specs.declared.command.Form.TheVariants.{ModuleText, HintFile}
 use Rattle.crell_program.specs.declared.command.Grammar.{Grammar}
 use Rattle.crell_program.specs.declared.command.Grammar.TheVariants.{Small, Whole}
-use Rattle.crell_program.specs.Grammar.{FaultsAreOfOneKind, FaultsExcludeModules, IsModuleFault}
+use Rattle.crell_program.specs.Grammar.{FaultsAreOfOneKind, FaultsExcludeModules, IsModuleFault, ModuleFaultsAreOne}
 
 pub one_kind : small.FaultsAreOfOneKind → whole.FaultsAreOfOneKind → FaultsAreOfOneKind
 one_kind s w Small bytes f g short p q = s bytes f g short p.0 p.1 q.0 q.1
@@ -26,3 +26,7 @@ told_as_text Whole bytes f is = is.1
 -- a module's text isn't that of hints
 pub holds_no_hints : (grammar : Grammar) → ModuleText grammar ≢ HintFile
 holds_no_hints grammar e = cc
+
+pub one_module_fault : small.ModuleFaultsAreOne → whole.ModuleFaultsAreOne → ModuleFaultsAreOne
+one_module_fault s w Small bytes f g short p q = s bytes f g short p.0 p.1 q.0 q.1
+one_module_fault s w Whole bytes f g short p q = w bytes f g short p.0 p.1 q.0 q.1

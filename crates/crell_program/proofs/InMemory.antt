@@ -6,10 +6,10 @@ use Rattle.crell_io.specs.Count.{HasRisen}
 use Rattle.crell_io.specs.Shelf.{StaysWell}
 use Rattle.crell_io.specs.MemShelf.{ShelfState, held}
 use Rattle.crell_io.specs.MemSink.{SinkState, sure_room}
-use Rattle.crell_answers.specs.declared.answer.Answer.{Answer}
-use Rattle.command_line.specs.Words.{Command}
+use Rattle.crell_program.specs.declared.crell_answers.answer.Answer.{Answer}
+use Rattle.crell_program.specs.CommandLine.Words.{Command}
 use Rattle.crell_program.specs.Command.{files_of}
-use Rattle.crell_answers.specs.VerdictText.{verdict_status, verdict_answer}
+use Rattle.crell_program.specs.CrellAnswers.VerdictText.{verdict_status, verdict_answer}
 use Rattle.crell_program.specs.Due.{ShelfSeen, shelf_seen, IsDue, DueOfTexts, checked}
 use Rattle.crell_program.specs.Grammar.{FaultsExcludeModules}
 use Rattle.crell_program.specs.Delivery.{SinkSeen, sink_seen, IsDelivered}
@@ -21,7 +21,7 @@ use Rattle.crell_program.proofs.Completeness.{SinksAreFine, due_well, all_well, 
 pub texts_within_room_fit : TextsWithinRoomFit
 texts_within_room_fit rules command entries room shelf out err answer to_out to_err = (omega (arith, to_out), omega (arith, to_err))
 
-not_risen : (old new : ℕ) → new ≡ old → old ≡ 0 → HasRisen old new → ⊥
+pub not_risen : (old new : ℕ) → new ≡ old → old ≡ 0 → HasRisen old new → ⊥
 not_risen old new e z (inl risen) = absurd (omega arith)
 not_risen old new e z (inr last) = absurd (omega arith)
 

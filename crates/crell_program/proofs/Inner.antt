@@ -12,17 +12,17 @@ use Rattle.json_forms.specs.declared.failure.Fault.{Fault}
 use Rattle.hint_format.specs.Form.{HintsOf, IsHintFault, IsHintReading}
 use Rattle.hint_format.proofs.Readings.{readings_are_one}
 use Rattle.json_forms.specs.Forms.{Reading}
-use Rattle.crell_answers.specs.Answer.{usage, module_fault, at_fault, past_limit}
+use Rattle.crell_program.specs.CrellAnswers.Answer.{usage, module_fault, at_fault, past_limit}
 use Rattle.ir_machine.specs.Refinement.{Refines}
 use Rattle.erhl_assert.specs.declared.verdict.ModuleVerdict.{ModuleVerdict}
 use Rattle.erhl_assert.specs.declared.verdict.ModuleVerdict.TheVariants as modules
 use Rattle.crell_io.specs.Shelf.{Told, IfTold}
-use Rattle.crell_answers.specs.declared.answer.Answer.{Answer}
-use Rattle.command_line.specs.declared.request.Listing.{Listing}
-use Rattle.command_line.specs.Words.{CheckFiles, Command, Check, Print}
+use Rattle.crell_program.specs.declared.crell_answers.answer.Answer.{Answer}
+use Rattle.crell_program.specs.declared.command_line.request.Listing.{Listing}
+use Rattle.crell_program.specs.CommandLine.Words.{CheckFiles, Command, Check, Print}
 use Rattle.crell_program.specs.Command.{File, files_of}
 use Rattle.crell_program.specs.Fetching.{AreHeld}
-use Rattle.crell_answers.specs.VerdictText.{verdict_status, verdict_answer}
+use Rattle.crell_program.specs.CrellAnswers.VerdictText.{verdict_status, verdict_answer}
 use Rattle.crell_program.specs.Due.{ShelfSeen, Held, Missing, Long, Broken, DueOfFile, DueOfFiles, DueOfCheck, DueOfListing, DueOfTexts, IsListing, IsReadOnlyAs, checked}
 use Rattle.crell_program.specs.declared.command.Grammar.TheVariants.{Small, Whole}
 use Rattle.crell_program.specs.Grammar.{IsModuleFault, SpellsOne, SpellsOnly}
@@ -223,11 +223,11 @@ delivered_as answer out_text err_text out err status e f d =
     let Q : List ℕ → Type 0 = λ t. IsDelivered (record { status = answer.status; out = out_text; err = t }) out err status in
     subst P e (subst Q f d)
 
-pub answered_with_usage : (rules : Rules) (shelf : ShelfSeen) (out err : SinkSeen) (command : Option Command) (text : List ℕ) (status : ℕ) → None ≡ command
+pub answered_with_usage : (rules : Rules) (shelf : ShelfSeen) (out err : SinkSeen) (command : Option Command) (text : List ℕ) (status : ℕ) → text ≢ [] → None ≡ command
     → IsDelivered (usage text) out err status → IsAnswered (record { rules = rules; command = command; shelf = shelf; out = out; err = err }) status
-answered_with_usage rules shelf out err command text status e d =
+answered_with_usage rules shelf out err command text status some e d =
     let P : Option Command → Type 0 = λ c. IsAnswered (record { rules = rules; command = c; shelf = shelf; out = out; err = err }) status in
-    subst P e (inl (usage text, (text, refl), d))
+    subst P e (inl (usage text, (text, some, refl), d))
 
 pub answered_for : (rules : Rules) (shelf : ShelfSeen) (out err : SinkSeen) (which : Command) (command : Option Command) (status : ℕ) → Some which ≡ command
     → IsAnswered (record { rules = rules; command = Some which; shelf = shelf; out = out; err = err }) status

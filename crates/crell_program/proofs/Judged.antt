@@ -16,8 +16,8 @@ use Rattle.erhl_assert.specs.Steps.{Rules}
 use Rattle.crell_io.specs.Count.{HasRisen}
 use Rattle.crell_io.specs.Shelf.{Told, IsBytesAnd}
 use Rattle.crell_io.specs.Shelf.Told.{Bytes}
-use Rattle.command_line.specs.declared.request.Listing.{Listing}
-use Rattle.command_line.specs.Words.{CheckFiles, Command, Check, Print}
+use Rattle.crell_program.specs.declared.command_line.request.Listing.{Listing}
+use Rattle.crell_program.specs.CommandLine.Words.{CheckFiles, Command, Check, Print}
 use Rattle.crell_program.specs.declared.command.Form.TheVariants.{ModuleText, HintFile}
 use Rattle.crell_program.specs.declared.command.Grammar.{Grammar}
 use Rattle.crell_program.specs.declared.command.Grammar.TheVariants.{Small, Whole}

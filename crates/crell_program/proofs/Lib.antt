@@ -8,5 +8,10 @@ pub mod Grammars
 pub mod InMemory
 pub mod Inner
 pub mod Judged
+pub mod MemoryRuns
+pub mod OneAnswer
+pub mod Parts
 pub mod Rows
 pub mod Writing
+pub mod CommandLine
+pub mod DefinitionText

@@ -3,8 +3,8 @@ use Rattle.std.specs.Prelude.{ℕ, List, [], ◌∷◌}
 use Rattle.ir_core.specs.declared.limits.Limit.{Limit}
 use Rattle.ir_core.specs.declared.limits.Limit.TheVariants as limit
 use Rattle.ir_core.specs.Limits.{limit_number}
-use Rattle.command_line.specs.declared.request.FileNames.{FileNames}
-use Rattle.command_line.specs.Words.{Command, Check, Print, shown_names}
+use Rattle.crell_program.specs.declared.command_line.request.FileNames.{FileNames}
+use Rattle.crell_program.specs.CommandLine.Words.{Command, Check, Print, shown_names}
 use Rattle.crell_program.specs.declared.command.Form.{Form}
 use Rattle.crell_program.specs.declared.command.Form.TheVariants.{ModuleText, HintFile}
 use Rattle.crell_program.specs.declared.command.Grammar.TheVariants.{Small, Whole}

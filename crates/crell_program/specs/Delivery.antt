@@ -2,7 +2,7 @@
 use Rattle.std.specs.Prelude.{◌≡◌, ◌≢◌, ◌⊎◌, ◌<◌, ◌≤◌, ◌++◌, ℕ, List, [], length, Option}
 use Rattle.crell_io.specs.Count.{HasRisen}
 use Rattle.crell_io.specs.Sink.{appended}
-use Rattle.crell_answers.specs.declared.answer.Answer.{Answer}
+use Rattle.crell_program.specs.declared.crell_answers.answer.Answer.{Answer}
 
 -- a sink before the program and after it: what it tells of the bytes written, how many bytes it was sure to take, and its count of
 -- faults

@@ -1,6 +1,6 @@
 -- Which answer is due: the words, then the files in their order, then their forms in their order, then the work. The first
 -- cause decides.
-use Rattle.std.specs.Prelude.{◌≡◌, ◌⊎◌, ◌≤◌, ◌<◌, ℕ, List, [], ◌∷◌, length, Option, None, Some, Ok, Err}
+use Rattle.std.specs.Prelude.{◌≡◌, ◌≢◌, ◌⊎◌, ◌≤◌, ◌<◌, ℕ, List, [], ◌∷◌, length, Option, None, Some, Ok, Err}
 use Rattle.ir_core.specs.declared.modules.Module.{Module}
 use Rattle.ir_core.specs.declared.limits.Limit.TheVariants as limit
 use Rattle.ir_reader.specs.declared.fault.ModuleFault.{ModuleFault}
@@ -14,17 +14,17 @@ use Rattle.erhl_assert.specs.declared.verdict.ModuleVerdict.{ModuleVerdict}
 use Rattle.crell_io.specs.Count.{HasRisen, HasRisenAbove}
 use Rattle.crell_io.specs.Shelf.{Told, IfTold}
 use Rattle.crell_io.specs.Shelf.Told.{NoSuch}
-use Rattle.command_line.specs.declared.request.Listing.{Listing}
-use Rattle.command_line.specs.declared.request.Listing.TheVariants.{Definitions, ModuleItself, NamedModule}
-use Rattle.command_line.specs.Words.{CheckFiles, Command, Check, Print}
+use Rattle.crell_program.specs.declared.command_line.request.Listing.{Listing}
+use Rattle.crell_program.specs.declared.command_line.request.Listing.TheVariants.{Definitions, ModuleItself, NamedModule}
+use Rattle.crell_program.specs.CommandLine.Words.{CheckFiles, Command, Check, Print}
 use Rattle.crell_program.specs.declared.command.Grammar.{Grammar}
 use Rattle.crell_program.specs.declared.command.Grammar.TheVariants.{Small, Whole}
 use Rattle.crell_program.specs.Command.{File, limit_of, most_bytes, files_of}
 use Rattle.crell_program.specs.Grammar.{IsAtFault, SpellsOnly}
-use Rattle.crell_answers.specs.declared.answer.Answer.{Answer}
-use Rattle.crell_answers.specs.Answer.{usage, module_fault, at_fault, printed, read_failed, past_limit, absent}
-use Rattle.crell_answers.specs.VerdictText.{verdict_answer}
-use Rattle.definition_text.specs.Lines.{AreLines}
+use Rattle.crell_program.specs.declared.crell_answers.answer.Answer.{Answer}
+use Rattle.crell_program.specs.CrellAnswers.Answer.{usage, module_fault, at_fault, printed, read_failed, past_limit, absent}
+use Rattle.crell_program.specs.CrellAnswers.VerdictText.{verdict_answer}
+use Rattle.crell_program.specs.DefinitionText.Lines.{AreLines}
 use Rattle.ir_printer.specs.Printed.{printed_module}
 use Rattle.ir_rename.specs.Named.{named_all}
 
@@ -126,7 +126,7 @@ DueOfTexts rules (Print listing file) answer (text ∷ []) = DueOfListing listin
 DueOfTexts rules (Print listing file) answer [] = ⊥
 DueOfTexts rules (Print listing file) answer (text ∷ other ∷ more) = ⊥
 
--- The answer that is due to these words; to those that are no command's, any text that says so.
+-- The answer that is due to these words; to those that are no command's, any text that says so, which isn't empty.
 abbrev pub IsDue : Rules → ShelfSeen → Option Command → Answer → Type 0
-IsDue rules shelf None answer = (text : List ℕ) × (answer ≡ usage text)
+IsDue rules shelf None answer = (text : List ℕ) × (text ≢ []) × (answer ≡ usage text)
 IsDue rules shelf (Some command) answer = DueOfFiles shelf (files_of command) answer (DueOfTexts rules command answer)

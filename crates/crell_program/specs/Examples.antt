@@ -4,8 +4,8 @@ use Rattle.json_forms.specs.Forms.{Reading}
 use Rattle.erhl_assert.specs.declared.hints.Hints.{Hints}
 use Rattle.crell_io.specs.Shelf.{Told}
 use Rattle.crell_io.specs.Shelf.Told.{Bytes}
-use Rattle.command_line.specs.declared.request.Listing.{Listing}
-use Rattle.command_line.specs.Words.{CheckFiles, Check, Print}
+use Rattle.crell_program.specs.declared.command_line.request.Listing.{Listing}
+use Rattle.crell_program.specs.CommandLine.Words.{CheckFiles, Check, Print}
 use Rattle.crell_program.specs.declared.command.Grammar.TheVariants.{Whole}
 use Rattle.crell_program.specs.Delivery.{GotAll, GotPart, SinkSeen}
 use Rattle.crell_program.specs.Due.{IsReadOnlyAs}

@@ -1,6 +1,6 @@
 -- Words of private functions. What fetching gives: the bytes of files, or the answer that is due where one of them isn't held.
 use Rattle.std.specs.Prelude.{ℕ, List, [], ◌∷◌}
-use Rattle.crell_answers.specs.declared.answer.Answer.{Answer}
+use Rattle.crell_program.specs.declared.crell_answers.answer.Answer.{Answer}
 use Rattle.crell_program.specs.declared.fetch.Stop.{Stop}
 use Rattle.crell_program.specs.declared.fetch.Stop.TheVariants as stop
 use Rattle.crell_program.specs.Command.{File}

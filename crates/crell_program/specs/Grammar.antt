@@ -52,3 +52,8 @@ abbrev pub FaultsExcludeModules : Type 0
 FaultsExcludeModules =
     (grammar : Grammar) (text : List ℕ) (f : ModuleFault) (m : Module) → length text ≤ text_limit → IsAtFault grammar text f → SpellsWellFormed grammar text m
     → ⊥
+
+-- such a text has one fault by a grammar, with all that is told of it
+abbrev pub ModuleFaultsAreOne : Type 0
+ModuleFaultsAreOne =
+    (grammar : Grammar) (text : List ℕ) (f g : ModuleFault) → length text ≤ text_limit → IsAtFault grammar text f → IsAtFault grammar text g → f ≡ g

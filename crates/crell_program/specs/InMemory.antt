@@ -4,13 +4,13 @@ use Rattle.erhl_assert.specs.declared.verdict.ModuleVerdict.{ModuleVerdict}
 use Rattle.erhl_assert.specs.Steps.{Rules}
 use Rattle.crell_io.specs.MemShelf.{ShelfState, held}
 use Rattle.crell_io.specs.MemSink.{SinkState, sure_room}
-use Rattle.crell_answers.specs.declared.answer.Answer.{Answer}
-use Rattle.command_line.specs.Words.{Command}
+use Rattle.crell_program.specs.declared.crell_answers.answer.Answer.{Answer}
+use Rattle.crell_program.specs.CommandLine.Words.{Command}
 use Rattle.crell_program.specs.Due.{shelf_seen, IsDue}
 use Rattle.crell_program.specs.Delivery.{sink_seen}
 use Rattle.crell_program.specs.Rows.{Run, KeepsRows, NoFault}
 use Rattle.crell_program.specs.Statuses.{HasVerdict, IsRefinementOfBytes}
-use Rattle.crell_answers.specs.VerdictText.{verdict_status, verdict_answer}
+use Rattle.crell_program.specs.CrellAnswers.VerdictText.{verdict_status, verdict_answer}
 
 -- a shelf of these entries that wasn't asked yet, and of whose calls none is to fail
 abbrev pub new_shelf : List (List ℕ × List ℕ) → ShelfState

@@ -11,7 +11,7 @@ use Rattle.erhl_assert.specs.Steps.{Rules}
 use Rattle.crell_io.specs.Count.{last_count}
 use Rattle.crell_io.specs.Shelf.{Told}
 use Rattle.crell_io.specs.Shelf.Told.{NoSuch, Bytes}
-use Rattle.command_line.specs.Words.{Command}
+use Rattle.crell_program.specs.CommandLine.Words.{Command}
 use Rattle.crell_program.specs.declared.command.Form.{Form}
 use Rattle.crell_program.specs.declared.command.Form.TheVariants.{ModuleText, HintFile}
 use Rattle.crell_program.specs.Command.{File, files_of}

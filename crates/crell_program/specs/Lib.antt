@@ -3,8 +3,14 @@ pub mod Delivery
 pub mod Due
 pub mod Examples
 pub mod Fetching
+pub mod FirstParts
 pub mod Grammar
 pub mod InMemory
 pub mod Judged
+pub mod MemoryRuns
+pub mod OneAnswer
 pub mod Rows
 pub mod Statuses
+pub mod CommandLine
+pub mod CrellAnswers
+pub mod DefinitionText

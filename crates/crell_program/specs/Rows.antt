@@ -1,11 +1,11 @@
 -- A run of the program, and the rows of its table of statuses.
-use Rattle.std.specs.Prelude.{◌≡◌, ◌≢◌, ◌⊎◌, ℕ, List, Option, None, Some}
+use Rattle.std.specs.Prelude.{◌≡◌, ◌≢◌, ◌⊎◌, ℕ, List, [], Option, None, Some}
 use Rattle.erhl_assert.specs.declared.verdict.ModuleVerdict.TheVariants as modules
 use Rattle.erhl_assert.specs.Steps.{Rules}
 use Rattle.crell_io.specs.Count.{HasRisen}
 use Rattle.json_forms.specs.declared.failure.Fault.{Fault}
-use Rattle.crell_answers.specs.declared.answer.Answer.{Answer}
-use Rattle.command_line.specs.Words.{Command}
+use Rattle.crell_program.specs.declared.crell_answers.answer.Answer.{Answer}
+use Rattle.crell_program.specs.CommandLine.Words.{Command}
 use Rattle.crell_program.specs.Command.{files_of}
 use Rattle.crell_program.specs.Due.{ShelfSeen, IsDue}
 use Rattle.crell_program.specs.Delivery.{SinkSeen, IsDelivered, GotAll, GotNothing, Untouched}
@@ -41,9 +41,10 @@ pub record KeepsRows (run : Run) (status : ℕ) : Type 0 where
   pub listed : status ≡ 0 → HasListing run.shelf.told run.command (λ text. GotAll run.out text)
   -- The checker refuses the pair.
   pub refused : status ≡ 1 → IsAnswer IsInvalid run.rules run.shelf.told run.command
-  -- The words are no command's; then nothing is written to out, and to err a text that says so, whole. Memory may be refused to such words too.
+  -- The words are no command's; then nothing is written to out, and to err a text that says so, whole, which isn't empty. Memory may be refused to
+  -- such words too.
   pub usage : status ≡ 2 → run.command ≡ None
-  pub usage_shown : status ≡ 2 → GotNothing run.out × ((text : List ℕ) × GotAll run.err text)
+  pub usage_shown : status ≡ 2 → GotNothing run.out × ((text : List ℕ) × (text ≢ []) × GotAll run.err text)
   pub no_command : run.command ≡ None → (status ≡ 2) ⊎ (status ≡ 8) ⊎ ((status ≡ 7) × HasRisen run.err.faults run.err.faults_after)
   -- A text spells no module, within the limits; a module isn't well-formed; hints aren't of their form; reading failed; writing
   -- failed; a file, the lines of a function, the depth of types and constants, memory that is wanted at once, a text of the hints, or the

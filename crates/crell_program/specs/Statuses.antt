@@ -21,7 +21,7 @@ use Rattle.crell_io.specs.Shelf.Told.{NoSuch}
 use Rattle.crell_program.specs.declared.command.Form.{Form}
 use Rattle.crell_program.specs.declared.command.Form.TheVariants.{ModuleText, HintFile}
 use Rattle.crell_program.specs.declared.command.Grammar.TheVariants.{Small, Whole}
-use Rattle.command_line.specs.Words.{Command, Check, Print}
+use Rattle.crell_program.specs.CommandLine.Words.{Command, Check, Print}
 use Rattle.crell_program.specs.Command.{File, most_bytes, files_of}
 use Rattle.crell_program.specs.Due.{ShelfSeen, Missing, Long, MayCome, Lists}
 use Rattle.crell_program.specs.Grammar.{IsAtFault, Spells, SpellsOne, SpellsOnly, SpellsWellFormed}

@@ -1,8 +1,8 @@
 ghost use Rattle.std.specs.Prelude.{◌≡◌, ◌<◌, ◌^◌, ◌-◌, map};
-ghost use Rattle.command_line.specs.Words.{Print};
+ghost use Rattle.crell_program.specs.CommandLine.Words.{Print};
 ghost use Rattle.crell_program.specs.Command.{files_of, limit_of, most_bytes, shown_command, shown_file};
 
-use command_line::{FileNames, Listing};
+use crate::command_line::{FileNames, Listing};
 use ir_core::Limit;
 
 /// By which grammar a module's text is read.

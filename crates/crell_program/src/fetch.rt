@@ -5,8 +5,8 @@ ghost use Rattle.crell_program.specs.Fetching.{IsHeld, AreHeld, IfDue};
 ghost use Rattle.crell_program.specs.Command.{shown_file};
 
 use crate::command::Wanted;
+use crate::crell_answers::{Answer, absent, past_limit, read_failed};
 use contents::Seq;
-use crell_answers::{Answer, absent, past_limit, read_failed};
 use crell_io::{Shelf, ShelfEnd};
 use std::alloc::{AllocError, Global};
 

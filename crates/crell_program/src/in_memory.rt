@@ -1,7 +1,7 @@
 ghost use Rattle.std.specs.Prelude.{◌≡◌, IfOk, map, string_bytes};
 ghost use Rattle.crell_io.specs.MemShelf.{entry_pair};
 ghost use Rattle.rule_base.specs.Rows.{shipped_rules};
-ghost use Rattle.command_line.specs.Words.{command_of};
+ghost use Rattle.crell_program.specs.CommandLine.Words.{command_of};
 ghost use Rattle.crell_program.specs.InMemory.{new_shelf, new_sink, memory_run, EndsWell};
 
 use crate::crell_with_shipped_rules;

@@ -1,12 +1,12 @@
-ghost use Rattle.std.specs.Prelude.{◌≡◌, ◌≤◌, None, Some, IfOk, map, string_bytes};
+ghost use Rattle.std.specs.Prelude.{◌≡◌, ◌≢◌, ◌≤◌, [], None, Some, IfOk, map, string_bytes};
 ghost use Rattle.ir_core.specs.WellFormed.{HasShape};
 ghost use Rattle.ir_machine.specs.Refinement.{Refines};
 ghost use Rattle.erhl_assert.specs.Acceptance.{module_answer};
 ghost use Rattle.rule_base.specs.Book.{meanings_of};
 ghost use Rattle.rule_base.specs.Rows.{shipped_rules};
 ghost use Rattle.crell_io.specs.Shelf.{StaysWell};
-ghost use Rattle.crell_answers.specs.Answer.{usage};
-ghost use Rattle.command_line.specs.Words.{Print, command_of, shown_names, shown_request};
+ghost use Rattle.crell_program.specs.CrellAnswers.Answer.{usage};
+ghost use Rattle.crell_program.specs.CommandLine.Words.{Print, command_of, shown_names, shown_request};
 ghost use Rattle.crell_program.specs.declared.command.Grammar.TheVariants.{Whole};
 ghost use Rattle.crell_program.specs.Command.{files_of, shown_command};
 ghost use Rattle.crell_program.specs.Due.{checked, shelf_seen, DueOfFiles, DueOfCheck, DueOfListing, DueOfTexts, IsListing, Lists};
@@ -16,13 +16,13 @@ ghost use Rattle.crell_program.specs.Rows.{IsAnswered, KeepsRows};
 ghost use Rattle.crell_program.specs.Statuses.{AreRefined, IsRefinement, IsRefinementOfBytes};
 
 use crate::command::{files_of_check, files_of_listing};
+use crate::command_line::{FileNames, Listing, Request, WordsEnd, read_words};
+use crate::crell_answers::{Answer, module_fault, past_limit, printed, unfit, verdict_answer};
+use crate::definition_text::definitions_text;
 use crate::delivery::deliver;
 use crate::fetch::{Stop, gather};
 use crate::laws::first_faults_agree;
-use command_line::{FileNames, Listing, Request, WordsEnd, read_words};
-use crell_answers::{Answer, module_fault, past_limit, printed, unfit, verdict_answer};
 use crell_io::{Shelf, Sink};
-use definition_text::definitions_text;
 use erhl_assert::{Hints, ModuleVerdict};
 use erhl_checker::{CheckEnd, check_module_under};
 use erhl_soundness::shapes_keep_phis_apart;
@@ -38,6 +38,9 @@ use std::marker::PhantomData;
 
 /// The status where the words are no command's.
 const USAGE: u8 = 2;
+
+/// What is told of words that are no command's where the library says nothing of them.
+const NO_COMMAND: &str = "crell: no command\n";
 
 /// The status of a run that memory was refused to.
 pub const WANT_OF_MEMORY: u8 = 8;
@@ -147,9 +150,16 @@ pub(crate) fn run<R: RuleSet, S: Shelf, O: Sink, E: Sink>(
 {
     match read_words(alloc, words) {
         Ok(request) => serve(alloc, &request, rules, shelf, out, err),
-        Err(WordsEnd::Refused(text)) => tell_usage(&text, out, err),
+        Err(WordsEnd::Refused(text)) => tell_usage(said(&text), out, err),
         Err(WordsEnd::Memory) => WANT_OF_MEMORY,
     }
+}
+
+/// The text, and where that is empty one that says what is wrong.
+fn said(text: &str) -> &str
+    ensures { result.now ≢ [] }
+{
+    if text.is_empty() { NO_COMMAND } else { text }
 }
 
 /// Writes what is wrong with the words, or how the program is used, to err.

@@ -12,3 +12,4 @@ pub mod BlocksReached
 pub mod Shaped
 pub mod NotDefined
 pub mod OneFirst
+pub mod DefinitionLists

@@ -6,9 +6,9 @@ use Rattle.std.proofs.lemmas.List.Elements.{Contains-append_left, Contains-push,
 use Rattle.std.specs.List.{Contains}
 use Rattle.ir_types.specs.declared.names.Name.{Name}
 use Rattle.ir_core.specs.Order.{AreNew}
-use Rattle.name_index.specs.Among.{is_among, place_among}
-use Rattle.name_index.proofs.Among.{among_is, not_there}
-use Rattle.name_index.proofs.FirstPlaces.{no_place, place_is}
+use Rattle.ir_core.specs.NameIndexes.Among.{is_among, place_among}
+use Rattle.ir_core.proofs.NameIndexes.Among.{among_is, not_there}
+use Rattle.ir_core.proofs.NameIndexes.FirstPlaces.{no_place, place_is}
 use Rattle.definedness.specs.Along.{with_name, with_names}
 
 -- ---- names that are known, and names that are defined

@@ -5,7 +5,7 @@ use Rattle.ir_types.specs.declared.names.Name.{Name}
 use Rattle.ir_core.specs.Functions.{name_set, names_in, set_by}
 use Rattle.ir_types.specs.Same.{same_name}
 use Rattle.ir_core.proofs.Lines.{names_more, names_none, names_one}
-use Rattle.name_index.specs.Among.{is_among}
+use Rattle.ir_core.specs.NameIndexes.Among.{is_among}
 
 or_no : (b : Bool) → (b || false) ≡ b
 or_no true = refl

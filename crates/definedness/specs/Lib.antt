@@ -4,3 +4,4 @@ pub mod Graph
 pub mod Flow
 pub mod Settled
 pub mod Laws
+pub mod DefinitionLists

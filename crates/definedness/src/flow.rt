@@ -3,14 +3,13 @@ ghost use Rattle.std.specs.Prelude.{◌≡◌, ◌++◌, [], ◌∷◌, map, IfO
 ghost use Rattle.ir_core.specs.declared.functions.Block.{Block};
 ghost use Rattle.ir_core.specs.declared.functions.Case.{Case};
 ghost use Rattle.ir_core.specs.Functions.{names_in, phi_registers, set_by, successors_of};
-ghost use Rattle.name_index.specs.Among.{is_among, place_among};
-ghost use Rattle.name_index.specs.Places.{ArePlaces};
+ghost use Rattle.ir_core.specs.NameIndexes.Among.{is_among, place_among};
+ghost use Rattle.ir_core.specs.NameIndexes.Places.{ArePlaces};
 ghost use Rattle.definedness.specs.Flow.{closed_for, defines, places_by};
 ghost use Rattle.definedness.specs.Graph.{graph_in, labels_in};
 
 use flow_solver::{Graph, Successors};
-use ir_core::{Block, Case, Instr, Name, Phi, Switch, Term, same_name};
-use name_index::PlaceIndex;
+use ir_core::{Block, Case, Instr, Name, Phi, PlaceIndex, Switch, Term, same_name};
 use std::alloc::{AllocError, Global};
 
 /// Where the names of blocks stand first among them.

@@ -9,9 +9,9 @@ ghost use Rattle.ir_core.specs.Functions.{names_in, operands_at_end, operands_of
 ghost use Rattle.definedness.specs.Along.{is_known, left_along, left_by, left_by_entries, left_by_phis, left_in, left_in_block, use_of, with_name, with_names};
 
 use ir_core::{
-    Argument, Atom, Block, Element, Entry, Expr, Instr, Name, Operand, Param, Phi, Select, Term,
+    Argument, Atom, Block, Element, Entry, Expr, Instr, Name, NameIndex, Operand, Param, Phi,
+    Select, Term,
 };
-use name_index::NameIndex;
 use std::alloc::{AllocError, Global};
 
 /// A use of a register: where it is written, and for a phi's use the block at whose end it stands.

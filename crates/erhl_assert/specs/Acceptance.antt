@@ -16,7 +16,7 @@ use Rattle.ir_core.specs.declared.modules.Module.{Module}
 use Rattle.ir_types.specs.Same.{same_list, same_name, same_ty}
 use Rattle.ir_core.specs.Functions.{successors_of}
 use Rattle.ir_core.specs.Modules.{Scope, scope_of, definitions_of}
-use Rattle.expression_printer.specs.Printed.{printed_register}
+use Rattle.ir_printer.specs.ExpressionPrinter.Printed.{printed_register}
 use Rattle.flow_solver.specs.Near.{reached_nodes}
 use Rattle.definedness.specs.Graph.{flow_of}
 use Rattle.erhl_assert.specs.declared.facts.Fact.{Fact}

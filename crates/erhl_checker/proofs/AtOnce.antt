@@ -29,8 +29,8 @@ use Rattle.erhl_assert.specs.Edges.{phis_of, phis_at}
 use Rattle.erhl_assert.specs.Steps.{Rules, Beside, beside}
 use Rattle.erhl_assert.specs.Acceptance.{entry_fault, labels_once, block_judged, blocks_judged, reached_judged, aligned_judged, function_answer}
 use Rattle.erhl_assert.proofs.Judging.{test_passes}
-use Rattle.checked_pair.specs.Agreeing.{instrs_agree, all_agree, terms_agree, phis_agree, edge_agrees, edges_agree}
-use Rattle.checked_pair.proofs.Agreements.{agreeing_blocks}
+use Rattle.erhl_checker.specs.CheckedPair.Agreeing.{instrs_agree, all_agree, terms_agree, phis_agree, edge_agrees, edges_agree}
+use Rattle.erhl_checker.proofs.CheckedPair.Agreements.{agreeing_blocks}
 use Rattle.erhl_checker.specs.Alike.{lines_alike, no_phi, are_few, blocks_alike, functions_alike}
 use Rattle.erhl_checker.proofs.Reaching.{blocks_more}
 

@@ -24,8 +24,8 @@ use Rattle.erhl_assert.specs.declared.verdict.ModuleVerdict.TheVariants as modul
 use Rattle.erhl_assert.specs.Steps.{Rules, beside, AreSound}
 use Rattle.erhl_assert.specs.Acceptance.{function_judged, function_answer, hint_for, of_function, functions_answer, definitions_answer, module_answer, same_fields, same_named_type, same_signature, AreAcceptedUnder, AreAccepted, AreModulesAccepted}
 use Rattle.erhl_soundness.specs.Laws.{ArePhisApart, AcceptedModulesRefine}
-use Rattle.checked_pair.specs.declared.ends.CheckEnd.{CheckEnd}
-use Rattle.checked_pair.specs.Progress.{Answers}
+use Rattle.erhl_checker.specs.declared.checked_pair.ends.CheckEnd.{CheckEnd}
+use Rattle.erhl_checker.specs.CheckedPair.Progress.{Answers}
 use Rattle.erhl_assert.proofs.Courses.{answer_is_good, good_answers}
 
 -- parameters are compared by their types

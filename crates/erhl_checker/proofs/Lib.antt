@@ -1,3 +1,7 @@
 pub mod AtOnce
 pub mod Differing
 pub mod Reaching
+pub mod FunctionLookup
+pub mod CheckedPair
+pub mod HintSteps
+pub mod BlockChecker

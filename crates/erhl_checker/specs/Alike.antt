@@ -7,7 +7,7 @@ use Rattle.ir_core.specs.declared.functions.Instr.{Instr}
 use Rattle.ir_core.specs.declared.functions.Phi.{Phi}
 use Rattle.ir_types.specs.Same.{same_list, same_name}
 use Rattle.erhl_assert.specs.Alignment.{same_header}
-use Rattle.checked_pair.specs.Agreeing.{instrs_agree, terms_agree}
+use Rattle.erhl_checker.specs.CheckedPair.Agreeing.{instrs_agree, terms_agree}
 
 abbrev pub lines_alike : List Instr → List Instr → Bool
 lines_alike xs ys = same_list (λ x y. instrs_agree (Some x) (Some y)) xs ys

@@ -1,2 +1,5 @@
 pub mod Alike
 pub mod Reached
+pub mod FunctionLookup
+pub mod CheckedPair
+pub mod BlockChecker

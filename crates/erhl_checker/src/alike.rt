@@ -1,16 +1,18 @@
+//! Speed alone: no is no answer. A function against itself takes 16,000 instructions a line of both texts (`check-self` of `bench/count.py`),
+//! nearly all of them for reading.
+//!
 //! Functions that are valid at once: their blocks have no phis, and agree one by one where nothing is known.
 ghost use Rattle.std.specs.Prelude.{◌≡◌, IfOk, Some};
 ghost use Rattle.ir_types.specs.Same.{same_list};
 ghost use Rattle.erhl_assert.specs.Alignment.{no_facts, same_header};
-ghost use Rattle.checked_pair.specs.Agreeing.{terms_agree};
+ghost use Rattle.erhl_checker.specs.CheckedPair.Agreeing.{terms_agree};
 ghost use Rattle.erhl_checker.specs.Alike.{are_few, blocks_alike, functions_alike, lines_alike, no_phi};
 
-use allowed_lines::lines_agree;
-use checked_pair::term_fault;
-use erhl_sides::Sides;
-use fact_sets::IndexedSet;
+use crate::checked_pair::term_fault;
+use fact_sets::{IndexedSet, Sides};
 use ir_core::{Block, Function, Instr, Limit, Param, Phi, Term, same_name, same_ty};
 use line_align::{Likeness, all_alike};
+use postcondition::lines_agree;
 use std::alloc::{AllocError, Global};
 
 /// Lines agree where nothing is known.
@@ -27,7 +29,7 @@ impl<'b> Drop for Agreeing<'b> {
 
 impl<'b> Likeness<Instr> for Agreeing<'b> {
     ghost use Rattle.std.specs.Prelude.{Some};
-    ghost use Rattle.checked_pair.specs.Agreeing.{instrs_agree};
+    ghost use Rattle.erhl_checker.specs.CheckedPair.Agreeing.{instrs_agree};
 
     ghost like = { λ _ x y. instrs_agree (Some x) (Some y) };
 

@@ -12,19 +12,18 @@ ghost use Rattle.erhl_assert.specs.Acceptance.{function_answer};
 ghost use Rattle.erhl_assert.specs.Steps.{Rules, beside};
 ghost use Rattle.rule_base.specs.Book.{meanings_of};
 ghost use Rattle.line_align.specs.Lent.{lent_block};
-ghost use Rattle.checked_pair.specs.Asked.{asked};
-ghost use Rattle.checked_pair.specs.Progress.{Answers};
+ghost use Rattle.erhl_checker.specs.CheckedPair.Asked.{asked};
+ghost use Rattle.erhl_checker.specs.CheckedPair.Progress.{Answers};
 ghost use Rattle.erhl_checker.specs.Reached.{from_entry_answer};
 
 use crate::alike::functions_alike;
-use block_checker::{CheckEnd, FunctionIndex, FunctionParts, Pair, block_answer};
+use crate::block_checker::{CheckEnd, FunctionIndex, FunctionParts, Pair, block_answer};
 use contents::Exact;
 use definedness::reached;
 use erhl_assert::{
     Assertion, HeldBlock, Hint, HintEdge, HintStep, PlacedStep, Reason, Spot, Verdict,
 };
-use erhl_sides::Sides;
-use fact_sets::IndexedSet;
+use fact_sets::{IndexedSet, Sides};
 use flow_solver::reached_nodes_are_reached;
 use ir_core::{Function, Module};
 use line_align::{AlignEnd, AlignedBlock, ByName, align};
@@ -313,6 +312,9 @@ pub(crate) fn function_answer<B: RuleSet>(
 /// Checks one function against another, beside a module: `Valid` exactly where the pair is accepted under the hint, and else
 /// refused with the first place and the first reason. More facts than the limit allows are no verdict, where they are known before
 /// the first test that fails, or before the end where none does.
+///
+/// It is meant for functions over integers, as long as the machine has no memory: a pointer has no value yet, so a rule that keeps its law can
+/// make `icmp eq i8* null, null` beside `ret i1 false` valid.
 pub fn check_function(
     alloc: Global,
     module: &Module,

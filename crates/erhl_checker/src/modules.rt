@@ -11,15 +11,14 @@ ghost use Rattle.erhl_assert.specs.Alignment.{no_facts};
 ghost use Rattle.erhl_assert.specs.Steps.{beside};
 ghost use Rattle.rule_base.specs.Book.{meanings_of};
 ghost use Rattle.erhl_soundness.specs.Laws.{ArePhisApart};
-ghost use Rattle.checked_pair.specs.Progress.{Answers};
+ghost use Rattle.erhl_checker.specs.CheckedPair.Progress.{Answers};
 
+use crate::block_checker::CheckEnd;
 use crate::functions::function_answer;
-use block_checker::CheckEnd;
 use contents::{Exact, Seq};
 use erhl_assert::{Difference, FunctionHint, Hint, Hints, ModuleVerdict, Verdict};
-use erhl_sides::Sides;
 use erhl_soundness::accepted_modules_refine;
-use fact_sets::IndexedSet;
+use fact_sets::{IndexedSet, Sides};
 use ir_core::{Function, Module, NamedTy, Param, Shared, Ty, same_name, same_ty};
 use line_align::{ByName, Likeness, all_alike};
 use rule_base::{InferRule, LentBook, RuleBook, RuleSet};
@@ -211,8 +210,11 @@ fn module_answer<B: RuleSet>(
 
 /// Checks one module against another, by a book of rules: `Valid` exactly where they name the same types, and each pair of functions has
 /// one signature and is accepted under its hint, `Differs` exactly where their named types differ, or else their functions' names, return
-/// types or parameter types, else the first function that isn't valid, with its place and reason. Whatever rules the book holds, a target that is `Valid` refines
-/// its source, where no two phis of a block set one register.
+/// types or parameter types, else the first function that isn't valid, with its place and reason. Whatever rules the book holds, a target
+/// that is `Valid` refines its source, where no two phis of a block set one register.
+///
+/// It is meant for modules over integers, as long as the machine has no memory: a pointer has no value yet, so a rule that keeps its law can
+/// make `icmp eq i8* null, null` beside `ret i1 false` valid.
 pub fn check_module(
     alloc: Global,
     source: &Module,
@@ -263,7 +265,7 @@ pub fn check_module(
     check_module_under(alloc, source, target, hints, &rules)
 }
 
-/// The same, by whatever answers for the rules.
+/// The same, by whatever answers for the rules, and for modules over integers as well.
 pub fn check_module_under<B: RuleSet>(
     alloc: Global,
     source: &Module,

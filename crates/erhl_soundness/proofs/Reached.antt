@@ -10,7 +10,7 @@ use Rattle.ir_core.specs.declared.functions.Block.{Block}
 use Rattle.ir_core.specs.Functions.{successors_of}
 use Rattle.ir_types.specs.Same.{same_name}
 use Rattle.ir_types.specs.NameLaws.{same_name_true, same_name_refl}
-use Rattle.name_index.specs.Among.{place_among}
+use Rattle.ir_core.specs.NameIndexes.Among.{place_among}
 use Rattle.flow_solver.specs.Ways.{led_to, IsPath, last_of}
 use Rattle.flow_solver.specs.Near.{is_reached}
 use Rattle.flow_solver.proofs.Near.{tested}

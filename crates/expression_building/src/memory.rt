@@ -11,9 +11,9 @@ use crate::values::{operand_of, operands_of};
 use contents::Exact;
 use ir_core::{Atom, Element, Load, NamedTypes, Operand, Reg, Shared, Ty, is_integer};
 use ir_lexer::Number;
+use ir_typing::{entered, number_of};
 use module_grammar::{ElementText, LoadText, Placed};
 use named_modules::{align_of, type_of};
-use operand_tests::{entered, number_of};
 use std::alloc::{AllocError, Global};
 
 /// The number that an operand is.

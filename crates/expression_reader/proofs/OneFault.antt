@@ -15,7 +15,7 @@ use Rattle.module_grammar.specs.Symbols.{Symbol, kind_of}
 use Rattle.module_grammar.specs.Tokens.{token_grammar}
 use Rattle.module_spelling.specs.Faults.{IsFirstOf, IsStuck, PassesLimit}
 use Rattle.module_texts.specs.Texts.{HasLexFault, IsShort, is_left_out_at, place_at}
-use Rattle.module_tokens.specs.LeftOut.{is_left_out}
+use Rattle.ir_lexer.specs.LeftOut.{is_left_out}
 use Rattle.module_trees.proofs.Limits.{not_limited}
 use Rattle.module_trees.specs.Reading.{IsReadAs}
 use Rattle.module_trees.specs.Runs.{IsStart}

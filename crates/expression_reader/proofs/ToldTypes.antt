@@ -6,7 +6,7 @@ use Rattle.ir_core.specs.declared.limits.Limit.TheVariants as limit
 use Rattle.ir_lexer.specs.Cut.{Placed}
 use Rattle.module_spelling.specs.Faults.{PassesLimit}
 use Rattle.module_texts.specs.Texts.{HasTokens, is_left_out_at, place_at}
-use Rattle.module_tokens.specs.LeftOut.{is_left_out}
+use Rattle.ir_lexer.specs.LeftOut.{is_left_out}
 use Rattle.ir_lexer.specs.declared.fault.TextFault.TheVariants as fault
 use Rattle.token_context.proofs.Lineless.{no_lines_passed}
 use Rattle.expression_reader.specs.ToldTypes.{of_place}

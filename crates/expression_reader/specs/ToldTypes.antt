@@ -4,7 +4,7 @@ use Rattle.ir_lexer.specs.Cut.{Placed}
 use Rattle.ir_lexer.specs.declared.token.LexFault.{LexFault}
 use Rattle.ir_lexer.specs.declared.token.LexFault.TheVariants as lexer
 use Rattle.module_grammar.specs.declared.types.TypeText.{TypeText}
-use Rattle.module_tokens.specs.LeftOut.{is_left_out}
+use Rattle.ir_lexer.specs.LeftOut.{is_left_out}
 use Rattle.module_trees.specs.declared.unread.Unread.{Unread}
 use Rattle.module_trees.specs.declared.unread.Unread.TheVariants as unread
 use Rattle.ir_lexer.specs.declared.fault.TextFault.{TextFault}

@@ -3,8 +3,7 @@ ghost use Rattle.std.specs.Prelude.{◌≡◌, length, map};
 ghost use Rattle.module_grammar.specs.Spelled.{placed_in};
 ghost use Rattle.expression_reader.specs.ToldTypes as told;
 
-use ir_lexer::{LexFault, TextFault, Token};
-use module_tokens::is_left_out;
+use ir_lexer::{LexFault, TextFault, Token, is_left_out};
 use module_trees::Unread;
 
 pub fn of_lexer(fault: LexFault) -> TextFault

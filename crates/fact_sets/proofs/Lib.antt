@@ -1,4 +1,5 @@
 pub mod Indexing
 pub mod Listed
-pub mod Names
+pub mod RegisterNames
 pub mod Nearness
+pub mod ErhlSides

@@ -1,3 +1,5 @@
 pub mod Examples
 pub mod Names
 pub mod Near
+pub mod ErhlSides
+pub mod AddedFacts

@@ -41,7 +41,7 @@ impl Drop for IndexedSet {
 
 impl IndexedSet {
     /// No facts. There is room for so many, and for the names of so many registers.
-    #[tactic(auto, using(crate::proofs::Names::nothing_indexed))]
+    #[tactic(auto, using(crate::proofs::RegisterNames::nothing_indexed))]
     pub fn with_room(alloc: Global, facts: usize, names: usize) -> Result<IndexedSet, AllocError>
         ensures { IfOk result (λ set. set ≡ []) }
     {
@@ -63,7 +63,7 @@ impl IndexedSet {
 impl FactSet for IndexedSet {
     ghost contents = { λ facts. facts };
 
-    #[tactic(auto, using(crate::proofs::Names::nothing_indexed))]
+    #[tactic(auto, using(crate::proofs::RegisterNames::nothing_indexed))]
     fn empty(alloc: Global) -> IndexedSet {
         IndexedSet {
             facts: IndexSet::new(alloc),
@@ -83,7 +83,7 @@ impl FactSet for IndexedSet {
         self.facts.contains(fact)
     }
 
-    #[tactic(auto, using(crate::proofs::Names::fact_indexed, crate::proofs::Names::indexed_kept))]
+    #[tactic(auto, using(crate::proofs::RegisterNames::fact_indexed, crate::proofs::RegisterNames::indexed_kept))]
     fn add(&mut self, fact: Fact) -> Result<(), AllocError> {
         let alloc = *self.facts.allocator();
         add_named(alloc, &fact, &mut self.named)?;

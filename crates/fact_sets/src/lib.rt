@@ -1,13 +1,22 @@
 //! Sets of facts and of registers in which one is found without a walk, and which are walked only where a register that
-//! leaves them may be in them.
+//! leaves them may be in them; what is known at a place, on both sides; and how facts are added to it.
+//!
+//! `erhl_sides` has what is known at a place, and `added_facts` the facts that are added to it, as far as the limit on facts goes.
 #![tactic(auto)]
 
+mod added_facts;
+mod erhl_sides;
 mod indexed_set;
 mod laws;
 mod naming;
 mod near_facts;
 mod register_set;
 
+pub use added_facts::{
+    AddEnd, LineEnd, add_equal, left_side, limits_are_apart, names, now_expr, old_atom, old_fact,
+    old_register,
+};
+pub use erhl_sides::{Joined, Sides, Sort, fact_has, names_old, sides_of};
 pub use indexed_set::IndexedSet;
 pub use laws::examples_of_near_facts;
 pub use near_facts::NearFacts;

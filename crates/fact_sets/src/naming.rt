@@ -10,7 +10,7 @@ use indexmap::IndexSet;
 use ir_core::{Atom, Expr, Expr0, Name, Operand, Reg};
 use std::alloc::{AllocError, Global};
 
-#[tactic(auto, using(crate::proofs::Names::kept_same, crate::proofs::Names::kept_insert))]
+#[tactic(auto, using(crate::proofs::RegisterNames::kept_same, crate::proofs::RegisterNames::kept_insert))]
 fn add_name(alloc: Global, name: &Name, names: &mut IndexSet<Name>) -> Result<(), AllocError>
     ensures ok { OnOk result (names.new.keys ≡ insert_key same_name names.old.keys name.now) }
     ensures kept { IsKept names.old.keys names.new.keys }
@@ -23,7 +23,7 @@ fn add_name(alloc: Global, name: &Name, names: &mut IndexSet<Name>) -> Result<()
     Ok(())
 }
 
-#[tactic(auto, using(crate::proofs::Names::kept_same))]
+#[tactic(auto, using(crate::proofs::RegisterNames::kept_same))]
 fn add_atom(alloc: Global, atom: &Atom<Reg>, names: &mut IndexSet<Name>) -> Result<(), AllocError>
     ensures ok { OnOk result (names.new.keys ≡ with_atom atom.now names.old.keys) }
     ensures kept { IsKept names.old.keys names.new.keys }
@@ -34,7 +34,7 @@ fn add_atom(alloc: Global, atom: &Atom<Reg>, names: &mut IndexSet<Name>) -> Resu
     }
 }
 
-#[tactic(auto, using(crate::proofs::Names::kept_same, crate::proofs::Names::kept_then))]
+#[tactic(auto, using(crate::proofs::RegisterNames::kept_same, crate::proofs::RegisterNames::kept_then))]
 fn add_operands(
     alloc: Global,
     operands: &[Operand<Reg>],
@@ -49,7 +49,7 @@ fn add_operands(
     Ok(())
 }
 
-#[tactic(auto, using(crate::proofs::Names::kept_then))]
+#[tactic(auto, using(crate::proofs::RegisterNames::kept_then))]
 fn add_expr(alloc: Global, expr: &Expr0, names: &mut IndexSet<Name>) -> Result<(), AllocError>
     ensures ok { OnOk result (names.new.keys ≡ with_expr expr.now names.old.keys) }
     ensures kept { IsKept names.old.keys names.new.keys }
@@ -81,7 +81,7 @@ fn add_expr(alloc: Global, expr: &Expr0, names: &mut IndexSet<Name>) -> Result<(
 }
 
 /// Adds the names of the registers that the fact names. Names that are there stay, also where memory runs out.
-#[tactic(auto, using(crate::proofs::Names::kept_then), unfolding(crate::specs::Names::with_named))]
+#[tactic(auto, using(crate::proofs::RegisterNames::kept_then), unfolding(crate::specs::Names::with_named))]
 pub(crate) fn add_named(
     alloc: Global,
     fact: &Fact,

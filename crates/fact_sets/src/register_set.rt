@@ -1,3 +1,6 @@
+//! A set of registers in which one is found without a walk.
+//!
+//! Speed alone beside a list: blocks whose hints name many registers (`check-edges` of `bench/count.py`).
 ghost use Rattle.std.specs.Prelude.{◌≡◌, [], IfOk, OnOk, OnErr, not, filter};
 ghost use Rattle.ir_core.specs.declared.expressions.Reg.TheVariants.{Now};
 ghost use Rattle.erhl_assert.specs.Sides.{has_reg};

@@ -6,7 +6,7 @@ use Rattle.std.specs.Option.{is_some, option_or}
 use Rattle.ir_types.specs.declared.names.Name.{Name}
 use Rattle.ir_types.specs.NameLaws.{same_name_true}
 use Rattle.ir_types.specs.Same.{same_name}
-use Rattle.shape_kinds.proofs.Entries.{Puts}
+use Rattle.ir_typing.proofs.ShapeKinds.Entries.{Puts}
 use Rattle.function_names.specs.declared.marked.Told.{Told}
 use Rattle.function_names.specs.declared.things.Thing.{Thing}
 use Rattle.function_names.specs.Held.{Entry, entries_told, found_among, told_at}

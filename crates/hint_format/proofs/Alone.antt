@@ -1,7 +1,7 @@
 -- The text of an expression or a name spells one thing, and none where it has a fault: its grammar is unambiguous.
 use Rattle.ir_types.specs.declared.names.Sigil.{Sigil}
 use Rattle.ir_types.specs.declared.names.Sigil.TheVariants.{Local, Global}
-use Rattle.predictive.proofs.Selects.{unambiguous}
+use Rattle.predictive.specs.GrammarDecides.Selects.{unambiguous}
 use Rattle.ir_grammar.specs.Rules.{grammar}
 use Rattle.ir_grammar.proofs.Reading.{expression_text}
 use Rattle.tree_reader.specs.Lawful.{lawful}

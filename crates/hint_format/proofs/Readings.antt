@@ -8,7 +8,7 @@ use Rattle.ir_types.specs.declared.names.Name.{Name}
 use Rattle.ir_types.specs.declared.names.Sigil.{Sigil}
 use Rattle.ir_core.specs.Expressions.{Expr0}
 use Rattle.ir_naming.specs.Expressions.{IsNameOf, NamesExpression}
-use Rattle.expression_printer.specs.Printed.{printed_name}
+use Rattle.ir_printer.specs.ExpressionPrinter.Printed.{printed_name}
 use Rattle.ir_lexer.specs.declared.fault.TextFault.{TextFault}
 use Rattle.ir_lexer.specs.declared.fault.TextFault.TheVariants as text_fault
 use Rattle.ir_reader.specs.Faults.{IsShort, IsTextFault}

@@ -17,7 +17,7 @@ use Rattle.ir_core.specs.Limits.{text_limit}
 use Rattle.ir_types.specs.Same.{same_name}
 use Rattle.ir_reader.specs.Faults.{IsShort}
 use Rattle.ir_reader.specs.Spells.{SpellsExpression, SpellsName}
-use Rattle.expression_printer.specs.Printed.{printed_name, printed_expr, printed_register}
+use Rattle.ir_printer.specs.ExpressionPrinter.Printed.{printed_name, printed_expr, printed_register}
 use Rattle.erhl_assert.specs.declared.facts.Fact.{Fact}
 use Rattle.erhl_assert.specs.declared.facts.Fact.TheVariants.{LessDef}
 use Rattle.erhl_assert.specs.declared.facts.Side.{Side}

@@ -1,5 +1,5 @@
 ghost use Rattle.std.specs.Prelude.{◌≡◌, [], IfOk};
-ghost use Rattle.json_values.specs.View.{view};
+ghost use Rattle.json_forms.specs.JsonValues.View.{view};
 ghost use Rattle.json_forms.specs.Answers.{Answers};
 ghost use Rattle.hint_format.specs.Form.{block_form, block_names, letter_of, letters_of, named_block};
 ghost use Rattle.hint_format.specs.Reading.{read_leaves};
@@ -9,13 +9,11 @@ use crate::steps::{EdgeForm, PlacedStepForm};
 use crate::texts::{NameText, RegisterText};
 use contents::Seq;
 use erhl_assert::{Assertion, HeldBlock, HintBlock, Letter};
-use ir_core::{Name, Sigil};
+use ir_core::{Name, NameIndex, Sigil};
 use json_forms::{
-    Failure, RowForm, Text, TextForm, has_members, member, optional, optional_list, under_key,
-    unfit,
+    Failure, RowForm, Text, TextForm, Value, has_members, member, optional, optional_list,
+    under_key, unfit,
 };
-use json_values::Value;
-use name_index::NameIndex;
 use std::alloc::Global;
 
 /// A block's hint. No two blocks have one name.

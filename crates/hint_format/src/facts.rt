@@ -5,8 +5,7 @@ ghost use Rattle.hint_format.specs.Reading.{read_leaves};
 
 use crate::texts::ExpressionText;
 use erhl_assert::Fact;
-use json_forms::{Failure, Form, Text, TextForm, item, item_count, unfit};
-use json_values::Value;
+use json_forms::{Failure, Form, Text, TextForm, Value, item, item_count, unfit};
 use std::alloc::Global;
 
 /// A fact, `["ge", E, E]`.

@@ -13,9 +13,9 @@ use crate::texts::NameText;
 use erhl_assert::{FunctionHint, Hint, Hints};
 use ir_core::Sigil;
 use json_forms::{
-    EntryForm, Failure, Form, MapOf, RowsOf, TextForm, has_members, member, read_bytes, unfit,
+    EntryForm, Failure, Form, MapOf, RowsOf, TextForm, Value, has_members, member, read_bytes,
+    unfit,
 };
-use json_values::Value;
 use std::alloc::Global;
 
 /// The hints of a file that has the form, or what is first at fault in it.

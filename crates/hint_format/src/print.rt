@@ -2,11 +2,11 @@ ghost use Rattle.std.specs.Prelude.{◌≡◌, IfOk, string_bytes};
 ghost use Rattle.serde_json.specs.Data.{string};
 ghost use Rattle.serde_json.specs.View.{view};
 ghost use Rattle.hint_format.specs.Form.{printed_fact};
-ghost use Rattle.expression_printer.specs.Printed.{printed_expr, printed_register};
+ghost use Rattle.ir_printer.specs.ExpressionPrinter.Printed.{printed_expr, printed_register};
 
 use erhl_assert::Fact;
-use expression_printer::print_expr;
 use ir_core::Expr0;
+use ir_printer::print_expr;
 use serde_json::Value;
 use std::alloc::{AllocError, Global};
 

@@ -1,5 +1,5 @@
 ghost use Rattle.std.specs.Prelude.{◌≡◌, IfOk};
-ghost use Rattle.json_values.specs.View.{view};
+ghost use Rattle.json_forms.specs.JsonValues.View.{view};
 ghost use Rattle.json_forms.specs.Answers.{Answers};
 ghost use Rattle.hint_format.specs.Form.{any_text, edge_form, edge_kind, edge_step_form, placed_kind, placed_step_form, side_of_text, step_as};
 ghost use Rattle.hint_format.specs.Reading.{read_leaves};
@@ -11,8 +11,7 @@ use erhl_assert::{
     Fact, GhostStep, HintEdge, HintStep, PlacedStep, RuleStep, SameStep, Schema, Side,
 };
 use ir_core::{Reg, Sigil};
-use json_forms::{Failure, Form, ListOf, Text, TextForm, U64, has_members, member, unfit};
-use json_values::Value;
+use json_forms::{Failure, Form, ListOf, Text, TextForm, U64, Value, has_members, member, unfit};
 use std::alloc::Global;
 
 /// The kinds of steps.

@@ -3,7 +3,7 @@ ghost use Rattle.std.specs.Prelude.{◌≡◌, codes, IfOk, Ok};
 ghost use Rattle.std.specs.List.{list_any};
 ghost use Rattle.std.specs.Option.{option_copied};
 ghost use Rattle.std.specs.Str.{bytes_eq};
-ghost use Rattle.expression_printer.specs.Printed.{printed_name};
+ghost use Rattle.ir_printer.specs.ExpressionPrinter.Printed.{printed_name};
 ghost use Rattle.json_forms.specs.Answers.{Answers};
 ghost use Rattle.json_forms.specs.Forms.{read_then};
 ghost use Rattle.ir_core.specs.declared.expressions.Reg.{Reg};
@@ -15,8 +15,8 @@ ghost use Rattle.erhl_assert.specs.Edges.{is_old};
 ghost use Rattle.hint_format.specs.Form.{behind, expression_of_text, ghost_or_now, old_register, register_of_text};
 ghost use Rattle.hint_format.specs.Reading.{expression_reading, failure_of, name_reading, read_leaves};
 
-use expression_printer::print_name;
 use ir_core::{Atom, Expr, Expr0, Name, Operand, Reg, Sigil};
+use ir_printer::print_name;
 use ir_reader::{TextFault, read_expr, read_name};
 use json_forms::{Failure, Fault, TextForm, unfit};
 use std::alloc::{AllocError, Global};

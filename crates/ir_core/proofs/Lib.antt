@@ -21,3 +21,4 @@ pub mod TypeExamples
 pub mod TypingExamples
 pub mod NamedExamples
 pub mod RangeExamples
+pub mod NameIndexes

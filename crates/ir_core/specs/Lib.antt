@@ -24,3 +24,4 @@ pub mod TypeLaws
 pub mod MemoryLaws
 pub mod RangeLaws
 pub mod TypingLaws
+pub mod NameIndexes

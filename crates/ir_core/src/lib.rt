@@ -2,6 +2,8 @@
 //! lines and terminators of these, and the expressions over operations that facts of the logic speak of.
 //!
 //! A value of these types is plain data to a contract: two are equal exactly where `Exact::is` says so.
+//!
+//! `name_index` has names in an order, of which one is found without a walk through the others.
 #![tactic(auto)]
 
 mod bit_type;
@@ -12,6 +14,7 @@ mod laws;
 mod layout;
 mod limits;
 mod modules;
+mod name_index;
 mod operands;
 mod same;
 mod types;
@@ -35,6 +38,7 @@ pub use laws::{
 pub use layout::{align_of, field_offset, fits_block, size_of};
 pub use limits::Limit;
 pub use modules::{Declaration, DeclaredParam, GlobalVar, Init, Linkage, Module, TypedInit};
+pub use name_index::{NameIndex, PlaceIndex};
 pub use operands::{
     Atom, BinOp, CastOp, Const, ConstCast, ConstElement, Flags, Operand, Pred, TypedConst,
 };

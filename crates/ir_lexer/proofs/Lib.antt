@@ -4,6 +4,7 @@ pub mod Classes
 pub mod Cuts
 pub mod Escapes
 pub mod Fronts
+pub mod MoreDigits
 pub mod Order
 pub mod Outlines
 pub mod Ranges

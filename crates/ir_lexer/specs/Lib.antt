@@ -1,5 +1,6 @@
 pub mod Bytes
 pub mod Cut
+pub mod LeftOut
 pub mod Names
 pub mod Numbers
 pub mod Pieces

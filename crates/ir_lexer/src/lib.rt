@@ -9,6 +9,7 @@
 mod bytes;
 mod cut;
 mod fault;
+mod left_out;
 mod names;
 mod numbers;
 mod pieces;
@@ -17,9 +18,13 @@ mod saying;
 mod strings;
 mod token;
 mod wide;
+mod widths;
 
+pub use bytes::are_digits;
 pub use cut::lex;
 pub use fault::TextFault;
+pub use left_out::is_left_out;
 pub use saying::{bytes_of, is_word, mark_of, says};
 pub use token::{Kind, LexFault, Number, Token, TokenKind};
 pub use wide::Wide;
+pub use widths::{begins_with_zero, up_to_64};

@@ -19,3 +19,4 @@ pub mod Flow
 pub mod Finding
 pub mod Setting
 pub mod Reaching
+pub mod Lost

@@ -13,3 +13,4 @@ pub mod FlowExamples
 pub mod FlowLaws
 pub mod Reached
 pub mod Reads
+pub mod Lost

@@ -1,6 +1,7 @@
 ghost use Rattle.ir_machine.specs.Laws.{ConstantsRefineByValue, NumbersAreKept, NumbersStayDefined, UndefIsAnyNumber, PoisonIsNoNumber, WrongIsRefined, ArgumentsAreSeen, TrapsAreWrong, VoidReturnsAreShown, LinesGiveThese, StepsMakeRuns, RunsAreSteps, OneBlockRunsEnd, FirstsAreShown, StartsAreKept, RefinedRunsAreShown};
 ghost use Rattle.ir_machine.specs.Reached.{NothingIsLost, StartsAreReached, StepsAreReached};
 ghost use Rattle.ir_machine.specs.Reads.{ReadsAreSet};
+ghost use Rattle.ir_machine.specs.Lost.{LostJumpsAreTold, UnsetIsTold};
 ghost use Rattle.ir_machine.specs.FlowLaws.{JumpsAreTurns, PhisAreTakenAtOnce, FirstEntriesAreTaken, PhisWithoutEntriesArePoison, BranchesGo, SwitchesGo, EndsAreWrong};
 
 /// Empty on purpose: its contract is the law.
@@ -95,4 +96,14 @@ pub fn well_formed_runs_go_on()
 pub fn runs_reach_what_they_lead_to()
     ensures start { StartsAreReached }
     ensures step { StepsAreReached }
+{}
+
+/// Empty on purpose: its contract is the law.
+///
+/// A jump to no block is lost, and so is one to a block whose phi has no entry for the block that is left. A register that isn't set is one
+/// that a step may not read: in a line, in a terminator or in a phi on the edge.
+#[tactic(auto, using(crate::proofs::Lost::lost_jumps_are_told, crate::proofs::Lost::unset_is_told))]
+pub fn lost_states_are_told()
+    ensures jumps { LostJumpsAreTold }
+    ensures reads { UnsetIsTold }
 {}

@@ -4,7 +4,7 @@ use Rattle.std.specs.Fmt.{decimal, digits}
 use Rattle.ir_types.specs.declared.names.Name.{Name}
 use Rattle.ir_types.specs.declared.ty.Ty.{Ty, Int, Ptr, Named}
 use Rattle.ir_types.proofs.Induction as fold
-use Rattle.expression_printer.specs.Printed.{printed_local, printed_parts, type_text}
+use Rattle.ir_printer.specs.ExpressionPrinter.Printed.{printed_local, printed_parts, type_text}
 use Rattle.ir_printer.specs.Examples.{ModulesArePrinted, module_with, three_types, three_types_text}
 use Rattle.ir_printer.specs.Printed.{printed_module}
 

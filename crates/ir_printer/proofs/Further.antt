@@ -1,12 +1,12 @@
 -- The functions that take further arguments, each at the place where it stands first of its name.
-use Rattle.std.proofs.Common.{◌≡◌, ◌∙◌, ◌+◌, ◌&&◌, ℕ, suc, Bool, true, false, cond, List, [], ◌∷◌, drop, Option, None, Some, refl, sym, ap, subst, slice_get, if◌then◌else◌, arith}
+use Rattle.std.proofs.Common.{◌≡◌, ◌∙◌, ◌+◌, ◌&&◌, ℕ, suc, Bool, true, false, cond, List, [], ◌∷◌, Option, None, Some, refl, sym, ap, subst, slice_get, if◌then◌else◌, arith}
 use Rattle.std.specs.Option.{option_and_then, option_or}
 use Rattle.ir_core.specs.declared.modules.Declaration.{Declaration}
 use Rattle.ir_types.specs.declared.names.Name.{Name}
 use Rattle.ir_types.specs.NameLaws.{same_name_true}
 use Rattle.ir_types.specs.Same.{same_name}
-use Rattle.name_index.specs.declared.places.PlaceIndex.{PlaceIndex}
-use Rattle.name_index.specs.Places.{place_in, placed}
+use Rattle.ir_core.specs.declared.name_index.places.PlaceIndex.{PlaceIndex}
+use Rattle.ir_core.specs.NameIndexes.Places.{place_in, placed}
 use Rattle.ir_printer.specs.Called.{TellsPlaces, place_from}
 use Rattle.ir_printer.specs.Printed.{called_in, takes_further}
 

@@ -3,7 +3,7 @@ use Rattle.std.proofs.Common.{◌≡◌, [], ◌∷◌, ◌++◌, List, ℕ, cod
 use Rattle.std.specs.Fmt.{decimal, digits}
 use Rattle.ir_types.specs.declared.ty.Ty.{Ty, Array, Struct}
 use Rattle.ir_types.proofs.Induction as fold
-use Rattle.expression_printer.specs.Printed.{printed_parts, struct_text, type_text}
+use Rattle.ir_printer.specs.ExpressionPrinter.Printed.{printed_parts, struct_text, type_text}
 use Rattle.ir_printer.specs.GlobalExamples.{GlobalsArePrinted}
 use Rattle.ir_printer.proofs.Examples.{at_int, at_ptr}
 use Rattle.ir_printer.proofs.Inits as init

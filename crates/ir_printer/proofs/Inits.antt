@@ -1,13 +1,15 @@
 -- The text of each kind of initialiser.
-use Rattle.std.proofs.Common.{◌≡◌, ◌∙◌, ◌++◌, ◌∷◌, [], ◌≤◌, ℕ, List, codes, length, map, drop, refl, sym, ap, append_assoc, append-nil, Result, Ok, Err, OnOk, if◌then◌else◌}
-use Rattle.std.specs.Result.{is_ok}
+use Rattle.std.proofs.Common.{◌≡◌, ◌∙◌, ◌++◌, ◌∷◌, [], ◌≤◌, ℕ, List, codes, length, map, drop, refl, sym, ap, append-nil, IsTrue}
 use Rattle.std.proofs.lemmas.List.{at_drop_all}
 use Rattle.ir_types.specs.declared.ty.Ty.{Ty}
 use Rattle.ir_core.specs.declared.operands.Const.{Const}
 use Rattle.ir_core.specs.declared.modules.Init.{Init, Const as Held, Zero, Bytes, Array, Struct, fold-roll-Init}
 use Rattle.ir_core.specs.declared.modules.Init.TheOpen as init
 use Rattle.ir_core.specs.declared.modules.Init.TheViews.{rolls-Const, rolls-Zero, rolls-Bytes, rolls-Array, rolls-Struct}
-use Rattle.expression_printer.specs.Printed.{listed, printed_constant, printed_type, quoted, struct_text, typed_text}
+use Rattle.ir_printer.specs.ExpressionPrinter.Printed.{listed, printed_constant, printed_type, quoted, struct_text, typed_text}
+use Rattle.ir_printer.specs.declared.sink.Sink.{Sink}
+use Rattle.ir_printer.specs.Told.{IsTold}
+use Rattle.ir_printer.proofs.Told.{told_as, told_then}
 use Rattle.ir_printer.specs.Globals.{array_text, init_text, printed_init, struct_end}
 
 -- one behind its type
@@ -39,48 +41,38 @@ at_struct t es =
     ap (λ (f : Ty → List ℕ). f t) (ap printed_init (sym (rolls-Struct es)) ∙ fold-roll-Init (Ty → List ℕ) init_text (init.Struct es))
     ∙ ap struct_text (each_typed es)
 
--- where the word was written, unless there was no memory
-pub zero_written : {T E : Type 0} (r : Result T E) (old new : List ℕ) (t : Ty) (x : Init)
-    → x ≡ Zero
-    → new ≡ (if is_ok r then old ++ codes "zeroinitializer" else old)
-    → OnOk r (new ≡ old ++ printed_init x t)
-zero_written (Ok v) old new t x is wrote = wrote ∙ ap (λ text. old ++ text) (sym (at_zero t) ∙ ap (λ i. printed_init i t) (sym is))
-zero_written (Err e) old new t x is wrote = tt
-
 -- ---- lists, of which each piece was printed
 
 ended : (es : List (Ty × Init)) → listed (codes "{ ") (map typed_init es) ++ struct_end es ≡ struct_text (map typed_init es)
 ended [] = refl
 ended (e ∷ es) = refl
 
--- where none is left
-none_left : (body all before : List ℕ) (es : List (Ty × Init)) (i : ℕ)
-    → body ++ listed before (map typed_init (drop i es)) ≡ all
+-- what a loop has written of the elements, where none is left
+none_left : (mid body : Sink) (before all : List ℕ) (es : List (Ty × Init)) (i : ℕ)
+    → (IsTrue body.whole → IsTrue mid.whole × (body.bytes.items ++ listed before (map typed_init (drop i es)) ≡ mid.bytes.items ++ all))
     → length es ≤ i
-    → body ≡ all
-none_left body all before es i texts over =
-    sym (at_drop_all (λ rest. body ++ listed before (map typed_init rest)) es i over ∙ append-nil body) ∙ texts
+    → IsTold mid body all
+none_left mid body before all es i texts over whole =
+    let t = texts whole in
+    (t.0, sym (at_drop_all (λ rest. body.bytes.items ++ listed before (map typed_init rest)) es i over ∙ append-nil body.bytes.items) ∙ t.1)
 
-pub array_written : (old mid body before new : List ℕ) (t : Ty) (x : Init) (es : List (Ty × Init)) (i : ℕ)
+pub array_told : (old mid body new : Sink) (before : List ℕ) (t : Ty) (x : Init) (es : List (Ty × Init)) (i : ℕ)
     → x ≡ Array es
-    → mid ≡ old ++ 91 ∷ []
-    → body ++ listed before (map typed_init (drop i es)) ≡ mid ++ listed [] (map typed_init es)
+    → IsTold old mid (91 ∷ [])
+    → (IsTrue body.whole → IsTrue mid.whole × (body.bytes.items ++ listed before (map typed_init (drop i es)) ≡ mid.bytes.items ++ listed [] (map typed_init es)))
     → length es ≤ i
-    → new ≡ body ++ 93 ∷ []
-    → new ≡ old ++ printed_init x t
-array_written old mid body before new t x es i is head texts over last =
-    let texts_of = listed [] (map typed_init es) in
-    let all : body ≡ (old ++ 91 ∷ []) ++ texts_of = none_left body (mid ++ texts_of) before es i texts over ∙ ap (λ m. m ++ texts_of) head in
-    last ∙ ap (λ b. b ++ 93 ∷ []) all ∙ append_assoc (old ++ 91 ∷ []) texts_of (93 ∷ []) ∙ append_assoc old (91 ∷ []) (texts_of ++ 93 ∷ [])
-    ∙ ap (λ text. old ++ text) (sym (at_array t es) ∙ ap (λ c. printed_init c t) (sym is))
+    → IsTold body new (93 ∷ [])
+    → IsTold old new (printed_init x t)
+array_told old mid body new before t x es i is head texts over last =
+    told_as old new _ _ (sym (at_array t es) ∙ ap (λ c. printed_init c t) (sym is))
+    (told_then old mid new _ _ head (told_then mid body new _ _ (none_left mid body before _ es i texts over) last))
 
-pub struct_written : (old body before new : List ℕ) (t : Ty) (x : Init) (es : List (Ty × Init)) (i : ℕ)
+pub struct_told : (old body new : Sink) (before : List ℕ) (t : Ty) (x : Init) (es : List (Ty × Init)) (i : ℕ)
     → x ≡ Struct es
-    → body ++ listed before (map typed_init (drop i es)) ≡ old ++ listed (codes "{ ") (map typed_init es)
+    → (IsTrue body.whole → IsTrue old.whole × (body.bytes.items ++ listed before (map typed_init (drop i es)) ≡ old.bytes.items ++ listed (codes "{ ") (map typed_init es)))
     → length es ≤ i
-    → new ≡ body ++ struct_end es
-    → new ≡ old ++ printed_init x t
-struct_written old body before new t x es i is texts over last =
-    let texts_of = listed (codes "{ ") (map typed_init es) in
-    last ∙ ap (λ b. b ++ struct_end es) (none_left body (old ++ texts_of) before es i texts over) ∙ append_assoc old texts_of (struct_end es)
-    ∙ ap (λ text. old ++ text) (ended es ∙ sym (at_struct t es) ∙ ap (λ c. printed_init c t) (sym is))
+    → IsTold body new (struct_end es)
+    → IsTold old new (printed_init x t)
+struct_told old body new before t x es i is texts over last =
+    told_as old new _ _ (ended es ∙ sym (at_struct t es) ∙ ap (λ c. printed_init c t) (sym is))
+    (told_then old body new _ _ (none_left old body before _ es i texts over) last)

@@ -1,6 +1,9 @@
+pub mod Told
 pub mod Behind
+pub mod Dots
 pub mod Further
 pub mod Examples
 pub mod GlobalExamples
 pub mod Inits
 pub mod MemoryExamples
+pub mod ExpressionPrinter

@@ -9,7 +9,7 @@ use Rattle.ir_core.specs.declared.modules.Init.TheOpen as init
 use Rattle.ir_core.specs.declared.modules.Linkage.{Linkage}
 use Rattle.ir_core.specs.declared.modules.Linkage.TheVariants as linkage
 use Rattle.ir_core.specs.Words.{linkage_word}
-use Rattle.expression_printer.specs.Printed.{listed, printed_align, printed_constant, printed_name, printed_type, quoted, spaced, struct_text, typed_text}
+use Rattle.ir_printer.specs.ExpressionPrinter.Printed.{listed, printed_align, printed_constant, printed_name, printed_type, quoted, spaced, struct_text, typed_text}
 
 -- `private `, and nothing for the linkage without a word
 abbrev pub linkage_text : Linkage → List ℕ

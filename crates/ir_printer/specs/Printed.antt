@@ -31,7 +31,7 @@ use Rattle.ir_core.specs.declared.modules.DeclaredParam.{DeclaredParam}
 use Rattle.ir_core.specs.declared.modules.Module.{Module}
 use Rattle.ir_core.specs.Modules.{those_before, those_behind}
 use Rattle.ir_core.specs.Words.{signext_word, zeroext_word}
-use Rattle.expression_printer.specs.Printed.{name_text, printed_name, printed_local, printed_type, number_text, listed, struct_text, printed_align, printed_flag, printed_value, printed_operand, printed_expr}
+use Rattle.ir_printer.specs.ExpressionPrinter.Printed.{name_text, printed_name, printed_local, printed_type, number_text, listed, struct_text, printed_align, printed_flag, printed_value, printed_operand, printed_expr}
 use Rattle.ir_printer.specs.Globals.{global_text, linkage_text}
 
 -- ---- lines

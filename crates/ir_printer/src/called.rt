@@ -2,11 +2,10 @@
 ghost use Rattle.std.specs.Prelude.{◌≡◌, [], ◌∷◌, slice_get, IfOk, OnOk};
 ghost use Rattle.std.specs.Option.{option_copied, option_or};
 ghost use Rattle.ir_types.specs.declared.names.Name.{Name};
-ghost use Rattle.name_index.specs.Places.{place_in};
+ghost use Rattle.ir_core.specs.NameIndexes.Places.{place_in};
 ghost use Rattle.ir_printer.specs.Called.{TellsPlaces, place_from};
 
-use ir_core::{Declaration, Name};
-use name_index::PlaceIndex;
+use ir_core::{Declaration, Name, PlaceIndex};
 use std::alloc::{AllocError, Global};
 use std::marker::Model;
 

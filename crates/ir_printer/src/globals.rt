@@ -1,40 +1,40 @@
 //! Globals as text.
-ghost use Rattle.std.specs.Prelude.{◌≡◌, ◌++◌, OnOk};
-ghost use Rattle.std.specs.List.{flat_map};
+ghost use Rattle.std.specs.Prelude.{◌≡◌};
 ghost use Rattle.ir_printer.specs.Globals.{contents_text, global_linkage, global_text, global_word, held_text, linkage_text, printed_init, struct_end};
+ghost use Rattle.ir_printer.specs.Told.{IsTold};
 
-use expression_printer::{push_align, push_constant, push_name, push_quoted, push_type};
+use crate::expression_printer::{push_align, push_constant, push_name, push_quoted, push_type};
+use crate::sink::{Prints, Sink};
 use ir_core::{GlobalVar, Init, Linkage, Sigil, Ty};
-use std::alloc::AllocError;
 
-/// Each on a line of its own.
-pub(crate) fn push_globals(text: &mut Vec<u8>, globals: &[GlobalVar]) -> Result<(), AllocError>
-    ensures { OnOk result (text.new.items ≡ text.old.items ++ flat_map global_text globals.now) }
-{
-    for global in globals {
-        push_global(text, global)?;
+/// Globals, each on a line of its own.
+pub(crate) struct Globals;
+
+impl Prints<GlobalVar> for Globals {
+    ghost printed = { λ _ global. global_text global };
+
+    fn push(&self, text: &mut Sink, global: &GlobalVar) {
+        push_global(text, global);
     }
-    Ok(())
 }
 
-fn push_global(text: &mut Vec<u8>, global: &GlobalVar) -> Result<(), AllocError>
-    ensures { OnOk result (text.new.items ≡ text.old.items ++ global_text global.now) }
+fn push_global(text: &mut Sink, global: &GlobalVar)
+    ensures { IsTold text.old text.new (global_text global.now) }
 {
-    push_name(text, Sigil::Global, &global.name)?;
-    text.extend_from_slice(b" = ")?;
-    text.extend_from_slice(linkage_of(global.linkage, &global.init))?;
-    text.extend_from_slice(word_of(global.constant))?;
-    push_contents(text, global)
+    push_name(text, Sigil::Global, &global.name);
+    text.put(b" = ");
+    text.put(linkage_of(global.linkage, &global.init));
+    text.put(word_of(global.constant));
+    push_contents(text, global);
 }
 
-fn push_contents(text: &mut Vec<u8>, global: &GlobalVar) -> Result<(), AllocError>
-    ensures { OnOk result (text.new.items ≡ text.old.items ++ contents_text global.now) }
+fn push_contents(text: &mut Sink, global: &GlobalVar)
+    ensures { IsTold text.old text.new (contents_text global.now) }
 {
-    push_type(text, &global.ty)?;
-    push_held(text, &global.ty, &global.init)?;
-    push_align(text, global.align)?;
-    text.push(b'\n')?;
-    Ok(())
+    push_type(text, &global.ty);
+    push_held(text, &global.ty, &global.init);
+    push_align(text, global.align);
+    text.put_byte(b'\n');
 }
 
 /// `external` of one that another module defines.
@@ -68,63 +68,62 @@ fn word_of(constant: bool) -> &'static [u8]
     if constant { b"constant " } else { b"global " }
 }
 
-fn push_held(text: &mut Vec<u8>, ty: &Ty, init: &Option<Init>) -> Result<(), AllocError>
-    ensures { OnOk result (text.new.items ≡ text.old.items ++ held_text ty.now init.now) }
+fn push_held(text: &mut Sink, ty: &Ty, init: &Option<Init>)
+    ensures { IsTold text.old text.new (held_text ty.now init.now) }
 {
     match init {
         Some(init) => {
-            text.push(b' ')?;
-            push_init(text, init, ty)
+            text.put_byte(b' ');
+            push_init(text, init, ty);
         }
-        None => Ok(()),
+        None => {}
     }
 }
 
 /// Goes as deep as initialisers stand in one another.
-fn push_init(text: &mut Vec<u8>, init: &Init, ty: &Ty) -> Result<(), AllocError>
-    ensures { OnOk result (text.new.items ≡ text.old.items ++ printed_init init.now ty.now) }
+fn push_init(text: &mut Sink, init: &Init, ty: &Ty)
+    ensures { IsTold text.old text.new (printed_init init.now ty.now) }
 {
     match init {
         Init::Const(constant) => push_constant(text, ty, constant),
-        Init::Zero => text.extend_from_slice(b"zeroinitializer"),
+        Init::Zero => text.put(b"zeroinitializer"),
         Init::Bytes(bytes) => {
-            text.push(b'c')?;
-            push_quoted(text, bytes.as_slice())
+            text.put_byte(b'c');
+            push_quoted(text, bytes.as_slice());
         }
         Init::Array(elements) => {
             let elements = elements.get();
-            text.push(b'[')?;
+            text.put_byte(b'[');
             let mut before: &[u8] = b"";
             for i in 0..elements.len() {
                 let one = &elements.as_slice()[i];
-                text.extend_from_slice(before)?;
-                push_type(text, &one.0)?;
-                text.push(b' ')?;
-                push_init(text, &one.1, &one.0)?;
+                text.put(before);
+                push_type(text, &one.0);
+                text.put_byte(b' ');
+                push_init(text, &one.1, &one.0);
                 before = b", ";
             }
-            text.push(b']')?;
-            Ok(())
+            text.put_byte(b']');
         }
         Init::Struct(fields) => {
             let fields = fields.get();
             let mut before: &[u8] = b"{ ";
             for i in 0..fields.len() {
                 let one = &fields.as_slice()[i];
-                text.extend_from_slice(before)?;
-                push_type(text, &one.0)?;
-                text.push(b' ')?;
-                push_init(text, &one.1, &one.0)?;
+                text.put(before);
+                push_type(text, &one.0);
+                text.put_byte(b' ');
+                push_init(text, &one.1, &one.0);
                 before = b", ";
             }
-            push_struct_end(text, fields.as_slice())
+            push_struct_end(text, fields.as_slice());
         }
     }
 }
 
 /// What stands behind the fields of a struct, and in their place where there are none.
-fn push_struct_end(text: &mut Vec<u8>, fields: &[(Ty, Init)]) -> Result<(), AllocError>
-    ensures { OnOk result (text.new.items ≡ text.old.items ++ struct_end fields.now) }
+fn push_struct_end(text: &mut Sink, fields: &[(Ty, Init)])
+    ensures { IsTold text.old text.new (struct_end fields.now) }
 {
-    text.extend_from_slice(if fields.is_empty() { b"{}" } else { b" }" })
+    text.put(if fields.is_empty() { b"{}" } else { b" }" });
 }

@@ -1,85 +1,91 @@
-ghost use Rattle.std.specs.Prelude.{◌≡◌, ◌++◌, [], true, map, codes, OnOk};
-ghost use Rattle.std.specs.List.{flat_map};
-ghost use Rattle.expression_printer.specs.Printed.{listed, printed_type};
+ghost use Rattle.std.specs.Prelude.{◌++◌, [], true, map};
+ghost use Rattle.ir_printer.specs.ExpressionPrinter.Printed.{listed, printed_type};
 ghost use Rattle.ir_printer.specs.Printed.{indented, set_text, entry_text, phi_text, calm_text, count_text, alloca_text, store_text, extensions_text, argument_text, may_set_text, callee_text, call_text, called_text, dots, function_type_text, instr_text};
+ghost use Rattle.ir_printer.specs.Called.{dots_text};
+ghost use Rattle.ir_printer.specs.Told.{IsTold};
 
 use crate::called::Declared;
-use expression_printer::{
+use crate::expression_printer::{
     push_align, push_name, push_number, push_right, push_type, push_typed_value, push_value,
 };
+use crate::sink::{Prints, Sink, push_listed};
 use ir_core::{
     Alloca, Argument, Bits, Call, Calm, Declaration, DeclaredParam, Entry, Extensions, Instr, Name,
     Phi, Sigil, Store, Ty,
 };
-use std::alloc::AllocError;
 
-pub(crate) fn push_phis(text: &mut Vec<u8>, phis: &[Phi]) -> Result<(), AllocError>
-    ensures { OnOk result (text.new.items ≡ text.old.items ++ flat_map (λ p. indented (phi_text p)) phis.now) }
-{
-    for phi in phis {
-        text.extend_from_slice(b"  ")?;
-        push_phi(text, phi)?;
-        text.push(b'\n')?;
+/// Phis, each on a line of its own.
+pub(crate) struct Phis;
+
+impl Prints<Phi> for Phis {
+    ghost printed = { λ _ phi. indented (phi_text phi) };
+
+    fn push(&self, text: &mut Sink, phi: &Phi) {
+        text.put(b"  ");
+        push_phi(text, phi);
+        text.put_byte(b'\n');
     }
-    Ok(())
 }
 
-pub(crate) fn push_instrs(
-    text: &mut Vec<u8>,
-    declared: &Declared,
-    lines: &[Instr],
-) -> Result<(), AllocError>
-    ensures { OnOk result (text.new.items ≡ text.old.items ++ flat_map (λ l. indented (instr_text declared.now l)) lines.now) }
-{
-    for line in lines {
-        text.extend_from_slice(b"  ")?;
-        push_instr(text, declared, line)?;
-        text.push(b'\n')?;
+/// Lines beside what is declared, each on a line of its own.
+#[derive(Drop)]
+pub(crate) struct Instrs<'a, 'b> {
+    pub(crate) declared: &'a Declared<'b>,
+}
+
+impl<'a, 'b> Prints<Instr> for Instrs<'a, 'b> {
+    ghost printed = { λ it line. indented (instr_text it.declared.now line) };
+
+    fn push(&self, text: &mut Sink, line: &Instr) {
+        text.put(b"  ");
+        push_instr(text, self.declared, line);
+        text.put_byte(b'\n');
     }
-    Ok(())
 }
 
 /// The register that a line sets.
-fn push_set(text: &mut Vec<u8>, register: &Name) -> Result<(), AllocError>
-    ensures { OnOk result (text.new.items ≡ text.old.items ++ set_text register.now) }
+fn push_set(text: &mut Sink, register: &Name)
+    ensures { IsTold text.old text.new (set_text register.now) }
 {
-    push_name(text, Sigil::Local, register)?;
-    text.extend_from_slice(b" = ")
+    push_name(text, Sigil::Local, register);
+    text.put(b" = ");
 }
 
-fn push_phi(text: &mut Vec<u8>, phi: &Phi) -> Result<(), AllocError>
-    ensures { OnOk result (text.new.items ≡ text.old.items ++ phi_text phi.now) }
+fn push_phi(text: &mut Sink, phi: &Phi)
+    ensures { IsTold text.old text.new (phi_text phi.now) }
 {
-    push_set(text, &phi.name)?;
-    text.extend_from_slice(b"phi ")?;
-    push_type(text, &phi.ty)?;
-    push_entries(text, &phi.ty, phi.entries.as_slice())
+    push_set(text, &phi.name);
+    text.put(b"phi ");
+    push_type(text, &phi.ty);
+    push_listed(text, &Entries { ty: &phi.ty }, b" ", phi.entries.as_slice());
 }
 
-fn push_entries(text: &mut Vec<u8>, ty: &Ty, entries: &[Entry]) -> Result<(), AllocError>
-    ensures { OnOk result (text.new.items ≡ text.old.items ++ listed (codes " ") (map (entry_text ty.now) entries.now)) }
-{
-    let mut before: &[u8] = b" ";
-    for i in 0..entries.len() {
-        text.extend_from_slice(before)?;
-        push_entry(text, ty, &entries[i])?;
-        before = b", ";
+/// Entries of a phi of that type.
+#[derive(Drop)]
+struct Entries<'a> {
+    ty: &'a Ty,
+}
+
+impl<'a> Prints<Entry> for Entries<'a> {
+    ghost printed = { λ it entry. entry_text it.ty.now entry };
+
+    fn push(&self, text: &mut Sink, entry: &Entry) {
+        push_entry(text, self.ty, entry);
     }
-    Ok(())
 }
 
-fn push_entry(text: &mut Vec<u8>, ty: &Ty, entry: &Entry) -> Result<(), AllocError>
-    ensures { OnOk result (text.new.items ≡ text.old.items ++ entry_text ty.now entry.now) }
+fn push_entry(text: &mut Sink, ty: &Ty, entry: &Entry)
+    ensures { IsTold text.old text.new (entry_text ty.now entry.now) }
 {
-    text.extend_from_slice(b"[ ")?;
-    push_value(text, ty, &entry.value)?;
-    text.extend_from_slice(b", ")?;
-    push_name(text, Sigil::Local, &entry.from)?;
-    text.extend_from_slice(b" ]")
+    text.put(b"[ ");
+    push_value(text, ty, &entry.value);
+    text.put(b", ");
+    push_name(text, Sigil::Local, &entry.from);
+    text.put(b" ]");
 }
 
-fn push_instr(text: &mut Vec<u8>, declared: &Declared, line: &Instr) -> Result<(), AllocError>
-    ensures { OnOk result (text.new.items ≡ text.old.items ++ instr_text declared.now line.now) }
+fn push_instr(text: &mut Sink, declared: &Declared, line: &Instr)
+    ensures { IsTold text.old text.new (instr_text declared.now line.now) }
 {
     match line {
         Instr::Calm(calm) => push_calm(text, calm),
@@ -89,140 +95,151 @@ fn push_instr(text: &mut Vec<u8>, declared: &Declared, line: &Instr) -> Result<(
     }
 }
 
-fn push_calm(text: &mut Vec<u8>, calm: &Calm) -> Result<(), AllocError>
-    ensures { OnOk result (text.new.items ≡ text.old.items ++ calm_text calm.now) }
+fn push_calm(text: &mut Sink, calm: &Calm)
+    ensures { IsTold text.old text.new (calm_text calm.now) }
 {
-    push_set(text, &calm.name)?;
-    push_right(text, &calm.right)
+    push_set(text, &calm.name);
+    push_right(text, &calm.right);
 }
 
-fn push_count(text: &mut Vec<u8>, count: &Option<(Ty, Bits)>) -> Result<(), AllocError>
-    ensures { OnOk result (text.new.items ≡ text.old.items ++ count_text count.now) }
+fn push_count(text: &mut Sink, count: &Option<(Ty, Bits)>)
+    ensures { IsTold text.old text.new (count_text count.now) }
 {
     match count {
         Some((ty, number)) => {
-            text.extend_from_slice(b", ")?;
-            push_type(text, ty)?;
-            text.push(b' ')?;
-            push_number(text, ty, number.get())
+            text.put(b", ");
+            push_type(text, ty);
+            text.put_byte(b' ');
+            push_number(text, ty, number.get());
         }
-        None => Ok(()),
+        None => {}
     }
 }
 
-fn push_alloca(text: &mut Vec<u8>, alloca: &Alloca) -> Result<(), AllocError>
-    ensures { OnOk result (text.new.items ≡ text.old.items ++ alloca_text alloca.now) }
+fn push_alloca(text: &mut Sink, alloca: &Alloca)
+    ensures { IsTold text.old text.new (alloca_text alloca.now) }
 {
-    push_set(text, &alloca.name)?;
-    text.extend_from_slice(b"alloca ")?;
-    push_type(text, &alloca.of)?;
-    push_count(text, &alloca.count)?;
-    push_align(text, alloca.align)
+    push_set(text, &alloca.name);
+    text.put(b"alloca ");
+    push_type(text, &alloca.of);
+    push_count(text, &alloca.count);
+    push_align(text, alloca.align);
 }
 
-fn push_store(text: &mut Vec<u8>, store: &Store) -> Result<(), AllocError>
-    ensures { OnOk result (text.new.items ≡ text.old.items ++ store_text store.now) }
+fn push_store(text: &mut Sink, store: &Store)
+    ensures { IsTold text.old text.new (store_text store.now) }
 {
-    text.extend_from_slice(b"store ")?;
-    push_typed_value(text, &store.value)?;
-    text.extend_from_slice(b", ")?;
-    push_typed_value(text, &store.pointer)?;
-    push_align(text, store.align)
+    text.put(b"store ");
+    push_typed_value(text, &store.value);
+    text.put(b", ");
+    push_typed_value(text, &store.pointer);
+    push_align(text, store.align);
 }
 
-pub(crate) fn push_extensions(text: &mut Vec<u8>, extensions: Extensions) -> Result<(), AllocError>
-    ensures { OnOk result (text.new.items ≡ text.old.items ++ extensions_text extensions) }
+pub(crate) fn push_extensions(text: &mut Sink, extensions: Extensions)
+    ensures { IsTold text.old text.new (extensions_text extensions) }
 {
     if extensions.signed {
-        text.extend_from_slice(b"signext ")?;
+        text.put(b"signext ");
     }
     if extensions.zero {
-        text.extend_from_slice(b"zeroext ")?;
+        text.put(b"zeroext ");
     }
-    Ok(())
 }
 
-fn push_argument(text: &mut Vec<u8>, argument: &Argument) -> Result<(), AllocError>
-    ensures { OnOk result (text.new.items ≡ text.old.items ++ argument_text argument.now) }
+fn push_argument(text: &mut Sink, argument: &Argument)
+    ensures { IsTold text.old text.new (argument_text argument.now) }
 {
-    push_type(text, &argument.operand.ty)?;
-    text.push(b' ')?;
-    push_extensions(text, argument.extensions)?;
-    push_value(text, &argument.operand.ty, &argument.operand.atom)
+    push_type(text, &argument.operand.ty);
+    text.put_byte(b' ');
+    push_extensions(text, argument.extensions);
+    push_value(text, &argument.operand.ty, &argument.operand.atom);
 }
 
-fn push_arguments(text: &mut Vec<u8>, arguments: &[Argument]) -> Result<(), AllocError>
-    ensures { OnOk result (text.new.items ≡ text.old.items ++ listed [] (map argument_text arguments.now)) }
-{
-    let mut before: &[u8] = b"";
-    for i in 0..arguments.len() {
-        text.extend_from_slice(before)?;
-        push_argument(text, &arguments[i])?;
-        before = b", ";
+/// Arguments of a call.
+struct Arguments;
+
+impl Prints<Argument> for Arguments {
+    ghost printed = { λ _ argument. argument_text argument };
+
+    fn push(&self, text: &mut Sink, argument: &Argument) {
+        push_argument(text, argument);
     }
-    Ok(())
 }
 
 /// The register that a call sets, if it sets one.
-fn push_may_set(text: &mut Vec<u8>, register: &Option<Name>) -> Result<(), AllocError>
-    ensures { OnOk result (text.new.items ≡ text.old.items ++ may_set_text register.now) }
+fn push_may_set(text: &mut Sink, register: &Option<Name>)
+    ensures { IsTold text.old text.new (may_set_text register.now) }
 {
     match register {
         Some(name) => push_set(text, name),
-        None => Ok(()),
+        None => {}
     }
 }
 
-fn push_call(text: &mut Vec<u8>, declared: &Declared, call: &Call) -> Result<(), AllocError>
-    ensures { OnOk result (text.new.items ≡ text.old.items ++ call_text declared.now call.now) }
+fn push_call(text: &mut Sink, declared: &Declared, call: &Call)
+    ensures { IsTold text.old text.new (call_text declared.now call.now) }
 {
-    push_may_set(text, &call.name)?;
-    text.extend_from_slice(b"call ")?;
-    push_extensions(text, call.result_extensions)?;
-    push_type(text, &call.result)?;
-    text.push(b' ')?;
-    push_called(text, declared, &call.callee)?;
-    push_callee(text, call)
+    push_may_set(text, &call.name);
+    text.put(b"call ");
+    push_extensions(text, call.result_extensions);
+    push_type(text, &call.result);
+    text.put_byte(b' ');
+    push_called(text, declared, &call.callee);
+    push_callee(text, call);
 }
 
 /// The function type, where further arguments may follow.
-fn push_called(text: &mut Vec<u8>, declared: &Declared, callee: &Name) -> Result<(), AllocError>
-    ensures { OnOk result (text.new.items ≡ text.old.items ++ called_text declared.now callee.now) }
+fn push_called(text: &mut Sink, declared: &Declared, callee: &Name)
+    ensures { IsTold text.old text.new (called_text declared.now callee.now) }
 {
     match declared.get(callee) {
         Some(declaration) => push_function_type(text, declaration),
-        None => Ok(()),
+        None => {}
     }
 }
 
-fn push_function_type(text: &mut Vec<u8>, declaration: &Declaration) -> Result<(), AllocError>
-    ensures { OnOk result (text.new.items ≡ text.old.items ++ function_type_text declaration.now) }
+fn push_function_type(text: &mut Sink, declaration: &Declaration)
+    ensures { IsTold text.old text.new (function_type_text declaration.now) }
 {
-    text.push(b'(')?;
-    push_further_params(text, declaration.params.as_slice())?;
-    text.extend_from_slice(b") ")
+    text.put_byte(b'(');
+    push_further_params(text, declaration.params.as_slice());
+    text.put(b") ");
 }
 
 /// The types of parameters, and `...` behind them.
-fn push_further_params(text: &mut Vec<u8>, params: &[DeclaredParam]) -> Result<(), AllocError>
-    ensures { OnOk result (text.new.items ≡ text.old.items ++ listed [] (map (λ p. printed_type p.ty) params.now ++ dots true)) }
+fn push_further_params(text: &mut Sink, params: &[DeclaredParam])
+    ensures { IsTold text.old text.new (listed [] (map (λ p. printed_type p.ty) params.now ++ dots true)) }
 {
-    let mut before: &[u8] = b"";
-    for i in 0..params.len() {
-        text.extend_from_slice(before)?;
-        push_type(text, &params[i].ty)?;
-        before = b", ";
-    }
-    text.extend_from_slice(before)?;
-    text.extend_from_slice(b"...")
+    push_listed(text, &ParamTypes, b"", params);
+    push_dots(text, params.is_empty(), true);
 }
 
-fn push_callee(text: &mut Vec<u8>, call: &Call) -> Result<(), AllocError>
-    ensures { OnOk result (text.new.items ≡ text.old.items ++ callee_text call.now) }
+/// The types of parameters.
+struct ParamTypes;
+
+impl Prints<DeclaredParam> for ParamTypes {
+    ghost printed = { λ _ param. printed_type param.ty };
+
+    fn push(&self, text: &mut Sink, param: &DeclaredParam) {
+        push_type(text, &param.ty);
+    }
+}
+
+/// Where further arguments may follow, `...` behind the parameters, of which there are some or none.
+pub(crate) fn push_dots(text: &mut Sink, none: bool, variadic: bool)
+    ensures { IsTold text.old text.new (dots_text none variadic) }
 {
-    push_name(text, Sigil::Global, &call.callee)?;
-    text.push(b'(')?;
-    push_arguments(text, call.arguments.as_slice())?;
-    text.push(b')')?;
-    Ok(())
+    if variadic {
+        text.put(if none { b"..." } else { b", ..." });
+    }
+}
+
+fn push_callee(text: &mut Sink, call: &Call)
+    ensures { IsTold text.old text.new (callee_text call.now) }
+{
+    push_name(text, Sigil::Global, &call.callee);
+    text.put_byte(b'(');
+    push_listed(text, &Arguments, b"", call.arguments.as_slice());
+    text.put_byte(b')');
 }

@@ -1,54 +1,61 @@
-ghost use Rattle.std.specs.Prelude.{◌≡◌, ◌++◌, map, OnOk};
-ghost use Rattle.std.specs.List.{flat_map};
-ghost use Rattle.expression_printer.specs.Printed.{printed_type, struct_text};
+ghost use Rattle.std.specs.Prelude.{map};
+ghost use Rattle.ir_printer.specs.ExpressionPrinter.Printed.{printed_type, struct_text};
 ghost use Rattle.ir_printer.specs.Printed.{body_text, named_type_text};
+ghost use Rattle.ir_printer.specs.Told.{IsTold};
 
+use crate::expression_printer::{push_name, push_type};
+use crate::sink::{Prints, Sink, push_listed};
 use contents::Seq;
-use expression_printer::{push_name, push_type};
 use ir_core::{NamedTy, Sigil, Ty};
 use ir_types::Shared;
-use std::alloc::AllocError;
 
-/// Each on a line of its own.
-pub(crate) fn push_types(text: &mut Vec<u8>, types: &[NamedTy]) -> Result<(), AllocError>
-    ensures { OnOk result (text.new.items ≡ text.old.items ++ flat_map named_type_text types.now) }
-{
-    for named in types {
-        push_named_type(text, named)?;
+/// Named types, each on a line of its own.
+pub(crate) struct NamedTypes;
+
+impl Prints<NamedTy> for NamedTypes {
+    ghost printed = { λ _ named. named_type_text named };
+
+    fn push(&self, text: &mut Sink, named: &NamedTy) {
+        push_named_type(text, named);
     }
-    Ok(())
 }
 
-fn push_named_type(text: &mut Vec<u8>, named: &NamedTy) -> Result<(), AllocError>
-    ensures { OnOk result (text.new.items ≡ text.old.items ++ named_type_text named.now) }
+fn push_named_type(text: &mut Sink, named: &NamedTy)
+    ensures { IsTold text.old text.new (named_type_text named.now) }
 {
-    push_name(text, Sigil::Local, &named.name)?;
-    text.extend_from_slice(b" = type ")?;
-    push_body(text, &named.fields)?;
-    text.push(b'\n')?;
-    Ok(())
+    push_name(text, Sigil::Local, &named.name);
+    text.put(b" = type ");
+    push_body(text, &named.fields);
+    text.put_byte(b'\n');
 }
 
-fn push_body(text: &mut Vec<u8>, fields: &Option<Shared<Seq<Ty>>>) -> Result<(), AllocError>
-    ensures { OnOk result (text.new.items ≡ text.old.items ++ body_text fields.now) }
+fn push_body(text: &mut Sink, fields: &Option<Shared<Seq<Ty>>>)
+    ensures { IsTold text.old text.new (body_text fields.now) }
 {
     match fields {
         Some(fields) => push_struct(text, fields.get().as_slice()),
-        None => text.extend_from_slice(b"opaque"),
+        None => text.put(b"opaque"),
     }
 }
 
-fn push_struct(text: &mut Vec<u8>, fields: &[Ty]) -> Result<(), AllocError>
-    ensures { OnOk result (text.new.items ≡ text.old.items ++ struct_text (map printed_type fields.now)) }
+fn push_struct(text: &mut Sink, fields: &[Ty])
+    ensures { IsTold text.old text.new (struct_text (map printed_type fields.now)) }
 {
     if fields.is_empty() {
-        return text.extend_from_slice(b"{}");
+        text.put(b"{}");
+    } else {
+        push_listed(text, &Types, b"{ ", fields);
+        text.put(b" }");
     }
-    let mut before: &[u8] = b"{ ";
-    for i in 0..fields.len() {
-        text.extend_from_slice(before)?;
-        push_type(text, &fields[i])?;
-        before = b", ";
+}
+
+/// Types.
+struct Types;
+
+impl Prints<Ty> for Types {
+    ghost printed = { λ _ ty. printed_type ty };
+
+    fn push(&self, text: &mut Sink, ty: &Ty) {
+        push_type(text, ty);
     }
-    text.extend_from_slice(b" }")
 }

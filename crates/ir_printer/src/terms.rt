@@ -1,88 +1,87 @@
-ghost use Rattle.std.specs.Prelude.{◌≡◌, ◌++◌, OnOk};
-ghost use Rattle.std.specs.List.{flat_map};
 ghost use Rattle.ir_printer.specs.Printed.{indented, label_text, cond_br_text, case_text, switch_text, term_text};
+ghost use Rattle.ir_printer.specs.Told.{IsTold};
 
-use expression_printer::{push_name, push_number, push_type, push_typed_value};
+use crate::expression_printer::{push_name, push_number, push_type, push_typed_value};
+use crate::sink::{Prints, Sink, push_each};
 use ir_core::{Case, CondBr, Name, Sigil, Switch, Term};
-use std::alloc::AllocError;
 
 /// The terminator as the last line of its block.
-pub(crate) fn push_last_line(text: &mut Vec<u8>, term: &Term) -> Result<(), AllocError>
-    ensures { OnOk result (text.new.items ≡ text.old.items ++ indented (term_text term.now)) }
+pub(crate) fn push_last_line(text: &mut Sink, term: &Term)
+    ensures { IsTold text.old text.new (indented (term_text term.now)) }
 {
-    text.extend_from_slice(b"  ")?;
-    push_term(text, term)?;
-    text.push(b'\n')?;
-    Ok(())
+    text.put(b"  ");
+    push_term(text, term);
+    text.put_byte(b'\n');
 }
 
-fn push_term(text: &mut Vec<u8>, term: &Term) -> Result<(), AllocError>
-    ensures { OnOk result (text.new.items ≡ text.old.items ++ term_text term.now) }
+fn push_term(text: &mut Sink, term: &Term)
+    ensures { IsTold text.old text.new (term_text term.now) }
 {
     match term {
         Term::Ret(operand) => {
-            text.extend_from_slice(b"ret ")?;
-            push_typed_value(text, operand)
+            text.put(b"ret ");
+            push_typed_value(text, operand);
         }
-        Term::RetVoid => text.extend_from_slice(b"ret void"),
+        Term::RetVoid => text.put(b"ret void"),
         Term::Br(block) => {
-            text.extend_from_slice(b"br ")?;
-            push_label(text, block)
+            text.put(b"br ");
+            push_label(text, block);
         }
         Term::CondBr(branch) => push_cond_br(text, branch),
         Term::Switch(switch) => push_switch(text, switch),
-        Term::Unreachable => text.extend_from_slice(b"unreachable"),
+        Term::Unreachable => text.put(b"unreachable"),
     }
 }
 
-fn push_label(text: &mut Vec<u8>, block: &Name) -> Result<(), AllocError>
-    ensures { OnOk result (text.new.items ≡ text.old.items ++ label_text block.now) }
+fn push_label(text: &mut Sink, block: &Name)
+    ensures { IsTold text.old text.new (label_text block.now) }
 {
-    text.extend_from_slice(b"label ")?;
-    push_name(text, Sigil::Local, block)
+    text.put(b"label ");
+    push_name(text, Sigil::Local, block);
 }
 
-fn push_cond_br(text: &mut Vec<u8>, branch: &CondBr) -> Result<(), AllocError>
-    ensures { OnOk result (text.new.items ≡ text.old.items ++ cond_br_text branch.now) }
+fn push_cond_br(text: &mut Sink, branch: &CondBr)
+    ensures { IsTold text.old text.new (cond_br_text branch.now) }
 {
-    text.extend_from_slice(b"br ")?;
-    push_typed_value(text, &branch.condition)?;
-    text.extend_from_slice(b", ")?;
-    push_label(text, &branch.on_true)?;
-    text.extend_from_slice(b", ")?;
-    push_label(text, &branch.on_false)
+    text.put(b"br ");
+    push_typed_value(text, &branch.condition);
+    text.put(b", ");
+    push_label(text, &branch.on_true);
+    text.put(b", ");
+    push_label(text, &branch.on_false);
 }
 
-fn push_switch(text: &mut Vec<u8>, switch: &Switch) -> Result<(), AllocError>
-    ensures { OnOk result (text.new.items ≡ text.old.items ++ switch_text switch.now) }
+fn push_switch(text: &mut Sink, switch: &Switch)
+    ensures { IsTold text.old text.new (switch_text switch.now) }
 {
-    text.extend_from_slice(b"switch ")?;
-    push_typed_value(text, &switch.value)?;
-    text.extend_from_slice(b", ")?;
-    push_label(text, &switch.default)?;
-    text.extend_from_slice(b" [\n")?;
-    push_cases(text, switch.cases.as_slice())?;
-    text.extend_from_slice(b"  ]")
+    text.put(b"switch ");
+    push_typed_value(text, &switch.value);
+    text.put(b", ");
+    push_label(text, &switch.default);
+    text.put(b" [\n");
+    push_each(text, &Cases, switch.cases.as_slice());
+    text.put(b"  ]");
 }
 
-fn push_cases(text: &mut Vec<u8>, cases: &[Case]) -> Result<(), AllocError>
-    ensures { OnOk result (text.new.items ≡ text.old.items ++ flat_map case_text cases.now) }
-{
-    for case in cases {
-        push_case(text, case)?;
+/// Cases of a switch.
+struct Cases;
+
+impl Prints<Case> for Cases {
+    ghost printed = { λ _ case. case_text case };
+
+    fn push(&self, text: &mut Sink, case: &Case) {
+        push_case(text, case);
     }
-    Ok(())
 }
 
-fn push_case(text: &mut Vec<u8>, case: &Case) -> Result<(), AllocError>
-    ensures { OnOk result (text.new.items ≡ text.old.items ++ case_text case.now) }
+fn push_case(text: &mut Sink, case: &Case)
+    ensures { IsTold text.old text.new (case_text case.now) }
 {
-    text.extend_from_slice(b"    ")?;
-    push_type(text, &case.ty)?;
-    text.push(b' ')?;
-    push_number(text, &case.ty, case.number.get())?;
-    text.extend_from_slice(b", ")?;
-    push_label(text, &case.label)?;
-    text.push(b'\n')?;
-    Ok(())
+    text.put(b"    ");
+    push_type(text, &case.ty);
+    text.put_byte(b' ');
+    push_number(text, &case.ty, case.number.get());
+    text.put(b", ");
+    push_label(text, &case.label);
+    text.put_byte(b'\n');
 }

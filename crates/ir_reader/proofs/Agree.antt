@@ -6,7 +6,7 @@ use Rattle.ir_core.specs.declared.modules.Module.{Module}
 use Rattle.ir_core.specs.declared.limits.Limit.{Limit}
 use Rattle.ir_core.specs.Limits.{text_limit}
 use Rattle.ir_shape.specs.declared.fault.ShapeFault.{ShapeFault}
-use Rattle.shape_laws.specs.Laws.{ShapelyModulesAreFaultless}
+use Rattle.ir_shape.specs.ShapeLaws.Laws.{ShapelyModulesAreFaultless}
 use Rattle.ir_shape.specs.Shape.{first_fault}
 use Rattle.ir_lexer.specs.declared.fault.TextFault.{TextFault}
 use Rattle.ir_lexer.specs.declared.fault.TextFault.TheVariants as text

@@ -1,5 +1,5 @@
 -- The first function that isn't such.
-use Rattle.std.proofs.Common.{◌≡◌, ℕ, ◌<◌, suc, zero, List, [], ◌∷◌, ◌++◌, length, take, get_or, refl, sym, ap, subst, arith}
+use Rattle.std.proofs.Common.{◌≡◌, ℕ, ◌<◌, suc, zero, List, [], ◌∷◌, ◌++◌, length, take, get_or, refl, sym, ap, ◌∙◌, subst, arith}
 use Rattle.std.specs.List.{AllByRecursion}
 use Rattle.ir_core.specs.declared.functions.Function.{Function}
 use Rattle.ir_reader.specs.InputFaults.{FirstWithout}
@@ -39,3 +39,16 @@ pub all_at : (P : Function → Type 0) (fs : List Function) (k : ℕ) (f : Funct
 all_at P [] k f within at all = absurd (omega (arith, within))
 all_at P (g ∷ fs) zero f within at all = subst P (sym at) all.0
 all_at P (g ∷ fs) (suc k) f within at all = all_at P fs k f (omega (arith, within)) at all.1
+
+first_of_two : (P : Function → Type 0) (before others after behind : List Function) (f g : Function) → before ++ (f ∷ after) ≡ others ++ (g ∷ behind)
+    → AllByRecursion P before → AllByRecursion P others → (P f → ⊥) → (P g → ⊥) → f ≡ g
+first_of_two P [] [] after behind f g same such also not_f not_g = cc
+first_of_two P [] (h ∷ others) after behind f g same such also not_f not_g = let e : h ≡ f = cc in absurd (not_f (subst P e also.0))
+first_of_two P (h ∷ before) [] after behind f g same such also not_f not_g = let e : h ≡ g = cc in absurd (not_g (subst P e such.0))
+first_of_two P (h ∷ before) (k ∷ others) after behind f g same such also not_f not_g =
+    let rest : before ++ (f ∷ after) ≡ others ++ (g ∷ behind) = cc in first_of_two P before others after behind f g rest such.1 also.1 not_f not_g
+
+-- one function is the first that isn't such
+pub first_is_one : (P : Function → Type 0) (fs : List Function) (f g : Function) → FirstWithout P fs f → FirstWithout P fs g → f ≡ g
+first_is_one P fs f g one other =
+    first_of_two P one.before other.before one.after other.after f g (sym one.functions ∙ other.functions) one.such other.such one.not_such other.not_such

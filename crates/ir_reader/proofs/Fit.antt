@@ -10,9 +10,9 @@ use Rattle.ir_core.proofs.Narrow.{IsNarrow, IsNarrowFunction, IsNarrowNamedType,
 use Rattle.ir_core.specs.Ranges.{AreBytes, IsInRange}
 use Rattle.ir_grammar.specs.declared.trees.DefinitionText.{DefinitionText}
 use Rattle.ir_naming.specs.Spells.{NamesFunction}
-use Rattle.shape_laws.specs.Laws.{FaultlessModulesHaveShape}
+use Rattle.ir_shape.specs.ShapeLaws.Laws.{FaultlessModulesHaveShape}
 use Rattle.ir_reader.specs.Spells.{Spells}
-use Rattle.module_limits.specs.Passed.{IsShort}
+use Rattle.ir_typing.specs.ModuleLimits.Passed.{IsShort}
 use Rattle.ir_reader.specs.Laws.{ModulesAreOverIntegers, ModulesHaveShape}
 use Rattle.ir_reader.proofs.Integers.{of_integers}
 use Rattle.ir_reader.proofs.Ranged.{ranged}

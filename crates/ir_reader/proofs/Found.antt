@@ -14,7 +14,7 @@ use Rattle.name_claims.specs.declared.claims.Fault.{Fault}
 use Rattle.name_claims.specs.declared.claims.Reason.TheVariants as reason
 use Rattle.name_claims.specs.Faults.{HasFault, IsFirst, rank}
 use Rattle.predictive.specs.Unexpected.{Begins, IsUnexpected}
-use Rattle.tree_reader.specs.LeftOut.{is_left_out}
+use Rattle.ir_lexer.specs.LeftOut.{is_left_out}
 use Rattle.tree_reader.proofs.Single.{none_longer, none_where_written, one_place}
 use Rattle.ir_lexer.specs.declared.fault.TextFault.{TextFault}
 use Rattle.ir_lexer.specs.declared.fault.TextFault.TheVariants as fault

@@ -11,7 +11,7 @@ use Rattle.ir_lexer.specs.Cut.{Placed}
 use Rattle.ir_grammar.specs.declared.words.Language.{Language}
 use Rattle.ir_grammar.specs.Symbols.{kind_in, kind_of, kind_of_token, placed_in, symbol, symbol_in}
 use Rattle.ir_grammar.proofs.Tokens.{kinds_in, symbols_in}
-use Rattle.tree_reader.specs.LeftOut.{is_left_out}
+use Rattle.ir_lexer.specs.LeftOut.{is_left_out}
 use Rattle.tree_reader.specs.Reading.{IsReading}
 use Rattle.predictive.specs.Unexpected.{IsUnexpected}
 use Rattle.ir_lexer.specs.declared.fault.TextFault.{TextFault}

@@ -17,7 +17,7 @@ use Rattle.predictive.proofs.Joint.{leaves, unexpected}
 use Rattle.tree_reader.specs.Lawful as tables
 use Rattle.tree_reader.specs.Tables.{sets}
 use Rattle.tree_reader.proofs.Whole.{expression_ends, global_ends, local_ends, module_ends}
-use Rattle.grammar_decides.specs.Decision.{decided}
+use Rattle.predictive.specs.GrammarDecides.Decision.{decided}
 use Rattle.ir_naming.specs.Expressions.{IsNameOf, NamesExpression, logic_expression}
 use Rattle.ir_naming.specs.Modules.{module_of}
 use Rattle.ir_naming.specs.Spells.{NamesModule}

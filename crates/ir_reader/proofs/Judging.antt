@@ -13,7 +13,7 @@ use Rattle.name_claims.specs.declared.claims.Reason.{Reason}
 use Rattle.name_claims.specs.declared.claims.Reason.TheVariants as reason
 use Rattle.name_claims.specs.Indexes.{first_of}
 use Rattle.name_claims.proofs.First.{none_if, some_if}
-use Rattle.tree_reader.specs.LeftOut.{is_left_out}
+use Rattle.ir_lexer.specs.LeftOut.{is_left_out}
 use Rattle.predictive.specs.Unexpected.{IsUnexpected}
 use Rattle.ir_lexer.specs.declared.fault.TextFault.{TextFault}
 use Rattle.ir_lexer.specs.declared.fault.TextFault.TheVariants as fault

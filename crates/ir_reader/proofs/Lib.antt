@@ -14,6 +14,7 @@ pub mod Lawful
 pub mod Lexed
 pub mod Lists
 pub mod Named
+pub mod OneFault
 pub mod Past
 pub mod Ranged
 pub mod Ranges

@@ -12,11 +12,11 @@ use Rattle.ir_core.specs.Functions.{function_names}
 use Rattle.ir_core.specs.Order.{AreNew}
 use Rattle.ir_core.specs.TypeNames.{type_names}
 use Rattle.ir_core.specs.WellFormed.{HasDeclaredShape, HasFunctionShape, HasGlobalShape, HasShape, IsFunctionDefined, NamesTypes}
-use Rattle.name_index.specs.Among.{is_among}
+use Rattle.ir_core.specs.NameIndexes.Among.{is_among}
 use Rattle.ir_shape.specs.Shape.{first_fault}
-use Rattle.shape_kinds.specs.Names.{are_new, with_name}
-use Rattle.shape_laws.proofs.Shapely.{shapely_modules_are_faultless}
-use Rattle.shape_tests.proofs.Taken.{new_by}
+use Rattle.ir_typing.specs.ShapeKinds.Names.{are_new, with_name}
+use Rattle.ir_shape.proofs.ShapeLaws.Shapely.{shapely_modules_are_faultless}
+use Rattle.ir_shape.proofs.ShapeTests.Taken.{new_by}
 
 abbrev pub names_of : List Function → List Name
 names_of = map (λ (f : Function). f.name)

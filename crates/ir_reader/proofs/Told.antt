@@ -7,7 +7,7 @@ use Rattle.ir_core.specs.declared.limits.Limit.TheVariants as limit
 use Rattle.ir_core.specs.Ranges.{AreBytes, IsInRange}
 use Rattle.ir_core.specs.WellFormed.{IsFunctionDefined, IsWellFormed}
 use Rattle.ir_shape.specs.Shape.{first_fault}
-use Rattle.module_limits.specs.Passed.{IsPassed, IsWithin}
+use Rattle.ir_typing.specs.ModuleLimits.Passed.{IsPassed, IsWithin}
 use Rattle.ir_lexer.specs.declared.fault.TextFault.{TextFault}
 use Rattle.ir_lexer.specs.declared.fault.TextFault.TheVariants as text
 use Rattle.ir_reader.specs.Faults.{IsTextFault}

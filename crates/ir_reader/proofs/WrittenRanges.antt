@@ -9,7 +9,7 @@ use Rattle.ir_lexer.specs.declared.token.TokenKind.{TokenKind}
 use Rattle.ir_lexer.specs.declared.token.TokenKind.TheVariants as kind
 use Rattle.ir_lexer.specs.Bytes.{are_digits}
 use Rattle.ir_lexer.specs.Cut.{Cut, Placed as PlacedToken, cut}
-use Rattle.ir_lexer.specs.Numbers.{value_of}
+use Rattle.ir_lexer.specs.Numbers.{begins_with_zero, value_of}
 use Rattle.ir_grammar.specs.declared.trees.DefinitionText.{DefinitionText}
 use Rattle.ir_grammar.specs.declared.trees.ModuleText.{ModuleText}
 use Rattle.ir_grammar.specs.declared.words.Language.TheVariants.{Ir}
@@ -17,7 +17,7 @@ use Rattle.ir_grammar.specs.declared.words.Word.{Word}
 use Rattle.ir_grammar.specs.declared.words.Word.TheVariants as word
 use Rattle.ir_grammar.specs.Symbols.{Symbol, mark_symbol, symbol, symbol_at, word_symbol}
 use Rattle.ir_grammar.specs.Symbols as symbols
-use Rattle.ir_grammar.specs.Words.{are_width, begins_with_zero, cast_of, truth_of, exact_of, flag_of, key_of, named_word, other_word, overflow_of, plain_of, pred_of, width_in, width_of, word_said}
+use Rattle.ir_grammar.specs.Words.{are_width, cast_of, truth_of, exact_of, flag_of, key_of, named_word, other_word, overflow_of, plain_of, pred_of, width_in, width_of, word_said}
 use Rattle.ir_grammar.specs.Written as write
 use Rattle.ir_reader.specs.Spells.{symbols_cut, symbols_of}
 use Rattle.ir_reader.proofs.Tools.{some_is}

@@ -7,7 +7,7 @@ use Rattle.ir_lexer.specs.declared.token.LexFault.TheVariants as lexer
 use Rattle.ir_lexer.specs.Cut.{Placed, cut}
 use Rattle.predictive.specs.Unexpected.{Begins, IsUnexpected}
 use Rattle.ir_grammar.specs.Symbols.{kind_of, kind_of_token, symbol}
-use Rattle.tree_reader.specs.LeftOut.{is_left_out}
+use Rattle.ir_lexer.specs.LeftOut.{is_left_out}
 use Rattle.name_claims.specs.declared.claims.Fault.{Fault}
 use Rattle.name_claims.specs.declared.claims.Reason.{Reason}
 use Rattle.name_claims.specs.declared.claims.Reason.TheVariants as reason

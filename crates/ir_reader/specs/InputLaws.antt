@@ -38,3 +38,10 @@ FaultsAreOfOneKind =
 abbrev pub FaultsExcludeModules : Type 0
 FaultsExcludeModules =
     (bytes : List ℕ) (f : ModuleFault) (m : Module) → length bytes ≤ text_limit → IsModuleFault bytes f → f ≢ fault.Memory → SpellsWellFormed bytes m → ⊥
+
+-- Of such a text there is one fault, and all that is told of it is one: its place, and with a register that isn't defined the function and the
+-- path.
+abbrev pub ModuleFaultsAreOne : Type 0
+ModuleFaultsAreOne =
+    (bytes : List ℕ) (f g : ModuleFault) → length bytes ≤ text_limit → IsModuleFault bytes f → f ≢ fault.Memory → IsModuleFault bytes g → g ≢ fault.Memory
+    → f ≡ g

@@ -14,7 +14,7 @@ use Rattle.ir_lexer.specs.declared.fault.TextFault.TheVariants as fault
 use Rattle.ir_reader.specs.Faults.{IsTextFault}
 use Rattle.ir_reader.specs.Forms.{Form}
 use Rattle.ir_reader.specs.Spells.{IsSpelled, Spells, SpellsExpression, SpellsName}
-use Rattle.module_limits.specs.Passed.{IsShort}
+use Rattle.ir_typing.specs.ModuleLimits.Passed.{IsShort}
 
 -- ---- one thing
 

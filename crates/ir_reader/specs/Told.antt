@@ -10,7 +10,7 @@ use Rattle.name_claims.specs.declared.claims.Fault.{Fault}
 use Rattle.name_claims.specs.declared.claims.Reason.{Reason}
 use Rattle.name_claims.specs.declared.claims.Reason.TheVariants as reason
 use Rattle.name_claims.specs.Faults.{HasFault, IsFirst}
-use Rattle.tree_reader.specs.LeftOut.{is_left_out}
+use Rattle.ir_lexer.specs.LeftOut.{is_left_out}
 use Rattle.ir_lexer.specs.declared.fault.TextFault.{TextFault}
 use Rattle.ir_lexer.specs.declared.fault.TextFault.TheVariants as fault
 use Rattle.ir_reader.specs.Faults.{HasTokens, IsGrammarFault, IsPastLines, PassesLines}

@@ -5,9 +5,8 @@ ghost use Rattle.ir_reader.specs.Told as told;
 
 use crate::TextFault;
 use ir_core::Limit;
-use ir_lexer::{LexFault, Token};
+use ir_lexer::{LexFault, Token, is_left_out};
 use name_claims::{Fault, Reason};
-use tree_reader::is_left_out;
 
 pub fn of_lexer(fault: LexFault) -> TextFault
     ensures { result ≡ told.of_lexer fault }

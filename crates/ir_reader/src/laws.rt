@@ -4,7 +4,7 @@ ghost use Rattle.ir_naming.specs.Spells.{NamesModule};
 ghost use Rattle.ir_reader.specs.Forms.{expression_form, module_form, name_form};
 ghost use Rattle.ir_reader.specs.Laws.{ModulesAreOne, ExpressionsAreOne, NamesAreOne, ModulesAreInOrder, ModulesHaveShape, ModulesAreShort, ModulesAreInRange, ModulesAreOverIntegers, FaultsExclude, FaultsAreOne, EachIsJudged};
 
-use shape_laws::faultless_modules_have_shape;
+use ir_shape::faultless_modules_have_shape;
 use tree_reader::written_once;
 
 /// The body calls a law alone, since the clauses are laws.

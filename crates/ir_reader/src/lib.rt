@@ -19,7 +19,7 @@ mod tokens;
 
 pub use expressions::read_expr;
 pub use fault::ModuleFault;
-pub use fault_laws::first_faults_agree;
+pub use fault_laws::{first_faults_agree, module_faults_are_one};
 pub use ir_lexer::TextFault;
 pub use laws::{
     each_text_is_judged, faults_and_spelling_exclude, faults_are_one, spelled_modules_fit,

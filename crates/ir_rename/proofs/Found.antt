@@ -3,8 +3,8 @@ use Rattle.std.proofs.Common.{◌≡◌, ◌∙◌, ℕ, zero, suc, ◌+◌, Boo
 use Rattle.std.specs.List.{position_from}
 use Rattle.ir_types.specs.declared.names.Name.{Name}
 use Rattle.ir_types.specs.Same.{same_name}
-use Rattle.name_index.specs.Places.{ArePlaces}
-use Rattle.name_index.proofs.FirstPlaces.{behind_none}
+use Rattle.ir_core.specs.NameIndexes.Places.{ArePlaces}
+use Rattle.ir_core.proofs.NameIndexes.FirstPlaces.{behind_none}
 use Rattle.ir_rename.specs.declared.renaming.Renaming.{Renaming}
 use Rattle.ir_rename.specs.Lent.{given_at, renamed}
 use Rattle.ir_rename.specs.Numbered.{renaming}

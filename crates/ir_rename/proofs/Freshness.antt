@@ -10,8 +10,8 @@ use Rattle.ir_types.specs.declared.names.Name.{Name}
 use Rattle.ir_types.specs.declared.names.Name.TheVariants.{Text}
 use Rattle.ir_types.specs.NameLaws.{name_equivalence}
 use Rattle.ir_types.specs.Same.{same_name}
-use Rattle.name_index.specs.Among.{is_among}
-use Rattle.name_index.proofs.Among.{among_is, is_there, not_there}
+use Rattle.ir_core.specs.NameIndexes.Among.{is_among}
+use Rattle.ir_core.proofs.NameIndexes.Among.{among_is, is_there, not_there}
 use Rattle.ir_rename.specs.Named.{dotted, free_in, fresh, text_of}
 use Rattle.ir_rename.proofs.Counting.{bytes_in}
 use Rattle.ir_rename.proofs.Lists.{all_from, cases, differ, none_in}

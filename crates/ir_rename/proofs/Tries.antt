@@ -3,9 +3,9 @@ use Rattle.std.proofs.Common.{◌≡◌, ◌∙◌, ℕ, zero, suc, ◌<◌, Boo
 use Rattle.std.specs.Option.{is_some}
 use Rattle.ir_types.specs.declared.names.Name.{Name}
 use Rattle.ir_types.specs.declared.names.Name.TheVariants.{Text}
-use Rattle.name_index.specs.Among.{is_among, place_among}
-use Rattle.name_index.proofs.Among.{among_is, is_there}
-use Rattle.name_index.proofs.FirstPlaces.{no_place, place_is}
+use Rattle.ir_core.specs.NameIndexes.Among.{is_among, place_among}
+use Rattle.ir_core.proofs.NameIndexes.Among.{among_is, is_there}
+use Rattle.ir_core.proofs.NameIndexes.FirstPlaces.{no_place, place_is}
 use Rattle.ir_rename.specs.Named.{free_in}
 
 not_among : (name : Name) (names : List Name) → place_among name names ≡ None → is_among name names ≡ false

@@ -2,7 +2,7 @@
 use Rattle.std.specs.Prelude.{ℕ, List, map, slice_index_or, Option, None, Some}
 use Rattle.std.specs.Borrow.{Bor}
 use Rattle.ir_types.specs.declared.names.Name.{Name}
-use Rattle.name_index.specs.Places.{place_in}
+use Rattle.ir_core.specs.NameIndexes.Places.{place_in}
 use Rattle.ir_rename.specs.declared.renaming.Renaming.{Renaming}
 
 abbrev pub lent : List (Bor Name) → List Name

@@ -1,6 +1,6 @@
 ghost use Rattle.std.specs.Prelude.{◌≡◌, map, IfOk};
-ghost use Rattle.name_index.specs.Among.{is_among};
-ghost use Rattle.name_index.specs.Places.{ArePlaces};
+ghost use Rattle.ir_core.specs.NameIndexes.Among.{is_among};
+ghost use Rattle.ir_core.specs.NameIndexes.Places.{ArePlaces};
 ghost use Rattle.ir_rename.specs.Lent.{lent};
 ghost use Rattle.ir_rename.specs.Named as meaning;
 ghost use Rattle.ir_types.specs.declared.names.Name.TheVariants as name;
@@ -9,8 +9,7 @@ use crate::names::names_of;
 use crate::rename::rename_function;
 use crate::renaming::{Renaming, index_of};
 use contents::{Exact, Seq, Text};
-use ir_core::{Function, Module, Name};
-use name_index::PlaceIndex;
+use ir_core::{Function, Module, Name, PlaceIndex};
 use std::alloc::{AllocError, Global};
 
 /// `v.7` for 7.

@@ -1,11 +1,10 @@
 //! Names in place of others, each found without a walk.
 ghost use Rattle.std.specs.Prelude.{◌≡◌, IfOk};
-ghost use Rattle.name_index.specs.Places.{ArePlaces};
+ghost use Rattle.ir_core.specs.NameIndexes.Places.{ArePlaces};
 ghost use Rattle.ir_rename.specs.Lent.{lent, renamed};
 
 use contents::{Exact, Seq};
-use ir_core::Name;
-use name_index::PlaceIndex;
+use ir_core::{Name, PlaceIndex};
 use std::alloc::{AllocError, Global};
 
 /// Where each of the names stands first.

@@ -7,15 +7,15 @@ use Rattle.ir_core.specs.declared.functions.Instr.{Instr}
 use Rattle.ir_core.specs.declared.modules.Module.{Module}
 use Rattle.ir_core.specs.Functions.{block_names, edges_into, names_in, names_of, params_of}
 use Rattle.ir_types.specs.declared.names.Name.{Name}
-use Rattle.line_shapes.specs.Assumed.{types_by}
-use Rattle.line_shapes.specs.Told.{line_kind}
-use Rattle.line_shapes.proofs.Assumed.{line_gives, types_as_told}
-use Rattle.shape_kinds.specs.declared.kind.ShapeKind.{ShapeKind}
-use Rattle.shape_kinds.specs.Names.{are_new, with_names}
-use Rattle.shape_kinds.specs.Typed.{Types}
-use Rattle.shape_tests.specs.Kinds.{labels_of, types_of}
-use Rattle.shape_tests.proofs.Tests.{left_none, right_none}
-use Rattle.shape_tests.proofs.Typed.{AllGive}
+use Rattle.ir_shape.specs.LineShapes.Assumed.{types_by}
+use Rattle.ir_shape.specs.LineShapes.Told.{line_kind}
+use Rattle.ir_shape.proofs.LineShapes.Assumed.{line_gives, types_as_told}
+use Rattle.ir_typing.specs.declared.shape_kinds.kind.ShapeKind.{ShapeKind}
+use Rattle.ir_typing.specs.ShapeKinds.Names.{are_new, with_names}
+use Rattle.ir_typing.specs.ShapeKinds.Typed.{Types}
+use Rattle.ir_shape.specs.ShapeTests.Kinds.{labels_of, types_of}
+use Rattle.ir_shape.proofs.ShapeTests.Tests.{left_none, right_none}
+use Rattle.ir_shape.proofs.ShapeTests.Typed.{AllGive}
 use Rattle.ir_shape.specs.Apart.{in_each, in_end, in_new_block, in_new_blocks, in_new_body, new_line_kinds, new_phi_kinds}
 use Rattle.ir_shape.specs.Shape.{in_body, in_line}
 use Rattle.ir_shape.proofs.NewNames.{behind_params, body_is}

@@ -6,8 +6,8 @@ use Rattle.ir_core.specs.declared.modules.Declaration.{Declaration}
 use Rattle.ir_core.specs.declared.modules.Module.{Module}
 use Rattle.ir_core.specs.Modules.{those_before, those_behind}
 use Rattle.ir_types.specs.declared.names.Name.{Name}
-use Rattle.name_index.specs.Among.{is_among}
-use Rattle.shape_kinds.specs.Names.{with_name}
+use Rattle.ir_core.specs.NameIndexes.Among.{is_among}
+use Rattle.ir_typing.specs.ShapeKinds.Names.{with_name}
 use Rattle.ir_shape.specs.declared.fault.ShapeEnd.{ShapeEnd}
 use Rattle.ir_shape.specs.declared.fault.ShapeFault.{ShapeFault}
 use Rattle.ir_shape.specs.Next.{in_next}

@@ -5,8 +5,8 @@ use Rattle.ir_types.specs.declared.names.Name.{Name}
 use Rattle.ir_core.specs.Functions.{names_in, set_by}
 use Rattle.ir_core.proofs.Lines.{names_more}
 use Rattle.ir_shape.specs.Shape.{with_lines}
-use Rattle.shape_kinds.specs.Names.{with_names}
-use Rattle.shape_tests.proofs.Taken.{names_joined}
+use Rattle.ir_typing.specs.ShapeKinds.Names.{with_names}
+use Rattle.ir_shape.proofs.ShapeTests.Taken.{names_joined}
 
 -- the names of a line and then of further ones
 pub lines_joined : (taken : List Name) (l : Instr) (ls : List Instr) → with_lines taken (l ∷ ls) ≡ with_lines (with_lines taken (l ∷ [])) ls

@@ -9,14 +9,14 @@ use Rattle.ir_core.specs.declared.modules.Module.{Module}
 use Rattle.ir_core.specs.Functions.{block_names, edges_into, name_set, names_in, names_of, params_of, phi_registers, set_by}
 use Rattle.ir_core.proofs.Lines.{names_more, names_one}
 use Rattle.ir_types.specs.declared.names.Name.{Name}
-use Rattle.line_shapes.specs.Told.{end_kind, line_kind, phi_kind}
-use Rattle.name_index.specs.Among.{is_among}
-use Rattle.shape_kinds.specs.declared.kind.ShapeKind.{ShapeKind}
-use Rattle.shape_kinds.specs.Names.{are_new, with_name, with_names}
-use Rattle.shape_kinds.specs.Typed.{Types}
-use Rattle.shape_tests.proofs.Taken.{Among, all_kept, kept, names_joined, new_joined, not_taken, old_or_new, put, registers_joined}
-use Rattle.shape_tests.proofs.Tests.{both_left, both_right, not_true}
-use Rattle.shape_tests.specs.Kinds.{block_kind}
+use Rattle.ir_shape.specs.LineShapes.Told.{end_kind, line_kind, phi_kind}
+use Rattle.ir_core.specs.NameIndexes.Among.{is_among}
+use Rattle.ir_typing.specs.declared.shape_kinds.kind.ShapeKind.{ShapeKind}
+use Rattle.ir_typing.specs.ShapeKinds.Names.{are_new, with_name, with_names}
+use Rattle.ir_typing.specs.ShapeKinds.Typed.{Types}
+use Rattle.ir_shape.proofs.ShapeTests.Taken.{Among, all_kept, kept, names_joined, new_joined, not_taken, old_or_new, put, registers_joined}
+use Rattle.ir_shape.proofs.ShapeTests.Tests.{both_left, both_right, not_true}
+use Rattle.ir_shape.specs.ShapeTests.Kinds.{block_kind}
 use Rattle.ir_shape.specs.Apart.{in_each, in_new_block, in_new_blocks, in_new_body, new_line_kinds, new_phi_kinds}
 use Rattle.ir_shape.specs.Shape.{in_block, in_blocks, in_body, in_kinds, in_line, is_name_taken, is_taken, line_kinds, phi_kinds, with_block, with_lines, with_phis}
 

@@ -8,9 +8,9 @@ use Rattle.ir_core.specs.declared.functions.Phi.{Phi}
 use Rattle.ir_core.specs.declared.modules.Module.{Module}
 use Rattle.ir_core.specs.Functions.{edges_into}
 use Rattle.ir_types.specs.declared.names.Name.{Name}
-use Rattle.line_shapes.specs.Told.{end_kind, line_kind, phi_kind}
-use Rattle.shape_kinds.specs.declared.kind.ShapeKind.{ShapeKind}
-use Rattle.shape_kinds.specs.Typed.{Types}
+use Rattle.ir_shape.specs.LineShapes.Told.{end_kind, line_kind, phi_kind}
+use Rattle.ir_typing.specs.declared.shape_kinds.kind.ShapeKind.{ShapeKind}
+use Rattle.ir_typing.specs.ShapeKinds.Typed.{Types}
 use Rattle.ir_shape.specs.declared.fault.ShapeFault.{ShapeFault}
 use Rattle.ir_shape.specs.Shape.{in_line}
 

@@ -16,22 +16,22 @@ use Rattle.ir_core.specs.Depths.{AreShallow, IsShallow, depths_in_function}
 use Rattle.ir_core.specs.Modules.{those_before, those_behind}
 use Rattle.ir_core.specs.Sizes.{AreSmall, IsSmall, wanted_in_function}
 use Rattle.ir_types.specs.Named.{fields_or_none}
-use Rattle.name_index.specs.Among.{is_among}
+use Rattle.ir_core.specs.NameIndexes.Among.{is_among}
 use Rattle.ir_shape.specs.declared.fault.LinePlace.{LinePlace}
 use Rattle.ir_shape.specs.declared.fault.ShapeEnd.{ShapeEnd}
 use Rattle.ir_shape.specs.declared.fault.ShapeEnd.TheVariants as end
 use Rattle.ir_shape.specs.declared.fault.ShapeFault.{ShapeFault}
-use Rattle.shape_kinds.specs.declared.kind.ShapeKind.{ShapeKind}
-use Rattle.shape_kinds.specs.declared.kind.ShapeKind.TheVariants as kind
-pub use Rattle.module_limits.specs.Passed.{AreShort, IsFirstPassed, IsShort}
-use Rattle.operand_tests.specs.Inits.{global_var_kind}
-use Rattle.operand_tests.specs.Known.{are_types_known}
-pub use Rattle.shape_kinds.specs.Kinds.{kind_text}
-use Rattle.shape_kinds.specs.Kinds.{fault_unless, least}
-use Rattle.shape_kinds.specs.Names.{with_name, with_names, are_new}
-use Rattle.shape_kinds.specs.Typed.{Types}
-use Rattle.shape_tests.specs.Kinds.{labels_of, types_of, block_kind, name_kind}
-use Rattle.line_shapes.specs.Told.{declared_kind, end_kind, header_kind, line_kind, phi_kind}
+use Rattle.ir_typing.specs.declared.shape_kinds.kind.ShapeKind.{ShapeKind}
+use Rattle.ir_typing.specs.declared.shape_kinds.kind.ShapeKind.TheVariants as kind
+pub use Rattle.ir_typing.specs.ModuleLimits.Passed.{AreShort, IsFirstPassed, IsShort}
+use Rattle.ir_typing.specs.OperandTests.Inits.{global_var_kind}
+use Rattle.ir_typing.specs.OperandTests.Known.{are_types_known}
+pub use Rattle.ir_typing.specs.ShapeKinds.Kinds.{kind_text}
+use Rattle.ir_typing.specs.ShapeKinds.Kinds.{fault_unless, least}
+use Rattle.ir_typing.specs.ShapeKinds.Names.{with_name, with_names, are_new}
+use Rattle.ir_typing.specs.ShapeKinds.Typed.{Types}
+use Rattle.ir_shape.specs.ShapeTests.Kinds.{labels_of, types_of, block_kind, name_kind}
+use Rattle.ir_shape.specs.LineShapes.Told.{declared_kind, end_kind, header_kind, line_kind, phi_kind}
 
 -- the fault of that kind at a place, if there is one
 abbrev pub fault_of : Sigil → Name → Option LinePlace → Option ShapeKind → List ShapeFault

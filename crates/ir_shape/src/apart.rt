@@ -3,17 +3,17 @@ ghost use Rattle.std.specs.Prelude.{◌≡◌, ◌<◌, [], length, IfOk, IfErr}
 ghost use Rattle.std.specs.List.{AllByRecursion};
 ghost use Rattle.std.specs.Option.{option_copied};
 ghost use Rattle.ir_core.specs.Functions as functions;
-ghost use Rattle.shape_kinds.specs.Kept.{type_in};
-ghost use Rattle.shape_tests.specs.Counted.{count_in, counts_of};
-ghost use Rattle.shape_tests.specs.Edges.{HasEdges, named, row_kept, rows_of};
+ghost use Rattle.ir_typing.specs.ShapeKinds.Kept.{type_in};
+ghost use Rattle.ir_shape.specs.ShapeTests.Counted.{count_in, counts_of};
+ghost use Rattle.ir_shape.specs.ShapeTests.Edges.{HasEdges, named, row_kept, rows_of};
 ghost use Rattle.ir_shape.specs.Apart as apart;
 ghost use Rattle.ir_shape.specs.Shape.{IsFirstOf};
 
 use crate::ShapeEnd;
 use crate::first::line_fits;
+use crate::line_shapes::{Scope, end_kind, line_kind, phi_kind};
+use crate::shape_tests::{Counts, Row, counts_of, row_of};
 use ir_core::{Block, Function, Instr, Name, Phi};
-use line_shapes::{Scope, end_kind, line_kind, phi_kind};
-use shape_tests::{Counts, Row, counts_of, row_of};
 use std::alloc::{AllocError, Global};
 
 /// Whether phis have no fault, which edges enter, so many of each block.

@@ -1,7 +1,7 @@
 ghost use Rattle.std.specs.Prelude.{◌≡◌};
 
 use ir_core::{Limit, Name, Sigil};
-use shape_kinds::ShapeKind;
+use ir_typing::ShapeKind;
 use std::alloc::AllocError;
 
 /// A line of a function: its block, and its number among the block's phis, body lines and terminator, counted from 0.

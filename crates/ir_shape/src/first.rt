@@ -2,25 +2,24 @@ ghost use Rattle.std.specs.Prelude.{◌≡◌, ◌<◌, ◌++◌, [], ◌∷◌,
 ghost use Rattle.std.specs.List.{AllByRecursion};
 ghost use Rattle.std.specs.Option.{option_copied};
 ghost use Rattle.ir_core.specs.Functions as functions;
-ghost use Rattle.shape_kinds.specs.Kept.{type_in};
-ghost use Rattle.shape_kinds.specs.Names.{are_new, with_names};
-ghost use Rattle.name_index.specs.Among.{is_among};
-ghost use Rattle.shape_tests.specs.Counted.{count_in, counts_of};
-ghost use Rattle.shape_tests.specs.Edges.{HasEdges, named, row_kept, rows_of};
-ghost use Rattle.shape_tests.specs.Kinds as fitting;
+ghost use Rattle.ir_typing.specs.ShapeKinds.Kept.{type_in};
+ghost use Rattle.ir_typing.specs.ShapeKinds.Names.{are_new, with_names};
+ghost use Rattle.ir_core.specs.NameIndexes.Among.{is_among};
+ghost use Rattle.ir_shape.specs.ShapeTests.Counted.{count_in, counts_of};
+ghost use Rattle.ir_shape.specs.ShapeTests.Edges.{HasEdges, named, row_kept, rows_of};
+ghost use Rattle.ir_shape.specs.ShapeTests.Kinds as fitting;
 ghost use Rattle.ir_shape.specs.Shape as meaning;
 ghost use Rattle.ir_shape.specs.Shape.{IsFirstOf};
-ghost use Rattle.line_shapes.specs.Assumed.{types_by};
-ghost use Rattle.line_shapes.specs.Told as told;
+ghost use Rattle.ir_shape.specs.LineShapes.Assumed.{types_by};
+ghost use Rattle.ir_shape.specs.LineShapes.Told as told;
 
 use crate::apart::new_body_fits;
+use crate::line_shapes::{Scope, end_kind, header_kind, line_kind, phi_kind, scope_of};
+use crate::shape_tests::{Counts, Row, block_kind, counts_of, name_kind, row_of};
 use crate::{LinePlace, ShapeEnd, ShapeFault};
 use contents::Exact;
 use ir_core::{BitType, Block, Function, Instr, Name, Phi, Sigil};
-use line_shapes::{Scope, end_kind, header_kind, line_kind, phi_kind, scope_of};
-use operand_tests::Beside;
-use shape_kinds::{LentNames, ShapeKind, least};
-use shape_tests::{Counts, Row, block_kind, counts_of, name_kind, row_of};
+use ir_typing::{Beside, LentNames, ShapeKind, least};
 use std::alloc::{AllocError, Global};
 
 fn fault_in_line(

@@ -1,20 +1,18 @@
 //! Whether a module has shape, in the order of the file.
 ghost use Rattle.std.specs.Prelude.{◌≡◌, ◌≤◌, ◌++◌, [], drop, false, length, map, None, IfOk, IfErr, take};
 ghost use Rattle.ir_core.specs.Modules.{those_before, those_behind};
-ghost use Rattle.shape_kinds.specs.Names.{with_name};
-ghost use Rattle.module_limits.specs.Passed as limits;
+ghost use Rattle.ir_typing.specs.ShapeKinds.Names.{with_name};
+ghost use Rattle.ir_typing.specs.ModuleLimits.Passed as limits;
 ghost use Rattle.ir_shape.specs.Next.{in_next};
 ghost use Rattle.ir_shape.specs.Shape as meaning;
 ghost use Rattle.ir_shape.specs.Shape.{IsFirstOf};
 
 use crate::ShapeEnd;
 use crate::first::{function_fits, header_fits, name_fits};
+use crate::line_shapes::declared_kind;
 use crate::named::types_fit;
 use ir_core::{Declaration, Function, GlobalVar, Module};
-use line_shapes::declared_kind;
-use module_limits::{first_limit, first_limit_of_function};
-use operand_tests::{Beside, global_var_kind};
-use shape_kinds::LentNames;
+use ir_typing::{Beside, LentNames, first_limit, first_limit_of_function, global_var_kind};
 use std::alloc::Global;
 
 /// Whether none of a module's globals has a fault; puts their names behind the others.

@@ -1,15 +1,14 @@
 //! Whether a module's named types have different names, and name types that are there.
 ghost use Rattle.std.specs.Prelude.{◌≡◌, [], IfOk, IfErr};
 ghost use Rattle.ir_types.specs.Named.{fields_or_none};
-ghost use Rattle.operand_tests.specs.Known.{are_types_known};
+ghost use Rattle.ir_typing.specs.OperandTests.Known.{are_types_known};
 ghost use Rattle.ir_shape.specs.Shape as meaning;
 ghost use Rattle.ir_shape.specs.Shape.{IsFirstOf};
 
 use crate::{ShapeEnd, ShapeFault};
 use contents::Exact;
 use ir_core::{NamedTy, Sigil};
-use operand_tests::{Beside, are_types_known};
-use shape_kinds::{LentNames, ShapeKind};
+use ir_typing::{Beside, LentNames, ShapeKind, are_types_known};
 use std::alloc::Global;
 
 /// Whether each named type that stands in this one is the module's. An opaque one holds none.

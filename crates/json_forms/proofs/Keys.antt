@@ -6,8 +6,8 @@ use Rattle.std.specs.Cmp.Lexicographic.{slice_cmp}
 use Rattle.std.specs.List.{list_all}
 use Rattle.std.specs.Ordering.{match_ordering}
 use Rattle.serde_json.specs.Data.{Data, Members, no_members, member, put}
-use Rattle.json_values.specs.View.{view, members_view, put_all}
-use Rattle.json_values.specs.declared.value.Value.{Value}
+use Rattle.json_forms.specs.JsonValues.View.{view, members_view, put_all}
+use Rattle.json_forms.specs.declared.json_values.value.Value.{Value}
 use Rattle.json_forms.specs.Forms.{all_keys}
 
 again : (a b : Bool) → a && b ≡ a && (a && b)

@@ -1,3 +1,4 @@
 pub mod Counts
 mod Keys
 pub mod Readings
+pub mod JsonValues

@@ -1,11 +1,11 @@
 ghost use Rattle.std.specs.Prelude.{◌≡◌, ◌⊎◌, IfOk, IfErr};
-ghost use Rattle.json_values.specs.View.{view};
+ghost use Rattle.json_forms.specs.JsonValues.View.{view};
 ghost use Rattle.json_forms.specs.Answers.{AnswersBytes, IsJson, IsNoJson};
 ghost use Rattle.json_forms.specs.Faults.{here};
 ghost use Rattle.json_forms.specs.declared.failure.Failure.TheVariants as failure;
 
+use crate::json_values::{ReadEnd, Scratch, Value, read};
 use crate::{Failure, Form, unfit};
-use json_values::{ReadEnd, Scratch, Value, read};
 use std::alloc::Global;
 
 /// A value that is let go by one call.

@@ -1,11 +1,11 @@
 ghost use Rattle.std.specs.Prelude.{◌++◌, ◌∷◌, [], List, ℕ, Result, IfOk};
 ghost use Rattle.serde_json.specs.Data.{Data};
-ghost use Rattle.json_values.specs.View.{view};
+ghost use Rattle.json_forms.specs.JsonValues.View.{view};
 ghost use Rattle.json_forms.specs.Answers.{Answers};
 ghost use Rattle.json_forms.specs.Forms.{Reading};
 
 use crate::Failure;
-use json_values::Value;
+use crate::json_values::Value;
 use std::alloc::Global;
 
 /// A form of JSON values, with what a value of it means.

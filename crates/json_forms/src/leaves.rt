@@ -1,11 +1,11 @@
 ghost use Rattle.std.specs.Prelude.{◌≡◌, IfOk, OnErr, Some, None};
 ghost use Rattle.serde_json.specs.Find.{as_str};
-ghost use Rattle.json_values.specs.View.{view};
+ghost use Rattle.json_forms.specs.JsonValues.View.{view};
 ghost use Rattle.json_forms.specs.Answers.{Answers};
 ghost use Rattle.json_forms.specs.Forms.{text_of, u64_of};
 
+use crate::json_values::Value;
 use crate::{Failure, Form, TextForm, unfit};
-use json_values::Value;
 use std::alloc::Global;
 
 /// A text of that form.

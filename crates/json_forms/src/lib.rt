@@ -2,11 +2,14 @@
 //!
 //! `specs/Forms.antt` has the parts that forms are made of, `specs/Faults.antt` the places, `specs/Answers.antt` what a reader answers.
 //! A format is made of these parts twice, once as a definition and once as an `impl` of a trait of forms, line by line alike.
+//!
+//! `json_values` has the values: what `serde_json` reads a text as, in little room.
 #![tactic(auto)]
 
 mod bytes;
 mod failure;
 mod form;
+mod json_values;
 mod leaves;
 mod lists;
 mod maps;
@@ -16,6 +19,7 @@ mod path;
 pub use bytes::read_bytes;
 pub use failure::{Failure, Fault, unfit};
 pub use form::{EntryForm, Form, RowForm, TextForm};
+pub use json_values::Value;
 pub use leaves::{Text, U64};
 pub use lists::{ListOf, RowsOf};
 pub use maps::MapOf;

@@ -1,12 +1,12 @@
 ghost use Rattle.std.specs.Prelude.{[]};
-ghost use Rattle.json_values.specs.View.{view, items_view};
+ghost use Rattle.json_forms.specs.JsonValues.View.{view, items_view};
 ghost use Rattle.json_forms.specs.Answers.{Answers};
 ghost use Rattle.json_forms.specs.Forms.{list_of, rows_of, items_of};
 
+use crate::json_values::Value;
 use crate::path::under_index;
 use crate::{Failure, Form, RowForm, unfit};
 use contents::Seq;
-use json_values::Value;
 use std::alloc::Global;
 
 /// An array of items of that form.

@@ -1,12 +1,12 @@
 ghost use Rattle.std.specs.Prelude.{◌≡◌, []};
-ghost use Rattle.json_values.specs.View.{view, sorted_view};
+ghost use Rattle.json_forms.specs.JsonValues.View.{view, sorted_view};
 ghost use Rattle.json_forms.specs.Answers.{Answers};
 ghost use Rattle.json_forms.specs.Forms.{keys_of, entries_of, map_of};
 
+use crate::json_values::{Value, sorted};
 use crate::path::under_key;
 use crate::{EntryForm, Failure, Form, unfit};
 use contents::Seq;
-use json_values::{Value, sorted};
 use std::alloc::Global;
 use std::collections::BTreeMap;
 

@@ -1,15 +1,15 @@
 ghost use Rattle.std.specs.Prelude.{◌≡◌, is_some, ◌||◌};
 ghost use Rattle.std.specs.List.{list_all};
 ghost use Rattle.serde_json.specs.Find.{get};
-ghost use Rattle.json_values.specs.View.{view, members_view};
+ghost use Rattle.json_forms.specs.JsonValues.View.{view, members_view};
 ghost use Rattle.json_forms.specs.Answers.{Answers};
 ghost use Rattle.json_forms.specs.Forms.{has_members as have_members, texts, is_one_of, all_keys, only_keys, member_of, optional_of, optional_list_of, count_of, item_of};
 
+use crate::json_values::{Member, Value};
 use crate::lists::read_list;
 use crate::path::{under_index, under_key};
 use crate::{Failure, Form, unfit};
 use contents::Seq;
-use json_values::{Member, Value};
 use std::alloc::Global;
 
 /// An object with each needed member, and no others than these and the optional ones.

@@ -11,7 +11,7 @@ use Rattle.ir_reader.specs.declared.fault.ModuleFault.{ModuleFault}
 use Rattle.ir_reader.specs.declared.fault.ModuleFault.TheVariants as fault
 use Rattle.module_spelling.specs.Spells.{Spells}
 use Rattle.module_texts.specs.Texts.{IsShort}
-use Rattle.shape_laws.specs.Laws.{FaultlessModulesHaveShape}
+use Rattle.ir_shape.specs.ShapeLaws.Laws.{FaultlessModulesHaveShape}
 use Rattle.spelled_limits.specs.Laws.{ModulesAreWithin}
 use Rattle.spelled_limits.specs.Ranges.{ModulesAreInRange}
 use Rattle.renaming_laws.specs.Judged.{FunctionsAreJudged}

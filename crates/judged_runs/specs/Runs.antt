@@ -5,7 +5,7 @@ use Rattle.ir_core.specs.Ranges.{AreBytes}
 use Rattle.erhl_assert.specs.Steps.{Rules}
 use Rattle.crell_io.specs.Shelf.{Told}
 use Rattle.crell_io.specs.Shelf.Told.{Untold, NoSuch, Bytes}
-use Rattle.command_line.specs.Words.{Command}
+use Rattle.crell_program.specs.CommandLine.Words.{Command}
 use Rattle.crell_program.specs.Command.{File, files_of}
 use Rattle.crell_program.specs.Judged.{MeetsOne}
 

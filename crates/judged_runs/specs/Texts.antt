@@ -1,5 +1,5 @@
 -- Each text is of its form, or something is first at fault in it: modules of the whole grammar, and hints.
-use Rattle.std.specs.Prelude.{◌≢◌, ◌⊎◌, ℕ, List}
+use Rattle.std.specs.Prelude.{◌≡◌, ◌≢◌, ◌⊎◌, ℕ, List}
 use Rattle.ir_core.specs.declared.modules.Module.{Module}
 use Rattle.ir_core.specs.Ranges.{AreBytes}
 use Rattle.ir_reader.specs.declared.fault.ModuleFault.{ModuleFault}
@@ -26,3 +26,7 @@ WholeTextsAreJudged = (bytes : List ℕ) → AreBytes bytes → ((m : Module) ×
 -- `{"format":1,"functions":{}}` is the text of hints; `{"format":1}` is itself at fault
 abbrev pub HintFilesAreJudged : Type 0
 HintFilesAreJudged = (bytes : List ℕ) → ((h : Hints) × HintsOf bytes h) ⊎ ((f : Fault) × IsHintFault bytes f)
+
+-- what is first at fault in a short text is one, with all that is told of it
+abbrev pub WholeFaultsAreOne : Type 0
+WholeFaultsAreOne = (bytes : List ℕ) (f g : ModuleFault) → IsShort bytes → IsAtFault bytes f → IsAtFault bytes g → f ≡ g

@@ -1,12 +1,13 @@
 ghost use Rattle.judged_runs.specs.Runs.{ToldRunsAreJudged};
-ghost use Rattle.judged_runs.specs.Texts.{HintFilesAreJudged, WholeTextsAreJudged};
+ghost use Rattle.judged_runs.specs.Texts.{HintFilesAreJudged, WholeFaultsAreOne, WholeTextsAreJudged};
 
 use crell_program::runs_are_judged;
 use definedness::{shape_knows_labels, undefined_uses_are_faults};
 use hint_format::hint_files_are_read;
+use ir_shape::faultless_modules_have_shape;
 use judged_texts::each_text_is_judged;
+use module_reader::module_faults_are_one;
 use renaming_laws::{functions_are_judged, texts_are_judged};
-use shape_laws::faultless_modules_have_shape;
 use spelled_limits::{spelled_modules_are_in_range, spelled_modules_are_within};
 
 /// The body calls laws alone, since the clause is a law.
@@ -45,4 +46,13 @@ pub fn told_runs_are_judged()
     whole_texts_are_judged();
     hint_files_are_judged();
     runs_are_judged();
+}
+
+/// The body calls a law alone, since the clause is a law.
+///
+/// What is first at fault in a text of the whole grammar of at most 2 to the 24 bytes is one.
+pub fn whole_faults_are_one()
+    ensures { WholeFaultsAreOne }
+{
+    module_faults_are_one();
 }

@@ -5,4 +5,6 @@
 
 mod laws;
 
-pub use laws::{hint_files_are_judged, told_runs_are_judged, whole_texts_are_judged};
+pub use laws::{
+    hint_files_are_judged, told_runs_are_judged, whole_faults_are_one, whole_texts_are_judged,
+};

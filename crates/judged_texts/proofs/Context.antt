@@ -14,7 +14,7 @@ use Rattle.module_grammar.proofs.TypeFolds.{at_int}
 use Rattle.predictive.specs.Grammar.{Forest, End, Leaf, Node}
 use Rattle.predictive.specs.Predictive.{first_row}
 use Rattle.predictive.specs.declared.symbol.Symbol.TheVariants.{Non}
-use Rattle.predictive.proofs.Selects.{first_of_text}
+use Rattle.predictive.specs.GrammarDecides.Selects.{first_of_text}
 use Rattle.module_spelling.specs.Context.{IsUndeclared, IsUnstated, IsWhole, StandsBehind, UnlessAddr, called_number, declared_number}
 use Rattle.module_spelling.specs.Opened.{IsWithin}
 use Rattle.judged_texts.specs.Context.{NamesStandBehindTypes, i8}

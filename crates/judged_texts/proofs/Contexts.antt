@@ -3,7 +3,7 @@ use Rattle.std.proofs.Common.{◌≡◌, ℕ, suc, ◌+◌, ◌-◌, Bool, true,
 use Rattle.std.proofs.lemmas.Bool.{ltb-true}
 use Rattle.std.proofs.lemmas.List.{append-nil, length-append}
 use Rattle.std.specs.List.{slice_range}
-use Rattle.grammar_decides.specs.Decision.{decided}
+use Rattle.predictive.specs.GrammarDecides.Decision.{decided}
 use Rattle.module_grammar.proofs.Predictive.{is_predictive}
 use Rattle.module_grammar.specs.Sets.{sets}
 use Rattle.module_grammar.specs.Symbols.{Symbol, kind_of, open_paren, unnamed_addr, void}

@@ -11,7 +11,7 @@ use Rattle.module_grammar.specs.Symbols.{Symbol, kind_of}
 use Rattle.module_spelling.specs.Faults.{HasLargeBlock, HasNameFault, IsDeepAt, IsGrammarFault, IsStuck, PassesLimit, module_number}
 use Rattle.module_texts.specs.Laws.{IsToldFault}
 use Rattle.module_texts.specs.Texts.{HasSymbols, IsNameFault, IsShort, is_left_out_at, own_symbols, place_at}
-use Rattle.module_tokens.specs.LeftOut.{is_left_out}
+use Rattle.ir_lexer.specs.LeftOut.{is_left_out}
 use Rattle.name_claims.specs.declared.claims.Fault.{Fault}
 use Rattle.name_claims.specs.declared.claims.Reason.{Reason}
 use Rattle.name_claims.specs.declared.claims.Reason.TheVariants as reason

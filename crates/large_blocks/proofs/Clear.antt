@@ -8,8 +8,8 @@ use Rattle.ir_types.specs.declared.ty.Ty.{Ty}
 use Rattle.ir_types.specs.Named.{block_of}
 use Rattle.ir_core.specs.Sizes.{one_of_each, stepped}
 use Rattle.ir_core.specs.Typing.{Index}
-use Rattle.module_limits.specs.Small.{AreClear, IsClear, are_small, is_none_larger, is_small}
-use Rattle.module_limits.proofs.Clear.{stepped_clear}
+use Rattle.ir_typing.specs.ModuleLimits.Small.{AreClear, IsClear, are_small, is_none_larger, is_small}
+use Rattle.ir_typing.proofs.ModuleLimits.Clear.{stepped_clear}
 use Rattle.module_spelling.specs.Blocks.{is_too_large}
 use Rattle.large_blocks.specs.Noted.{is_large_block, is_one_large, is_stepped_large}
 

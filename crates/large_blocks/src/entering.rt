@@ -13,9 +13,9 @@ use crate::judged::{Judged, is_large};
 use crate::noting::{is_faultless, note_at};
 use const_faults::number_of;
 use ir_core::{Atom, NamedTypes, Ty};
+use ir_typing::{entered, number_in};
 use module_grammar::{ConstText, OperandText, TypeText, ValueText};
 use named_modules::{const_of, item_at, type_of};
-use operand_tests::{entered, number_in};
 use predictive::Stack;
 use std::alloc::{AllocError, Global};
 

@@ -3,7 +3,7 @@ ghost use Rattle.std.specs.Prelude.{◌≡◌, true};
 ghost use Rattle.std.specs.List.{AllByRecursion};
 ghost use Rattle.ir_types.specs.declared.ty.Ty.{Struct};
 ghost use Rattle.large_blocks.specs.Noted as meaning;
-ghost use Rattle.module_limits.specs.Small as small;
+ghost use Rattle.ir_typing.specs.ModuleLimits.Small as small;
 
 use contents::Seq;
 use ir_core::{NamedTy, NamedTypes, Shared, Ty};
@@ -100,7 +100,7 @@ impl<'a> Model for Judged<'a> {
     ghost use Rattle.ir_types.specs.contracts.ty.Ty as ty;
     ghost use Rattle.ir_core.specs.contracts.operands.Const as constant;
     ghost use Rattle.ir_core.specs.contracts.modules.Init as init;
-    ghost use Rattle.module_limits.specs.Small.{AreClear};
+    ghost use Rattle.ir_typing.specs.ModuleLimits.Small.{AreClear};
     ghost use Rattle.named_modules.specs.Faults.{Heads};
 
     ghost Value = { Heads };

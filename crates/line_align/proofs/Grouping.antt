@@ -8,9 +8,9 @@ use Rattle.std.specs.Prelude.{find, slice_get}
 use Rattle.ir_types.specs.declared.names.Name.{Name}
 use Rattle.ir_types.specs.NameLaws.{same_name_true, same_name_refl}
 use Rattle.ir_types.specs.Same.{same_name}
-use Rattle.name_index.specs.Among.{is_among, place_among}
-use Rattle.name_index.proofs.Among.{among_is}
-use Rattle.name_index.proofs.FirstPlaces.{no_place}
+use Rattle.ir_core.specs.NameIndexes.Among.{is_among, place_among}
+use Rattle.ir_core.proofs.NameIndexes.Among.{among_is}
+use Rattle.ir_core.proofs.NameIndexes.FirstPlaces.{no_place}
 use Rattle.line_align.specs.Grouped.{group_of}
 
 same_turned : (x y : Name) (b : Bool) → same_name x y ≡ b → same_name y x ≡ b

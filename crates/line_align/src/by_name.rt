@@ -3,13 +3,12 @@ ghost use Rattle.std.specs.Prelude.{◌≡◌, [], ◌∷◌, ◌++◌, length, 
 ghost use Rattle.std.specs.Option.{option_copied};
 ghost use Rattle.ir_types.specs.declared.names.Name.{Name};
 ghost use Rattle.ir_types.specs.Same.{same_name};
-ghost use Rattle.name_index.specs.Among.{place_among};
+ghost use Rattle.ir_core.specs.NameIndexes.Among.{place_among};
 ghost use Rattle.line_align.specs.Grouped.{group_of};
 
 use crate::named::Named;
 use contents::Seq;
-use ir_core::Name;
-use name_index::NameIndex;
+use ir_core::{Name, NameIndex};
 use std::alloc::{AllocError, Global};
 use std::marker::Model;
 

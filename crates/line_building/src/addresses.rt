@@ -8,7 +8,7 @@ ghost use Rattle.named_modules.specs.Built as meaning;
 
 use contents::Exact;
 use ir_core::{Name, NamedTypes, Operand, Shared, Ty, is_integer};
-use operand_tests::{entered, number_in};
+use ir_typing::{entered, number_in};
 use std::alloc::{AllocError, Global};
 
 /// What operands lead to from a type on.

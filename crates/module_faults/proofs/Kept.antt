@@ -8,7 +8,7 @@ use Rattle.ir_types.specs.NameLaws.{same_name_true}
 use Rattle.ir_types.specs.Same.{same_name}
 use Rattle.name_claims.specs.declared.claims.Fault.{Fault}
 use Rattle.name_claims.specs.declared.claims.Reason.TheVariants as reason
-use Rattle.name_index.specs.Among.{is_among}
+use Rattle.ir_core.specs.NameIndexes.Among.{is_among}
 use Rattle.module_grammar.specs.declared.functions.DeclaredText.{DeclaredText}
 use Rattle.module_grammar.specs.declared.items.ItemText.{ItemText}
 use Rattle.module_grammar.specs.declared.items.ItemText.TheVariants as item
@@ -22,7 +22,7 @@ use Rattle.module_faults.specs.declared.picks.Pick.{Pick}
 use Rattle.module_faults.specs.declared.picks.Pick.TheVariants as pick
 use Rattle.module_faults.specs.Kept.{due_over, due_told, due_with, kept_faults, taken_faults, taken_with}
 use Rattle.module_faults.specs.Picked.{name_kept, names_in, picked_got}
-use Rattle.shape_kinds.specs.Names.{with_name}
+use Rattle.ir_typing.specs.ShapeKinds.Names.{with_name}
 use Rattle.type_faults.specs.Noted.{noted}
 use Rattle.type_faults.proofs.Noted.{noted_joined}
 

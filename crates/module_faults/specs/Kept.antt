@@ -3,11 +3,11 @@ use Rattle.std.specs.Prelude.{ℕ, ◌++◌, not, List, [], ◌∷◌, Option, N
 use Rattle.ir_types.specs.declared.names.Name.{Name}
 use Rattle.name_claims.specs.declared.claims.Fault.{Fault}
 use Rattle.name_claims.specs.declared.claims.Reason.TheVariants as reason
-use Rattle.name_index.specs.Among.{is_among}
+use Rattle.ir_core.specs.NameIndexes.Among.{is_among}
 use Rattle.module_grammar.specs.declared.places.Placed.{Placed}
 use Rattle.named_modules.specs.Built.{due_after}
 use Rattle.named_modules.specs.Faults.{at, number_faults, unless}
-use Rattle.shape_kinds.specs.Names.{with_name}
+use Rattle.ir_typing.specs.ShapeKinds.Names.{with_name}
 
 -- a name that is taken
 abbrev pub taken_faults : List Name → Option (Placed Name) → List Fault

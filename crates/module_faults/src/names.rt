@@ -8,10 +8,10 @@ ghost use Rattle.type_faults.specs.Noted.{noted};
 
 use crate::picks::{Pick, name_at};
 use ir_core::Name;
+use ir_typing::LentNames;
 use module_grammar::{ItemText, Placed};
 use name_claims::{Fault, Reason};
 use predictive::Stack;
-use shape_kinds::LentNames;
 use std::alloc::{AllocError, Global};
 use type_faults::{at, note_unless};
 

@@ -12,7 +12,7 @@ use Rattle.module_grammar.specs.Rules.{meaning}
 use Rattle.module_grammar.specs.Sets.{sets}
 use Rattle.module_grammar.specs.Sorts.{AnyType, Called, DeclaredParams, Expr, GlobalName, LocalName, Module, sort, vocabulary}
 use Rattle.module_grammar.specs.Tokens.{token_grammar, with_gap}
-use Rattle.predictive.proofs.Selects.{unambiguous}
+use Rattle.predictive.specs.GrammarDecides.Selects.{unambiguous}
 use Rattle.predictive.specs.Predictive.{MayEnd}
 use Rattle.predictive.specs.Made.{Made}
 use Rattle.predictive.specs.Typed.{top}

@@ -6,7 +6,7 @@ use Rattle.ir_core.specs.declared.operands.Pred.TheVariants as pred
 use Rattle.ir_core.specs.Types.{is_width}
 use Rattle.ir_core.specs.Words as text
 use Rattle.ir_lexer.specs.Bytes.{are_digits}
-use Rattle.ir_lexer.specs.Numbers.{value_of}
+use Rattle.ir_lexer.specs.Numbers.{begins_with_zero, value_of}
 use Rattle.module_grammar.specs.declared.items.HoldingWord.TheVariants as holding
 use Rattle.module_grammar.specs.declared.operators.ExactOp.TheVariants as exact
 use Rattle.module_grammar.specs.declared.operators.ExtensionWord.TheVariants as extension
@@ -24,10 +24,6 @@ use Rattle.module_grammar.specs.declared.words.Word.TheVariants as word
 use Rattle.module_grammar.specs.Operators.{exact_op, linkage_of, overflow_op, plain_op, resize_op}
 
 -- ---- types
-
-abbrev pub begins_with_zero : List ℕ → Bool
-begins_with_zero [] = false
-begins_with_zero (digit ∷ digits) = digit == 48
 
 -- digits without a leading zero that write the width of an integer type, 1 to 64
 abbrev pub are_width : List ℕ → Bool

@@ -3,6 +3,7 @@ pub mod Cut
 pub mod Deep
 pub mod Judged
 pub mod Lexed
+pub mod OneFault
 pub mod Read
 pub mod Told
 pub mod ToldFaults

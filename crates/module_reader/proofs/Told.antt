@@ -8,7 +8,7 @@ use Rattle.module_grammar.specs.Symbols.{Symbol, kind_of}
 use Rattle.module_reader.specs.Told.{of_grammar, of_place, of_sized}
 use Rattle.module_spelling.specs.Faults.{IsDeepAt, IsGrammarFault, IsStuck, PassesLimit, module_number}
 use Rattle.module_texts.specs.Texts.{HasSymbols, IsNameFault, IsTextFault, is_left_out_at, own_symbols, place_at}
-use Rattle.module_tokens.specs.LeftOut.{is_left_out}
+use Rattle.ir_lexer.specs.LeftOut.{is_left_out}
 use Rattle.name_claims.specs.declared.claims.Reason.{Reason}
 use Rattle.name_claims.specs.declared.claims.Reason.TheVariants as reason
 use Rattle.ir_lexer.specs.declared.fault.TextFault.TheVariants as fault

@@ -8,10 +8,10 @@ use Rattle.ir_shape.specs.Shape.{first_fault}
 use Rattle.ir_reader.specs.declared.fault.ModuleFault.{ModuleFault}
 use Rattle.ir_reader.specs.declared.fault.ModuleFault.TheVariants as fault
 use Rattle.ir_reader.specs.Found.{HasFault, of_text}
-use Rattle.module_limits.specs.Passed.{IsWithin}
+use Rattle.ir_typing.specs.ModuleLimits.Passed.{IsWithin}
 use Rattle.module_spelling.specs.Spells.{Spells}
 use Rattle.module_texts.specs.Texts.{IsTextFault}
-use Rattle.shape_laws.specs.Laws.{FaultlessModulesHaveShape}
+use Rattle.ir_shape.specs.ShapeLaws.Laws.{FaultlessModulesHaveShape}
 use Rattle.ir_lexer.specs.declared.fault.TextFault.{TextFault}
 use Rattle.ir_lexer.specs.declared.fault.TextFault.TheVariants as text
 use Rattle.module_reader.specs.Faults.{IsModuleFault}

@@ -5,7 +5,7 @@ use Rattle.ir_core.specs.declared.limits.Limit.TheVariants as limit
 use Rattle.ir_lexer.specs.Cut.{Placed}
 use Rattle.ir_lexer.specs.declared.token.LexFault.{LexFault}
 use Rattle.ir_lexer.specs.declared.token.LexFault.TheVariants as lexer
-use Rattle.module_tokens.specs.LeftOut.{is_left_out}
+use Rattle.ir_lexer.specs.LeftOut.{is_left_out}
 use Rattle.module_trees.specs.declared.unread.Unread.{Unread}
 use Rattle.module_trees.specs.declared.unread.Unread.TheVariants as unread
 use Rattle.name_claims.specs.declared.claims.Fault.{Fault}

@@ -5,8 +5,7 @@ ghost use Rattle.module_reader.specs.Told as told;
 
 use crate::Misnamed;
 use ir_core::Limit;
-use ir_lexer::{LexFault, TextFault, Token};
-use module_tokens::is_left_out;
+use ir_lexer::{LexFault, TextFault, Token, is_left_out};
 use name_claims::{Fault, Reason};
 
 pub fn of_lexer(fault: LexFault) -> TextFault

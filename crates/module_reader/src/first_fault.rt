@@ -7,7 +7,7 @@ ghost use Rattle.module_reader.specs.Faults.{IsModuleFault, SpellsWellFormed};
 use crate::read_module;
 use ir_core::Module;
 use ir_reader::{ModuleFault, fits, of_text};
-use shape_laws::faultless_modules_have_shape;
+use ir_shape::faultless_modules_have_shape;
 use spelled_limits::{spelled_modules_are_in_range, spelled_modules_are_within};
 use std::alloc::Global;
 

@@ -15,7 +15,7 @@ mod naming;
 mod tokens;
 mod trees;
 
-pub use fault_laws::first_faults_agree;
+pub use fault_laws::{first_faults_agree, module_faults_are_one};
 pub use first_fault::read_whole;
 pub use misnamed::Misnamed;
 pub use modules::read_module;

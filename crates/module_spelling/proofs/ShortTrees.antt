@@ -26,7 +26,7 @@ use Rattle.module_spelling.specs.Opened.{definition, lines, lines_at, lines_in}
 use Rattle.named_modules.specs.Built.{types_of}
 use Rattle.named_modules.specs.Modules.{definition_item}
 use Rattle.named_modules.proofs.Lists.{all_left, all_right}
-use Rattle.predictive.proofs.Selects.{unambiguous}
+use Rattle.predictive.specs.GrammarDecides.Selects.{unambiguous}
 use Rattle.predictive.specs.Grammar.{Forest, End, Leaf, Node, Forms, yield}
 use Rattle.predictive.specs.declared.symbol.Symbol.TheVariants.{Non}
 use Rattle.predictive.proofs.Sound.{divided}

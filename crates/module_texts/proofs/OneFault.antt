@@ -12,7 +12,7 @@ use Rattle.module_grammar.specs.Sorts.{Module as ModuleSort}
 use Rattle.module_grammar.specs.Symbols.{Symbol}
 use Rattle.module_spelling.specs.Context.{StandFor}
 use Rattle.module_spelling.specs.Faults.{HasLargeBlock, HasLimit, HasNameFault, IsGrammarFault}
-use Rattle.module_tokens.specs.LeftOut.{is_left_out}
+use Rattle.ir_lexer.specs.LeftOut.{is_left_out}
 use Rattle.name_claims.specs.Faults.{rank}
 use Rattle.name_claims.specs.declared.claims.Fault.{Fault}
 use Rattle.name_claims.specs.declared.claims.Reason.TheVariants as reason

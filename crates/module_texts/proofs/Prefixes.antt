@@ -6,7 +6,7 @@ use Rattle.module_grammar.proofs.Predictive.{is_predictive}
 use Rattle.module_grammar.specs.Sets.{sets}
 use Rattle.module_grammar.specs.Tokens.{token_grammar}
 use Rattle.module_spelling.specs.Opened.{Passes, PassesFirst}
-use Rattle.predictive.proofs.Selects.{chosen, followed, may_end_followed, rule_followed}
+use Rattle.predictive.specs.GrammarDecides.Selects.{chosen, followed, may_end_followed, rule_followed}
 use Rattle.predictive.specs.declared.symbol.Symbol.{Symbol}
 use Rattle.predictive.specs.declared.symbol.Symbol.TheVariants.{Kind, Non}
 use Rattle.predictive.specs.Grammar.{Begin, End, Event, Forest, Forms, Grammar, Leaf, Node, Reduce, Shift, after_events, after_some, events, until_shifted, yield}

@@ -1,4 +1,3 @@
 mod ByNumber
 pub mod Debug
 pub mod Slots
-mod Wide

@@ -4,7 +4,6 @@
 mod bytes;
 mod keeping;
 mod kinds;
-mod left_out;
 mod names;
 mod table;
 mod widths;
@@ -12,5 +11,4 @@ mod words;
 
 pub use keeping::keep;
 pub use kinds::kinds_of;
-pub use left_out::is_left_out;
 pub use words::word_of;

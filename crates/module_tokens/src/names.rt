@@ -5,9 +5,8 @@ ghost use Rattle.ir_lexer.specs.Said.{bytes_of, name_said, said_in};
 ghost use Rattle.ir_lexer.specs.declared.token.Kind.TheVariants as kind;
 ghost use Rattle.module_tokens.specs.Tokens.{begins_debug, is_plain_debug, says_debug};
 
-use crate::widths::are_digits;
 use ir_core::Name;
-use ir_lexer::{Token, TokenKind, bytes_of, says};
+use ir_lexer::{Token, TokenKind, are_digits, bytes_of, says};
 use std::alloc::{AllocError, Global};
 
 fn begins_debug(bytes: &[u8]) -> bool

@@ -1,61 +1,8 @@
-ghost use Rattle.std.specs.Prelude.{◌≡◌, ◌<◌, ◌≤◌, [], ◌∷◌, MatchOption, nat_lt};
-ghost use Rattle.std.specs.Char.{is_ascii_digit};
-ghost use Rattle.std.specs.List.{list_all};
+ghost use Rattle.std.specs.Prelude.{◌≡◌, [], ◌∷◌};
 ghost use Rattle.module_grammar.specs.Words as said;
-ghost use Rattle.ir_lexer.specs.Bytes.{are_digits};
-ghost use Rattle.ir_lexer.specs.Numbers.{value_of};
 
 use ir_core::is_width;
-
-fn are_all_digits(bytes: &[u8]) -> bool
-    ensures { result ≡ list_all is_ascii_digit bytes.now }
-{
-    bytes.iter().all(|byte| byte.is_ascii_digit())
-}
-
-/// Whether there is at least one byte, and each is a decimal digit.
-pub fn are_digits(bytes: &[u8]) -> bool
-    ensures { result ≡ are_digits bytes.now }
-{
-    if bytes.is_empty() {
-        false
-    } else {
-        are_all_digits(bytes)
-    }
-}
-
-/// The number that the digits write, if it is at most 64.
-fn up_to_64(digits: &[u8]) -> Option<u32>
-    ensures { MatchOption result (64 < value_of digits.now) (λ value. (value ≡ value_of digits.now) × (value ≤ 64)) }
-{
-    let mut value: u32 = 0;
-    for digit in digits {
-        value = value * 10 + u32::from(digit.saturating_sub(b'0'));
-        if value > 64 {
-            return None;
-        }
-    }
-    Some(value)
-}
-
-/// Whether the digits write a number above 64.
-pub fn is_above_64(digits: &[u8]) -> bool
-    ensures { result ≡ nat_lt 64 (value_of digits.now) }
-{
-    match up_to_64(digits) {
-        Some(_) => false,
-        None => true,
-    }
-}
-
-pub fn begins_with_zero(digits: &[u8]) -> bool
-    ensures { result ≡ said.begins_with_zero digits.now }
-{
-    match digits.split_first() {
-        Some((first, _)) => *first == b'0',
-        None => false,
-    }
-}
+use ir_lexer::{are_digits, begins_with_zero, up_to_64};
 
 /// The width that one digit writes.
 #[inline(always)]

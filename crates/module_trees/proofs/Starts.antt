@@ -1,7 +1,7 @@
 -- What a parser of a predictive grammar does up to the shift of a token is told by the tokens up to there.
 use Rattle.std.proofs.Common.{◌≡◌, ℕ, zero, suc, Bool, true, List, [], ◌∷◌, ◌++◌, take, Some, refl, ap, sym, ◌∙◌, subst, append_assoc}
 use Rattle.std.proofs.lemmas.List.{append-nil}
-use Rattle.predictive.proofs.Selects.{chosen, followed, may_end_followed, rule_followed}
+use Rattle.predictive.specs.GrammarDecides.Selects.{chosen, followed, may_end_followed, rule_followed}
 use Rattle.predictive.specs.Grammar.{Grammar, Forest, End, Leaf, Node, Forms, yield, Event, Begin, Shift, Reduce, events, until_shifted}
 use Rattle.predictive.specs.Predictive.{Sets, IsFollowed, IsPredictive, MayEnd, ahead, at_end}
 use Rattle.predictive.specs.declared.symbol.Symbol.{Symbol}

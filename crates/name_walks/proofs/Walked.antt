@@ -9,7 +9,7 @@ use Rattle.ir_types.specs.declared.names.Name.{Name}
 use Rattle.ir_types.specs.NameLaws.{name_equivalence}
 use Rattle.ir_types.specs.Same.{same_name}
 use Rattle.name_claims.specs.declared.claims.Fault.{Fault}
-use Rattle.name_index.specs.Among.{is_among}
+use Rattle.ir_core.specs.NameIndexes.Among.{is_among}
 use Rattle.module_grammar.specs.declared.flow.BlockText.{BlockText}
 use Rattle.module_grammar.specs.declared.functions.DefinitionText.{DefinitionText}
 use Rattle.module_grammar.specs.declared.lines.AttachedText.{AttachedText}

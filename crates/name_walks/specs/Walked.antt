@@ -6,7 +6,7 @@ use Rattle.ir_types.specs.declared.named.NamedTy.{NamedTy}
 use Rattle.ir_types.specs.declared.names.Name.{Name}
 use Rattle.name_claims.specs.declared.claims.Fault.{Fault}
 use Rattle.name_claims.specs.declared.claims.Reason.TheVariants as reason
-use Rattle.name_index.specs.Among.{is_among}
+use Rattle.ir_core.specs.NameIndexes.Among.{is_among}
 use Rattle.module_grammar.specs.declared.flow.BlockText.{BlockText}
 use Rattle.module_grammar.specs.declared.flow.PhiText.{PhiText}
 use Rattle.module_grammar.specs.declared.functions.DefinitionText.{DefinitionText}

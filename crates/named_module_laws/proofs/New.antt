@@ -4,8 +4,8 @@ use Rattle.std.specs.Prelude.{not}
 use Rattle.ir_core.specs.Order.{AreNew}
 use Rattle.ir_types.specs.NameLaws.{left_true, right_true}
 use Rattle.ir_types.specs.declared.names.Name.{Name}
-use Rattle.name_index.proofs.Among.{not_there}
-use Rattle.name_index.specs.Among.{is_among}
+use Rattle.ir_core.proofs.NameIndexes.Among.{not_there}
+use Rattle.ir_core.specs.NameIndexes.Among.{is_among}
 
 abbrev pub all_new : List Name → List Name → Bool
 all_new taken [] = true

@@ -9,8 +9,8 @@ use Rattle.ir_types.specs.declared.names.Name.{Name}
 use Rattle.ir_types.specs.declared.names.Name.TheVariants.{Text, Number}
 use Rattle.name_claims.specs.declared.claims.Fault.{Fault}
 use Rattle.name_claims.specs.declared.claims.Reason.TheVariants as reason
-use Rattle.name_index.proofs.Among.{among_is, not_there}
-use Rattle.name_index.specs.Among.{is_among}
+use Rattle.ir_core.proofs.NameIndexes.Among.{among_is, not_there}
+use Rattle.ir_core.specs.NameIndexes.Among.{is_among}
 use Rattle.module_grammar.specs.declared.places.Placed.{Placed}
 use Rattle.named_modules.specs.Built.{due_after, name_due}
 use Rattle.named_modules.specs.Faults.{Written, at, due_behind_written, due_faults, number_faults, own_name_faults, twice_faults, unless, written_faults}

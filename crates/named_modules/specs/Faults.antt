@@ -19,7 +19,7 @@ use Rattle.ir_types.specs.Same.{same_list, same_name, same_ty}
 use Rattle.name_claims.specs.declared.claims.Fault.{Fault}
 use Rattle.name_claims.specs.declared.claims.Reason.{Reason}
 use Rattle.name_claims.specs.declared.claims.Reason.TheVariants as reason
-use Rattle.name_index.specs.Among.{is_among}
+use Rattle.ir_core.specs.NameIndexes.Among.{is_among}
 use Rattle.module_grammar.specs.declared.constants.ConstText.{ConstText, fold-ConstText}
 use Rattle.module_grammar.specs.declared.constants.ConstText.TheOpen.{ConstText-F}
 use Rattle.module_grammar.specs.declared.constants.ConstText.TheOpen as level

@@ -9,7 +9,7 @@ use Rattle.ir_types.specs.declared.ty.Ty.{Ty, out-Ty}
 use Rattle.ir_types.specs.declared.ty.Ty as ty
 use Rattle.ir_types.specs.declared.ty.Ty.TheOpen.{Ty-F}
 use Rattle.ir_types.specs.declared.ty.Ty.TheOpen as layer
-use Rattle.name_index.specs.Among.{is_among}
+use Rattle.ir_core.specs.NameIndexes.Among.{is_among}
 use Rattle.module_grammar.specs.declared.constants.IntText.{IntText}
 use Rattle.module_grammar.specs.declared.constants.IntText.TheVariants as int
 use Rattle.module_grammar.specs.declared.types.TypeText.{TypeText, fold-TypeText}

@@ -1,1 +1,4 @@
 pub mod LineFacts
+pub mod AllowedLines
+pub mod BlockPhis
+pub mod EdgeCrossing

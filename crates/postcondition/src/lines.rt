@@ -11,14 +11,13 @@ ghost use Rattle.erhl_assert.specs.Allowed.{line_fault_of};
 ghost use Rattle.erhl_assert.specs.Course.{and_then, are_too_many};
 ghost use Rattle.erhl_assert.specs.Growth.{adds, forgetting, over_calm, over_allowed, over_line};
 ghost use Rattle.erhl_assert.specs.Postcondition.{right_side, left_side, without_reg, with_reg, after_line};
-ghost use Rattle.added_facts.specs.declared.ends.LineEnd.TheVariants as line_end;
-ghost use Rattle.added_facts.specs.Ends.{Follows};
+ghost use Rattle.fact_sets.specs.declared.added_facts.ends.LineEnd.TheVariants as line_end;
+ghost use Rattle.fact_sets.specs.AddedFacts.Ends.{Follows};
 
-use added_facts::{AddEnd, LineEnd, add_equal, left_side, names, now_expr};
-use allowed_lines::{line_fault, lines_agree};
+use crate::allowed_lines::{line_fault, lines_agree};
 use contents::Exact;
 use erhl_assert::{FactSet, Kill, Side};
-use erhl_sides::Sides;
+use fact_sets::{AddEnd, LineEnd, Sides, add_equal, left_side, names, now_expr};
 use ir_core::{Calm, Instr, Module, Name, Reg};
 use std::alloc::{AllocError, Global};
 

@@ -10,7 +10,7 @@ use Rattle.predictive.specs.Grammar.{Grammar, Forest, End, Leaf, Node, Forms, yi
 use Rattle.predictive.specs.Predictive.{Sets, ahead, IsFollowed, IsPredictive, MayEnd, at_end}
 use Rattle.predictive.specs.Moves.{wanted, acts, shifts, Leads, with_ahead, IsMet, IsStuck}
 use Rattle.predictive.proofs.Happening.{shifts_joined, trees_after, steps_after, mark_until}
-use Rattle.predictive.proofs.Selects.{may_end_followed, unambiguous}
+use Rattle.predictive.specs.GrammarDecides.Selects.{may_end_followed, unambiguous}
 use Rattle.predictive.proofs.Stacks.{some_trees}
 
 pub record Holds {S : Type 0} (g : Grammar) (s : Sets) (begun shifted reduced : S → ℕ → S) (start : ℕ) (first : S) (done : List ℕ) (items : List Item) (state : S) : Type 0 where

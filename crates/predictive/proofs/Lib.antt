@@ -22,5 +22,4 @@ pub mod Laid
 pub mod Listing
 pub mod Loads
 pub mod Makes
-pub mod Selects
 pub mod Sound

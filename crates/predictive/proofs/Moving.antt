@@ -8,7 +8,7 @@ use Rattle.predictive.specs.Grammar.{Grammar, Forest, End, Leaf, Node, Forms, yi
 use Rattle.predictive.specs.Predictive.{Sets, ahead, IsFollowed, IsPredictive, at_end}
 use Rattle.predictive.specs.Moves.{opened, wanted, acts, Leads, IsStuck}
 use Rattle.predictive.proofs.Happening.{silent_joined, steps_after}
-use Rattle.predictive.proofs.Selects.{chosen}
+use Rattle.predictive.specs.GrammarDecides.Selects.{chosen}
 use Rattle.predictive.proofs.Stacks.{wanted_opened, followed_row, parted, joined}
 
 pub stays : {S : Type 0} (g : Grammar) (begun shifted reduced : S → ℕ → S) (look : ℕ) (a : List Item) (s : S) → Leads g begun shifted reduced look a s a s

@@ -15,3 +15,4 @@ pub mod Moves
 pub mod Predictive
 pub mod Typed
 pub mod Unexpected
+pub mod GrammarDecides

@@ -9,7 +9,7 @@ use Rattle.ir_core.specs.Ranges.{IsNameInRange}
 use Rattle.ir_types.specs.declared.names.Name.{Name}
 use Rattle.ir_types.specs.declared.names.Name.TheVariants.{Number, Text}
 use Rattle.ir_lexer.specs.declared.token.TokenKind.TheVariants as kind
-use Rattle.expression_printer.specs.Printed.{name_text}
+use Rattle.ir_printer.specs.ExpressionPrinter.Printed.{name_text}
 use Rattle.ir_printer.specs.Printed.{blocks_text, first_label, indented, instr_text, label_line, later_block, later_label, lines_text, phi_text}
 use Rattle.module_grammar.specs.declared.flow.BlockText.{BlockText}
 use Rattle.module_grammar.specs.declared.flow.EndText.{EndText}

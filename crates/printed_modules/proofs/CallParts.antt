@@ -15,7 +15,7 @@ use Rattle.ir_types.specs.declared.names.Name.{Name}
 use Rattle.ir_types.specs.declared.ty.Ty.{Ty}
 use Rattle.ir_types.specs.declared.ty.Ty.TheVariants as ty
 use Rattle.ir_printer.specs.Printed.{argument_text, dots, may_set_text, stated_text}
-use Rattle.expression_printer.specs.Printed.{listed, printed_type}
+use Rattle.ir_printer.specs.ExpressionPrinter.Printed.{listed, printed_type}
 use Rattle.module_grammar.specs.declared.lines.ArgumentText.{ArgumentText}
 use Rattle.module_grammar.specs.declared.places.Placed.{Placed}
 use Rattle.module_grammar.specs.declared.types.CalledText.{CalledText}

@@ -6,7 +6,7 @@ use Rattle.ir_core.specs.declared.operands.Atom.TheVariants.{Constant, Register}
 use Rattle.ir_core.specs.declared.operands.Operand.{Operand}
 use Rattle.ir_types.specs.declared.names.Name.{Name}
 use Rattle.ir_types.specs.declared.ty.Ty.{Ty}
-use Rattle.expression_printer.specs.Printed.{printed_local, printed_operand, printed_type, printed_value}
+use Rattle.ir_printer.specs.ExpressionPrinter.Printed.{printed_local, printed_operand, printed_type, printed_value}
 use Rattle.module_grammar.specs.declared.constants.OperandText.{OperandText}
 use Rattle.module_grammar.specs.declared.constants.ValueText.{ValueText}
 use Rattle.module_grammar.specs.declared.places.Placed.{Placed}

@@ -32,7 +32,7 @@ use Rattle.module_grammar.specs.Symbols.{Debug, Global, Holding, Linkage as Link
 use Rattle.module_grammar.specs.Types.{ty}
 use Rattle.named_modules.specs.Modules.{Holds, IsGlobalVar, is_constant, linkage_or_none}
 use Rattle.named_modules.specs.Values.{IsAlign, IsType}
-use Rattle.expression_printer.specs.Printed.{printed_align, printed_type}
+use Rattle.ir_printer.specs.ExpressionPrinter.Printed.{printed_align, printed_type}
 use Rattle.ir_printer.specs.Globals.{contents_text, global_linkage, global_text, global_word, held_text, linkage_text}
 use Rattle.printed_modules.proofs.Calm.{calm_align, calm_type}
 use Rattle.printed_modules.proofs.CalmParts.{calm_init, no_paren}

@@ -30,7 +30,7 @@ use Rattle.module_grammar.specs.Types as types
 use Rattle.named_modules.specs.Functions.{IsParam, linkage_said}
 use Rattle.named_modules.specs.Lines.{IsResult}
 use Rattle.named_modules.specs.Values.{IsNamed, IsValueType, extensions_of}
-use Rattle.expression_printer.specs.Printed.{listed, printed_type}
+use Rattle.ir_printer.specs.ExpressionPrinter.Printed.{listed, printed_type}
 use Rattle.ir_printer.specs.Globals.{linkage_text}
 use Rattle.ir_printer.specs.Printed.{extended_text, extensions_text, head_text, param_name, param_text, signature_text}
 use Rattle.printed_modules.proofs.Calm.{calm_attributes, calm_listed, calm_type}

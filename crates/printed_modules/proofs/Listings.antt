@@ -6,7 +6,7 @@ use Rattle.module_grammar.specs.declared.words.Language.TheVariants.{Ir}
 use Rattle.module_grammar.specs.Listed.{further, listed}
 use Rattle.module_grammar.specs.Symbols.{Symbol}
 use Rattle.module_grammar.specs.Types.{open_end}
-use Rattle.expression_printer.specs.Printed as printed
+use Rattle.ir_printer.specs.ExpressionPrinter.Printed as printed
 use Rattle.ir_printer.specs.Printed.{dots}
 use Rattle.printed_modules.proofs.Laid.{AreCalm, both_calm}
 use Rattle.printed_tokens.proofs.Marks as marks

@@ -14,7 +14,7 @@ use Rattle.ir_types.specs.declared.names.Name.{Name}
 use Rattle.ir_types.specs.declared.ty.Ty.{Ty}
 use Rattle.ir_types.specs.declared.ty.Ty.TheVariants as ty
 use Rattle.ir_printer.specs.Printed.{count_text, store_text}
-use Rattle.expression_printer.specs.Printed.{printed_align, printed_type}
+use Rattle.ir_printer.specs.ExpressionPrinter.Printed.{printed_align, printed_type}
 use Rattle.module_grammar.specs.declared.lines.AllocaText.{AllocaText}
 use Rattle.module_grammar.specs.declared.lines.CountText.{CountText}
 use Rattle.module_grammar.specs.declared.lines.StoreText.{StoreText}

@@ -21,7 +21,7 @@ use Rattle.module_grammar.specs.Symbols as symbols
 use Rattle.module_grammar.specs.Types.{ty, types}
 use Rattle.named_modules.specs.Modules.{AreFields, IsNamedType}
 use Rattle.named_modules.specs.Values.{IsType}
-use Rattle.expression_printer.specs.Printed.{printed_type, struct_text}
+use Rattle.ir_printer.specs.ExpressionPrinter.Printed.{printed_type, struct_text}
 use Rattle.ir_printer.specs.Printed.{body_text, named_type_text}
 use Rattle.printed_modules.proofs.Calm.{calm_listed, calm_type}
 use Rattle.printed_modules.proofs.CalmParts.{no_paren}

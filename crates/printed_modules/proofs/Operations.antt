@@ -21,7 +21,7 @@ use Rattle.ir_core.specs.Ranges.{may_have}
 use Rattle.ir_core.specs.Words as words
 use Rattle.ir_types.specs.declared.names.Name.{Name}
 use Rattle.ir_types.specs.declared.ty.Ty.{Ty, Ptr}
-use Rattle.expression_printer.specs.Printed.{printed_expr, printed_flag, printed_flags, printed_local, printed_op, printed_operand, printed_operands, spaced}
+use Rattle.ir_printer.specs.ExpressionPrinter.Printed.{printed_expr, printed_flag, printed_flags, printed_local, printed_op, printed_operand, printed_operands, spaced}
 use Rattle.module_grammar.specs.declared.constants.OperandText.{OperandText}
 use Rattle.module_grammar.specs.declared.constants.ValueText.{ValueText}
 use Rattle.module_grammar.specs.declared.lines.CastWord.{CastWord}

@@ -9,7 +9,7 @@ use Rattle.ir_core.specs.Ranges.{IsNameInRange}
 use Rattle.ir_types.specs.declared.names.Name.{Name}
 use Rattle.ir_types.specs.declared.ty.Ty.{Ty}
 use Rattle.ir_printer.specs.Printed.{entry_text, indented, phi_text, set_text}
-use Rattle.expression_printer.specs.Printed.{listed}
+use Rattle.ir_printer.specs.ExpressionPrinter.Printed.{listed}
 use Rattle.module_grammar.specs.declared.flow.EntryText.{EntryText}
 use Rattle.module_grammar.specs.declared.flow.PhiText.{PhiText}
 use Rattle.module_grammar.specs.declared.places.Placed.{Placed}

@@ -30,7 +30,7 @@ use Rattle.ir_types.specs.declared.names.Name.{Name}
 use Rattle.ir_types.specs.declared.ty.Ty.{Ty}
 use Rattle.ir_types.specs.Named.{fields_or_none}
 use Rattle.ir_types.specs.Same.{same_name}
-use Rattle.module_limits.specs.Passed.{AreShort, IsShort}
+use Rattle.ir_typing.specs.ModuleLimits.Passed.{AreShort, IsShort}
 use Rattle.named_modules.specs.Functions.{labels_of, registers_of}
 use Rattle.named_modules.proofs.Lists.{all_append, all_left, all_right}
 use Rattle.printed_modules.specs.Order.{IsInFileOrder}

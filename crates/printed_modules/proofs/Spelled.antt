@@ -13,7 +13,7 @@ use Rattle.module_grammar.specs.declared.words.Language.TheVariants.{Ir}
 use Rattle.module_grammar.specs.Spelled.{symbol}
 use Rattle.module_grammar.specs.Symbols.{Symbol}
 use Rattle.module_grammar.proofs.OneTree.{called, declared}
-use Rattle.module_limits.specs.Passed.{AreShort}
+use Rattle.ir_typing.specs.ModuleLimits.Passed.{AreShort}
 use Rattle.module_spelling.specs.Context.{StandFor}
 use Rattle.module_spelling.specs.Spells.{Spells, StatesParams, StatesTypes}
 use Rattle.module_texts.proofs.Looked.{first_told, told_by}

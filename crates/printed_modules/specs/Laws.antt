@@ -4,7 +4,7 @@ use Rattle.ir_core.specs.declared.modules.Module.{Module}
 use Rattle.ir_core.specs.Ranges.{AreBytes, IsInRange}
 use Rattle.ir_core.specs.WellFormed.{HasShape}
 use Rattle.ir_printer.specs.Printed.{printed_module}
-use Rattle.module_limits.specs.Passed.{IsWithin}
+use Rattle.ir_typing.specs.ModuleLimits.Passed.{IsWithin}
 use Rattle.module_spelling.specs.Spells.{Spells}
 use Rattle.printed_modules.specs.Order.{IsInFileOrder}
 

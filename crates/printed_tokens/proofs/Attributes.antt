@@ -16,7 +16,7 @@ use Rattle.printed_tokens.proofs.Marks as marks
 use Rattle.printed_tokens.proofs.Prints.{IsFixed, Prints, before, both, empty, read_as}
 use Rattle.printed_tokens.proofs.ReadTexts.{Any, Stops}
 use Rattle.printed_tokens.proofs.WordSymbols.{at_any, extension_is, extension_said, extension_text}
-use Rattle.expression_printer.specs.Printed.{printed_flag}
+use Rattle.ir_printer.specs.ExpressionPrinter.Printed.{printed_flag}
 
 -- the attributes that say it
 abbrev pub set_words : Bool → ExtensionWord → List ParamAttributeText

@@ -40,9 +40,9 @@ use Rattle.named_modules.proofs.Addresses.{from_pointer}
 use Rattle.named_modules.proofs.ConstKinds as kind
 use Rattle.named_modules.proofs.ConstKinds.{told_each}
 use Rattle.named_modules.proofs.Lists.{all_left, all_right}
-use Rattle.expression_printer.proofs.ConstantTexts as texts
-use Rattle.expression_printer.proofs.ConstantTexts.{constants_by_parts}
-use Rattle.expression_printer.specs.Printed.{constant_parts, element_head, further_text, printed_constant, printed_flag, printed_type}
+use Rattle.ir_printer.proofs.ExpressionPrinter.ConstantTexts as texts
+use Rattle.ir_printer.proofs.ExpressionPrinter.ConstantTexts.{constants_by_parts}
+use Rattle.ir_printer.specs.ExpressionPrinter.Printed.{constant_parts, element_head, further_text, printed_constant, printed_flag, printed_type}
 use Rattle.printed_tokens.proofs.ConstantParts.{NamesConst, NamesPart, cast_grouped, element_grouped, judged_parts, parts_built, parts_fit, same_indices}
 use Rattle.printed_tokens.proofs.ConstantTypes.{cast_typed, element_typed, fitted_parts, global_typed, null_typed, of_values, undef_typed}
 use Rattle.printed_tokens.proofs.GlobalNames.{global_name}

@@ -12,7 +12,7 @@ use Rattle.module_grammar.specs.Constants as write
 use Rattle.module_grammar.specs.Spelled.{at}
 use Rattle.module_grammar.specs.Symbols.{Debug, Global}
 use Rattle.named_modules.specs.Constants as naming
-use Rattle.expression_printer.specs.Printed.{printed_name}
+use Rattle.ir_printer.specs.ExpressionPrinter.Printed.{printed_name}
 use Rattle.printed_tokens.proofs.Prints.{Prints, one_token}
 use Rattle.printed_tokens.proofs.ReadTexts.{Stops}
 use Rattle.printed_tokens.proofs.ReadTexts as reads

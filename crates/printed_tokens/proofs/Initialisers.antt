@@ -34,7 +34,7 @@ use Rattle.named_modules.specs.Constants as naming
 use Rattle.named_modules.proofs.ConstKinds as kind
 use Rattle.named_modules.proofs.ConstKinds.{told_each}
 use Rattle.named_modules.proofs.Lists.{all_left, all_right}
-use Rattle.expression_printer.specs.Printed.{listed, printed_constant, printed_type, quoted, struct_text, typed_text}
+use Rattle.ir_printer.specs.ExpressionPrinter.Printed.{listed, printed_constant, printed_type, quoted, struct_text, typed_text}
 use Rattle.ir_printer.specs.Globals.{array_text, init_text, printed_init}
 use Rattle.printed_tokens.proofs.Constants.{constant}
 use Rattle.printed_tokens.proofs.InitialiserParts.{NamesInitPart, fitting_parts, inits_built, inits_known, parts_are, same_count, typed_parts}

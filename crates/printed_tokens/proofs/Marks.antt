@@ -22,7 +22,7 @@ use Rattle.module_grammar.specs.Listed.{further as further_written}
 use Rattle.module_grammar.specs.Spelled.{mark_symbol}
 use Rattle.module_grammar.specs.Symbols.{Symbol, BitCast, Brace, Bracket, Element, Global, Local, Null, Star, key_number}
 use Rattle.module_grammar.specs.Symbols as symbols
-use Rattle.expression_printer.specs.Printed.{listed, printed_local, printed_name, spaced}
+use Rattle.ir_printer.specs.ExpressionPrinter.Printed.{listed, printed_local, printed_name, spaced}
 use Rattle.printed_tokens.proofs.Prints.{IsFixed, Prints, before, both, empty, fixed, of_text, one_token, read_as}
 use Rattle.printed_tokens.proofs.Places.{symbol_at}
 use Rattle.printed_tokens.proofs.ReadTexts.{Any, Stops, IsWord}

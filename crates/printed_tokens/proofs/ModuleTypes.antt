@@ -9,14 +9,14 @@ use Rattle.ir_core.specs.Ranges.{IsNameInRange, is_written}
 use Rattle.ir_core.specs.TypeNames.{names_in_type, type_names}
 use Rattle.ir_core.specs.Types.{is_first_class}
 use Rattle.ir_core.specs.WellFormed.{IsTypeKnown}
-use Rattle.name_index.specs.Among.{is_among}
-use Rattle.name_index.proofs.Among.{is_there}
+use Rattle.ir_core.specs.NameIndexes.Among.{is_among}
+use Rattle.ir_core.proofs.NameIndexes.Among.{is_there}
 use Rattle.module_grammar.specs.declared.types.TypeText.{TypeText}
 use Rattle.module_grammar.specs.declared.words.Language.{Language}
 use Rattle.module_grammar.specs.Types.{ty}
 use Rattle.named_modules.specs.Types.{is_counted, is_type, is_value_type, type_of}
 use Rattle.named_modules.specs.Values.{IsType, IsValueType}
-use Rattle.expression_printer.specs.Printed.{printed_type}
+use Rattle.ir_printer.specs.ExpressionPrinter.Printed.{printed_type}
 use Rattle.printed_tokens.proofs.Lists.{all_over, all_to, each_passes}
 use Rattle.printed_tokens.proofs.Prints.{Prints, read_as}
 use Rattle.printed_tokens.proofs.ReadTexts.{Stops}

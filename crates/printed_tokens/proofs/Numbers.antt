@@ -23,8 +23,8 @@ use Rattle.module_grammar.specs.declared.words.Language.{Language}
 use Rattle.module_grammar.specs.Constants as write
 use Rattle.module_grammar.specs.Symbols.{Numeral}
 use Rattle.named_modules.specs.Types.{int_at_level, int_of, int_of_width, kept}
-use Rattle.expression_printer.specs.Printed.{is_negative, number_text, signed_text}
-use Rattle.expression_printer.proofs.Powers.{power_is_two_halves}
+use Rattle.ir_printer.specs.ExpressionPrinter.Printed.{is_negative, number_text, signed_text}
+use Rattle.ir_printer.proofs.ExpressionPrinter.Powers.{power_is_two_halves}
 use Rattle.printed_tokens.proofs.Decimals.{decimal_means}
 use Rattle.printed_tokens.proofs.Prints.{Prints, one_token}
 use Rattle.printed_tokens.proofs.ReadTexts.{Reads, Stops}

@@ -12,7 +12,7 @@ use Rattle.ir_lexer.specs.declared.token.TokenKind.{TokenKind}
 use Rattle.ir_lexer.specs.declared.token.TokenKind.TheVariants as kind
 use Rattle.ir_lexer.specs.Pieces.{piece, plain}
 use Rattle.ir_lexer.specs.Pieces.Piece.{BadByte, Gap, Token}
-use Rattle.expression_printer.specs.Printed.{name_text, printed_flag, printed_flags, printed_name, spaced}
+use Rattle.ir_printer.specs.ExpressionPrinter.Printed.{name_text, printed_flag, printed_flags, printed_name, spaced}
 use Rattle.printed_tokens.proofs.Lexed.{Lexes, begun, passed, stops}
 use Rattle.printed_tokens.proofs.Lexed as lexed
 use Rattle.printed_tokens.proofs.Names.{name_found}

@@ -17,7 +17,7 @@ use Rattle.module_grammar.specs.declared.words.Language.{Language}
 use Rattle.module_grammar.specs.Spelled.{at}
 use Rattle.module_grammar.specs.Symbols.{Bytes}
 use Rattle.module_grammar.specs.Symbols as symbols
-use Rattle.expression_printer.specs.Printed.{escaped, quoted}
+use Rattle.ir_printer.specs.ExpressionPrinter.Printed.{escaped, quoted}
 use Rattle.printed_tokens.proofs.Lexed.{begun_as}
 use Rattle.printed_tokens.proofs.Names.{before_quote}
 use Rattle.printed_tokens.proofs.Places.{first_is, symbol_at}

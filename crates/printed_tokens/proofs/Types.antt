@@ -28,9 +28,9 @@ use Rattle.module_grammar.specs.Words.{are_width, width_of, word_said}
 use Rattle.named_modules.specs.Types.{count_built, counted_at_level, is_count, is_counted, type_at_level, type_of}
 use Rattle.named_modules.proofs.Lists.{all_left, all_right}
 use Rattle.named_modules.proofs.TypeKinds as kind
-use Rattle.expression_printer.proofs.TypeTexts.{types_by_parts}
-use Rattle.expression_printer.specs.Printed.{printed_local, printed_parts, printed_type, struct_text}
-use Rattle.expression_printer.specs.Printed as printed
+use Rattle.ir_printer.proofs.ExpressionPrinter.TypeTexts.{types_by_parts}
+use Rattle.ir_printer.specs.ExpressionPrinter.Printed.{printed_local, printed_parts, printed_type, struct_text}
+use Rattle.ir_printer.specs.ExpressionPrinter.Printed as printed
 use Rattle.printed_tokens.proofs.Decimals.{decimal_means}
 use Rattle.printed_tokens.proofs.Marks as marks
 use Rattle.printed_tokens.proofs.Numbers.{at_most_64, numeral, unsigned}

@@ -22,7 +22,7 @@ use Rattle.module_grammar.specs.declared.words.Language.{Language}
 use Rattle.module_grammar.specs.Constants as write
 use Rattle.module_grammar.specs.Lines as lines
 use Rattle.named_modules.specs.Values.{IsAlign, IsAlignOf, IsOperand, IsRegister, IsValue, Registers}
-use Rattle.expression_printer.specs.Printed.{printed_align, printed_local, printed_operand, printed_value}
+use Rattle.ir_printer.specs.ExpressionPrinter.Printed.{printed_align, printed_local, printed_operand, printed_value}
 use Rattle.printed_tokens.proofs.Constants.{constant}
 use Rattle.printed_tokens.proofs.Marks as marks
 use Rattle.printed_tokens.proofs.ModuleTypes.{HasNames, value_type}

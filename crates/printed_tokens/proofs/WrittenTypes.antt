@@ -3,7 +3,7 @@ use Rattle.std.proofs.Common.{◌≡◌, true, refl}
 use Rattle.ir_core.specs.Ranges.{is_written}
 use Rattle.ir_types.specs.declared.ty.Ty.{Ty}
 use Rattle.module_grammar.specs.declared.words.Language.TheVariants.{Ir}
-use Rattle.expression_printer.specs.Printed.{printed_type}
+use Rattle.ir_printer.specs.ExpressionPrinter.Printed.{printed_type}
 use Rattle.printed_tokens.specs.Laws.{IsWrittenType}
 use Rattle.printed_tokens.proofs.Places.{symbols_from}
 use Rattle.printed_tokens.proofs.ReadTexts.{Stops, whole}

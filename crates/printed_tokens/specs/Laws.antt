@@ -10,7 +10,7 @@ use Rattle.module_grammar.specs.declared.words.Language.TheVariants.{Ir}
 use Rattle.module_grammar.specs.Spelled.{symbol}
 use Rattle.module_grammar.specs.Types.{ty}
 use Rattle.named_modules.specs.Types.{type_of}
-use Rattle.expression_printer.specs.Printed.{printed_type}
+use Rattle.ir_printer.specs.ExpressionPrinter.Printed.{printed_type}
 
 -- The text is cut into tokens that are written of a tree which names the type: `[4 x i8*]` of the array of 4 pointers to i8.
 pub record IsWrittenType (bytes : List ℕ) (t : Ty) : Type 0 where

@@ -18,7 +18,7 @@ use Rattle.ir_grammar.specs.declared.words.Language.TheVariants.{Ir}
 use Rattle.ir_grammar.specs.Symbols.{Symbol}
 use Rattle.ir_grammar.specs.Written as write
 use Rattle.ir_naming.specs.Spells.{IsLine, IsNamed, IsPhi, IsTerm, NamesBlock}
-use Rattle.expression_printer.specs.Printed.{name_text}
+use Rattle.ir_printer.specs.ExpressionPrinter.Printed.{name_text}
 use Rattle.ir_printer.specs.Printed.{blocks_text, first_label, indented, instr_text, label_line, later_block, later_label, lines_text, phi_text}
 use Rattle.printer_laws.proofs.Fit.{FitsBlock, FitsLine, FitsPhi}
 use Rattle.printer_laws.proofs.Labels.{EndsLine, comment_reads, label_reads}

@@ -24,7 +24,7 @@ use Rattle.ir_grammar.specs.Written as write
 use Rattle.ir_naming.specs.Spells.{IsNamed, IsParam, IsResult, NamesFunction, NamesModule, labels_of}
 use Rattle.ir_naming.proofs.Named.{module_right}
 use Rattle.ir_reader.specs.Spells.{Spells}
-use Rattle.expression_printer.specs.Printed.{listed, printed_type}
+use Rattle.ir_printer.specs.ExpressionPrinter.Printed.{listed, printed_type}
 use Rattle.ir_printer.specs.Globals.{linkage_text}
 use Rattle.ir_printer.specs.Printed.{extended_text, extensions_text, function_text, head_text, param_name, param_text, printed_module, signature_text}
 use Rattle.printer_laws.proofs.Blocks.{blocks, blocks_written}

@@ -18,7 +18,7 @@ use Rattle.ir_lexer.specs.Pieces as pieces
 use Rattle.ir_lexer.specs.Pieces.Piece.{Gap, Token}
 use Rattle.ir_lexer.specs.Runs.{is_in_line, is_no_quote, rest_of_line}
 use Rattle.ir_lexer.specs.Strings.{unescaped}
-use Rattle.expression_printer.specs.Printed.{escaped, name_text, quoted}
+use Rattle.ir_printer.specs.ExpressionPrinter.Printed.{escaped, name_text, quoted}
 use Rattle.printer_laws.proofs.Decimals.{decimal_means}
 use Rattle.printer_laws.proofs.Lexed.{passed, stops, taken}
 use Rattle.printer_laws.proofs.Names.{before_quote}

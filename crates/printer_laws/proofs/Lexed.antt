@@ -14,7 +14,7 @@ use Rattle.ir_lexer.specs.Names.NameAt.{Found}
 use Rattle.ir_lexer.specs.Pieces.{piece}
 use Rattle.ir_lexer.specs.Pieces.Piece.{Gap, Token}
 use Rattle.ir_lexer.proofs.Cuts.{front}
-use Rattle.expression_printer.specs.Printed.{sigil_byte}
+use Rattle.ir_printer.specs.ExpressionPrinter.Printed.{sigil_byte}
 use Rattle.printer_laws.proofs.TokenWords.{kinds_cut}
 use Rattle.printer_laws.proofs.TokenWords as kinds_word
 

@@ -29,7 +29,7 @@ use Rattle.ir_grammar.specs.Written as write
 use Rattle.ir_naming.specs.Spells.{IsEntry, IsLabel, IsLine, IsPhi, IsValue, MeansOne}
 use Rattle.ir_naming.specs.Values.{IsOperand}
 use Rattle.ir_naming.proofs.Lists.{all_over}
-use Rattle.expression_printer.specs.Printed.{listed, printed_local, printed_operand}
+use Rattle.ir_printer.specs.ExpressionPrinter.Printed.{listed, printed_local, printed_operand}
 use Rattle.ir_printer.specs.Printed.{entry_text, indented, instr_text, phi_text, set_text}
 use Rattle.printer_laws.specs.Writable.{IsWritableType}
 use Rattle.printer_laws.proofs.Fit.{FitsAtom, FitsEntry, FitsLabel, FitsLine, FitsOperand, FitsPhi}

@@ -16,7 +16,7 @@ use Rattle.ir_grammar.specs.declared.words.Language.{Language}
 use Rattle.ir_grammar.specs.Symbols.{Symbol, Global, Local, Width, key_number, symbol_at, word_symbol}
 use Rattle.ir_grammar.specs.Symbols as symbols
 use Rattle.ir_grammar.specs.Words.{key_text}
-use Rattle.expression_printer.specs.Printed.{listed, printed_local, printed_name, printed_type, spaced}
+use Rattle.ir_printer.specs.ExpressionPrinter.Printed.{listed, printed_local, printed_name, printed_type, spaced}
 use Rattle.printer_laws.specs.Writable.{IsWritableType}
 use Rattle.printer_laws.proofs.OperatorTexts.{at_any}
 use Rattle.printer_laws.proofs.Prints.{IsFixed, Prints, before, both, empty, fixed, one_token, read_as}

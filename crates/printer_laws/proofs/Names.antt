@@ -13,7 +13,7 @@ use Rattle.ir_lexer.specs.Names.NameAt.{Found}
 use Rattle.ir_lexer.specs.Numbers.{value_of, if_below}
 use Rattle.ir_lexer.specs.Runs.{run_at, digits_at, quoted_at, is_no_quote}
 use Rattle.ir_lexer.specs.Strings.{unescaped}
-use Rattle.expression_printer.specs.Printed.{escaped, quoted, name_text}
+use Rattle.ir_printer.specs.ExpressionPrinter.Printed.{escaped, quoted, name_text}
 use Rattle.ir_core.specs.Ranges.{IsNameInRange}
 use Rattle.printer_laws.proofs.Decimals.{IsDecimal, decimal_means}
 use Rattle.printer_laws.proofs.Lexed.{stops, taken}

@@ -30,7 +30,7 @@ use Rattle.ir_grammar.specs.Symbols.{Symbol}
 use Rattle.ir_grammar.specs.Symbols as symbols
 use Rattle.ir_grammar.specs.Written as write
 use Rattle.ir_naming.specs.Values.{IsOperand, IsOperation, flags_of, type_at}
-use Rattle.expression_printer.specs.Printed.{printed_expr, printed_flags, printed_op, printed_operand, printed_operands}
+use Rattle.ir_printer.specs.ExpressionPrinter.Printed.{printed_expr, printed_flags, printed_op, printed_operand, printed_operands}
 use Rattle.printer_laws.specs.Writable.{IsWritableType}
 use Rattle.printer_laws.proofs.Fit.{IsNoOperand}
 use Rattle.printer_laws.proofs.Marks.{comma, key, space, type, word_and_space}

@@ -6,7 +6,7 @@ use Rattle.std.proofs.lemmas.List.Folds.{list_all-append}
 use Rattle.std.specs.List.{list_all, flat_map, AllByRecursion}
 use Rattle.ir_lexer.specs.Runs.{is_no_quote}
 use Rattle.ir_lexer.specs.Strings.{is_hex, hex_value, symbol, unescaped, unescaped_after}
-use Rattle.expression_printer.specs.Printed.{hexadecimal_digit, escaped}
+use Rattle.ir_printer.specs.ExpressionPrinter.Printed.{hexadecimal_digit, escaped}
 
 -- ---- a byte: what is true of each is found by going over all 256
 

@@ -11,7 +11,7 @@ use Rattle.ir_core.specs.Words as words
 use Rattle.ir_lexer.specs.declared.token.TokenKind.{TokenKind}
 use Rattle.ir_lexer.specs.Pieces.{piece, plain}
 use Rattle.ir_lexer.specs.Pieces.Piece.{BadByte, Gap, Token}
-use Rattle.expression_printer.specs.Printed.{name_text, printed_flag, printed_flags, printed_name, spaced}
+use Rattle.ir_printer.specs.ExpressionPrinter.Printed.{name_text, printed_flag, printed_flags, printed_name, spaced}
 use Rattle.printer_laws.proofs.Lexed.{Lexes, begun, passed, stops}
 use Rattle.printer_laws.proofs.Lexed as lexed
 use Rattle.printer_laws.proofs.Names.{name_found}

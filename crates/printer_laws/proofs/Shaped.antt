@@ -23,7 +23,7 @@ use Rattle.ir_types.specs.declared.ty.Ty.{Ty}
 use Rattle.ir_types.specs.Same.{same_name}
 use Rattle.ir_naming.specs.Spells.{labels_of}
 use Rattle.ir_naming.proofs.Lists.{all_append, all_both, all_from, all_lists, all_mapped, all_over, all_to}
-use Rattle.module_limits.specs.Passed.{AreShort, IsShort}
+use Rattle.ir_typing.specs.ModuleLimits.Passed.{AreShort, IsShort}
 use Rattle.printer_laws.proofs.Fit.{FitsFunction, FitsModule, HasBlockForm, HasForm, HasPhiForm, IsNoOperand, IsUsedAt, SetsByOperation}
 use Rattle.printer_laws.proofs.Formed.{fits_function}
 

@@ -13,7 +13,7 @@ use Rattle.ir_grammar.specs.declared.words.Language.{Language}
 use Rattle.ir_grammar.specs.declared.words.Word.TheVariants as word
 use Rattle.ir_grammar.specs.Symbols.{Width, symbol_at, word_symbol}
 use Rattle.ir_grammar.specs.Words.{are_width, width_of, word_said}
-use Rattle.expression_printer.specs.Printed.{printed_type}
+use Rattle.ir_printer.specs.ExpressionPrinter.Printed.{printed_type}
 use Rattle.printer_laws.specs.Writable.{IsWritableType}
 use Rattle.printer_laws.proofs.Decimals.{decimal_means}
 use Rattle.printer_laws.proofs.ReadTexts.{IsWord, Reads, Stops}

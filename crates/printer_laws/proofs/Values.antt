@@ -27,8 +27,8 @@ use Rattle.ir_grammar.specs.declared.words.Language.{Language}
 use Rattle.ir_grammar.specs.Words.{truth_text}
 use Rattle.ir_grammar.specs.Written as write
 use Rattle.ir_naming.specs.Values.{IsAtom, IsNumber, Names, int_of, kept, truth}
-use Rattle.expression_printer.specs.Printed.{is_negative, number_text, printed_atom, signed_text}
-use Rattle.expression_printer.proofs.Powers.{power_is_two_halves}
+use Rattle.ir_printer.specs.ExpressionPrinter.Printed.{is_negative, number_text, printed_atom, signed_text}
+use Rattle.ir_printer.proofs.ExpressionPrinter.Powers.{power_is_two_halves}
 use Rattle.printer_laws.specs.Writable.{IsWritableType}
 use Rattle.printer_laws.proofs.Decimals.{decimal_means}
 use Rattle.printer_laws.proofs.Marks.{key_alone}

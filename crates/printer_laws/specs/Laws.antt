@@ -6,7 +6,7 @@ use Rattle.ir_core.specs.Order.{IsInOrder}
 use Rattle.ir_core.specs.Ranges.{AreBytes, IsInRange}
 use Rattle.ir_core.specs.WellFormed.{HasShape, IsWellFormed}
 use Rattle.ir_printer.specs.Printed.{printed_module}
-use Rattle.module_limits.specs.Passed.{AreShort}
+use Rattle.ir_typing.specs.ModuleLimits.Passed.{AreShort}
 use Rattle.ir_reader.specs.Spells.{Spells, SpellsWellFormed}
 
 -- A printed module over integers alone spells that module, where it has no named types, its names are in order, it has shape, all of it is

@@ -17,7 +17,7 @@ use Rattle.ir_rename.specs.Numbered.{numbered_function, numbered_in_order}
 use Rattle.ir_rename.specs.Renamed.{AreRenamed}
 use Rattle.ir_rename.proofs.Lists.{length_mapped}
 use Rattle.ir_rename.proofs.Shaped.{all_under}
-use Rattle.module_limits.specs.Passed.{AreShort, IsShort}
+use Rattle.ir_typing.specs.ModuleLimits.Passed.{AreShort, IsShort}
 use Rattle.ir_reader.specs.Laws.{ModulesAreOverIntegers}
 use Rattle.printer_laws.specs.Laws.{PrintedModulesAreRead, PrintedModulesCanBeRun}
 use Rattle.renaming_laws.specs.Kept.{DefinednessStays, FunctionNamesStay, NamesStayApart, ShapeStays, WellFormednessStays}

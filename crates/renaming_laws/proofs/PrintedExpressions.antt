@@ -24,7 +24,7 @@ use Rattle.ir_naming.specs.Expressions.{IsLogicAtom, MeansRegister, NamesExpress
 use Rattle.ir_naming.proofs.ExpressionLaws.{expression_right}
 use Rattle.ir_naming.proofs.Lists.{all_over}
 use Rattle.ir_reader.specs.Spells.{SpellsExpression}
-use Rattle.expression_printer.specs.Printed.{printed_expr, printed_local, printed_register, spaced}
+use Rattle.ir_printer.specs.ExpressionPrinter.Printed.{printed_expr, printed_local, printed_register, spaced}
 use Rattle.printer_laws.specs.Writable.{IsWritableType}
 use Rattle.printer_laws.proofs.Fit.{IsNoOperand}
 use Rattle.printer_laws.proofs.Marks.{local, word_and_space}

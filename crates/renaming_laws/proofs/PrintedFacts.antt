@@ -14,7 +14,7 @@ use Rattle.serde_json.specs.Read.{max_depth, of_json, read}
 use Rattle.serde_json.specs.Written.{compact_text, outline}
 use Rattle.serde_json.proofs.Texts.{print-outline}
 use Rattle.ir_core.specs.Expressions.{Expr0, expr_has}
-use Rattle.expression_printer.specs.Printed.{printed_expr, printed_register}
+use Rattle.ir_printer.specs.ExpressionPrinter.Printed.{printed_expr, printed_register}
 use Rattle.erhl_assert.specs.declared.facts.Fact.TheVariants.{LessDef}
 use Rattle.erhl_assert.specs.Edges.{is_old}
 use Rattle.json_forms.specs.Faults.{here}

@@ -7,7 +7,7 @@ use Rattle.ir_grammar.specs.declared.words.Language.TheVariants.{Ir}
 use Rattle.ir_grammar.specs.Symbols.{symbol_at}
 use Rattle.ir_grammar.specs.Written as write
 use Rattle.ir_reader.specs.Spells.{SpellsName}
-use Rattle.expression_printer.specs.Printed.{printed_name}
+use Rattle.ir_printer.specs.ExpressionPrinter.Printed.{printed_name}
 use Rattle.printer_laws.proofs.Places.{symbols_from}
 use Rattle.printer_laws.proofs.ReadTexts.{Stops, whole}
 use Rattle.printer_laws.proofs.ReadTexts as reads

@@ -7,7 +7,7 @@ use Rattle.ir_core.specs.declared.functions.Function.{Function}
 use Rattle.ir_types.specs.declared.names.Name.{Name}
 use Rattle.ir_core.specs.Functions.{names_in, params_of}
 use Rattle.ir_core.specs.WellFormed.{IsFunctionDefined}
-use Rattle.name_index.specs.Among.{place_among}
+use Rattle.ir_core.specs.NameIndexes.Among.{place_among}
 use Rattle.flow_solver.specs.Ways.{nodes_on}
 use Rattle.definedness.specs.declared.paths.Undefined.{Undefined}
 use Rattle.definedness.specs.Along.{left_in_block, with_names}

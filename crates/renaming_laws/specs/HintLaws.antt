@@ -17,7 +17,7 @@ use Rattle.ir_core.specs.Integers.{is_of_memory}
 use Rattle.ir_core.specs.Ranges.{IsNameInRange, IsRightInRange}
 use Rattle.ir_core.specs.Types.{constant_fits}
 use Rattle.ir_reader.specs.Spells.{SpellsExpression, SpellsName}
-use Rattle.expression_printer.specs.Printed.{printed_name, printed_register, printed_expr}
+use Rattle.ir_printer.specs.ExpressionPrinter.Printed.{printed_name, printed_register, printed_expr}
 use Rattle.printer_laws.specs.Writable.{IsWritableType}
 use Rattle.erhl_assert.specs.declared.facts.Fact.{Fact}
 use Rattle.erhl_assert.specs.declared.facts.Fact.TheVariants.{LessDef}

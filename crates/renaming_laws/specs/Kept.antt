@@ -8,7 +8,7 @@ use Rattle.ir_core.specs.Ranges.{IsInRange}
 use Rattle.ir_core.specs.WellFormed.{HasFunctionShape, HasShape, IsDefined, IsWellFormed}
 use Rattle.ir_rename.specs.Laws.{HasNamesApart, HasNamesInRange}
 use Rattle.ir_rename.specs.Renamed.{AreRenamed}
-use Rattle.module_limits.specs.Passed.{IsWithin}
+use Rattle.ir_typing.specs.ModuleLimits.Passed.{IsWithin}
 
 -- the functions themselves go on to be called what they are
 abbrev pub FunctionNamesStay : Type 0

@@ -13,7 +13,7 @@ use Rattle.ir_rename.specs.Laws.{HasNamesApart, HasNamesInRange, IsText}
 use Rattle.ir_rename.specs.Named.{IsFresh, named_all}
 use Rattle.ir_rename.specs.Numbered.{numbered_in_order}
 use Rattle.ir_reader.specs.Spells.{Spells, SpellsWellFormed}
-use Rattle.module_limits.specs.Passed.{AreShort}
+use Rattle.ir_typing.specs.ModuleLimits.Passed.{AreShort}
 
 -- ---- where names become this
 

@@ -6,7 +6,7 @@ use Rattle.ir_core.specs.Ranges.{AreBytes, IsInRange}
 use Rattle.ir_core.specs.WellFormed.{HasShape}
 use Rattle.ir_printer.specs.Printed.{printed_module}
 use Rattle.ir_types.specs.declared.named.NamedTy.{NamedTy}
-use Rattle.module_limits.specs.Passed.{IsWithin}
+use Rattle.ir_typing.specs.ModuleLimits.Passed.{IsWithin}
 use Rattle.module_spelling.specs.Spells.{Spells}
 use Rattle.named_modules.specs.Modules.{global_names}
 

@@ -21,7 +21,7 @@ use Rattle.module_grammar.proofs.WithGap.{is_gapped}
 use Rattle.module_spelling.specs.Opened.{depths, opens, pointers}
 use Rattle.named_modules.specs.Types.{type_of}
 use Rattle.named_modules.proofs.Lists.{all_left, all_right}
-use Rattle.predictive.proofs.Selects.{unambiguous}
+use Rattle.predictive.specs.GrammarDecides.Selects.{unambiguous}
 use Rattle.predictive.specs.Grammar.{Forest, End, Leaf, Node, Forms, yield}
 use Rattle.predictive.specs.declared.symbol.Symbol.{Symbol as Sign}
 use Rattle.predictive.specs.declared.symbol.Symbol.TheVariants.{Kind, Non}

@@ -12,14 +12,14 @@ use Rattle.ir_lexer.specs.declared.token.TokenKind.{TokenKind}
 use Rattle.ir_lexer.specs.declared.token.TokenKind.TheVariants as kind
 use Rattle.ir_lexer.specs.Bytes.{are_digits}
 use Rattle.ir_lexer.specs.Cut.{Placed as PlacedToken, cut}
-use Rattle.ir_lexer.specs.Numbers.{value_of}
+use Rattle.ir_lexer.specs.Numbers.{begins_with_zero, value_of}
 use Rattle.ir_types.specs.declared.names.Name.{Name}
 use Rattle.module_grammar.specs.Balanced.{IsBalanced}
 use Rattle.module_grammar.specs.Spelled.{at, global_symbol, mark_symbol, symbol, symbol_at, text_symbol, word_symbol}
 use Rattle.module_grammar.specs.Symbols as symbols
 use Rattle.module_grammar.specs.Symbols.{Symbol, kind_of}
 use Rattle.module_grammar.specs.Texts.{is_balanced}
-use Rattle.module_grammar.specs.Words.{Entry, are_width, begins_with_zero, found_in, width_in, width_of, word_said, words}
+use Rattle.module_grammar.specs.Words.{Entry, are_width, found_in, width_in, width_of, word_said, words}
 use Rattle.module_grammar.specs.declared.words.Language.TheVariants.{Ir}
 use Rattle.module_grammar.specs.declared.words.Word.{Word}
 use Rattle.module_grammar.specs.declared.words.Word.TheVariants as word

@@ -9,7 +9,7 @@ use Rattle.module_grammar.specs.declared.functions.DefinitionText.{DefinitionTex
 use Rattle.module_grammar.specs.Spelled.{symbol}
 use Rattle.module_grammar.specs.declared.words.Language.TheVariants.{Ir}
 use Rattle.module_grammar.proofs.ModulesMade.{module_text}
-use Rattle.module_limits.specs.Passed.{AreShort}
+use Rattle.ir_typing.specs.ModuleLimits.Passed.{AreShort}
 use Rattle.module_spelling.specs.Spells.{StatesParams, StatesTypes}
 use Rattle.named_modules.specs.Functions.{NamesFunction}
 use Rattle.named_modules.specs.Lines.{Stated}

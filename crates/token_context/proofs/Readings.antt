@@ -13,7 +13,7 @@ use Rattle.module_grammar.specs.Texts.{IsWritten}
 use Rattle.module_grammar.specs.Tokens.{token_grammar, with_gap}
 use Rattle.module_spelling.specs.Context.{IsWhole}
 use Rattle.module_spelling.specs.Opened.{Passes}
-use Rattle.predictive.proofs.Selects.{unambiguous}
+use Rattle.predictive.specs.GrammarDecides.Selects.{unambiguous}
 use Rattle.predictive.specs.Grammar.{Forest, Forms, yield}
 use Rattle.predictive.specs.Predictive.{MayEnd}
 use Rattle.predictive.specs.declared.symbol.Symbol.TheVariants.{Non}

@@ -1,4 +1,3 @@
 pub mod Counting
 pub mod Single
 pub mod Whole
-mod Wide

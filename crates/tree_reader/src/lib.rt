@@ -3,7 +3,6 @@
 #![tactic(auto)]
 
 mod laws;
-mod left_out;
 mod lines;
 mod reader;
 mod tables;
@@ -12,7 +11,6 @@ mod widths;
 mod words;
 
 pub use laws::{examples, one_answer, written_once};
-pub use left_out::is_left_out;
 pub use lines::line_past_limit;
 pub use reader::{read_definitions_of, read_expression, read_name};
 pub use tokens::kinds_of;

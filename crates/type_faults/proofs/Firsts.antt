@@ -9,10 +9,10 @@ use Rattle.ir_types.specs.declared.names.Name.{Name}
 use Rattle.ir_types.specs.declared.ty.Ty.{Ty}
 use Rattle.ir_types.specs.NameLaws.{name_equivalence, same_name_true}
 use Rattle.ir_types.specs.Same.{same_name}
-use Rattle.name_index.specs.Among.{is_among}
-use Rattle.shape_kinds.specs.Names.{with_name, with_names}
-use Rattle.shape_kinds.specs.Typed.{Types, none_typed, or_else, with_type, with_types}
-use Rattle.shape_kinds.proofs.Entries.{Puts}
+use Rattle.ir_core.specs.NameIndexes.Among.{is_among}
+use Rattle.ir_typing.specs.ShapeKinds.Names.{with_name, with_names}
+use Rattle.ir_typing.specs.ShapeKinds.Typed.{Types, none_typed, or_else, with_type, with_types}
+use Rattle.ir_typing.proofs.ShapeKinds.Entries.{Puts}
 use Rattle.type_faults.specs.declared.callees.Callee.{Callee}
 use Rattle.type_faults.specs.declared.callees.Callees.{Callees}
 use Rattle.named_modules.specs.Faults.{signature_in}

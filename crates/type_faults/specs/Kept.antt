@@ -8,10 +8,10 @@ use Rattle.ir_core.specs.declared.modules.Declaration.{Declaration}
 use Rattle.ir_core.specs.Typing.{Signature, contents_of, declared_signature, defined_signature}
 use Rattle.ir_types.specs.declared.names.Name.{Name}
 use Rattle.ir_types.specs.Same.{same_name}
-use Rattle.name_index.specs.Among.{is_among}
+use Rattle.ir_core.specs.NameIndexes.Among.{is_among}
 use Rattle.named_modules.specs.Faults.{Heads, signature_in, type_names}
-use Rattle.shape_kinds.specs.declared.lent_types.LentTypes.{LentTypes}
-use Rattle.shape_kinds.specs.Kept.{type_in}
+use Rattle.ir_typing.specs.declared.shape_kinds.lent_types.LentTypes.{LentTypes}
+use Rattle.ir_typing.specs.ShapeKinds.Kept.{type_in}
 use Rattle.type_faults.specs.declared.callees.Callee.{Callee}
 use Rattle.type_faults.specs.declared.callees.Callee.TheVariants.{Defined, Declared}
 use Rattle.type_faults.specs.declared.callees.Callees.{Callees}

@@ -2,13 +2,13 @@
 ghost use Rattle.std.specs.Prelude.{◌≡◌, [], map, Some, IfOk};
 ghost use Rattle.ir_types.specs.declared.named.NamedTy.{NamedTy};
 ghost use Rattle.ir_core.specs.declared.modules.GlobalVar.{GlobalVar};
-ghost use Rattle.shape_kinds.specs.Kept.{type_in};
-ghost use Rattle.shape_kinds.specs.Names.{with_names};
-ghost use Rattle.shape_kinds.specs.Typed.{none_typed, with_types};
+ghost use Rattle.ir_typing.specs.ShapeKinds.Kept.{type_in};
+ghost use Rattle.ir_typing.specs.ShapeKinds.Names.{with_names};
+ghost use Rattle.ir_typing.specs.ShapeKinds.Typed.{none_typed, with_types};
 
 use crate::callees::{Callee, Callees};
 use ir_core::{GlobalVar, Module, Name, NamedTy, NamedTypes, Ty};
-use shape_kinds::{LentNames, LentTypes};
+use ir_typing::{LentNames, LentTypes};
 use std::alloc::{AllocError, Global};
 use std::marker::Model;
 
@@ -73,7 +73,7 @@ fn contents_of<'a>(alloc: Global, globals: &'a [GlobalVar]) -> Result<LentTypes<
 
 impl<'a> Sight<'a> {
     ghost use Rattle.std.specs.Option.{option_copied, option_map};
-    ghost use Rattle.name_index.specs.Among.{is_among};
+    ghost use Rattle.ir_core.specs.NameIndexes.Among.{is_among};
     ghost use Rattle.named_modules.specs.Faults.{heads_of, signature_in, type_names};
     ghost use Rattle.ir_core.specs.Typing as typing;
     ghost use Rattle.type_faults.specs.Kept.{signature_of};

@@ -10,15 +10,15 @@ use Rattle.ir_core.specs.declared.functions.Phi.{Phi}
 use Rattle.ir_types.specs.declared.names.Name.{Name}
 use Rattle.ir_core.specs.Functions.{block_names, names_in, names_of, params_of, registers_of}
 use Rattle.ir_core.specs.Order.{AreNew}
-use Rattle.name_index.specs.Among.{place_among}
+use Rattle.ir_core.specs.NameIndexes.Among.{place_among}
 use Rattle.flow_solver.specs.Ways.{LeadsWithin}
 use Rattle.definedness.specs.Graph.{graph_in, labels_in, places_in}
 use Rattle.definedness.specs.Settled.{IsNamed}
 use Rattle.definedness.proofs.Graphs.{graph_within}
 use Rattle.definedness.proofs.Names.{place_at}
-use Rattle.shape_tests.specs.Edges.{HasEdges, edge_at, no_rows, row_at, row_by, with_blocks, with_edge, with_edge_at}
-use Rattle.shape_tests.proofs.Rows.{none_need_edges}
-use Rattle.shape_tests.proofs.Tests.{all_there}
+use Rattle.ir_shape.specs.ShapeTests.Edges.{HasEdges, edge_at, no_rows, row_at, row_by, with_blocks, with_edge, with_edge_at}
+use Rattle.ir_shape.proofs.ShapeTests.Rows.{none_need_edges}
+use Rattle.ir_shape.proofs.ShapeTests.Tests.{all_there}
 use Rattle.whole_shapes.specs.Whole.{bare_rows}
 use Rattle.whole_shapes.proofs.Sighted.{edges_kept}
 use Rattle.whole_functions.specs.Fine.{AreStartRows, IsBlockAt}

@@ -5,14 +5,14 @@ ghost use Rattle.ir_core.specs.declared.functions.Case.{Case};
 ghost use Rattle.ir_core.specs.Functions.{successors_of};
 ghost use Rattle.ir_core.specs.Order.{AreNew};
 ghost use Rattle.definedness.specs.Graph.{graph_in, labels_in, places_in};
-ghost use Rattle.shape_tests.specs.Edges.{HasEdges, no_rows, rows_of, with_block, with_blocks, with_edge, with_edges};
+ghost use Rattle.ir_shape.specs.ShapeTests.Edges.{HasEdges, no_rows, rows_of, with_block, with_blocks, with_edge, with_edges};
 ghost use Rattle.whole_shapes.specs.Whole.{AreLabels, LeadsToLabels};
 ghost use Rattle.whole_functions.specs.Fine.{AreStartRows};
 
 use crate::places::block_of;
 use flow_solver::{Graph, Successors};
 use ir_core::{Block, Case, Name, Switch, Term};
-use shape_tests::{Row, have_phis, put_at};
+use ir_shape::{Row, have_phis, put_at};
 use std::alloc::{AllocError, Global};
 use whole_shapes::Sight;
 

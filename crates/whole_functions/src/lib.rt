@@ -1,4 +1,5 @@
-//! Functions that are seen to have shape and to be defined at one look-up of each name.
+//! Speed alone: functions that are seen to have shape and to be defined at one look-up of each name. No is no answer. A module is judged by
+//! 14 to 30 instructions a byte of its text with this; `shape` and then `defined` find what is wrong.
 #![tactic(auto)]
 
 mod leads;

@@ -11,11 +11,11 @@ use Rattle.ir_core.specs.Functions.{block_names, is_debug, names_in, names_of, o
 use Rattle.ir_core.specs.StatedTypes.{stated_by_block}
 use Rattle.ir_core.specs.Types.{is_first_class}
 use Rattle.ir_core.specs.WellFormed.{HasBlockShape, HasFunctionShape, IsResult, IsTypeKnown}
-use Rattle.shape_tests.specs.Kinds.{are_new, leads_to, with_names}
-use Rattle.shape_tests.proofs.Fits.{edges_from, no_edge}
-use Rattle.shape_tests.proofs.Taken.{new_by, new_joined}
-use Rattle.shape_tests.proofs.Tests.{all_flat, all_joined, both_hold, both_left, both_right, joined_none, mapped_all}
-use Rattle.shape_tests.proofs.Typed.{AreTyped}
+use Rattle.ir_shape.specs.ShapeTests.Kinds.{are_new, leads_to, with_names}
+use Rattle.ir_shape.proofs.ShapeTests.Fits.{edges_from, no_edge}
+use Rattle.ir_shape.proofs.ShapeTests.Taken.{new_by, new_joined}
+use Rattle.ir_shape.proofs.ShapeTests.Tests.{all_flat, all_joined, both_hold, both_left, both_right, joined_none, mapped_all}
+use Rattle.ir_shape.proofs.ShapeTests.Typed.{AreTyped}
 
 abbrev pub IsValue : Name × Ty → Type 0
 IsValue register = is_first_class register.1 ≡ true

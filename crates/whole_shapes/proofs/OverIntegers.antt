@@ -27,9 +27,9 @@ use Rattle.ir_core.specs.WellFormed.{BranchesOn, HasCases, HasType, IsLine, IsRe
 use Rattle.ir_core.proofs.Constants as fold
 use Rattle.ir_core.proofs.TypeNames.{at_int, at_void}
 use Rattle.ir_core.proofs.Typing.{in_number, number_is}
-use Rattle.shape_tests.proofs.Fits.{IsAddressed, operator_by}
-use Rattle.shape_tests.proofs.Tests.{all_joined, both_hold, both_left, both_right, one_there}
-use Rattle.shape_tests.proofs.Typed as fits
+use Rattle.ir_shape.proofs.ShapeTests.Fits.{IsAddressed, operator_by}
+use Rattle.ir_shape.proofs.ShapeTests.Tests.{all_joined, both_hold, both_left, both_right, one_there}
+use Rattle.ir_shape.proofs.ShapeTests.Typed as fits
 use Rattle.whole_shapes.specs.Whole.{AreTyped, IsLineWhole, IsPlain, IsPure, IsTyped, is_whole_result}
 
 abbrev pub IsInteger : Name × Ty → Type 0

@@ -15,13 +15,13 @@ use Rattle.ir_core.proofs.Lines.{names_more, set_more}
 use Rattle.ir_types.specs.NameLaws.{same_name_true}
 use Rattle.ir_types.specs.Same.{same_name, same_ty}
 use Rattle.ir_types.proofs.SameLaws.{same_ty_true}
-use Rattle.name_index.specs.Among.{place_among}
-use Rattle.shape_tests.specs.Edges.{HasEdges, edges_among, row_by, with_blocks}
-use Rattle.shape_tests.specs.Kinds.{are_new, with_names}
+use Rattle.ir_core.specs.NameIndexes.Among.{place_among}
+use Rattle.ir_shape.specs.ShapeTests.Edges.{HasEdges, edges_among, row_by, with_blocks}
+use Rattle.ir_shape.specs.ShapeTests.Kinds.{are_new, with_names}
 use Rattle.whole_shapes.specs.Whole.{bare_rows}
-use Rattle.shape_tests.proofs.Rows.{blocks_row}
-use Rattle.shape_tests.proofs.Taken.{names_joined, new_joined}
-use Rattle.shape_tests.proofs.Tests.{all_there}
+use Rattle.ir_shape.proofs.ShapeTests.Rows.{blocks_row}
+use Rattle.ir_shape.proofs.ShapeTests.Taken.{names_joined, new_joined}
+use Rattle.ir_shape.proofs.ShapeTests.Tests.{all_there}
 
 -- ---- names
 

@@ -16,14 +16,14 @@ use Rattle.ir_core.specs.Functions.{block_names, cases_of, is_debug, names_in, n
 use Rattle.ir_core.specs.StatedTypes.{stated_by_line, stated_by_operand, stated_by_phi}
 use Rattle.ir_core.specs.Types.{is_integer}
 use Rattle.ir_core.specs.WellFormed.{FitsEdges, HasFunctionShape, IsLine, IsTypeKnown}
-use Rattle.shape_kinds.specs.declared.kind.ShapeKind.TheVariants as kind
-use Rattle.shape_tests.specs.Kinds.{are_new, name_kind, with_names}
+use Rattle.ir_typing.specs.declared.shape_kinds.kind.ShapeKind.TheVariants as kind
+use Rattle.ir_shape.specs.ShapeTests.Kinds.{are_new, name_kind, with_names}
 use Rattle.whole_shapes.specs.Whole.{IsBlockWhole, IsLineWhole, IsPhiWhole, LeadsToLabels, is_header_whole, is_whole_result}
 use Rattle.whole_shapes.proofs.Fitted.{BlockFits, HeaderFits, IsValue, shape_by}
 use Rattle.whole_shapes.proofs.OverIntegers.{IsInteger, end_known, is_value, known, line_is, line_known, operands_known, operands_typed, params_integers, params_known, params_values, result_is, result_known}
-use Rattle.shape_tests.proofs.Taken.{all_put, new_joined}
-use Rattle.shape_tests.proofs.Tests.{all_flat, all_joined, all_parts, all_right, both_left, both_right, fits_by, mapped_all, not_true}
-use Rattle.shape_tests.proofs.Typed as fits
+use Rattle.ir_shape.proofs.ShapeTests.Taken.{all_put, new_joined}
+use Rattle.ir_shape.proofs.ShapeTests.Tests.{all_flat, all_joined, all_parts, all_right, both_left, both_right, fits_by, mapped_all, not_true}
+use Rattle.ir_shape.proofs.ShapeTests.Typed as fits
 
 phi_integers : (f : Function) (b : Block) (ps : List Phi) → AllByRecursion (IsPhiWhole f b) ps → AllByRecursion IsInteger (phi_registers ps)
 phi_integers f b [] all = tt

@@ -23,8 +23,8 @@ use Rattle.ir_core.specs.Functions.{operands_at_end, operands_of_phi, successors
 use Rattle.ir_core.specs.Types.{is_integer}
 use Rattle.ir_core.specs.WellFormed.{BranchesOn, FitsEdges, HasCases, Returns}
 use Rattle.whole_shapes.specs.declared.sight.Home.{Home}
-use Rattle.shape_tests.specs.Edges.{edges_among, row_at}
-use Rattle.shape_tests.specs.Kinds.{leads_to, right_kind}
+use Rattle.ir_shape.specs.ShapeTests.Edges.{edges_among, row_at}
+use Rattle.ir_shape.specs.ShapeTests.Kinds.{leads_to, right_kind}
 
 -- where the name of this place among all stands, if it has one
 abbrev pub home_at : Option ℕ → List Home → Option Home

@@ -1,4 +1,4 @@
-//! Where the names of a function may stand, each found at one look-up.
+//! Speed alone: where the names of a function may stand, each found at one look-up, for `whole_functions`.
 #![tactic(auto)]
 
 mod integers;

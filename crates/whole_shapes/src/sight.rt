@@ -5,15 +5,15 @@ ghost use Rattle.ir_core.specs.declared.functions.Block.{Block};
 ghost use Rattle.ir_core.specs.Expressions.{type_of};
 ghost use Rattle.ir_types.specs.Same.{same_ty};
 ghost use Rattle.ir_core.specs.Functions.{block_names, names_in, names_of, phi_registers, registers_of, set_by, typed_of};
-ghost use Rattle.name_index.specs.Among.{is_among, place_among};
-ghost use Rattle.shape_tests.specs.Kinds.{are_new, with_name, with_names};
-ghost use Rattle.shape_tests.specs.Typed.{param_names};
+ghost use Rattle.ir_core.specs.NameIndexes.Among.{is_among, place_among};
+ghost use Rattle.ir_shape.specs.ShapeTests.Kinds.{are_new, with_name, with_names};
+ghost use Rattle.ir_shape.specs.ShapeTests.Typed.{param_names};
 ghost use Rattle.whole_shapes.specs.Whole.{home_at, param_registers};
 
 use ir_core::{
     BitType, Block, Calm, Expr, Function, Instr, Name, Param, Phi, Ty, same_name, same_ty,
 };
-use shape_tests::LentNames;
+use ir_shape::LentNames;
 use std::alloc::{AllocError, Global};
 
 /// Where a name stands: a parameter's, a block's, or that of the register that a line of a block sets, its phis and body counted
@@ -107,7 +107,7 @@ fn put_lines<'a>(
 }
 
 /// Puts the names of a block's registers.
-#[tactic(auto, using(shape_tests::proofs::Taken::new_joined, shape_tests::proofs::Taken::names_joined, shape_tests::proofs::Taken::registers_joined))]
+#[tactic(auto, using(ir_shape::proofs::ShapeTests::Taken::new_joined, ir_shape::proofs::ShapeTests::Taken::names_joined, ir_shape::proofs::ShapeTests::Taken::registers_joined))]
 fn put_registers<'a>(
     sight: &mut Sight<'a>,
     place: usize,
@@ -132,7 +132,7 @@ fn put_block<'a>(sight: &mut Sight<'a>, place: usize, block: &'a Block) -> Resul
     put_registers(sight, place, block)
 }
 
-#[tactic(auto, using(shape_tests::proofs::Taken::new_joined, shape_tests::proofs::Taken::names_joined))]
+#[tactic(auto, using(ir_shape::proofs::ShapeTests::Taken::new_joined, ir_shape::proofs::ShapeTests::Taken::names_joined))]
 fn put_blocks<'a>(sight: &mut Sight<'a>, blocks: &'a [Block]) -> Result<bool, AllocError>
     ensures new { IfOk result (λ new. new ≡ are_new sight.old.names (flat_map block_names blocks.now)) }
     ensures names { IfOk result (λ new. new ≡ true → sight.new.names ≡ with_names sight.old.names (flat_map block_names blocks.now)) }
@@ -160,7 +160,7 @@ fn count_of(function: &Function) -> usize {
 }
 
 /// Where a function's names stand; none, where one stands twice.
-#[tactic(auto, using(shape_tests::proofs::Taken::new_joined, shape_tests::proofs::Taken::names_joined))]
+#[tactic(auto, using(ir_shape::proofs::ShapeTests::Taken::new_joined, ir_shape::proofs::ShapeTests::Taken::names_joined))]
 pub fn sight_of<'a>(alloc: Global, function: &'a Function) -> Result<Option<Sight<'a>>, AllocError>
     ensures new { IfOk result (λ found. IfSome found (λ _. are_new [] (names_of «function».now) ≡ true)) }
     ensures names { IfOk result (λ found. IfSome found (λ sight. sight.names ≡ with_names [] (names_of «function».now))) }

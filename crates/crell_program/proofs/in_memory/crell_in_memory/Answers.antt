@@ -1,7 +1,7 @@
 use Rattle.std.proofs.Common.{map, string_bytes}
 use Rattle.crell_io.specs.MemShelf.{entry_pair}
 use Rattle.rule_base.specs.Rows.{shipped_rules}
-use Rattle.command_line.specs.Words.{command_of}
+use Rattle.crell_program.specs.CommandLine.Words.{command_of}
 use Rattle.crell_program.proofs.InMemory.{ends_well}
 use Rattle.crell_program.proofs.in_memory.crell_in_memory.Goals as goal
 

@@ -1,4 +1,4 @@
-use Rattle.command_line.specs.Words.{shown_names}
+use Rattle.crell_program.specs.CommandLine.Words.{shown_names}
 use Rattle.crell_program.specs.Due.{shelf_seen}
 use Rattle.crell_program.proofs.Inner.{held_three, files_judged, files_refined}
 use Rattle.crell_program.proofs.program.check_files.Goals as goal

@@ -1,7 +1,7 @@
 use Rattle.std.proofs.Common.{ℕ, List, ap, sym, ◌∙◌}
 use Rattle.json_forms.specs.declared.failure.Fault.TheVariants.{At, Past}
 use Rattle.hint_format.specs.declared.fault.HintFault.TheVariants.{Unfit}
-use Rattle.command_line.specs.Words.{shown_names}
+use Rattle.crell_program.specs.CommandLine.Words.{shown_names}
 use Rattle.crell_program.proofs.Inner.{unfit_source, unfit_target, unfit_hints, texts_judged, texts_refined, fault_refined}
 use Rattle.crell_program.proofs.program.check_texts.Goals as goal
 

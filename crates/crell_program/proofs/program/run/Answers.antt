@@ -1,6 +1,6 @@
 use Rattle.std.proofs.Common.{◌≡◌, None, map, refl, string_bytes, subst}
-use Rattle.command_line.specs.declared.reading.WordsEnd.{WordsEnd}
-use Rattle.command_line.specs.Words.{IfRefused, command_of, shown_request}
+use Rattle.crell_program.specs.declared.command_line.reading.WordsEnd.{WordsEnd}
+use Rattle.crell_program.specs.CommandLine.Words.{IfRefused, command_of, shown_request}
 use Rattle.crell_program.specs.Delivery.{sink_seen}
 use Rattle.crell_program.specs.Due.{shelf_seen}
 use Rattle.crell_program.proofs.Inner.{answered_with_usage, answered_for, refinement_for, unanswered, usage_isnt_zero}
@@ -13,7 +13,7 @@ returns-in-Err-Refused-clause-answered g c =
     let err = sink_seen g.E.Sink.written g.E.Sink.room_left g.E.Sink.faults c.args.err.now c.tell_usage.new.err in
     let P : WordsEnd → Type 0 = λ end. IfRefused end (None ≡ command_of (map string_bytes c.args.words.now)) in
     let refused = subst P c.in-Err-Refused.field-0-is c.in-Err-Refused.ensures.refused in
-    answered_with_usage _ shelf out err (command_of (map string_bytes c.args.words.now)) _ c.tell_usage.result refused c.tell_usage.ensures.delivered
+    answered_with_usage _ shelf out err (command_of (map string_bytes c.args.words.now)) _ c.tell_usage.result c.said.ensures refused c.tell_usage.ensures.delivered
 
 pub returns-in-Err-Refused-clause-headline : goal.returns-in-Err-Refused-clause-headline
 returns-in-Err-Refused-clause-headline g c = λ z.

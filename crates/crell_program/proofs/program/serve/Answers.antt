@@ -1,5 +1,5 @@
 use Rattle.std.proofs.Common.{Some, inl, refl}
-use Rattle.command_line.specs.Words.{shown_request}
+use Rattle.crell_program.specs.CommandLine.Words.{shown_request}
 use Rattle.crell_program.specs.Delivery.{sink_seen}
 use Rattle.crell_program.specs.Due.{shelf_seen}
 use Rattle.crell_program.proofs.Inner.{delivered_as, unanswered, zero_of}

@@ -1,5 +1,5 @@
 use Rattle.std.proofs.Common.{refl}
-use Rattle.crell_answers.specs.Answer.{usage}
+use Rattle.crell_program.specs.CrellAnswers.Answer.{usage}
 use Rattle.crell_program.specs.Delivery.{sink_seen}
 use Rattle.crell_program.proofs.Inner.{delivered_as}
 use Rattle.crell_program.proofs.program.tell_usage.Goals as goal

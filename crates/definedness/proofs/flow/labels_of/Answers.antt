@@ -3,7 +3,7 @@ use Rattle.std.proofs.lemmas.List.{get_or-map}
 use Rattle.ir_core.specs.declared.functions.Block.{Block}
 use Rattle.ir_types.specs.declared.names.Name.{Name}
 use Rattle.ir_types.specs.Same.{same_name}
-use Rattle.name_index.proofs.FirstPlaces.{behind_more, behind_none, place_behind}
+use Rattle.ir_core.proofs.NameIndexes.FirstPlaces.{behind_more, behind_none, place_behind}
 use Rattle.definedness.specs.Graph.{labels_in}
 use Rattle.definedness.proofs.Graphs.{length-map}
 use Rattle.definedness.proofs.flow.labels_of.Goals as goal

@@ -1,6 +1,6 @@
 use Rattle.std.proofs.Common.{◌≡◌, drop}
 use Rattle.ir_core.specs.Functions.{names_in, set_by}
-use Rattle.name_index.specs.Among.{is_among}
+use Rattle.ir_core.specs.NameIndexes.Among.{is_among}
 use Rattle.definedness.proofs.flow.lines_define.Given as goal
 
 abbrev pub invariant-loop-line : goal.invariant-loop-line

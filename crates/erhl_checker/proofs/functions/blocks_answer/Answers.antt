@@ -1,5 +1,5 @@
 use Rattle.std.proofs.Common.{rules}
-use Rattle.checked_pair.specs.Asked.{asked}
+use Rattle.erhl_checker.specs.CheckedPair.Asked.{asked}
 use Rattle.erhl_checker.proofs.Reaching.{block_passes}
 use Rattle.erhl_checker.proofs.functions.blocks_answer.Goals as goal
 

@@ -2,7 +2,7 @@ use Rattle.std.proofs.Common.{◌≡◌, map, drop}
 use Rattle.erhl_assert.specs.Course.{judged_answer}
 use Rattle.erhl_assert.specs.Acceptance.{blocks_judged}
 use Rattle.line_align.specs.Lent.{lent_block}
-use Rattle.checked_pair.specs.Asked.{asked}
+use Rattle.erhl_checker.specs.CheckedPair.Asked.{asked}
 use Rattle.erhl_checker.proofs.functions.blocks_answer.Given as goal
 
 -- the blocks that are left answer what all answer

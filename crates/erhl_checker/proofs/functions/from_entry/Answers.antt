@@ -1,7 +1,7 @@
 use Rattle.std.proofs.Common.{◌∙◌, rules}
 use Rattle.line_align.specs.Lent.{lent_block}
-use Rattle.checked_pair.proofs.Progressing.{answers_so}
-use Rattle.checked_pair.specs.Asked.{asked}
+use Rattle.erhl_checker.proofs.CheckedPair.Progressing.{answers_so}
+use Rattle.erhl_checker.specs.CheckedPair.Asked.{asked}
 use Rattle.erhl_checker.proofs.Reaching.{entry_passed}
 use Rattle.erhl_checker.proofs.functions.from_entry.Goals as goal
 

@@ -1,7 +1,7 @@
 use Rattle.std.proofs.Common.{map, rules}
 use Rattle.ir_core.specs.Modules.{scope_of}
 use Rattle.line_align.specs.Lent.{lent_block}
-use Rattle.checked_pair.proofs.Progressing.{answers_so}
+use Rattle.erhl_checker.proofs.CheckedPair.Progressing.{answers_so}
 use Rattle.erhl_checker.proofs.Reaching.{aligned_under, differs_under}
 use Rattle.erhl_checker.proofs.functions.looked_up_answer.Goals as goal
 

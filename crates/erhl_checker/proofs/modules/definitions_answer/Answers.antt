@@ -1,5 +1,5 @@
 use Rattle.std.proofs.Common.{rules}
-use Rattle.checked_pair.proofs.Progressing.{answers_so}
+use Rattle.erhl_checker.proofs.CheckedPair.Progressing.{answers_so}
 use Rattle.erhl_checker.proofs.Reaching.{module_under}
 use Rattle.erhl_checker.proofs.modules.definitions_answer.Goals as goal
 

@@ -3,7 +3,7 @@ use Rattle.std.proofs.lemmas.List.{drop_more}
 use Rattle.ir_core.specs.declared.operands.Operand.{Operand}
 use Rattle.ir_core.specs.declared.expressions.Reg.{Reg}
 use Rattle.fact_sets.specs.Names.{with_operands}
-use Rattle.fact_sets.proofs.Names.{kept_then}
+use Rattle.fact_sets.proofs.RegisterNames.{kept_then}
 use Rattle.fact_sets.proofs.naming.add_operands.Goals as goal
 
 pub loop-operand-preserved : goal.loop-operand-preserved

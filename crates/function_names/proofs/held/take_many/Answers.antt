@@ -1,6 +1,6 @@
 use Rattle.std.proofs.Common.{◌∙◌, sym}
 use Rattle.function_names.proofs.Entries.{put_new, put_there}
-use Rattle.shape_kinds.proofs.Entries.{puts}
+use Rattle.ir_typing.proofs.ShapeKinds.Entries.{puts}
 use Rattle.function_names.proofs.held.take_many.Goals as goal
 
 pub returns-in-None-clause-names : goal.returns-in-None-clause-names

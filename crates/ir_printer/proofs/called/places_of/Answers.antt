@@ -1,7 +1,7 @@
 use Rattle.std.proofs.Common.{◌∙◌, sym, ap, arith}
 use Rattle.std.proofs.Math.ListN.{drop_of_length-le}
 use Rattle.std.specs.Option.{option_or}
-use Rattle.name_index.specs.Places.{place_in}
+use Rattle.ir_core.specs.NameIndexes.Places.{place_in}
 use Rattle.ir_printer.specs.Called.{place_from}
 use Rattle.ir_printer.proofs.Further.{or_none}
 use Rattle.ir_printer.proofs.called.places_of.Goals as goal

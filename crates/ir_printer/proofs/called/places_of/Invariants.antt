@@ -1,7 +1,7 @@
 use Rattle.std.proofs.Common.{◌≡◌, drop}
 use Rattle.std.specs.Option.{option_or}
 use Rattle.ir_types.specs.declared.names.Name.{Name}
-use Rattle.name_index.specs.Places.{place_in}
+use Rattle.ir_core.specs.NameIndexes.Places.{place_in}
 use Rattle.ir_printer.specs.Called.{place_from}
 use Rattle.ir_printer.proofs.called.places_of.Given as goal
 

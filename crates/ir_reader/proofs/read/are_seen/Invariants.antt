@@ -2,7 +2,7 @@ use Rattle.std.proofs.Common.{◌≡◌, [], drop, map}
 use Rattle.std.specs.List.{AllByRecursion}
 use Rattle.ir_core.specs.declared.functions.Function.{Function}
 use Rattle.ir_core.specs.WellFormed.{HasFunctionShape, IsFunctionDefined}
-use Rattle.shape_kinds.specs.Names.{are_new}
+use Rattle.ir_typing.specs.ShapeKinds.Names.{are_new}
 use Rattle.ir_reader.proofs.read.are_seen.Given as goal
 
 -- the functions that are left decide

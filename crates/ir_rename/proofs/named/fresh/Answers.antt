@@ -1,6 +1,6 @@
 use Rattle.std.proofs.Common.{◌≡◌, ◌∙◌, ◌-◌, ◌+◌, suc, true, false, length, sym, ap, arith}
 use Rattle.ir_types.specs.declared.names.Name.TheVariants.{Text}
-use Rattle.name_index.specs.Among.{is_among}
+use Rattle.ir_core.specs.NameIndexes.Among.{is_among}
 use Rattle.ir_rename.specs.Lent.{lent}
 use Rattle.ir_rename.specs.Named.{free_in}
 use Rattle.ir_rename.proofs.Tries.{free_next, free_now}

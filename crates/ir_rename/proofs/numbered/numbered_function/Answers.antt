@@ -2,7 +2,7 @@ use Rattle.std.proofs.Common.{◌≡◌, ◌∙◌, ap, subst}
 use Rattle.std.specs.Prelude.{IfOk}
 use Rattle.ir_core.specs.declared.functions.Function.{Function}
 use Rattle.ir_core.specs.Functions.{names_of}
-use Rattle.name_index.specs.Places.{ArePlaces}
+use Rattle.ir_core.specs.NameIndexes.Places.{ArePlaces}
 use Rattle.ir_rename.specs.declared.renaming.Renaming.{Renaming}
 use Rattle.ir_rename.specs.Lent.{lent, renamed}
 use Rattle.ir_rename.specs.Numbered.{counted, renaming}

@@ -2,7 +2,7 @@ use Rattle.std.proofs.Common.{◌≡◌, ◌+◌, ◌-◌, ◌<◌, ◌∙◌, �
 use Rattle.std.proofs.lemmas.List.{get_or-map}
 use Rattle.ir_types.specs.declared.names.Name.{Name}
 use Rattle.ir_types.specs.Same.{same_name}
-use Rattle.name_index.proofs.FirstPlaces.{behind_more, behind_none, place_behind}
+use Rattle.ir_core.proofs.NameIndexes.FirstPlaces.{behind_more, behind_none, place_behind}
 use Rattle.ir_rename.specs.Lent.{lent}
 use Rattle.ir_rename.proofs.Lists.{lent_many}
 use Rattle.ir_rename.proofs.renaming.index_of.Goals as goal

@@ -1,7 +1,7 @@
 use Rattle.std.proofs.Common.{◌≡◌, ◌≤◌, length}
 use Rattle.ir_types.specs.declared.names.Name.{Name}
-use Rattle.name_index.specs.Places.{place_in}
-use Rattle.name_index.proofs.FirstPlaces.{place_behind}
+use Rattle.ir_core.specs.NameIndexes.Places.{place_in}
+use Rattle.ir_core.proofs.NameIndexes.FirstPlaces.{place_behind}
 use Rattle.ir_rename.specs.Lent.{lent}
 use Rattle.ir_rename.proofs.renaming.index_of.Given as goal
 

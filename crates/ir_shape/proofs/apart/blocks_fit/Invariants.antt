@@ -1,5 +1,5 @@
 use Rattle.std.proofs.Common.{◌≡◌, drop}
-use Rattle.shape_kinds.specs.Kept.{type_in}
+use Rattle.ir_typing.specs.ShapeKinds.Kept.{type_in}
 use Rattle.ir_shape.specs.Apart.{in_new_blocks}
 use Rattle.ir_shape.proofs.apart.blocks_fit.Given as goal
 

@@ -1,6 +1,6 @@
 use Rattle.std.proofs.Common.{◌≡◌, drop}
-use Rattle.shape_kinds.specs.Kept.{type_in}
-use Rattle.shape_tests.specs.Edges.{named}
+use Rattle.ir_typing.specs.ShapeKinds.Kept.{type_in}
+use Rattle.ir_shape.specs.ShapeTests.Edges.{named}
 use Rattle.ir_shape.specs.Apart.{in_each, new_phi_kinds}
 use Rattle.ir_shape.proofs.apart.counted_fit.Given as goal
 

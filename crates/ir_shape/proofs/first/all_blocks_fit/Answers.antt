@@ -2,9 +2,9 @@ use Rattle.std.proofs.Common.{◌≡◌, List, [], true, IfErr, IfOk, subst, sym
 use Rattle.std.specs.List.{flat_map}
 use Rattle.ir_core.specs.declared.functions.Block.{Block}
 use Rattle.ir_core.specs.Functions.{block_names, names_in, params_of}
-use Rattle.shape_kinds.specs.Kept.{type_in}
-use Rattle.shape_kinds.specs.Names.{are_new, with_names}
-use Rattle.shape_tests.specs.Kinds.{labels_of, types_of}
+use Rattle.ir_typing.specs.ShapeKinds.Kept.{type_in}
+use Rattle.ir_typing.specs.ShapeKinds.Names.{are_new, with_names}
+use Rattle.ir_shape.specs.ShapeTests.Kinds.{labels_of, types_of}
 use Rattle.ir_shape.specs.declared.fault.ShapeFault.{ShapeFault}
 use Rattle.ir_shape.specs.Shape.{IsFirstOf}
 use Rattle.ir_shape.proofs.NewNames.{behind_params, body_is}

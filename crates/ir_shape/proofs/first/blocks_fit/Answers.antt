@@ -1,5 +1,5 @@
 use Rattle.std.proofs.Common.{refl, rules}
-use Rattle.shape_kinds.specs.Kept.{type_in}
+use Rattle.ir_typing.specs.ShapeKinds.Kept.{type_in}
 use Rattle.ir_shape.specs.Shape.{in_block, in_blocks}
 use Rattle.ir_shape.proofs.Found.{in_that}
 use Rattle.ir_shape.proofs.first.blocks_fit.Goals as goal

@@ -1,5 +1,5 @@
 use Rattle.std.proofs.Common.{◌∙◌, true, sym}
-use Rattle.shape_kinds.specs.Kept.{type_in}
+use Rattle.ir_typing.specs.ShapeKinds.Kept.{type_in}
 use Rattle.ir_shape.proofs.Assumed.{found_holds, none_as_told}
 use Rattle.ir_shape.proofs.first.fits_as_assumed.Goals as goal
 

@@ -1,9 +1,9 @@
 use Rattle.std.proofs.Common.{[], None, rules}
 use Rattle.ir_core.specs.Functions.{names_in, params_of}
-use Rattle.line_shapes.specs.Told.{header_kind}
-use Rattle.shape_kinds.specs.Names.{are_new}
-use Rattle.shape_tests.specs.Kinds.{name_kind}
-use Rattle.shape_tests.proofs.Tests.{joined_none}
+use Rattle.ir_shape.specs.LineShapes.Told.{header_kind}
+use Rattle.ir_typing.specs.ShapeKinds.Names.{are_new}
+use Rattle.ir_shape.specs.ShapeTests.Kinds.{name_kind}
+use Rattle.ir_shape.proofs.ShapeTests.Tests.{joined_none}
 use Rattle.ir_shape.specs.Shape.{IsFirstOf, fault_at, in_function}
 use Rattle.ir_shape.proofs.Found.{behind, further, others_decide, others_fit}
 use Rattle.ir_shape.proofs.first.function_fits.Goals as goal

@@ -1,6 +1,6 @@
 use Rattle.std.proofs.Common.{◌≡◌, [], drop}
-use Rattle.shape_kinds.specs.Names.{with_names}
-use Rattle.shape_tests.specs.Typed.{param_names}
+use Rattle.ir_typing.specs.ShapeKinds.Names.{with_names}
+use Rattle.ir_shape.specs.ShapeTests.Typed.{param_names}
 use Rattle.ir_shape.proofs.first.param_names.Given as goal
 
 abbrev pub invariant-loop-param : goal.invariant-loop-param

@@ -1,6 +1,6 @@
 use Rattle.std.proofs.Common.{◌≡◌, ◌++◌, drop}
-use Rattle.shape_kinds.specs.Kept.{type_in}
-use Rattle.shape_tests.specs.Edges.{named}
+use Rattle.ir_typing.specs.ShapeKinds.Kept.{type_in}
+use Rattle.ir_shape.specs.ShapeTests.Edges.{named}
 use Rattle.ir_shape.specs.Shape.{phi_kinds, with_phis}
 use Rattle.ir_shape.proofs.first.push_counted.Given as goal
 

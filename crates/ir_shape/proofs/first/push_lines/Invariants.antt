@@ -1,5 +1,5 @@
 use Rattle.std.proofs.Common.{◌≡◌, ◌++◌, drop}
-use Rattle.shape_kinds.specs.Kept.{type_in}
+use Rattle.ir_typing.specs.ShapeKinds.Kept.{type_in}
 use Rattle.ir_shape.specs.Shape.{line_kinds, with_lines}
 use Rattle.ir_shape.proofs.first.push_lines.Given as goal
 

@@ -1,5 +1,5 @@
 use Rattle.std.proofs.Common.{Bool, refl, rules, subst}
-use Rattle.name_index.specs.Among.{is_among}
+use Rattle.ir_core.specs.NameIndexes.Among.{is_among}
 use Rattle.ir_shape.specs.Shape.{IsFirstOf, in_declaration, in_declarations}
 use Rattle.ir_shape.proofs.Found.{in_that}
 use Rattle.ir_shape.proofs.modules.declarations_fit.Goals as goal

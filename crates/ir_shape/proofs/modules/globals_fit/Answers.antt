@@ -1,7 +1,7 @@
 use Rattle.std.proofs.Common.{◌∙◌, Bool, not, None, Option, ap, refl, rules, subst}
-use Rattle.name_index.specs.Among.{is_among}
-use Rattle.operand_tests.specs.Inits.{global_var_kind}
-use Rattle.shape_kinds.specs.declared.kind.ShapeKind.{ShapeKind}
+use Rattle.ir_core.specs.NameIndexes.Among.{is_among}
+use Rattle.ir_typing.specs.OperandTests.Inits.{global_var_kind}
+use Rattle.ir_typing.specs.declared.shape_kinds.kind.ShapeKind.{ShapeKind}
 use Rattle.ir_shape.specs.Shape.{IsFirstOf, fault_at, in_globals}
 use Rattle.ir_shape.proofs.Found.{in_that}
 use Rattle.ir_shape.proofs.modules.globals_fit.Goals as goal

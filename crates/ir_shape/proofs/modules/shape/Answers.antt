@@ -1,6 +1,6 @@
 use Rattle.ir_core.specs.Depths.{IsShallow}
 use Rattle.ir_core.specs.Sizes.{IsSmall}
-use Rattle.module_limits.specs.Passed.{AreShort}
+use Rattle.ir_typing.specs.ModuleLimits.Passed.{AreShort}
 use Rattle.ir_shape.specs.Shape.{faults_of}
 use Rattle.ir_shape.proofs.Found.{end_of}
 use Rattle.ir_shape.proofs.modules.shape.Goals as goal

@@ -1,7 +1,7 @@
 use Rattle.std.proofs.Common.{false, rules}
 use Rattle.ir_core.specs.Depths.{AreShallow, depths_in_function}
 use Rattle.ir_core.specs.Sizes.{AreSmall, wanted_in_function}
-use Rattle.module_limits.specs.Passed.{IsShort}
+use Rattle.ir_typing.specs.ModuleLimits.Passed.{IsShort}
 use Rattle.ir_shape.specs.Shape.{in_function}
 use Rattle.ir_shape.proofs.Found.{end_of}
 use Rattle.ir_shape.proofs.modules.shape_function.Goals as goal

@@ -1,5 +1,5 @@
 use Rattle.std.proofs.Common.{◌≡◌, [], drop}
-use Rattle.json_values.specs.View.{items_view}
+use Rattle.json_forms.specs.JsonValues.View.{items_view}
 use Rattle.json_forms.specs.Forms.{items_of}
 use Rattle.json_forms.proofs.lists.each_row.Given as goal
 

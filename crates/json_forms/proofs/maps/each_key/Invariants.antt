@@ -1,5 +1,5 @@
 use Rattle.std.proofs.Common.{◌≡◌}
-use Rattle.json_values.specs.View.{sorted_view}
+use Rattle.json_forms.specs.JsonValues.View.{sorted_view}
 use Rattle.json_forms.specs.Forms.{keys_of}
 use Rattle.json_forms.proofs.maps.each_key.Given as goal
 

@@ -1,6 +1,6 @@
 use Rattle.std.proofs.Common.{◌≡◌, ◌||◌, ℕ, List, Bool, drop}
 use Rattle.std.specs.List.{list_all}
-use Rattle.json_values.specs.View.{members_view}
+use Rattle.json_forms.specs.JsonValues.View.{members_view}
 use Rattle.json_forms.specs.Forms.{texts, is_one_of, all_keys}
 use Rattle.json_forms.proofs.members.each_known.Given as goal
 

@@ -1,7 +1,7 @@
 use Rattle.std.proofs.Common.{◌≡◌, drop, is_some}
 use Rattle.std.specs.List.{list_all}
 use Rattle.serde_json.specs.Find.{get}
-use Rattle.json_values.specs.View.{view}
+use Rattle.json_forms.specs.JsonValues.View.{view}
 use Rattle.json_forms.specs.Forms.{texts}
 use Rattle.json_forms.proofs.members.has_each.Given as goal
 

@@ -1,7 +1,7 @@
 use Rattle.std.proofs.Common.{◌≡◌, ◌∙◌, true, sym, subst}
 use Rattle.std.specs.List.{AllByRecursion}
-use Rattle.module_limits.specs.Small.{IsClear, is_small}
-use Rattle.module_limits.proofs.Clear.{array_clear, leaf_clear, struct_clear}
+use Rattle.ir_typing.specs.ModuleLimits.Small.{IsClear, is_small}
+use Rattle.ir_typing.proofs.ModuleLimits.Clear.{array_clear, leaf_clear, struct_clear}
 use Rattle.large_blocks.proofs.judged.+clear.Goals as goal
 
 pub is_clear-returns-in-Array : goal.is_clear-returns-in-Array

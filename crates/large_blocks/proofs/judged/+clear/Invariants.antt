@@ -1,6 +1,6 @@
 use Rattle.std.proofs.Common.{drop}
 use Rattle.std.specs.List.{AllByRecursion}
-use Rattle.module_limits.specs.Small.{IsClear}
+use Rattle.ir_typing.specs.ModuleLimits.Small.{IsClear}
 use Rattle.large_blocks.proofs.judged.+clear.Given as goal
 
 abbrev pub invariant-are_clear-loop-field : goal.invariant-are_clear-loop-field

@@ -1,5 +1,5 @@
 use Rattle.std.proofs.Common.{drop}
-use Rattle.module_limits.specs.Small.{AreClear}
+use Rattle.ir_typing.specs.ModuleLimits.Small.{AreClear}
 use Rattle.large_blocks.proofs.judged.are_named_clear.Given as goal
 
 abbrev pub invariant-loop-one : goal.invariant-loop-one

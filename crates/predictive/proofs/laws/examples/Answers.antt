@@ -6,7 +6,7 @@ use Rattle.predictive.specs.Grammar.{End, Leaf, Node, Derives, Agree}
 use Rattle.predictive.specs.Listed.{grammar_of, sets_of}
 use Rattle.predictive.specs.Predictive.{first_row}
 use Rattle.predictive.proofs.ByTest.{by_test}
-use Rattle.predictive.proofs.Selects.{first_of_text}
+use Rattle.predictive.specs.GrammarDecides.Selects.{first_of_text}
 use Rattle.predictive.proofs.laws.examples.Goals as goal
 
 pub returns-clause-yes : goal.returns-clause-yes

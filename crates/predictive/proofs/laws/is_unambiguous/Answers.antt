@@ -1,4 +1,4 @@
-use Rattle.predictive.proofs.Selects.{unambiguous}
+use Rattle.predictive.specs.GrammarDecides.Selects.{unambiguous}
 use Rattle.predictive.proofs.laws.is_unambiguous.Goals as goal
 
 pub returns : goal.returns

@@ -1,7 +1,7 @@
 use Rattle.std.proofs.Common.{◌≡◌, Some, drop, map}
 use Rattle.ir_core.specs.declared.modules.GlobalVar.{GlobalVar}
-use Rattle.shape_kinds.specs.Kept.{type_in}
-use Rattle.shape_kinds.specs.Typed.{none_typed, with_types}
+use Rattle.ir_typing.specs.ShapeKinds.Kept.{type_in}
+use Rattle.ir_typing.specs.ShapeKinds.Typed.{none_typed, with_types}
 use Rattle.type_faults.proofs.sight.contents_of.Given as goal
 
 -- the globals that are left decide

@@ -2,7 +2,7 @@ use Rattle.std.proofs.Common.{◌≡◌, ◌∙◌, ◌+◌, ◌<◌, ℕ, List,
 use Rattle.std.proofs.lemmas.List.{drop_more}
 use Rattle.ir_types.specs.declared.named.NamedTy.{NamedTy}
 use Rattle.ir_types.specs.declared.names.Name.{Name}
-use Rattle.shape_kinds.specs.Names.{with_name, with_names}
+use Rattle.ir_typing.specs.ShapeKinds.Names.{with_name, with_names}
 use Rattle.type_faults.proofs.sight.names_of.Goals as goal
 
 abbrev names : List NamedTy → List Name

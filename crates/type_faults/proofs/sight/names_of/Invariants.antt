@@ -1,6 +1,6 @@
 use Rattle.std.proofs.Common.{◌≡◌, [], drop, map}
 use Rattle.ir_types.specs.declared.named.NamedTy.{NamedTy}
-use Rattle.shape_kinds.specs.Names.{with_names}
+use Rattle.ir_typing.specs.ShapeKinds.Names.{with_names}
 use Rattle.type_faults.proofs.sight.names_of.Given as goal
 
 -- the names that are left decide

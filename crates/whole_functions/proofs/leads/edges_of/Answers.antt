@@ -1,6 +1,6 @@
 use Rattle.std.proofs.Common.{◌≡◌, rules}
 use Rattle.definedness.specs.Graph.{labels_in}
-use Rattle.shape_tests.specs.Edges.{rows_of, with_blocks}
+use Rattle.ir_shape.specs.ShapeTests.Edges.{rows_of, with_blocks}
 use Rattle.whole_functions.proofs.Edged.{rows_kept}
 use Rattle.whole_functions.proofs.leads.edges_of.Goals as goal
 

@@ -1,5 +1,5 @@
 use Rattle.std.proofs.Common.{◌≡◌, ◌++◌, drop}
-use Rattle.shape_tests.specs.Edges.{no_rows, rows_of}
+use Rattle.ir_shape.specs.ShapeTests.Edges.{no_rows, rows_of}
 use Rattle.whole_functions.proofs.leads.no_edges.Given as goal
 
 abbrev pub invariant-loop-block : goal.invariant-loop-block

@@ -1,7 +1,7 @@
 use Rattle.std.proofs.Common.{◌≡◌, ◌++◌, drop}
 use Rattle.std.specs.List.{AllByRecursion}
 use Rattle.definedness.specs.Graph.{graph_in, labels_in}
-use Rattle.shape_tests.specs.Edges.{rows_of, with_blocks}
+use Rattle.ir_shape.specs.ShapeTests.Edges.{rows_of, with_blocks}
 use Rattle.whole_shapes.specs.Whole.{LeadsToLabels}
 use Rattle.whole_functions.proofs.leads.put_blocks.Given as goal
 

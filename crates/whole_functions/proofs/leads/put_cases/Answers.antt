@@ -2,7 +2,7 @@ use Rattle.std.proofs.Common.{◌≡◌, ◌∙◌, ◌+◌, ◌<◌, true, leng
 use Rattle.ir_core.specs.declared.functions.Case.{Case}
 use Rattle.ir_types.specs.declared.names.Name.{Name}
 use Rattle.definedness.specs.Graph.{labels_in}
-use Rattle.shape_tests.specs.Edges.{rows_of, with_edges}
+use Rattle.ir_shape.specs.ShapeTests.Edges.{rows_of, with_edges}
 use Rattle.whole_shapes.specs.Whole.{AreLabels}
 use Rattle.whole_functions.proofs.Edged.{places_more}
 use Rattle.whole_functions.proofs.Finely.{back, next}

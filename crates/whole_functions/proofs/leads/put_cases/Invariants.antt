@@ -1,7 +1,7 @@
 use Rattle.std.proofs.Common.{◌≡◌, ◌++◌, drop, map}
 use Rattle.ir_core.specs.declared.functions.Case.{Case}
 use Rattle.definedness.specs.Graph.{labels_in, places_in}
-use Rattle.shape_tests.specs.Edges.{rows_of, with_edges}
+use Rattle.ir_shape.specs.ShapeTests.Edges.{rows_of, with_edges}
 use Rattle.whole_shapes.specs.Whole.{AreLabels}
 use Rattle.whole_functions.proofs.leads.put_cases.Given as goal
 

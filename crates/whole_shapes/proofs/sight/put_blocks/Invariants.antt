@@ -1,7 +1,7 @@
 use Rattle.std.proofs.Common.{◌≡◌, drop}
 use Rattle.std.specs.List.{flat_map}
 use Rattle.ir_core.specs.Functions.{block_names}
-use Rattle.shape_tests.specs.Kinds.{are_new, with_names}
+use Rattle.ir_shape.specs.ShapeTests.Kinds.{are_new, with_names}
 use Rattle.whole_shapes.proofs.sight.put_blocks.Given as goal
 
 abbrev pub invariant-loop-block : goal.invariant-loop-block

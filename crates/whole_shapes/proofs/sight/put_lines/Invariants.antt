@@ -1,6 +1,6 @@
 use Rattle.std.proofs.Common.{◌≡◌, drop}
 use Rattle.ir_core.specs.Functions.{names_in, set_by}
-use Rattle.shape_tests.specs.Kinds.{are_new, with_names}
+use Rattle.ir_shape.specs.ShapeTests.Kinds.{are_new, with_names}
 use Rattle.whole_shapes.proofs.sight.put_lines.Given as goal
 
 abbrev pub invariant-loop-instr : goal.invariant-loop-instr

@@ -1,6 +1,6 @@
 use Rattle.std.proofs.Common.{◌≡◌, drop}
-use Rattle.shape_tests.specs.Kinds.{are_new, with_names}
-use Rattle.shape_tests.specs.Typed.{param_names}
+use Rattle.ir_shape.specs.ShapeTests.Kinds.{are_new, with_names}
+use Rattle.ir_shape.specs.ShapeTests.Typed.{param_names}
 use Rattle.whole_shapes.proofs.sight.put_params.Given as goal
 
 abbrev pub invariant-loop-param : goal.invariant-loop-param

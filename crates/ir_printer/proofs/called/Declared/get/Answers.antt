@@ -1,4 +1,4 @@
-use Rattle.std.proofs.Common.{◌≡◌, ◌∙◌, List, None, Some, sym, ap}
+use Rattle.std.proofs.Common.{◌∙◌, List, None, Some, sym, ap}
 use Rattle.ir_core.specs.declared.modules.Declaration.{Declaration}
 use Rattle.ir_printer.specs.Printed.{called_in}
 use Rattle.ir_printer.proofs.Further.{found_at}

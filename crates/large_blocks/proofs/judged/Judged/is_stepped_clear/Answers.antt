@@ -1,6 +1,6 @@
 use Rattle.std.proofs.Common.{◌≡◌, false, List, subst}
 use Rattle.ir_types.specs.declared.named.NamedTy.{NamedTy}
-use Rattle.module_limits.specs.Small.{IsClear}
+use Rattle.ir_typing.specs.ModuleLimits.Small.{IsClear}
 use Rattle.named_modules.specs.Faults.{Heads}
 use Rattle.large_blocks.specs.Noted.{is_stepped_large}
 use Rattle.large_blocks.proofs.Clear.{none_stepped}

@@ -1,7 +1,7 @@
 use Rattle.std.proofs.Common.{◌∙◌, sym}
 use Rattle.type_faults.specs.Kept.{signature_of}
 use Rattle.type_faults.proofs.Firsts.{put_new, put_there}
-use Rattle.shape_kinds.proofs.Entries.{puts}
+use Rattle.ir_typing.proofs.ShapeKinds.Entries.{puts}
 use Rattle.type_faults.proofs.callees.Callees.put.Goals as goal
 
 pub returns-in-Some : goal.returns-in-Some

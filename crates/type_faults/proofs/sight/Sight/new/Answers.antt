@@ -4,9 +4,9 @@ use Rattle.ir_core.specs.declared.modules.Declaration.{Declaration}
 use Rattle.ir_core.specs.declared.modules.GlobalVar.{GlobalVar}
 use Rattle.ir_types.specs.declared.named.NamedTy.{NamedTy}
 use Rattle.ir_types.specs.declared.names.Name.{Name}
-use Rattle.name_index.specs.Among.{is_among}
-use Rattle.shape_kinds.specs.Names.{with_names}
-use Rattle.shape_kinds.specs.Typed.{Types, none_typed, with_types}
+use Rattle.ir_core.specs.NameIndexes.Among.{is_among}
+use Rattle.ir_typing.specs.ShapeKinds.Names.{with_names}
+use Rattle.ir_typing.specs.ShapeKinds.Typed.{Types, none_typed, with_types}
 use Rattle.named_modules.specs.Faults.{signature_in}
 use Rattle.type_faults.specs.Kept.{declared, defined}
 use Rattle.type_faults.proofs.Firsts.{among_collected, contents_collected}

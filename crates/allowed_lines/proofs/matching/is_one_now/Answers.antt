@@ -1,5 +1,0 @@
-use Rattle.std.proofs.Common.{rules}
-use Rattle.allowed_lines.proofs.matching.is_one_now.Goals as goal
-
-pub returns-then-is_now : goal.returns-then-is_now
-returns-then-is_now g c = search rules

@@ -1,9 +1,0 @@
-use Rattle.std.proofs.Common.{rules}
-use Rattle.line_align.specs.Lent.{lent_block}
-use Rattle.checked_pair.specs.Asked.{asked}
-use Rattle.checked_pair.proofs.Progressing.{answers_so, end_passed}
-use Rattle.block_checker.proofs.blocks.at_terms.Goals as goal
-
-pub returns-in-None : goal.returns-in-None
-returns-in-None g c =
-    answers_so (end_passed (asked g.B.RuleSet.rules c.args.pair.now) (lent_block c.args.block.now) c.args.k c.args.known.now _ c.requires.labels (search rules)) c.edges_answer.result c.edges_answer.ensures

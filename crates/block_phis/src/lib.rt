@@ -1,6 +1,0 @@
-//! The phis of a block, of which one is found without a walk, and when those of two sides match.
-#![tactic(auto)]
-
-mod phis;
-
-pub use phis::{IndexedPhi, Phis, phis_match, sets_alike};

@@ -1,6 +1,0 @@
-use Rattle.std.proofs.lemmas.Result.{IfOk-weaker}
-use Rattle.command_line.proofs.Found.{third}
-use Rattle.command_line.proofs.line.with_command.Goals as goal
-
-pub returns : goal.returns
-returns c = IfOk-weaker c.subcommand.result _ _ (λ line adds. adds.shape (third _ _ _ _ c.requires)) c.subcommand.ensures

@@ -1,0 +1,10 @@
+use Rattle.std.proofs.Common.{rules, ap, ◌≡◌, ◌∙◌}
+use Rattle.std.proofs.lemmas.Result.{IfOk-weaker}
+use Rattle.clap.specs.Words.{app_of, rule_of, with_rule}
+use Rattle.crell_program.specs.CommandLine.Line.{file}
+use Rattle.crell_program.proofs.command_line.line.with_file.Goals as goal
+
+pub returns : goal.returns
+returns c =
+    let file_is : rule_of c.help-file.result ≡ file c.args.name.now = search rules in
+    IfOk-weaker c.arg.result _ _ (λ command adds. adds.shape (search rules) ∙ ap (with_rule (app_of c.args.command)) file_is) c.arg.ensures

@@ -1,6 +1,0 @@
-use Rattle.std.proofs.Common.{◌≡◌, ◌++◌, drop, map}
-use Rattle.definition_lists.specs.Solved.{given_in}
-use Rattle.definition_lists.proofs.graph.given_in.Given as goal
-
-abbrev pub invariant-loop-block : goal.invariant-loop-block
-invariant-loop-block l = map (λ row. row.items) l.rows.items ++ given_in l.registers (drop l.block-index l.blocks) ≡ given_in l.registers l.blocks

@@ -1,8 +1,0 @@
-use Rattle.std.proofs.Common.{◌≡◌, ◌++◌, drop}
-use Rattle.ir_core.specs.Functions.{names_in, phi_registers}
-use Rattle.definition_lists.specs.Shown.{named}
-use Rattle.definition_lists.proofs.names.add_phis.Given as goal
-
-abbrev pub invariant-loop-phi : goal.invariant-loop-phi
-invariant-loop-phi l =
-    named l.names.items ++ names_in (phi_registers (drop l.phi-index l.phis)) ≡ named l.initial.names.items ++ names_in (phi_registers l.phis)

@@ -1,7 +1,0 @@
-use Rattle.std.proofs.Common.{◌≡◌, ◌++◌, drop}
-use Rattle.definedness.specs.Graph.{labels_in}
-use Rattle.definition_lists.specs.Shown.{named}
-use Rattle.definition_lists.proofs.names.labels_of.Given as goal
-
-abbrev pub invariant-loop-block : goal.invariant-loop-block
-invariant-loop-block l = named l.names.items ++ labels_in (drop l.block-index l.blocks) ≡ labels_in l.blocks

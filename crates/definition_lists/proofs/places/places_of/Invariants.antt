@@ -1,7 +1,0 @@
-use Rattle.std.proofs.Common.{◌≡◌, ◌++◌, drop}
-use Rattle.definedness.specs.Flow.{places_by}
-use Rattle.definition_lists.specs.Shown.{named}
-use Rattle.definition_lists.proofs.places.places_of.Given as goal
-
-abbrev pub invariant-loop-name : goal.invariant-loop-name
-invariant-loop-name l = l.places.items ++ places_by l.index (named (drop l.name-index l.names)) ≡ places_by l.index (named l.names)

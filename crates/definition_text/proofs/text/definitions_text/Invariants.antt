@@ -1,7 +1,0 @@
-use Rattle.std.proofs.Common.{take}
-use Rattle.definition_text.specs.Lines.{AreLines}
-use Rattle.definition_text.proofs.text.definitions_text.Given as goal
-
--- the lines of the functions so far are written
-abbrev pub invariant-loop-function : goal.invariant-loop-function
-invariant-loop-function l = AreLines (take l.function-index l.functions) l.text.items

@@ -1,8 +1,0 @@
-use Rattle.std.proofs.Common.{◌≡◌, ◌++◌, drop}
-use Rattle.definition_lists.specs.Shown.{named}
-use Rattle.definition_text.specs.Lines.{registers_text}
-use Rattle.definition_text.proofs.text.push_registers.Given as goal
-
--- what is written and the names that are left make up the whole
-abbrev pub invariant-loop-name : goal.invariant-loop-name
-invariant-loop-name l = l.text.items ++ registers_text (drop l.name-index (named l.names)) ≡ l.initial.text.items ++ registers_text (named l.names)

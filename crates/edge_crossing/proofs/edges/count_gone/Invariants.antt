@@ -1,7 +1,0 @@
-use Rattle.std.proofs.Common.{◌≡◌, ◌+◌, drop, filter, length}
-use Rattle.edge_crossing.specs.Crossing.{goes}
-use Rattle.edge_crossing.proofs.edges.count_gone.Given as goal
-
-abbrev pub invariant-loop-k : goal.invariant-loop-k
-invariant-loop-k g l =
-    l.gone + length (filter (goes l.phis) (drop l.k (g.S.FactSet.contents l.facts))) ≡ length (filter (goes l.phis) (g.S.FactSet.contents l.facts))

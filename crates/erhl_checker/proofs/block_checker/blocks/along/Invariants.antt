@@ -1,0 +1,11 @@
+use Rattle.std.proofs.Common.{◌≡◌, drop}
+use Rattle.line_align.specs.Lent.{lent_block, lines_under}
+use Rattle.erhl_checker.specs.CheckedPair.Asked.{asked}
+use Rattle.erhl_checker.specs.CheckedPair.Progress.{lines_answer}
+use Rattle.erhl_checker.proofs.block_checker.blocks.along.Given as goal
+
+-- what is left answers what all answers
+abbrev pub invariant-loop-i : goal.invariant-loop-i
+invariant-loop-i g l =
+    let b = lent_block l.block in
+    lines_answer (asked g.B.RuleSet.rules l.pair) b l.i (lines_under (drop l.i l.letters) l.xs l.ys) l.known ≡ lines_answer (asked g.B.RuleSet.rules l.pair) b 0 b.lines l.fn.entry

@@ -1,0 +1,8 @@
+use Rattle.std.proofs.Common.{◌≡◌, drop}
+use Rattle.erhl_checker.specs.CheckedPair.Asked.{asked}
+use Rattle.erhl_checker.specs.CheckedPair.Agreeing.{edges_agree}
+use Rattle.erhl_checker.specs.CheckedPair.Progress.{names_lent}
+use Rattle.erhl_checker.proofs.checked_pair.agreeing.edges_agree.Given as goal
+
+abbrev pub invariant-loop-to : goal.invariant-loop-to
+invariant-loop-to g l = edges_agree (asked g.B.RuleSet.rules l.pair) l.from l.lines (names_lent (drop l.to-index l.labels)) ≡ edges_agree (asked g.B.RuleSet.rules l.pair) l.from l.lines (names_lent l.labels)

@@ -1,0 +1,5 @@
+use Rattle.std.proofs.Common.{rules}
+use Rattle.erhl_checker.proofs.hint_steps.steps.target_fault.Goals as goal
+
+pub returns : goal.returns
+returns c = search rules

@@ -1,4 +1,0 @@
-use Rattle.erhl_sides.proofs.sides.Sides.first_missing.Goals as goal
-
-pub returns : goal.returns
-returns g c = c.first_absent.ensures

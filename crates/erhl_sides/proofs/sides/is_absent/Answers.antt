@@ -1,8 +1,0 @@
-use Rattle.std.proofs.Common.{rules}
-use Rattle.erhl_sides.proofs.sides.is_absent.Goals as goal
-
-pub returns-then-is_passed : goal.returns-then-is_passed
-returns-then-is_passed c = search rules
-
-pub returns-else-is_passed : goal.returns-else-is_passed
-returns-else-is_passed c = search rules

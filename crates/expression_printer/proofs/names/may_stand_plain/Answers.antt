@@ -1,8 +1,0 @@
-use Rattle.std.proofs.Common.{rules}
-use Rattle.expression_printer.proofs.names.may_stand_plain.Goals as goal
-
-pub returns-then-not-is_a_digit : goal.returns-then-not-is_a_digit
-returns-then-not-is_a_digit c = search rules
-
-pub returns-else-not-is_a_digit : goal.returns-else-not-is_a_digit
-returns-else-not-is_a_digit c = search rules

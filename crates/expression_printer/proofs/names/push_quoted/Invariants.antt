@@ -1,7 +1,0 @@
-use Rattle.std.proofs.Common.{◌≡◌, ◌++◌, ◌∷◌, [], take}
-use Rattle.std.specs.List.{flat_map}
-use Rattle.expression_printer.specs.Printed.{escaped}
-use Rattle.expression_printer.proofs.names.push_quoted.Given as goal
-
-abbrev pub invariant-loop-byte : goal.invariant-loop-byte
-invariant-loop-byte l = l.text.items ≡ (l.fn.text.items ++ 34 ∷ []) ++ flat_map escaped (take l.byte-index l.bytes)

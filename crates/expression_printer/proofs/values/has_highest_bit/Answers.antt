@@ -1,6 +1,0 @@
-use Rattle.std.proofs.Common.{arith}
-use Rattle.expression_printer.proofs.Powers.{power_is_two_halves}
-use Rattle.expression_printer.proofs.values.has_highest_bit.Goals as goal
-
-pub returns-then-half-number-clause-answer : goal.returns-then-half-number-clause-answer
-returns-then-half-number-clause-answer c = grind (arith, power_is_two_halves)

@@ -1,4 +1,0 @@
-pub mod Rows
-pub mod Openings
-pub mod Decision
-pub mod Examples

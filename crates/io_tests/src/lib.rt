@@ -1,5 +1,0 @@
-//! Tests of the shelf and the sink of the system, for what no contract and no row shows. Nothing else stands here.
-#![tactic(auto)]
-
-#[cfg(test)]
-mod system;

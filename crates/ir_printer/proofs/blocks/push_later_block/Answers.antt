@@ -1,5 +1,0 @@
-use Rattle.std.proofs.Common.{append_assoc, rules}
-use Rattle.ir_printer.proofs.blocks.push_later_block.Goals as goal
-
-pub returns : goal.returns
-returns c = search (rules, append_assoc)

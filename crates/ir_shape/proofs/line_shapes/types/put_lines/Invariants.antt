@@ -1,0 +1,12 @@
+use Rattle.std.proofs.Common.{◌≡◌, ◌&&◌, drop}
+use Rattle.std.specs.List.{flat_map}
+use Rattle.ir_shape.specs.LineShapes.Assumed.{told_by}
+use Rattle.ir_typing.specs.ShapeKinds.Kept.{type_in}
+use Rattle.ir_typing.specs.ShapeKinds.Typed.{with_types}
+use Rattle.ir_shape.specs.LineShapes.Untold.{are_untold}
+use Rattle.ir_shape.proofs.line_shapes.types.put_lines.Given as goal
+
+abbrev pub invariant-loop-line : goal.invariant-loop-line
+invariant-loop-line l =
+    (with_types (type_in l.types) (flat_map (told_by l.assumed l.beside.types) (drop l.line-index l.lines)) ≡ with_types (type_in l.initial.types) (flat_map (told_by l.assumed l.beside.types) l.lines))
+    × ((l.new && are_untold (type_in l.types) (flat_map (told_by l.assumed l.beside.types) (drop l.line-index l.lines))) ≡ are_untold (type_in l.initial.types) (flat_map (told_by l.assumed l.beside.types) l.lines))

@@ -1,0 +1,4 @@
+pub mod ShapeKinds
+pub mod OperandTests
+pub mod ModuleLimits
+pub mod OperandLaws

@@ -1,0 +1,8 @@
+use Rattle.std.proofs.Common.{◌≡◌, [], drop, map}
+use Rattle.ir_types.specs.declared.named.NamedTy.{NamedTy}
+use Rattle.ir_typing.specs.ShapeKinds.Names.{with_names}
+use Rattle.ir_typing.proofs.operand_tests.beside.names_of.Given as goal
+
+-- the names that are left decide
+abbrev pub invariant-loop-named : goal.invariant-loop-named
+invariant-loop-named l = with_names l.names (map (λ (t : NamedTy). t.name) (drop l.named-index l.types)) ≡ with_names [] (map (λ (t : NamedTy). t.name) l.types)

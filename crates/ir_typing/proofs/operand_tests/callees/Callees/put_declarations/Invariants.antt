@@ -1,0 +1,11 @@
+use Rattle.std.proofs.Common.{◌≡◌, drop}
+use Rattle.std.specs.Option.{option_or}
+use Rattle.ir_types.specs.declared.names.Name.{Name}
+use Rattle.ir_typing.specs.OperandTests.Calls.{signature_in}
+use Rattle.ir_typing.specs.OperandTests.Kept.{declared, signature_by}
+use Rattle.ir_typing.proofs.operand_tests.callees.Callees.put_declarations.Given as goal
+
+-- what is kept, and the functions that are left
+abbrev pub invariant-loop-declaration : goal.invariant-loop-declaration
+invariant-loop-declaration l = (x : Name) → option_or (signature_by l.self x) (signature_in (declared (drop l.declaration-index l.declarations)) x)
+    ≡ option_or (signature_by l.fn.self x) (signature_in (declared l.declarations) x)

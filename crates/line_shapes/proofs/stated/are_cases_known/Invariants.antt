@@ -1,8 +1,0 @@
-use Rattle.std.proofs.Common.{◌≡◌, drop, map}
-use Rattle.ir_core.specs.declared.functions.Case.{Case}
-use Rattle.operand_tests.specs.Known.{are_types_known}
-use Rattle.line_shapes.proofs.stated.are_cases_known.Given as goal
-
-abbrev pub invariant-loop-case : goal.invariant-loop-case
-invariant-loop-case l =
-    are_types_known l.beside (map (λ (c : Case). c.ty) (drop l.case-index l.cases)) ≡ are_types_known l.beside (map (λ (c : Case). c.ty) l.cases)

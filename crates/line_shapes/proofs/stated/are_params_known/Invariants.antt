@@ -1,8 +1,0 @@
-use Rattle.std.proofs.Common.{◌≡◌, drop, map}
-use Rattle.ir_core.specs.declared.functions.Param.{Param}
-use Rattle.operand_tests.specs.Known.{are_types_known}
-use Rattle.line_shapes.proofs.stated.are_params_known.Given as goal
-
-abbrev pub invariant-loop-param : goal.invariant-loop-param
-invariant-loop-param l =
-    are_types_known l.beside (map (λ (p : Param). p.ty) (drop l.param-index l.params)) ≡ are_types_known l.beside (map (λ (p : Param). p.ty) l.params)

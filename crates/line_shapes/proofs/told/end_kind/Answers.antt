@@ -1,5 +1,0 @@
-use Rattle.std.proofs.Common.{rules}
-use Rattle.line_shapes.proofs.told.end_kind.Goals as goal
-
-pub returns : goal.returns
-returns c = search rules

@@ -1,9 +1,0 @@
-//! Tests of values, of the machine and of graphs, for what no contract and no row shows. Nothing else stands here.
-#![tactic(auto)]
-
-#[cfg(test)]
-mod flow;
-#[cfg(test)]
-mod running;
-#[cfg(test)]
-mod values;

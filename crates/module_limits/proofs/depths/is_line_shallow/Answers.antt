@@ -1,5 +1,0 @@
-use Rattle.std.proofs.Common.{rules}
-use Rattle.module_limits.proofs.depths.is_line_shallow.Goals as goal
-
-pub returns-then-is_operand_shallow : goal.returns-then-is_operand_shallow
-returns-then-is_operand_shallow c = search rules

@@ -1,5 +1,0 @@
-use Rattle.std.proofs.Common.{rules}
-use Rattle.module_limits.proofs.lines.lines_behind.Goals as goal
-
-pub returns-else-more-gt-LINES-clause-some : goal.returns-else-more-gt-LINES-clause-some
-returns-else-more-gt-LINES-clause-some c = search rules

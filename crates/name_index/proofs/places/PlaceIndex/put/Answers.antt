@@ -1,8 +1,0 @@
-use Rattle.std.proofs.Common.{Bor}
-use Rattle.ir_types.specs.declared.names.Name.{Name}
-use Rattle.name_index.proofs.FirstPlaces.{put_first}
-use Rattle.name_index.proofs.places.PlaceIndex.put.Goals as goal
-
-pub returns : goal.returns
-returns c = λ other.
-    put_first (λ (key : Bor Name). key.now) other c.args.name c.args.place c.args.self.now.places.entries c.insert.new.self.entries c.in_ok-insert.ensures.entries

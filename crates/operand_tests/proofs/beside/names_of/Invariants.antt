@@ -1,8 +1,0 @@
-use Rattle.std.proofs.Common.{◌≡◌, [], drop, map}
-use Rattle.ir_types.specs.declared.named.NamedTy.{NamedTy}
-use Rattle.shape_kinds.specs.Names.{with_names}
-use Rattle.operand_tests.proofs.beside.names_of.Given as goal
-
--- the names that are left decide
-abbrev pub invariant-loop-named : goal.invariant-loop-named
-invariant-loop-named l = with_names l.names (map (λ (t : NamedTy). t.name) (drop l.named-index l.types)) ≡ with_names [] (map (λ (t : NamedTy). t.name) l.types)

@@ -1,5 +1,0 @@
-use Rattle.operand_tests.proofs.Arguments.{too_few}
-use Rattle.operand_tests.proofs.calls.are_arguments.Goals as goal
-
-pub returns-then-arguments-params : goal.returns-then-arguments-params
-returns-then-arguments-params g c = too_few g.P.Typed.type_of c.args.variadic c.args.params.now c.args.arguments.now c.if-arguments-params.true

@@ -1,5 +1,0 @@
-use Rattle.std.proofs.Common.{rules}
-use Rattle.operand_tests.proofs.calls.fits_definition.Goals as goal
-
-pub returns-then-is_same_ty : goal.returns-then-is_same_ty
-returns-then-is_same_ty c = search rules

@@ -1,8 +1,0 @@
-use Rattle.std.proofs.Common.{◌≡◌, drop, map}
-use Rattle.ir_types.specs.Same.{same_list, same_ty}
-use Rattle.operand_tests.specs.Starts.{stated}
-use Rattle.operand_tests.proofs.inits.are_stated.Given as goal
-
--- the types and the parts that are left decide
-abbrev pub invariant-loop-at : goal.invariant-loop-at
-invariant-loop-at l = same_list same_ty (drop l.at l.types) (map stated (drop l.at l.parts)) ≡ same_list same_ty l.types (map stated l.parts)

@@ -1,6 +1,0 @@
-use Rattle.std.proofs.Common.{◌≡◌, drop}
-use Rattle.operand_tests.specs.Kept.{are_named_sized}
-use Rattle.operand_tests.proofs.sized.are_sized.Given as goal
-
-abbrev pub invariant-loop-one : goal.invariant-loop-one
-invariant-loop-one l = are_named_sized l.«module».types (drop l.one-index l.types) ≡ are_named_sized l.«module».types l.types

@@ -1,0 +1,7 @@
+use Rattle.std.proofs.Common.{◌≡◌, ◌+◌, drop, filter, length}
+use Rattle.postcondition.specs.EdgeCrossing.Crossing.{goes}
+use Rattle.postcondition.proofs.edge_crossing.edges.count_gone.Given as goal
+
+abbrev pub invariant-loop-k : goal.invariant-loop-k
+invariant-loop-k g l =
+    l.gone + length (filter (goes l.phis) (drop l.k (g.S.FactSet.contents l.facts))) ≡ length (filter (goes l.phis) (g.S.FactSet.contents l.facts))

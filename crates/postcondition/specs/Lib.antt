@@ -1,0 +1,2 @@
+pub mod BlockPhis
+pub mod EdgeCrossing

@@ -1,0 +1,537 @@
+//! What is known on an edge, behind the phis of the block that it enters.
+ghost use Rattle.std.specs.Prelude.{◌≡◌, ◌++◌, ◌+◌, [], ◌∷◌, None, Some, false, true, not, filter, map, length, IfOk, IfErr, OnOk};
+ghost use Rattle.ir_core.specs.declared.limits.Limit.{Limit};
+ghost use Rattle.ir_core.specs.declared.limits.Limit.TheVariants.{Facts};
+ghost use Rattle.ir_core.specs.declared.expressions.Reg.TheVariants.{Now};
+ghost use Rattle.ir_core.specs.declared.expressions.Reg.TheVariants.{Old};
+ghost use Rattle.ir_core.specs.declared.expressions.Expr.TheVariants as expr;
+ghost use Rattle.ir_core.specs.Expressions.{map_atom};
+ghost use Rattle.erhl_assert.specs.declared.verdict.Reason.{Reason};
+ghost use Rattle.erhl_assert.specs.Facts.{with_facts, on_side};
+ghost use Rattle.erhl_assert.specs.Course.{Gives, and_then, are_too_many, within};
+ghost use Rattle.erhl_assert.specs.Growth.{adds_all, over_edge};
+ghost use Rattle.erhl_assert.specs.Edges.{register_at, phi_fact, phi_facts, phi_registers, is_old, is_alike, as_old, old_of, diff_over, after_edge};
+ghost use Rattle.ir_machine.specs.Machine.{entry_from};
+ghost use Rattle.fact_sets.specs.ErhlSides.Beside.{adds_all_beside};
+ghost use Rattle.fact_sets.specs.declared.added_facts.ends.AddEnd.TheVariants as add_end;
+ghost use Rattle.fact_sets.specs.declared.added_facts.ends.LineEnd.TheVariants as line_end;
+ghost use Rattle.fact_sets.specs.AddedFacts.Ends.{Follows};
+ghost use Rattle.postcondition.specs.EdgeCrossing.Crossing.{at_place, copies, goes, stays, over_staying};
+
+use crate::block_phis::{IndexedPhi, Phis, sets_alike};
+use contents::{Exact, Seq};
+use erhl_assert::{Fact, FactSet, Side};
+use fact_sets::{
+    AddEnd, LineEnd, Sides, add_equal, fact_has, names_old, old_atom, old_fact, old_register,
+};
+use ir_core::{Atom, Entry, Expr, Expr0, Limit, Name, Operand, Reg};
+use std::alloc::{AllocError, Global};
+
+/// An edge: the block that it leaves, and on both sides the phis of the block that it enters.
+#[derive(Drop, Clone, Copy)]
+pub struct Edge<'b, 'a> {
+    pub from: &'b Name,
+    pub source: &'b Phis<'a>,
+    pub target: &'b Phis<'a>,
+}
+
+// ---- what stays
+
+fn goes(phis: &Phis<'_>, fact: &Fact) -> bool
+    ensures { result ≡ goes phis.now fact.now }
+{
+    !names_old(fact) && fact_has(phis, fact)
+}
+
+fn stays(phis: &Phis<'_>, fact: &Fact) -> bool
+    ensures { result ≡ stays phis.now fact.now }
+{
+    !names_old(fact) && !fact_has(phis, fact)
+}
+
+/// 1 where the fact of that number goes, else 0.
+#[tactic(auto, using(crate::proofs::EdgeCrossing::Staying::gone_here, crate::proofs::EdgeCrossing::Staying::not_gone_here, crate::proofs::EdgeCrossing::Staying::none_here))]
+fn gone_at<S: FactSet>(facts: &S, k: usize, phis: &Phis<'_>) -> usize
+    ensures { result ≡ length (filter (goes phis.now) (at_place k (S.contents facts.now))) }
+{
+    match facts.at(k) {
+        None => 0,
+        Some(fact) => { if goes(phis, fact) { 1 } else { 0 } }
+    }
+}
+
+/// How many of the facts go as they name a register of a phi.
+#[tactic(auto, using(crate::proofs::EdgeCrossing::Staying::gone_on))]
+fn count_gone<S: FactSet>(facts: &S, phis: &Phis<'_>) -> usize
+    ensures { result ≡ length (filter (goes phis.now) (S.contents facts.now)) }
+{
+    let mut gone = 0;
+    for k in 0..facts.len() {
+        gone += gone_at(facts, k, phis);
+    }
+    gone
+}
+
+/// Adds the fact of that number, if it stays.
+#[tactic(auto, using(crate::proofs::EdgeCrossing::Staying::stays_here, crate::proofs::EdgeCrossing::Staying::doesnt_stay, crate::proofs::EdgeCrossing::Staying::nothing_stays))]
+fn put_at<S: FactSet>(
+    alloc: Global,
+    side: Side,
+    facts: &S,
+    k: usize,
+    phis: &Phis<'_>,
+    after: &mut Sides<S>,
+) -> Result<(), AllocError>
+    ensures { OnOk result
+        (after.new ≡ on_side side (with_facts (filter (stays phis.now) (at_place k (S.contents facts.now)))) after.old) }
+{
+    match facts.at(k) {
+        None => Ok(()),
+        Some(fact) => {
+            if stays(phis, fact) {
+                after.add_fact(side, fact.copy(alloc)?)
+            } else {
+                Ok(())
+            }
+        }
+    }
+}
+
+/// Adds the facts that stay.
+#[tactic(auto, using(crate::proofs::EdgeCrossing::Staying::more_put))]
+fn put_staying<S: FactSet>(
+    alloc: Global,
+    side: Side,
+    facts: &S,
+    phis: &Phis<'_>,
+    after: &mut Sides<S>,
+) -> Result<(), AllocError>
+    ensures { OnOk result
+        (after.new ≡ on_side side (with_facts (filter (stays phis.now) (S.contents facts.now))) after.old) }
+{
+    for k in 0..facts.len() {
+        put_at(alloc, side, facts, k, phis, after)?;
+    }
+    Ok(())
+}
+
+// ---- what is added
+
+/// Adds the fact as it was before the edge.
+#[tactic(auto, using(crate::proofs::EdgeCrossing::Copying::one_added, crate::proofs::EdgeCrossing::Copying::one_too_many))]
+fn add_copy<S: FactSet>(
+    alloc: Global,
+    others: u128,
+    side: Side,
+    fact: &Fact,
+    after: &mut Sides<S>,
+) -> Result<(), AddEnd>
+    ensures { Follows result after.new (adds_all_beside others side (as_old fact.now ∷ []) after.old) }
+{
+    let copy = old_fact(alloc, fact)?;
+    if after.add_beside(others, side, copy)? {
+        Ok(())
+    } else {
+        Err(AddEnd::Limit(Limit::Facts))
+    }
+}
+
+/// Adds the fact of that number as it was before the edge, unless it names an old register.
+#[tactic(auto, using(crate::proofs::EdgeCrossing::Copying::copied_here, crate::proofs::EdgeCrossing::Copying::not_copied, crate::proofs::EdgeCrossing::Copying::nothing_copied))]
+fn add_copy_at<S: FactSet>(
+    alloc: Global,
+    others: u128,
+    side: Side,
+    facts: &S,
+    k: usize,
+    after: &mut Sides<S>,
+) -> Result<(), AddEnd>
+    ensures { Follows result after.new
+        (adds_all_beside others side (copies (at_place k (S.contents facts.now))) after.old) }
+{
+    match facts.at(k) {
+        None => Ok(()),
+        Some(fact) => {
+            if names_old(fact) {
+                Ok(())
+            } else {
+                add_copy(alloc, others, side, fact, after)
+            }
+        }
+    }
+}
+
+/// Adds the facts as they were before the edge. Those that name old registers are passed over.
+#[tactic(auto, using(crate::proofs::EdgeCrossing::Copying::copied_on, crate::proofs::EdgeCrossing::Copying::copied_over))]
+fn add_copies<S: FactSet>(
+    alloc: Global,
+    others: u128,
+    side: Side,
+    facts: &S,
+    after: &mut Sides<S>,
+) -> Result<(), AddEnd>
+    ensures { Follows result after.new (adds_all_beside others side (copies (S.contents facts.now)) after.old) }
+{
+    for k in 0..facts.len() {
+        add_copy_at(alloc, others, side, facts, k, after)?;
+    }
+    Ok(())
+}
+
+/// The register of a phi, at its type.
+fn register_of(alloc: Global, phi: &IndexedPhi<'_>) -> Result<Expr0, AllocError>
+    ensures { IfOk result (λ made. made ≡ register_at phi.now.ty (Now phi.now.name)) }
+{
+    let ty = phi.ty().copy(alloc)?;
+    let name = phi.name().copy(alloc)?;
+    let atom = Atom::Register(Reg::Now(name));
+    Ok(Expr::Plain(Operand { ty, atom }))
+}
+
+/// The operand of a phi as it was before the edge, at its type.
+fn operand_of(alloc: Global, phi: &IndexedPhi<'_>, entry: &Entry) -> Result<Expr0, AllocError>
+    ensures { IfOk result
+        (λ made. made ≡ expr.Plain (record { ty = phi.now.ty; atom = map_atom Old entry.now.value })) }
+{
+    let ty = phi.ty().copy(alloc)?;
+    let atom = old_atom(alloc, &entry.value)?;
+    Ok(Expr::Plain(Operand { ty, atom }))
+}
+
+/// Adds that a phi's register and its operand before the edge are less defined than each other.
+#[tactic(auto, using(crate::proofs::EdgeCrossing::Copying::both_added))]
+fn add_entry<S: FactSet>(
+    alloc: Global,
+    side: Side,
+    phi: &IndexedPhi<'_>,
+    entry: &Entry,
+    after: &mut Sides<S>,
+) -> Result<(), AddEnd>
+    ensures { Follows result after.new (adds_all side (phi_fact phi.now (Some entry.now)) after.old) }
+{
+    let register = register_of(alloc, phi)?;
+    let operand = operand_of(alloc, phi, entry)?;
+    add_equal(alloc, side, register, operand, after)
+}
+
+/// Adds the facts of a phi. Without an entry for the block there are none.
+fn add_phi<S: FactSet>(
+    alloc: Global,
+    side: Side,
+    from: &Name,
+    phi: &IndexedPhi<'_>,
+    after: &mut Sides<S>,
+) -> Result<(), AddEnd>
+    ensures { Follows result after.new (adds_all side (phi_fact phi.now (entry_from from.now phi.now.entries)) after.old) }
+{
+    match phi.entry_from(from) {
+        None => Ok(()),
+        Some(entry) => add_entry(alloc, side, phi, entry, after),
+    }
+}
+
+#[tactic(auto, using(crate::proofs::EdgeCrossing::Copying::phi_on, crate::proofs::EdgeCrossing::Copying::phi_over))]
+fn add_phis<S: FactSet>(
+    alloc: Global,
+    side: Side,
+    from: &Name,
+    phis: &[IndexedPhi<'_>],
+    after: &mut Sides<S>,
+) -> Result<(), AddEnd>
+    ensures { Follows result after.new (adds_all side (phi_facts from.now phis.now) after.old) }
+{
+    for phi in phis {
+        add_phi(alloc, side, from, phi, after)?;
+    }
+    Ok(())
+}
+
+/// Adds the facts of both sides' phis.
+#[tactic(auto, using(erhl_assert::proofs::Courses::within_more, erhl_assert::proofs::Courses::within_none))]
+fn add_all_phis<S: FactSet>(
+    alloc: Global,
+    edge: &Edge<'_, '_>,
+    after: &mut Sides<S>,
+) -> Result<(), AddEnd>
+    ensures { Follows result after.new
+        (and_then
+        (adds_all Side.Src (phi_facts edge.now.from.now edge.now.source.now) after.old)
+        (adds_all Side.Tgt (phi_facts edge.now.from.now edge.now.target.now))) }
+{
+    add_phis(alloc, Side::Src, edge.from, edge.source.all(), after)?;
+    add_phis(alloc, Side::Tgt, edge.from, edge.target.all(), after)
+}
+
+/// What is added over the edge, to what stays.
+#[tactic(auto, using(erhl_assert::proofs::Courses::within_more, erhl_assert::proofs::Courses::within_none))]
+fn add_over<S: FactSet>(
+    alloc: Global,
+    others: u128,
+    known: &Sides<S>,
+    edge: &Edge<'_, '_>,
+    after: &mut Sides<S>,
+) -> Result<(), AddEnd>
+    ensures { Follows result after.new
+        (over_staying others
+        (record { from = edge.now.from.now; source = edge.now.source.now; target = edge.now.target.now })
+        known.now after.old) }
+{
+    add_copies(alloc, others, Side::Src, known.facts(Side::Src), after)?;
+    add_copies(alloc, others, Side::Tgt, known.facts(Side::Tgt), after)?;
+    add_all_phis(alloc, edge, after)
+}
+
+// ---- registers that may differ
+
+/// Whether both sides set the register by phis that match before the edge.
+fn is_alike<S: FactSet>(
+    known: &Sides<S>,
+    from: &Name,
+    source: &Phis<'_>,
+    target: &Phis<'_>,
+    register: &Reg,
+) -> bool
+    ensures { result
+        ≡ is_alike known.now (record { from = from.now; source = source.now; target = target.now }) register.now }
+{
+    match register {
+        Reg::Now(name) => sets_alike(known, from, source, target, name),
+        Reg::Old(_) | Reg::Ghost(_) => false,
+    }
+}
+
+fn is_old(register: &Reg) -> bool
+    ensures { result ≡ is_old register.now }
+{
+    matches!(register, Reg::Old(_))
+}
+
+/// Adds the register, if it isn't old and isn't set alike.
+#[tactic(auto, using(crate::proofs::EdgeCrossing::Differing::is_kept, crate::proofs::EdgeCrossing::Differing::old_goes, crate::proofs::EdgeCrossing::Differing::alike_goes))]
+fn add_one_kept<S: FactSet>(
+    alloc: Global,
+    known: &Sides<S>,
+    from: &Name,
+    source: &Phis<'_>,
+    target: &Phis<'_>,
+    register: &Reg,
+    diff: &mut Seq<Reg>,
+) -> Result<(), AllocError>
+    ensures { OnOk result
+        (diff.new
+        ≡ diff.old
+        ++ filter (λ r. not (is_alike known.now (record { from = from.now; source = source.now; target = target.now }) r))
+        (filter (λ r. not (is_old r)) (register.now ∷ []))) }
+{
+    if is_old(register) {
+        return Ok(());
+    }
+    if is_alike(known, from, source, target, register) {
+        return Ok(());
+    }
+    diff.push(register.copy(alloc)?)
+}
+
+/// Adds the registers that may differ as they did: those that are old are forgotten, and those that are set alike leave.
+#[tactic(auto, using(crate::proofs::EdgeCrossing::Differing::kept_on))]
+fn add_kept<S: FactSet>(
+    alloc: Global,
+    known: &Sides<S>,
+    from: &Name,
+    source: &Phis<'_>,
+    target: &Phis<'_>,
+    diff: &mut Seq<Reg>,
+) -> Result<(), AllocError>
+    ensures { OnOk result
+        (diff.new
+        ≡ diff.old
+        ++ filter (λ r. not (is_alike known.now (record { from = from.now; source = source.now; target = target.now }) r))
+        (filter (λ r. not (is_old r)) known.now.diff)) }
+{
+    for register in known.differing() {
+        add_one_kept(alloc, known, from, source, target, register, diff)?;
+    }
+    Ok(())
+}
+
+/// Adds the register as it was before the edge, if it isn't old.
+#[tactic(auto, using(crate::proofs::EdgeCrossing::Differing::made_old, crate::proofs::EdgeCrossing::Differing::not_made_old))]
+fn add_one_old(alloc: Global, register: &Reg, diff: &mut Seq<Reg>) -> Result<(), AllocError>
+    ensures { OnOk result (diff.new ≡ diff.old ++ map old_of (filter (λ r. not (is_old r)) (register.now ∷ []))) }
+{
+    if is_old(register) {
+        return Ok(());
+    }
+    diff.push(old_register(alloc, register)?)
+}
+
+/// Adds those that they were before the edge.
+#[tactic(auto, using(crate::proofs::EdgeCrossing::Differing::old_on))]
+fn add_old(alloc: Global, registers: &[Reg], diff: &mut Seq<Reg>) -> Result<(), AllocError>
+    ensures { OnOk result (diff.new ≡ diff.old ++ map old_of (filter (λ r. not (is_old r)) registers.now)) }
+{
+    for register in registers {
+        add_one_old(alloc, register, diff)?;
+    }
+    Ok(())
+}
+
+/// Adds the phi's register, if it isn't set alike.
+#[tactic(auto, using(crate::proofs::EdgeCrossing::Differing::is_set, crate::proofs::EdgeCrossing::Differing::alike_goes_too))]
+fn add_one_set<S: FactSet>(
+    alloc: Global,
+    known: &Sides<S>,
+    from: &Name,
+    source: &Phis<'_>,
+    target: &Phis<'_>,
+    name: &Name,
+    diff: &mut Seq<Reg>,
+) -> Result<(), AllocError>
+    ensures { OnOk result
+        (diff.new
+        ≡ diff.old
+        ++ filter (λ r. not (is_alike known.now (record { from = from.now; source = source.now; target = target.now }) r))
+        (Now name.now ∷ [])) }
+{
+    if sets_alike(known, from, source, target, name) {
+        return Ok(());
+    }
+    diff.push(Reg::Now(name.copy(alloc)?))
+}
+
+/// Adds the registers of phis that aren't set alike.
+#[tactic(auto, using(crate::proofs::EdgeCrossing::Differing::set_on))]
+fn add_set<S: FactSet>(
+    alloc: Global,
+    known: &Sides<S>,
+    from: &Name,
+    source: &Phis<'_>,
+    target: &Phis<'_>,
+    phis: &[IndexedPhi<'_>],
+    diff: &mut Seq<Reg>,
+) -> Result<(), AllocError>
+    ensures { OnOk result
+        (diff.new
+        ≡ diff.old
+        ++ filter (λ r. not (is_alike known.now (record { from = from.now; source = source.now; target = target.now }) r))
+        (phi_registers phis.now)) }
+{
+    for phi in phis {
+        add_one_set(alloc, known, from, source, target, phi.name(), diff)?;
+    }
+    Ok(())
+}
+
+/// The registers that may differ behind the phis.
+fn diff_over<S: FactSet>(
+    alloc: Global,
+    known: &Sides<S>,
+    from: &Name,
+    source: &Phis<'_>,
+    target: &Phis<'_>,
+) -> Result<Seq<Reg>, AllocError>
+    ensures { IfOk result
+        (λ diff. diff
+        ≡ diff_over (record { from = from.now; source = source.now; target = target.now }) known.now) }
+{
+    let mut diff = Seq::new(alloc);
+    add_kept(alloc, known, from, source, target, &mut diff)?;
+    add_old(alloc, known.differing(), &mut diff)?;
+    add_set(alloc, known, from, source, target, source.all(), &mut diff)?;
+    add_set(alloc, known, from, source, target, target.all(), &mut diff)?;
+    Ok(diff)
+}
+
+// ---- the edge
+
+/// What stays, where each fact stands once: without facts that name old registers or ones of phis.
+#[tactic(auto, using(crate::proofs::EdgeCrossing::Staying::all_stay))]
+fn staying<S: FactSet>(
+    alloc: Global,
+    known: &Sides<S>,
+    source: &Phis<'_>,
+    target: &Phis<'_>,
+) -> Result<Sides<S>, AllocError>
+    requires source_once { with_facts known.now.src [] ≡ known.now.src }
+    requires target_once { with_facts known.now.tgt [] ≡ known.now.tgt }
+    ensures { IfOk result
+        (λ after. after
+        ≡ record {
+          src = filter (stays source.now) known.now.src;
+          tgt = filter (stays target.now) known.now.tgt;
+          diff = [];
+        }) }
+{
+    let mut after = Sides::empty(alloc)?;
+    put_staying(alloc, Side::Src, known.facts(Side::Src), source, &mut after)?;
+    put_staying(alloc, Side::Tgt, known.facts(Side::Tgt), target, &mut after)?;
+    Ok(after)
+}
+
+/// What is known behind the phis, with the registers that may differ, of sides in which each fact stands once.
+#[tactic(auto, using(crate::proofs::EdgeCrossing::Crossing::not_crossed))]
+fn over<S: FactSet>(
+    alloc: Global,
+    known: &Sides<S>,
+    edge: &Edge<'_, '_>,
+) -> Result<Sides<S>, AddEnd>
+    requires source_once { with_facts known.now.src [] ≡ known.now.src }
+    requires target_once { with_facts known.now.tgt [] ≡ known.now.tgt }
+    ensures ok { IfOk result
+        (λ after. within
+        (over_edge (record { from = edge.now.from.now; source = edge.now.source.now; target = edge.now.target.now }) known.now)
+        ≡ Some (Gives after)) }
+    ensures limit { IfErr result
+        (λ fault. (l : Limit) → fault ≡ add_end.Limit l
+        → (l ≡ Facts)
+        × (within
+        (over_edge (record { from = edge.now.from.now; source = edge.now.source.now; target = edge.now.target.now }) known.now)
+        ≡ None)) }
+{
+    let source = edge.source;
+    let target = edge.target;
+    let gone_source = count_gone(known.facts(Side::Src), source) as u128;
+    let gone_target = count_gone(known.facts(Side::Tgt), target) as u128;
+    let mut after = staying(alloc, known, source, target)?;
+    add_over(alloc, gone_source + gone_target, known, edge, &mut after)?;
+    let diff = diff_over(alloc, known, edge.from, source, target)?;
+    after.set_differing(alloc, diff)?;
+    Ok(after)
+}
+
+/// What is known on an edge, behind the phis of the block that it enters, of what was known at the end of the block that it leaves.
+#[tactic(auto, using(crate::proofs::EdgeCrossing::Crossing::few_over, crate::proofs::EdgeCrossing::Crossing::too_many_over))]
+pub fn after_edge<S: FactSet>(
+    alloc: Global,
+    sides: &Sides<S>,
+    edge: &Edge<'_, '_>,
+) -> Result<Sides<S>, LineEnd>
+    ensures after { IfOk result
+        (λ after. after
+        ≡ after_edge sides.now
+        (record { from = edge.now.from.now; source = edge.now.source.now; target = edge.now.target.now })) }
+    // Where each fact is added, no more are known than the limit allows.
+    ensures few { OnOk result
+        (are_too_many
+        (over_edge (record { from = edge.now.from.now; source = edge.now.source.now; target = edge.now.target.now }) sides.now).sizes
+        ≡ false) }
+    // No edge is refused.
+    ensures refused { IfErr result (λ fault. (r : Reason) → fault ≡ line_end.Refused r → ⊥) }
+    // Somewhere on it more facts would be known.
+    ensures limit { IfErr result
+        (λ fault. (l : Limit) → fault ≡ line_end.Limit l
+        → (l ≡ Facts)
+        × (are_too_many
+        (over_edge (record { from = edge.now.from.now; source = edge.now.source.now; target = edge.now.target.now }) sides.now).sizes
+        ≡ true)) }
+{
+    // Where memory was refused to a fact before, nothing is known of the sides.
+    if !sides.is_whole(Side::Src) || !sides.is_whole(Side::Tgt) {
+        return Err(LineEnd::Memory);
+    }
+    match over(alloc, sides, edge) {
+        Ok(after) => Ok(after),
+        Err(AddEnd::Limit(limit)) => Err(LineEnd::Limit(limit)),
+        Err(AddEnd::Memory) => Err(LineEnd::Memory),
+    }
+}

@@ -1,7 +1,0 @@
-use Rattle.std.proofs.Common.{◌∙◌, ap}
-use Rattle.std.specs.Option.{is_some}
-use Rattle.shape_kinds.proofs.Taken.{there_is}
-use Rattle.shape_kinds.proofs.hashed.Hashed.has.Goals as goal
-
-pub returns : goal.returns
-returns c = c.is_some.ensures ∙ ap is_some c.position.ensures ∙ there_is c.args.name.now c.args.self.now

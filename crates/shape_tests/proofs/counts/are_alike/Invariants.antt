@@ -1,6 +1,0 @@
-use Rattle.std.proofs.Common.{◌≡◌, drop}
-use Rattle.shape_tests.specs.Counted.{alike_along, first_in, none_first}
-use Rattle.shape_tests.proofs.counts.are_alike.Given as goal
-
-abbrev pub invariant-loop-entry : goal.invariant-loop-entry
-invariant-loop-entry l = alike_along (first_in l.firsts) (drop l.entry-index l.entries) ≡ alike_along none_first l.entries

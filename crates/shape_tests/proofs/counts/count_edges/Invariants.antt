@@ -1,7 +1,0 @@
-use Rattle.std.proofs.Common.{◌≡◌, drop}
-use Rattle.shape_tests.specs.Counted.{count_in, counts_of, with_counts}
-use Rattle.shape_tests.specs.Edges.{named}
-use Rattle.shape_tests.proofs.counts.count_edges.Given as goal
-
-abbrev pub invariant-loop-edge : goal.invariant-loop-edge
-invariant-loop-edge l = with_counts (count_in l.counts) (named (drop l.edge-index l.edges)) ≡ counts_of (named l.edges)

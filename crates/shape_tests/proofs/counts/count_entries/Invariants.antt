@@ -1,7 +1,0 @@
-use Rattle.std.proofs.Common.{◌≡◌, drop}
-use Rattle.shape_tests.specs.Counted.{count_in, counts_of, with_counts}
-use Rattle.shape_tests.specs.Kinds.{froms_of}
-use Rattle.shape_tests.proofs.counts.count_entries.Given as goal
-
-abbrev pub invariant-loop-entry : goal.invariant-loop-entry
-invariant-loop-entry l = with_counts (count_in l.counts) (froms_of (drop l.entry-index l.entries)) ≡ counts_of (froms_of l.entries)

@@ -1,7 +1,0 @@
-use Rattle.std.proofs.Common.{◌≡◌, ◌+◌, ◌≤◌, drop}
-use Rattle.shape_tests.specs.Edges.{named}
-use Rattle.shape_tests.specs.Kinds.{count_of}
-use Rattle.shape_tests.proofs.few.edges_from.Given as goal
-
-abbrev pub invariant-loop-edge : goal.invariant-loop-edge
-invariant-loop-edge l = (l.count + count_of l.name (named (drop l.edge-index l.edges)) ≡ count_of l.name (named l.edges)) × (l.count ≤ l.edge-index)

@@ -1,9 +1,0 @@
-use Rattle.std.proofs.Common.{◌≡◌, drop}
-use Rattle.std.specs.List.{list_all}
-use Rattle.shape_tests.specs.Edges.{agrees, named}
-use Rattle.shape_tests.specs.Kinds.{froms_of}
-use Rattle.shape_tests.proofs.few.entries_agree.Given as goal
-
-abbrev pub invariant-loop-entry : goal.invariant-loop-entry
-invariant-loop-entry l =
-    list_all (agrees (named l.edges) (froms_of l.entries)) (froms_of (drop l.entry-index l.entries)) ≡ list_all (agrees (named l.edges) (froms_of l.entries)) (froms_of l.entries)

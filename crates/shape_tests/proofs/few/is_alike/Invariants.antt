@@ -1,7 +1,0 @@
-use Rattle.std.proofs.Common.{◌≡◌, drop}
-use Rattle.std.specs.List.{list_all}
-use Rattle.shape_tests.specs.Edges.{alike_with}
-use Rattle.shape_tests.proofs.few.is_alike.Given as goal
-
-abbrev pub invariant-loop-entry : goal.invariant-loop-entry
-invariant-loop-entry l = list_all (alike_with l.one) (drop l.entry-index l.entries) ≡ list_all (alike_with l.one) l.entries

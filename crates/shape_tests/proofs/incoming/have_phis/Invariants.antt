@@ -1,7 +1,0 @@
-use Rattle.std.proofs.Common.{◌≡◌, drop}
-use Rattle.std.specs.List.{list_any}
-use Rattle.shape_tests.specs.Edges.{has_phis}
-use Rattle.shape_tests.proofs.incoming.have_phis.Given as goal
-
-abbrev pub invariant-loop-block : goal.invariant-loop-block
-invariant-loop-block l = list_any has_phis (drop l.block-index l.blocks) ≡ list_any has_phis l.blocks

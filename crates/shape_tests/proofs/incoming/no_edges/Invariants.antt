@@ -1,6 +1,0 @@
-use Rattle.std.proofs.Common.{◌≡◌, ◌++◌, drop}
-use Rattle.shape_tests.specs.Edges.{no_rows, rows_of}
-use Rattle.shape_tests.proofs.incoming.no_edges.Given as goal
-
-abbrev pub invariant-loop-block : goal.invariant-loop-block
-invariant-loop-block l = rows_of l.into.items ++ no_rows (drop l._block-index l.blocks) ≡ no_rows l.blocks

@@ -1,6 +1,0 @@
-use Rattle.std.proofs.Common.{◌≡◌, drop}
-use Rattle.shape_tests.specs.Kinds.{are_labels, froms_of}
-use Rattle.shape_tests.proofs.names.entries_are_labels.Given as goal
-
-abbrev pub invariant-loop-entry : goal.invariant-loop-entry
-invariant-loop-entry l = are_labels l.labels (froms_of (drop l.entry-index l.entries)) ≡ are_labels l.labels (froms_of l.entries)
