@@ -1,0 +1,40 @@
+use Rattle.std.proofs.Common.{◌≡◌, ◌<◌, ℕ, true, nat_lt, refl}
+use Rattle.std.proofs.lemmas.Bool.{ltb-true}
+use Rattle.derivation_writer.specs.Examples.{NumbersAreWritten}
+use Rattle.predictive.specs.Grammar.{End, Forest, Leaf, Node}
+
+-- a rule's number is one
+is_rule : (p : ℕ) → nat_lt p 280 ≡ true → p < 280
+is_rule p e = ltb-true p 280 e
+
+abbrev type : Forest
+type = Node 74 (Node 75 (Leaf 5 End) (Node 80 (Leaf 17 (Node 79 End End)) End)) End
+
+abbrev items : Forest
+items = Node 1 (Node 3 (Leaf 55 (Leaf 73 (Leaf 65 (Leaf 19 (Node 206 End (Leaf 68 End)))))) (Node 0 End End)) End
+
+pub numbers_are_written : NumbersAreWritten
+numbers_are_written = record {
+  type = (
+    type,
+    (is_rule 74 refl, refl, (is_rule 75 refl, refl, (refl, tt), (is_rule 80 refl, refl, (refl, (is_rule 79 refl, refl, tt, tt)), tt)), tt),
+    refl,
+    refl,
+  );
+  items = (
+    items,
+    (
+      is_rule 1 refl,
+      refl,
+      (
+        is_rule 3 refl,
+        refl,
+        (refl, (refl, (refl, (refl, (is_rule 206 refl, refl, tt, (refl, tt)))))),
+        (is_rule 0 refl, refl, tt, tt),
+      ),
+      tt,
+    ),
+    refl,
+    refl,
+  );
+}

@@ -1,0 +1,64 @@
+-- Marks that are written down, and what a parser's run writes.
+use Rattle.std.proofs.Common.{◌≡◌, ◌∙◌, ◌<◌, ◌+◌, ◌-◌, ℕ, suc, true, false, cond, nat_lt, List, [], ◌∷◌, ◌++◌, map, Option, Some, None, MatchOption, Ok, ap, sym, subst, arith}
+use Rattle.std.proofs.lemmas.Bool.{lt-ltb, le-ltb}
+use Rattle.std.proofs.lemmas.List.{append-nil, map-append}
+use Rattle.derivation_writer.specs.Writing.{IsDerived, begun, reduced, shifted, written_by}
+use Rattle.flat.proofs.Running.{writes}
+use Rattle.flat.specs.Flat as flat
+use Rattle.flat.specs.Flat.{Mark, Written, mark_of}
+use Rattle.module_derivations.specs.Ahead.{chosen, says}
+use Rattle.module_grammar.specs.Tokens.{token_grammar}
+use Rattle.predictive.specs.Grammar.{Forest, Forms, IsFirstFault, after_trees, yield}
+use Rattle.predictive.specs.declared.symbol.Symbol.TheVariants.{Non}
+
+-- a rule's number, and a token's
+rule_number : (p : ℕ) → p < 65536 → mark_of p ≡ flat.Rule p
+rule_number p h =
+    let below : nat_lt p 2147483648 ≡ true = lt-ltb p 2147483648 (omega (arith, h)) in
+    ap (λ b. cond b (flat.Rule p) (flat.Token (p - 2147483648))) below
+
+token_number : (i : ℕ) → mark_of (2147483648 + i) ≡ flat.Token i
+token_number i =
+    let above : nat_lt (2147483648 + i) 2147483648 ≡ false = le-ltb (2147483648 + i) 2147483648 (omega arith) in
+    let back : 2147483648 + i - 2147483648 ≡ i = omega arith in
+    ap (λ b. cond b (flat.Rule (2147483648 + i)) (flat.Token (2147483648 + i - 2147483648))) above ∙ ap (λ j. flat.Token j) back
+
+pub one_rule : (place : ℕ) (numbers : List ℕ) (p : ℕ) → p < 65536 → chosen p ≡ true → written_by place (numbers ++ (p ∷ [])) ≡ begun (written_by place numbers) p
+one_rule place numbers p h is =
+    ap (λ ms. record { place = place; marks = ms }) (map-append mark_of numbers (p ∷ []))
+    ∙ ap (λ m. record { place = place; marks = map mark_of numbers ++ (m ∷ []) }) (rule_number p h)
+    ∙ ap (λ b. record { place = place; marks = map mark_of numbers ++ cond b (flat.Rule p ∷ []) [] }) (sym is)
+
+pub one_token : (place : ℕ) (numbers : List ℕ) (k : ℕ) → k < 23 → written_by (place + 1) (numbers ++ ((2147483648 + place) ∷ [])) ≡ shifted (written_by place numbers) k
+one_token place numbers k h =
+    let below : nat_lt k 23 ≡ true = lt-ltb k 23 h in
+    let next : place + 1 ≡ suc place = omega arith in
+    ap (λ i. written_by i (numbers ++ ((2147483648 + place) ∷ []))) next
+    ∙ ap (λ ms. record { place = suc place; marks = ms }) (map-append mark_of numbers ((2147483648 + place) ∷ []))
+    ∙ ap (λ m. record { place = suc place; marks = map mark_of numbers ++ (m ∷ []) }) (token_number place)
+    ∙ ap (λ b. record { place = suc place; marks = map mark_of numbers ++ cond b (flat.Token place ∷ []) [] }) (sym below)
+
+pub no_token : (place : ℕ) (numbers : List ℕ) (k : ℕ) → (k < 23 → ⊥) → written_by (place + 1) numbers ≡ shifted (written_by place numbers) k
+no_token place numbers k h =
+    let above : nat_lt k 23 ≡ false = le-ltb k 23 (grind arith) in
+    let next : place + 1 ≡ suc place = omega arith in
+    ap (λ i. written_by i numbers) next
+    ∙ ap (λ ms. record { place = suc place; marks = ms }) (sym (append-nil (map mark_of numbers)))
+    ∙ ap (λ b. record { place = suc place; marks = map mark_of numbers ++ cond b (flat.Token place ∷ []) [] }) (sym above)
+
+-- a parser's answer
+abbrev pub Answer : ℕ → Written → Written → List ℕ → Option ℕ → Type 0
+Answer n first w kinds fault = MatchOption fault
+    ((f : Forest) × Forms token_grammar f (Non n ∷ []) × (yield f ≡ kinds) × (w ≡ after_trees begun shifted reduced f first))
+    (λ place. IsFirstFault token_grammar (Non n ∷ []) kinds place)
+
+pub none_derived : (n : ℕ) (first w : Written) (kinds : List ℕ) (fault : Option ℕ) (place : ℕ) → fault ≡ Some place → Answer n first w kinds fault → IsFirstFault token_grammar (Non n ∷ []) kinds place
+none_derived n first w kinds fault place is answer = subst (λ o. Answer n first w kinds o) is answer
+
+pub derived :
+    (n : ℕ) (first w : Written) (kinds : List ℕ) (fault : Option ℕ) → first ≡ written_by 0 [] → fault ≡ None → Answer n first w kinds fault
+    → (numbers : List ℕ) → ((place : ℕ) × (w ≡ written_by place numbers)) → IsDerived n kinds (Ok numbers)
+derived n first w kinds fault begins is answer numbers written =
+    let a : Answer n first w kinds None = subst (λ o. Answer n first w kinds o) is answer in
+    let ends : w ≡ after_trees begun shifted reduced a.0 (written_by 0 []) = a.3 ∙ ap (λ (v : Written). after_trees begun shifted reduced a.0 v) begins in
+    (a.0, a.1, a.2, ap (λ (v : Written). v.marks) (sym written.1 ∙ ends ∙ writes chosen says a.0 0 []))

@@ -1,0 +1,4 @@
+pub mod Examples
+pub mod Meant
+pub mod Unmarked
+pub mod Writing

@@ -1,0 +1,14 @@
+pub mod Ahead
+pub mod Attributes
+pub mod Blocks
+pub mod Constants
+pub mod Derivations
+pub mod Empty
+pub mod Examples
+pub mod Functions
+pub mod Items
+pub mod Lines
+pub mod Named
+pub mod Parts
+pub mod Said
+pub mod Types

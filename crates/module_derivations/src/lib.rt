@@ -1,0 +1,12 @@
+//! Flat derivations of the grammar of modules, and what stands ahead in them.
+//!
+//! A derivation is a list of marks. What they make is a list of parts (`specs/Parts.antt`), a record each with a field for each nonterminal that
+//! has more than one rule; `NAME_by` says what each of its rules makes of the parts behind its beginning, and `NAME` of the parts in front what
+//! a nonterminal of one rule is, which isn't written down.
+#![tactic(auto)]
+
+mod laws;
+pub mod rule;
+pub mod start;
+
+pub use laws::{derivations_mean, examples_of_derivations, rules_are_named, rules_are_seen};
