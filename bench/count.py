@@ -182,7 +182,7 @@ EMPTY = {"steps": steps(0), "blocks": blocks(0)}
 
 
 # The crates that ask whether a module is well-formed.
-JUDGES = {"whole_functions", "ir_shape", "line_shapes", "whole_shapes", "shape_tests", "definedness", "name_index", "flow_solver"}
+JUDGES = {"whole_functions", "ir_shape", "whole_shapes", "definedness", "flow_solver"}
 # The crates that read the whole grammar, any of whose functions may have been inlined into their callers.
 READERS = {"module_reader", "ir_lexer", "module_tokens", "token_context", "module_trees", "module_surroundings", "module_grammar"}
 
@@ -224,7 +224,7 @@ def whole(path):
 
 
 def printing(path):
-    return in_calls(path, lambda caller: caller == "crell_program", lambda callee: callee in {"ir_printer", "expression_printer"})
+    return in_calls(path, lambda caller: caller == "crell_program", lambda callee: callee == "ir_printer")
 
 
 PARTS = {"judging": judging, "reading": reading, "whole": whole, "printing": printing}
