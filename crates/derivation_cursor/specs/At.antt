@@ -1,12 +1,13 @@
 -- Where a walk stands in a derivation, and how it goes on.
 use Rattle.std.specs.Prelude.{◌≡◌, ◌≤◌, ◌<◌, ℕ, List, [], ◌∷◌, length, map, Option, Some, None}
 use Rattle.derivation_cursor.specs.declared.cursor.Cursor.{Cursor}
+use Rattle.ir_lexer.specs.declared.token.Token.{Token}
 use Rattle.flat.specs.Flat.{Mark, behind, mark_of, skip}
 use Rattle.module_derivations.specs.Ahead.{ahead, arity, made_by}
-use Rattle.module_derivations.specs.Empty.{made}
+use Rattle.module_derivations.specs.Empty.{made, said}
 use Rattle.module_derivations.specs.Parts.{Part}
 use Rattle.module_grammar.specs.Spelled.{symbol_in}
-use Rattle.module_grammar.specs.Symbols.{Symbol}
+use Rattle.module_grammar.specs.Symbols.{Symbol, foreign}
 
 abbrev pub symbols_of : Cursor → List Symbol
 symbols_of c = map (symbol_in c.language c.text.now) c.tokens.now
@@ -52,3 +53,19 @@ pub record Closes (rule : Option ℕ) (old new : Cursor) : Type 0 where
   pub same : SameText old new
   pub behind : ahead_of new ≡ passed rule (ahead_of old)
   pub shorter : length new.numbers.now ≤ length old.numbers.now
+
+-- so many parts are passed
+pub record PassesAll (count : ℕ) (old new : Cursor) : Type 0 where
+  pub same : SameText old new
+  pub behind : ahead_of new ≡ skip count (ahead_of old)
+  pub shorter : length new.numbers.now ≤ length old.numbers.now
+
+-- what a token says, or none does
+abbrev pub symbol_by : Cursor → Option Token → Symbol
+symbol_by c None = foreign
+symbol_by c (Some t) = symbol_in c.language c.text.now t
+
+-- the token in front is taken; what is no token says nothing, and is passed
+pub record Takes (token : Option Token) (old new : Cursor) : Type 0 where
+  pub said : said (ahead_of old) ≡ symbol_by old token
+  pub passes : Passes old new

@@ -1,5 +1,6 @@
 ghost use Rattle.std.specs.Prelude.{◌≡◌, ◌∷◌, ℕ, [], get_or, MatchOption};
-ghost use Rattle.derivation_cursor.specs.At.{Closes, Opens, SameText};
+ghost use Rattle.std.specs.List.{slice_get};
+ghost use Rattle.derivation_cursor.specs.At.{Closes, Opens, SameText, Takes};
 ghost use Rattle.flat.specs.Flat.{mark_of};
 ghost use Rattle.module_derivations.specs.Ahead as see;
 
@@ -48,6 +49,16 @@ fn number_at(numbers: &[u8], at: usize) -> u8
     match numbers.get(at) {
         Some(number) => *number,
         None => 0,
+    }
+}
+
+/// The token at a place, if there is one.
+fn token_at(tokens: &[Token], at: usize) -> Option<Token>
+    ensures { result ≡ slice_get tokens.now at }
+{
+    match tokens.get(at) {
+        Some(token) => Some(*token),
+        None => None,
     }
 }
 
@@ -106,6 +117,24 @@ impl<'a> Cursor<'a> {
                     } else {
                         left -= 1;
                     }
+                }
+            }
+        }
+    }
+
+    /// The token in front, if one stands there; what is none is passed.
+    #[tactic(auto, using(crate::proofs::Steps::takes_nothing))]
+    pub(crate) fn token(&mut self) -> Option<Token>
+        ensures { Takes result self.old self.new }
+    {
+        match self.step() {
+            None => None,
+            Some(number) => {
+                if number < FIRST_TOKEN {
+                    self.pass(Some(number));
+                    None
+                } else {
+                    token_at(self.tokens, (number - FIRST_TOKEN) as usize)
                 }
             }
         }

@@ -1,3 +1,7 @@
 pub mod Examples
+pub mod Limits
 pub mod Meant
-pub mod Steps
+mod Derived
+mod Kept
+mod Starts
+mod Steps

@@ -8,7 +8,7 @@ use Rattle.module_grammar.specs.Sorts.{Sort}
 
 by_trees : (n : ℕ) (x : Sort) → trees.AreMeant n x → AreMeant n x
 by_trees n x mean symbols numbers derived =
-    subst (λ ms. Means x symbols ms) (sym derived.3) (mean derived.0 symbols derived.1 derived.2)
+    subst (λ ms. Means x symbols ms) (sym derived.4) (mean derived.0 symbols derived.1 derived.2)
 
 pub numbers_mean : NumbersMean
 numbers_mean = record {
@@ -17,4 +17,6 @@ numbers_mean = record {
   expressions = by_trees _ _ derivations_mean.expressions;
   locals = by_trees _ _ derivations_mean.locals;
   globals = by_trees _ _ derivations_mean.globals;
+  called = by_trees _ _ derivations_mean.called;
+  declared = by_trees _ _ derivations_mean.declared;
 }

@@ -1,15 +1,11 @@
--- Marks that are written down, and what a parser's run writes.
-use Rattle.std.proofs.Common.{◌≡◌, ◌∙◌, ◌<◌, ◌+◌, ◌-◌, ℕ, suc, true, false, cond, nat_lt, List, [], ◌∷◌, ◌++◌, map, Option, Some, None, MatchOption, Ok, ap, sym, subst, arith}
+-- Marks that are written down.
+use Rattle.std.proofs.Common.{◌≡◌, ◌∙◌, ◌<◌, ◌+◌, ◌-◌, ℕ, suc, true, false, cond, nat_lt, List, [], ◌∷◌, ◌++◌, map, ap, sym, arith}
 use Rattle.std.proofs.lemmas.Bool.{lt-ltb, le-ltb}
 use Rattle.std.proofs.lemmas.List.{append-nil, map-append}
-use Rattle.derivation_writer.specs.Writing.{IsDerived, begun, reduced, shifted, written_by}
-use Rattle.flat.proofs.Running.{writes}
+use Rattle.derivation_writer.specs.Writing.{begun, shifted, written_by}
 use Rattle.flat.specs.Flat as flat
-use Rattle.flat.specs.Flat.{Mark, Written, mark_of}
-use Rattle.module_derivations.specs.Ahead.{chosen, says}
-use Rattle.module_grammar.specs.Tokens.{token_grammar}
-use Rattle.predictive.specs.Grammar.{Forest, Forms, IsFirstFault, after_trees, yield}
-use Rattle.predictive.specs.declared.symbol.Symbol.TheVariants.{Non}
+use Rattle.flat.specs.Flat.{Mark, mark_of}
+use Rattle.module_derivations.specs.Ahead.{chosen}
 
 -- a rule's number, and a token's
 rule_number : (p : ℕ) → p < 65536 → mark_of p ≡ flat.Rule p
@@ -45,20 +41,3 @@ no_token place numbers k h =
     ap (λ i. written_by i numbers) next
     ∙ ap (λ ms. record { place = suc place; marks = ms }) (sym (append-nil (map mark_of numbers)))
     ∙ ap (λ b. record { place = suc place; marks = map mark_of numbers ++ cond b (flat.Token place ∷ []) [] }) (sym above)
-
--- a parser's answer
-abbrev pub Answer : ℕ → Written → Written → List ℕ → Option ℕ → Type 0
-Answer n first w kinds fault = MatchOption fault
-    ((f : Forest) × Forms token_grammar f (Non n ∷ []) × (yield f ≡ kinds) × (w ≡ after_trees begun shifted reduced f first))
-    (λ place. IsFirstFault token_grammar (Non n ∷ []) kinds place)
-
-pub none_derived : (n : ℕ) (first w : Written) (kinds : List ℕ) (fault : Option ℕ) (place : ℕ) → fault ≡ Some place → Answer n first w kinds fault → IsFirstFault token_grammar (Non n ∷ []) kinds place
-none_derived n first w kinds fault place is answer = subst (λ o. Answer n first w kinds o) is answer
-
-pub derived :
-    (n : ℕ) (first w : Written) (kinds : List ℕ) (fault : Option ℕ) → first ≡ written_by 0 [] → fault ≡ None → Answer n first w kinds fault
-    → (numbers : List ℕ) → ((place : ℕ) × (w ≡ written_by place numbers)) → IsDerived n kinds (Ok numbers)
-derived n first w kinds fault begins is answer numbers written =
-    let a : Answer n first w kinds None = subst (λ o. Answer n first w kinds o) is answer in
-    let ends : w ≡ after_trees begun shifted reduced a.0 (written_by 0 []) = a.3 ∙ ap (λ (v : Written). after_trees begun shifted reduced a.0 v) begins in
-    (a.0, a.1, a.2, ap (λ (v : Written). v.marks) (sym written.1 ∙ ends ∙ writes chosen says a.0 0 []))

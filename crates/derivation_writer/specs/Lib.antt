@@ -1,4 +1,5 @@
 pub mod Examples
 pub mod Meant
 pub mod Unmarked
+pub mod Watching
 pub mod Writing

@@ -4,7 +4,7 @@ use Rattle.derivation_writer.specs.Writing.{IsDerived}
 use Rattle.flat.specs.Flat.{mark_of}
 use Rattle.module_derivations.specs.Derivations.{Means}
 use Rattle.module_derivations.specs.declared.start.TheConstants as start
-use Rattle.module_grammar.specs.Sorts.{AnyType, Expr, GlobalName, LocalName, Module, Sort}
+use Rattle.module_grammar.specs.Sorts.{AnyType, Called, DeclaredParams, Expr, GlobalName, LocalName, Module, Sort}
 use Rattle.module_grammar.specs.Symbols.{Symbol, kind_of}
 
 abbrev pub AreMeant : ℕ → Sort → Type 0
@@ -16,3 +16,5 @@ pub record NumbersMean : Type 0 where
   pub expressions : AreMeant start.EXPRESSION Expr
   pub locals : AreMeant start.LOCAL_NAME LocalName
   pub globals : AreMeant start.GLOBAL_NAME GlobalName
+  pub called : AreMeant start.CALLED Called
+  pub declared : AreMeant start.DECLARED_PARAMS DeclaredParams

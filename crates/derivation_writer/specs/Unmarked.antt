@@ -1,10 +1,11 @@
-use Rattle.std.proofs.Common.{◌≡◌, ℕ, refl}
-use Rattle.derivation_writer.specs.Writing as meaning
-use Rattle.derivation_writer.specs.Writing.{no_mark}
-use Rattle.flat.specs.Flat.{Written}
+-- Rules leave the mark of a watch as it is.
+use Rattle.std.proofs.Common.{◌≡◌, ℕ}
+use Rattle.derivation_writer.specs.Watching as watching
+use Rattle.derivation_writer.specs.declared.reading.Reading.{Reading}
+use Rattle.token_limits.specs.Watched as watched
 
-pub begun : (w : Written) (rule : ℕ) → no_mark (meaning.begun w rule) ≡ no_mark w
-begun w rule = refl
+pub begun : (s : Reading) (rule : ℕ) → (watching.begun s rule).watch.mark ≡ s.watch.mark
+begun s rule = watched.begun_unmarked s.watch rule
 
-pub reduced : (w : Written) (rule : ℕ) → no_mark (meaning.reduced w rule) ≡ no_mark w
-reduced w rule = refl
+pub reduced : (s : Reading) (rule : ℕ) → (watching.reduced s rule).watch.mark ≡ s.watch.mark
+reduced s rule = watched.reduced_unmarked s.watch rule

@@ -1,10 +1,9 @@
-ghost use Rattle.std.specs.Prelude.{◌≡◌, ℕ, []};
-ghost use Rattle.derivation_writer.specs.Writing.{written_by};
+ghost use Rattle.std.specs.Prelude.{◌≡◌, ℕ, [], OnOk};
+ghost use Rattle.derivation_writer.specs.Writing.{begun, shifted, written_by};
 ghost use Rattle.module_derivations.specs.Ahead.{chosen};
 
 use contents::Seq;
 use module_derivations::rule;
-use predictive::Action;
 use std::alloc::{AllocError, Global};
 use std::marker::Model;
 
@@ -38,7 +37,7 @@ fn is_chosen(number: u32) -> bool
     )
 }
 
-/// What a parser writes down of a text: the place of the next token, and the marks.
+/// What is written down of a text: the place of the next token, and the marks.
 #[derive(Drop)]
 pub(crate) struct Writer {
     place: u32,
@@ -74,35 +73,13 @@ impl Writer {
         let Writer { place: _, numbers } = self;
         numbers
     }
-}
 
-impl Action for Writer {
-    ghost use Rattle.derivation_writer.specs.Writing as meaning;
-    ghost use Rattle.derivation_writer.specs.Unmarked as unmarked;
-    ghost use Rattle.module_grammar.specs.Sets as sets_of_tokens;
-    ghost use Rattle.module_grammar.specs.Tokens as tokens;
-
-    type State = Writer;
-
-    ghost state = { λ it. it };
-
-    type Mark = ();
-
-    ghost mark = { meaning.no_mark };
-
-    ghost begun = { meaning.begun };
-
-    ghost shifted = { meaning.shifted };
-
-    ghost reduced = { meaning.reduced };
-
-    ghost chosen = { sets_of_tokens.sets.table };
-
-    ghost sides = { tokens.token_grammar.right };
-
+    /// Writes down that a rule begins.
     #[inline(always)]
     #[tactic(auto, using(crate::proofs::Steps::one_rule))]
-    fn begin(&mut self, _alloc: Global, number: u16) -> Result<(), AllocError> {
+    pub(crate) fn begin(&mut self, number: u16) -> Result<(), AllocError>
+        ensures { OnOk result (self.new ≡ begun self.old number) }
+    {
         let number = u32::from(number);
         if is_chosen(number) {
             self.numbers.push(number)?;
@@ -111,9 +88,12 @@ impl Action for Writer {
         Ok(())
     }
 
+    /// Writes down the next token.
     #[inline(always)]
     #[tactic(auto, using(crate::proofs::Steps::one_token, crate::proofs::Steps::no_token))]
-    fn shift(&mut self, _alloc: Global, kind: u8) -> Result<(), AllocError> {
+    pub(crate) fn shift(&mut self, kind: u8) -> Result<(), AllocError>
+        ensures { OnOk result (self.new ≡ shifted self.old kind) }
+    {
         let place = self.place;
         if place >= FIRST_TOKEN {
             return Err(AllocError);
@@ -126,18 +106,4 @@ impl Action for Writer {
         self.place = place + 1;
         Ok(())
     }
-
-    #[inline(always)]
-    fn reduce(&mut self, _alloc: Global, _rule: u16) -> Result<(), AllocError> {
-        Ok(())
-    }
-
-    #[inline(always)]
-    fn jump(&mut self, _alloc: Global, _non: u8, _kinds: &[u8]) -> Result<usize, AllocError> {
-        Ok(0)
-    }
-
-    ghost begun_unmarked = { unmarked.begun };
-
-    ghost reduced_unmarked = { unmarked.reduced };
 }

@@ -1,12 +1,11 @@
--- Words of private functions: what a run of the parser leaves on the stack.
-use Rattle.std.specs.Prelude.{◌≡◌, ◌<◌, ℕ, List, [], ◌∷◌, Option, None, Some, Result, Ok, Err}
-use Rattle.ir_core.specs.declared.limits.Limit.{Limit}
+-- Words of private functions: what a run of the parser writes down.
+use Rattle.std.specs.Prelude.{◌≡◌, ◌<◌, ℕ, List, Result, Ok, Err}
+use Rattle.derivation_writer.specs.Writing.{IsDerived}
+use Rattle.derivation_writer.specs.declared.stop.Stop.{Stop}
+use Rattle.derivation_writer.specs.declared.stop.Stop.TheVariants as stop
 use Rattle.module_grammar.specs.Sets.{sets}
-use Rattle.module_grammar.specs.Sorts.{Holds, sort, vocabulary}
-use Rattle.module_grammar.specs.Symbols.{Symbol}
 use Rattle.module_grammar.specs.Tokens.{gap}
-use Rattle.module_grammar.specs.declared.parts.Part.{Part}
-use Rattle.module_trees.specs.Reading.{IsReadAs, IsReading}
+use Rattle.module_spelling.specs.Faults.{IsStuck, PassesLimit}
 use Rattle.module_trees.specs.declared.unread.Unread.{Unread}
 use Rattle.module_trees.specs.declared.unread.Unread.TheVariants as unread
 use Rattle.predictive.specs.Predictive.{MayEnd}
@@ -18,13 +17,12 @@ pub record IsStart (n : ℕ) : Type 0 where
   pub ends : MayEnd sets n
   pub other : n ≡ base_number → ⊥
 
--- one thing stands on the stack, as which the symbols are read; or why they aren't
-abbrev pub IsRun : ℕ → List Symbol → Result (List Part) Unread → Type 0
-IsRun n symbols (Ok parts) = (v : Holds (sort n)) × (parts ≡ vocabulary.part n v ∷ []) × IsReadAs (sort n) n symbols v
-IsRun n symbols (Err unread) = IsReading (sort n) n symbols (Err unread)
+abbrev pub unread_by : Stop → Unread
+unread_by (stop.Stuck k) = unread.Stuck k
+unread_by (stop.Limit l) = unread.Limit l
 
--- why tokens are no tree, by the limit that one passes and the first fault
-abbrev pub unread_by : Option Limit → Option ℕ → Option Unread
-unread_by (Some l) fault = Some (unread.Limit l)
-unread_by None (Some place) = Some (unread.Stuck place)
-unread_by None None = None
+-- the numbers of the derivation of tokens of these kinds, or why they are no tree
+abbrev pub IsRun : ℕ → List ℕ → Result (List ℕ) Unread → Type 0
+IsRun n kinds (Ok numbers) = IsDerived n kinds (Ok numbers)
+IsRun n kinds (Err (unread.Stuck k)) = IsStuck n kinds k
+IsRun n kinds (Err (unread.Limit l)) = (k : ℕ) × PassesLimit n kinds k l

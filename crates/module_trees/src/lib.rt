@@ -1,11 +1,8 @@
-//! Tokens of textual LLVM IR (LangRef 3.7) read as trees of the whole grammar, by a predictive parser within the limits on depths and lines.
+//! Tokens of textual LLVM IR (LangRef 3.7) read as trees of the whole grammar, within the limits on depths and lines: a predictive parser writes
+//! down their derivation, and a walk reads the tree off it.
 #![tactic(auto)]
 
-mod acts;
-mod aligned;
-mod operands;
 mod reader;
-mod straight;
 mod unread;
 
 pub use reader::{

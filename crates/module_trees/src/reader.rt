@@ -1,4 +1,7 @@
 ghost use Rattle.std.specs.Prelude.{◌≡◌, IfOk, map};
+ghost use Rattle.derivation_cursor.specs.At.{ahead_of};
+ghost use Rattle.flat.specs.Flat.{mark_of};
+ghost use Rattle.module_derivations.specs.Ahead.{ahead};
 ghost use Rattle.module_grammar.specs.Sorts as sort;
 ghost use Rattle.module_grammar.specs.Spelled.{symbol_in};
 ghost use Rattle.module_grammar.specs.declared.words.Language.TheVariants.{Ir, Logic};
@@ -6,49 +9,53 @@ ghost use Rattle.module_spelling.specs.Context.{AreKinds, all_seen};
 ghost use Rattle.module_trees.specs.Reading.{IsReading};
 ghost use Rattle.module_trees.specs.Runs.{IsRun, IsStart, unread_by};
 
-use crate::acts::Reading;
 use crate::unread::Unread;
-use ir_core::{Limit, Name};
+use contents::Seq;
+use derivation_cursor::Cursor;
+use derivation_writer::{Stop, derivation_of};
+use ir_core::Name;
 use ir_lexer::Token;
+use module_derivations::start;
 use module_grammar::{
-    CalledText, DeclaredText, ExprText, GlobalNameText, Language, ModuleText, Part, Placed,
-    TypeText,
+    CalledText, DeclaredText, ExprText, GlobalNameText, Language, ModuleText, Placed, TypeText,
 };
-use module_tables::TokenGrammar;
-use predictive::{Stack, parse};
 use std::alloc::{AllocError, Global};
-use tree_acts::{
-    take_called, take_declared, take_expr, take_global, take_local, take_module, take_type,
-};
 
-/// Why tokens are no tree, by the limit that one passes and the first fault.
-fn unread_by(limit: Option<Limit>, fault: Option<usize>) -> Option<Unread>
-    ensures { result ≡ unread_by limit fault }
+/// Why tokens are no tree, by why they have no derivation.
+fn unread_by(stop: Stop) -> Unread
+    ensures { result ≡ unread_by stop }
 {
-    match limit {
-        Some(limit) => Some(Unread::Limit(limit)),
-        None => Some(Unread::Stuck(fault?)),
+    match stop {
+        Stop::Stuck(place) => Unread::Stuck(place),
+        Stop::Limit(limit) => Unread::Limit(limit),
     }
 }
 
-/// What is on the stack after the tokens, of these kinds where they stand, are read as a nonterminal, or why they aren't of it.
-fn run(
-    alloc: Global,
-    language: Language,
-    text: &[u8],
-    tokens: &[Token],
-    kinds: &[u8],
-    start: u8,
-) -> Result<Result<Stack<Part>, Unread>, AllocError>
-    requires start { IsStart start }
-    requires kinds { AreKinds (map (symbol_in language text.now) tokens.now) kinds.now }
-    ensures { IfOk result (λ run. IsRun start (all_seen (map (symbol_in language text.now) tokens.now) kinds.now) run) }
+/// The derivation of tokens of these kinds from a nonterminal, or why they aren't of it.
+fn run(alloc: Global, kinds: &[u8], start: u8) -> Result<Result<Seq<u32>, Unread>, AllocError>
+    requires { IsStart start }
+    ensures { IfOk result (λ run. IsRun start kinds.now run) }
 {
-    let mut reading = Reading::new(alloc, language, text, tokens, kinds);
-    let fault = parse(alloc, &TokenGrammar, &mut reading, start, kinds)?;
-    match unread_by(reading.limit(), fault) {
-        Some(unread) => Ok(Err(unread)),
-        None => Ok(Ok(reading.into_parts())),
+    match derivation_of(alloc, start, kinds)? {
+        Err(stop) => Ok(Err(unread_by(stop))),
+        Ok(numbers) => Ok(Ok(numbers)),
+    }
+}
+
+/// A walk that stands at the head of a derivation.
+fn walk<'a>(
+    language: Language,
+    text: &'a [u8],
+    tokens: &'a [Token],
+    numbers: &'a Seq<u32>,
+) -> Cursor<'a>
+    ensures { ahead_of result ≡ ahead (map (symbol_in language text.now) tokens.now) (map mark_of numbers.now) }
+{
+    Cursor {
+        language,
+        text,
+        tokens,
+        numbers: numbers.as_slice(),
     }
 }
 
@@ -62,12 +69,12 @@ pub fn read_module(
     requires { AreKinds (map (symbol_in Ir text.now) tokens.now) kinds.now }
     ensures { IfOk result (λ read. IsReading sort.Module 0 (all_seen (map (symbol_in Ir text.now) tokens.now) kinds.now) read) }
 {
-    match run(alloc, Language::Ir, text, tokens, kinds, 0)? {
+    match run(alloc, kinds, start::MODULE)? {
         Err(unread) => Ok(Err(unread)),
-        Ok(mut parts) => match take_module(&mut parts) {
-            Some(module) => Ok(Ok(module)),
-            None => unreachable!(),
-        },
+        Ok(numbers) => {
+            let mut cursor = walk(Language::Ir, text, tokens, &numbers);
+            Ok(Ok(derived_trees::read_whole(alloc, &mut cursor)?))
+        }
     }
 }
 
@@ -81,12 +88,12 @@ pub fn read_called(
     requires { AreKinds (map (symbol_in Ir text.now) tokens.now) kinds.now }
     ensures { IfOk result (λ read. IsReading sort.Called 38 (all_seen (map (symbol_in Ir text.now) tokens.now) kinds.now) read) }
 {
-    match run(alloc, Language::Ir, text, tokens, kinds, 38)? {
+    match run(alloc, kinds, start::CALLED)? {
         Err(unread) => Ok(Err(unread)),
-        Ok(mut parts) => match take_called(&mut parts) {
-            Some(types) => Ok(Ok(types)),
-            None => unreachable!(),
-        },
+        Ok(numbers) => {
+            let mut cursor = walk(Language::Ir, text, tokens, &numbers);
+            Ok(Ok(derived_trees::read_called(alloc, &mut cursor)?))
+        }
     }
 }
 
@@ -100,12 +107,12 @@ pub fn read_declared(
     requires { AreKinds (map (symbol_in Ir text.now) tokens.now) kinds.now }
     ensures { IfOk result (λ read. IsReading sort.DeclaredParams 7 (all_seen (map (symbol_in Ir text.now) tokens.now) kinds.now) read) }
 {
-    match run(alloc, Language::Ir, text, tokens, kinds, 7)? {
+    match run(alloc, kinds, start::DECLARED_PARAMS)? {
         Err(unread) => Ok(Err(unread)),
-        Ok(mut parts) => match take_declared(&mut parts) {
-            Some(params) => Ok(Ok(params)),
-            None => unreachable!(),
-        },
+        Ok(numbers) => {
+            let mut cursor = walk(Language::Ir, text, tokens, &numbers);
+            Ok(Ok(derived_trees::read_declared_params(alloc, &mut cursor)?))
+        }
     }
 }
 
@@ -119,12 +126,12 @@ pub fn read_type(
     requires { AreKinds (map (symbol_in Ir text.now) tokens.now) kinds.now }
     ensures { IfOk result (λ read. IsReading sort.AnyType 33 (all_seen (map (symbol_in Ir text.now) tokens.now) kinds.now) read) }
 {
-    match run(alloc, Language::Ir, text, tokens, kinds, 33)? {
+    match run(alloc, kinds, start::TYPE)? {
         Err(unread) => Ok(Err(unread)),
-        Ok(mut parts) => match take_type(&mut parts) {
-            Some(ty) => Ok(Ok(ty)),
-            None => unreachable!(),
-        },
+        Ok(numbers) => {
+            let mut cursor = walk(Language::Ir, text, tokens, &numbers);
+            Ok(Ok(derived_trees::read_any_type(alloc, &mut cursor)?))
+        }
     }
 }
 
@@ -138,12 +145,12 @@ pub fn read_local(
     requires { AreKinds (map (symbol_in Ir text.now) tokens.now) kinds.now }
     ensures { IfOk result (λ read. IsReading sort.LocalName 76 (all_seen (map (symbol_in Ir text.now) tokens.now) kinds.now) read) }
 {
-    match run(alloc, Language::Ir, text, tokens, kinds, 76)? {
+    match run(alloc, kinds, start::LOCAL_NAME)? {
         Err(unread) => Ok(Err(unread)),
-        Ok(mut parts) => match take_local(&mut parts) {
-            Some(name) => Ok(Ok(name)),
-            None => unreachable!(),
-        },
+        Ok(numbers) => {
+            let mut cursor = walk(Language::Ir, text, tokens, &numbers);
+            Ok(Ok(derived_trees::read_local_name(alloc, &mut cursor)?))
+        }
     }
 }
 
@@ -157,12 +164,12 @@ pub fn read_global(
     requires { AreKinds (map (symbol_in Ir text.now) tokens.now) kinds.now }
     ensures { IfOk result (λ read. IsReading sort.GlobalName 42 (all_seen (map (symbol_in Ir text.now) tokens.now) kinds.now) read) }
 {
-    match run(alloc, Language::Ir, text, tokens, kinds, 42)? {
+    match run(alloc, kinds, start::GLOBAL_NAME)? {
         Err(unread) => Ok(Err(unread)),
-        Ok(mut parts) => match take_global(&mut parts) {
-            Some(name) => Ok(Ok(name)),
-            None => unreachable!(),
-        },
+        Ok(numbers) => {
+            let mut cursor = walk(Language::Ir, text, tokens, &numbers);
+            Ok(Ok(derived_trees::read_global_name(alloc, &mut cursor)?))
+        }
     }
 }
 
@@ -176,11 +183,11 @@ pub fn read_expression(
     requires { AreKinds (map (symbol_in Logic text.now) tokens.now) kinds.now }
     ensures { IfOk result (λ read. IsReading sort.Expr 74 (all_seen (map (symbol_in Logic text.now) tokens.now) kinds.now) read) }
 {
-    match run(alloc, Language::Logic, text, tokens, kinds, 74)? {
+    match run(alloc, kinds, start::EXPRESSION)? {
         Err(unread) => Ok(Err(unread)),
-        Ok(mut parts) => match take_expr(&mut parts) {
-            Some(expression) => Ok(Ok(expression)),
-            None => unreachable!(),
-        },
+        Ok(numbers) => {
+            let mut cursor = walk(Language::Logic, text, tokens, &numbers);
+            Ok(Ok(derived_trees::read_expr(alloc, &mut cursor)?))
+        }
     }
 }

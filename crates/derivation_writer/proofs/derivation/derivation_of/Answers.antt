@@ -1,11 +1,15 @@
-use Rattle.derivation_writer.proofs.Steps.{derived, none_derived}
+use Rattle.derivation_writer.proofs.Derived.{derived, run_said, stopped}
 use Rattle.derivation_writer.proofs.derivation.derivation_of.Goals as goal
 
 pub returns-in-Some : goal.returns-in-Some
 returns-in-Some c =
-    none_derived c.args.start c.new-writer.result c.parse.new.actions c.args.kinds.now c.in_ok-place.field-0 c.in-Some.place c.in-Some.is c.in_ok-place.ensures.answer
+    stopped c.args.start c.args.kinds.now _ c.stop_by.result c.in-Some.stop c.in-Some.is
+    (run_said c.args.start c.requires.may_end c.requires.other c.args.kinds.now c.new-reading.result c.parse.new.actions c.new-reading.ensures
+    c.limit.result c.limit.ensures c.in_ok-fault.fault c.in_ok-fault.ensures.answer c.in_ok-fault.ensures.mark c.stop_by.result c.stop_by.ensures)
 
 pub returns-in-None : goal.returns-in-None
 returns-in-None c =
-    derived c.args.start c.new-writer.result c.parse.new.actions c.args.kinds.now c.in_ok-place.field-0 c.new-writer.ensures c.in-None.is
-    c.in_ok-place.ensures.answer c.into_numbers.result c.into_numbers.ensures
+    derived c.args.start c.args.kinds.now c.parse.new.actions.writer _ c.stop_by.result c.in-None.is
+    (run_said c.args.start c.requires.may_end c.requires.other c.args.kinds.now c.new-reading.result c.parse.new.actions c.new-reading.ensures
+    c.limit.result c.limit.ensures c.in_ok-fault.fault c.in_ok-fault.ensures.answer c.in_ok-fault.ensures.mark c.stop_by.result c.stop_by.ensures)
+    c.into_numbers.result c.into_numbers.ensures

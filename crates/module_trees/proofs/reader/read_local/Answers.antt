@@ -1,23 +1,22 @@
 use Rattle.std.proofs.Common.{map}
+use Rattle.derivation_cursor.specs.At.{ahead_of}
+use Rattle.module_derivations.proofs.Derivations.{derivations_mean}
+use Rattle.module_grammar.specs.Sorts as sort
 use Rattle.module_grammar.specs.Spelled.{symbol_in}
 use Rattle.module_grammar.specs.declared.words.Language.TheVariants.{Ir}
-use Rattle.module_spelling.specs.Context.{all_seen}
-use Rattle.module_trees.proofs.Whole.{faulty, taken, there, local_starts}
+use Rattle.module_trees.proofs.Whole.{faulty, local_starts, taken}
 use Rattle.module_trees.proofs.reader.read_local.Goals as goal
 
-pub run-requires-clause-start : goal.run-requires-clause-start
-run-requires-clause-start c = local_starts
+pub run-requires : goal.run-requires
+run-requires c = local_starts
 
 pub returns-in-Err : goal.returns-in-Err
 returns-in-Err c =
-    faulty 76 (all_seen (map (symbol_in Ir c.args.text.now) c.args.tokens.now) c.args.kinds.now) c.in_ok-unread.field-0 c.in-Err.unread c.in-Err.is c.in_ok-unread.ensures
+    faulty 76 sort.LocalName (map (symbol_in Ir c.args.text.now) c.args.tokens.now) c.args.kinds.now c.requires c.in_ok-unread.field-0 c.in-Err.unread
+    c.in-Err.is c.in_ok-unread.ensures
 
-pub returns-in-Some : goal.returns-in-Some
-returns-in-Some c =
-    taken 76 (all_seen (map (symbol_in Ir c.args.text.now) c.args.tokens.now) c.args.kinds.now) c.in_ok-unread.field-0 c.in-Ok.parts c.in-Ok.is c.in_ok-unread.ensures
-    c.take_local.result c.take_local.ensures.taken c.in-Some.name c.in-Some.is
-
-pub unreachable-requires : goal.unreachable-requires
-unreachable-requires c =
-    there 76 (all_seen (map (symbol_in Ir c.args.text.now) c.args.tokens.now) c.args.kinds.now) c.in_ok-unread.field-0 c.in-Ok.parts c.in-Ok.is c.in_ok-unread.ensures
-    c.take_local.result c.take_local.ensures.taken c.in-None.is
+pub returns-in_ok-read_local_name-in-Ok : goal.returns-in_ok-read_local_name-in-Ok
+returns-in_ok-read_local_name-in-Ok c =
+    taken 76 sort.LocalName (map (symbol_in Ir c.args.text.now) c.args.tokens.now) c.args.kinds.now c.requires derivations_mean.locals
+    c.in_ok-unread.field-0 c.in-Ok.numbers c.in-Ok.is c.in_ok-unread.ensures (ahead_of c.walk-cursor.result) c.walk-cursor.ensures
+    c.in_ok-read_local_name-in-Ok.field-0 c.in_ok-read_local_name-in-Ok.ensures.tree

@@ -1,0 +1,10 @@
+use ir_core::Limit;
+
+/// Why tokens have no derivation.
+#[derive(Drop, Clone, Copy)]
+pub enum Stop {
+    /// The token of this index is the first that isn't expected: their number, where nothing ends with them.
+    Stuck(usize),
+    /// A token passes this limit, and up to it all is expected.
+    Limit(Limit),
+}
