@@ -158,11 +158,11 @@ held_three shelf names files texts lent a b c source target hints held is same l
     subst (λ (fs : List File). AreHeld shelf fs (source ∷ target ∷ hints ∷ [])) is (subst (λ (ts : List (List ℕ)). AreHeld shelf files ts) all held)
 
 -- the three texts of `check` that were fetched
-module _ {E : Type 0} (rules : Rules) (shelf : ShelfSeen) (names : CheckFiles) (source target hints : List ℕ)
+module _ {E : Type 0} (shelf : ShelfSeen) (names : CheckFiles) (source target hints : List ℕ)
     (all : AreHeld shelf (files_of (Check names)) (source ∷ target ∷ hints ∷ [])) (r : Result Answer E) where
-  pub files_judged : IfOk r (λ answer. DueOfCheck rules names answer source target hints)
+  pub files_judged : (rules : Rules) → IfOk r (λ answer. DueOfCheck rules names answer source target hints)
       → IfOk r (λ answer. DueOfFiles shelf (files_of (Check names)) answer (DueOfTexts rules (Check names) answer))
-  files_judged due = if_ok_then r _ _
+  files_judged rules due = if_ok_then r _ _
       (λ answer d. due_of_held shelf (files_of (Check names)) (source ∷ target ∷ hints ∷ []) answer (DueOfTexts rules (Check names) answer) all d) due
 
   pub files_refined : IfOk r (λ answer. answer.status ≡ 0 → AreRefined source target)
@@ -186,11 +186,11 @@ held_one shelf listing name files texts lent a text held is same least most at e
     let all : texts ≡ text ∷ [] = sym same ∙ one_of lent a least most at ∙ ap (λ (t : List ℕ). t ∷ []) (sym e) in
     subst (λ (fs : List File). AreHeld shelf fs (text ∷ [])) is (subst (λ (ts : List (List ℕ)). AreHeld shelf files ts) all held)
 
-module _ {E : Type 0} (rules : Rules) (shelf : ShelfSeen) (listing : Listing) (name text : List ℕ)
+module _ {E : Type 0} (shelf : ShelfSeen) (listing : Listing) (name text : List ℕ)
     (all : AreHeld shelf (files_of (Print listing name)) (text ∷ [])) (r : Result Answer E) where
-  pub file_judged : IfOk r (λ answer. DueOfListing listing name answer text)
+  pub file_judged : (rules : Rules) → IfOk r (λ answer. DueOfListing listing name answer text)
       → IfOk r (λ answer. DueOfFiles shelf (files_of (Print listing name)) answer (DueOfTexts rules (Print listing name) answer))
-  file_judged due = if_ok_then r _ _
+  file_judged rules due = if_ok_then r _ _
       (λ answer d. due_of_held shelf (files_of (Print listing name)) (text ∷ []) answer (DueOfTexts rules (Print listing name) answer) all d) due
 
   pub file_spelled : IfOk r (λ answer. answer.status ≡ 0 → SpellsOne Whole text) → IfOk r (λ answer. answer.status ≡ 0 → IsRefinement shelf.told (Print listing name))

@@ -1,12 +1,13 @@
 ghost use Rattle.std.specs.Prelude.{◌≡◌, IfOk, map, string_bytes};
 ghost use Rattle.crell_io.specs.MemShelf.{entry_pair};
-ghost use Rattle.rule_base.specs.Rows.{shipped_rules};
+ghost use Rattle.rule_base.specs.Book.{rules_of};
 ghost use Rattle.crell_program.specs.CommandLine.Words.{command_of};
 ghost use Rattle.crell_program.specs.InMemory.{new_shelf, new_sink, memory_run, EndsWell};
 
-use crate::crell_with_shipped_rules;
+use crate::crell;
 use crate::laws::first_faults_agree;
 use crell_io::{Entry, MemShelf, MemSink};
+use rule_base::RuleBook;
 use std::alloc::{AllocError, Global};
 
 /// A run over texts in memory, as it ended.
@@ -28,17 +29,19 @@ impl Drop for MemoryRun {
     }
 }
 
-/// Runs the command that the words name over these texts, under the shipped rules, with so many bytes of room in each sink. No call
-/// is made to fail.
+/// Runs the command that the words name over these texts, by a book of rules, with so many bytes of room in each sink. No call is made
+/// to fail.
 pub fn crell_in_memory(
     alloc: Global,
     words: &[String],
+    rules: &RuleBook,
     entries: Vec<Entry>,
     room: usize,
 ) -> Result<MemoryRun, AllocError>
     ensures { IfOk result
         (λ ended. EndsWell
-        (memory_run shipped_rules (command_of (map string_bytes words.now)) (map entry_pair entries.items) room
+        (memory_run (rules_of called takes rules.now)
+        (command_of (map string_bytes words.now)) (map entry_pair entries.items) room
         ended.shelf ended.out ended.err)
         ended.status) }
 {
@@ -46,7 +49,7 @@ pub fn crell_in_memory(
     let mut shelf = new_shelf(alloc, entries);
     let mut out = new_sink(alloc, room)?;
     let mut err = new_sink(alloc, room)?;
-    let status = crell_with_shipped_rules(alloc, words, &mut shelf, &mut out, &mut err);
+    let status = crell(alloc, words, rules, &[], &mut shelf, &mut out, &mut err);
     Ok(MemoryRun {
         status,
         shelf,

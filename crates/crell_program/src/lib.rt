@@ -10,14 +10,17 @@ mod definition_text;
 mod delivery;
 mod fetch;
 mod in_memory;
+mod judging;
 mod laws;
 mod program;
 
-pub use command_line::examples_of_words;
+pub use command_line::{FileNames, examples_of_words};
+pub use crell_answers::Answer;
 pub use definition_text::lines_are_one;
 pub use in_memory::{MemoryRun, crell_in_memory};
+pub use judging::judge_pair;
 pub use laws::{
     answers_are_told_apart, due_is_one, failed_sinks_hold_first_parts, memory_runs_meet_premises,
     module_faults_are_one, refinement_is_of_modules, runs_are_judged, texts_within_room_fit,
 };
-pub use program::{WANT_OF_MEMORY, crell, crell_with_shipped_rules};
+pub use program::{WANT_OF_MEMORY, crell};

@@ -1,8 +1,1 @@
-pub mod Reached
-pub mod Small
-pub mod SmallLaws
-pub mod Signs
-pub mod SignLaws
-pub mod Marks
-pub mod MarkLaws
 pub mod Graphs

@@ -1,2 +1,1 @@
 pub mod FlowTests
-pub mod RowTable

@@ -1,14 +1,10 @@
 //! Tests of what no contract and no run of the built program shows: of texts (`text_tests`), of values, the machine and graphs
 //! (`logic_tests`), of the system's shelf and sink (`io_tests`), of analyses as a user brings them (`flow_tests`), and of runs over a shelf
-//! and sinks in memory (`rows`, whose tables `row_table` reads). Nothing else stands here.
+//! and sinks in memory (`rows`). What they stand on is in `test_support`.
 #![tactic(auto)]
 
 mod flow_tests;
 mod io_tests;
 mod logic_tests;
-mod row_table;
 mod rows;
 mod text_tests;
-
-pub use flow_tests::{Act, Effect, Gathered, Known, Marks, Reached, Sign, Signs, Small, is_same};
-pub use row_table::{Fault, File, Given, Plan, Row, Table, Wanted};

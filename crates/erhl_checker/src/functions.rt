@@ -10,7 +10,7 @@ ghost use Rattle.erhl_assert.specs.Course.{Good, judged_answer};
 ghost use Rattle.erhl_assert.specs.Acceptance as judged;
 ghost use Rattle.erhl_assert.specs.Acceptance.{function_answer};
 ghost use Rattle.erhl_assert.specs.Steps.{Rules, beside};
-ghost use Rattle.rule_base.specs.Book.{meanings_of};
+ghost use Rattle.rule_base.specs.Book.{meanings_of, rules_of};
 ghost use Rattle.line_align.specs.Lent.{lent_block};
 ghost use Rattle.erhl_checker.specs.CheckedPair.Asked.{asked};
 ghost use Rattle.erhl_checker.specs.CheckedPair.Progress.{Answers};
@@ -27,9 +27,8 @@ use fact_sets::{IndexedSet, Sides};
 use flow_solver::reached_nodes_are_reached;
 use ir_core::{Function, Module};
 use line_align::{AlignEnd, AlignedBlock, ByName, align};
-use rule_base::{InferRule, LentBook, RuleBook, RuleSet};
+use rule_base::{InferRule, RuleBook};
 use std::alloc::{AllocError, Global};
-use std::marker::PhantomData;
 
 /// Of each block whether a path from the first one ends there.
 fn marks_of(alloc: Global, function: &Function) -> Result<Vec<bool>, AllocError>
@@ -41,14 +40,14 @@ fn marks_of(alloc: Global, function: &Function) -> Result<Vec<bool>, AllocError>
 }
 
 /// The answer on two blocks, if they are reached.
-fn answer_if_reached<B: RuleSet>(
+fn answer_if_reached(
     alloc: Global,
-    pair: &Pair<'_, '_, '_, B>,
+    pair: &Pair<'_, '_, '_>,
     is_reached: bool,
     block: &AlignedBlock<'_>,
 ) -> Result<Verdict, CheckEnd>
     ensures { Answers result
-        (judged_answer (cond is_reached (judged.block_judged (asked B.rules pair.now) (lent_block block.now)) (Good []))) }
+        (judged_answer (cond is_reached (judged.block_judged (asked called takes pair.now) (lent_block block.now)) (Good []))) }
 {
     if is_reached {
         block_answer(alloc, pair, block)
@@ -59,13 +58,13 @@ fn answer_if_reached<B: RuleSet>(
 
 /// The blocks that are reached, of which the first that is refused decides.
 #[tactic(auto, using(crate::proofs::Reaching::blocks_more, crate::proofs::Reaching::blocks_refused, crate::proofs::Reaching::blocks_stopped))]
-fn blocks_answer<B: RuleSet>(
+fn blocks_answer(
     alloc: Global,
-    pair: &Pair<'_, '_, '_, B>,
+    pair: &Pair<'_, '_, '_>,
     marks: &[bool],
     blocks: &[AlignedBlock<'_>],
 ) -> Result<Verdict, CheckEnd>
-    ensures { Answers result (judged_answer (judged.blocks_judged (asked B.rules pair.now) marks.now (map lent_block blocks.now))) }
+    ensures { Answers result (judged_answer (judged.blocks_judged (asked called takes pair.now) marks.now (map lent_block blocks.now))) }
 {
     let mut rest = marks;
     for block in blocks {
@@ -106,13 +105,13 @@ fn entry_fault(alloc: Global, entry: &Assertion) -> Result<Option<Reason>, Alloc
 }
 
 /// What the hint claims at the entry, and then the blocks that are reached from there.
-fn from_entry<B: RuleSet>(
+fn from_entry(
     alloc: Global,
-    pair: &Pair<'_, '_, '_, B>,
+    pair: &Pair<'_, '_, '_>,
     entry: &AlignedBlock<'_>,
     blocks: &[AlignedBlock<'_>],
 ) -> Result<Verdict, CheckEnd>
-    ensures { Answers result (from_entry_answer (asked B.rules pair.now) (lent_block entry.now) (map lent_block blocks.now)) }
+    ensures { Answers result (from_entry_answer (asked called takes pair.now) (lent_block entry.now) (map lent_block blocks.now)) }
 {
     let name = &entry.source.name;
     match entry_fault(alloc, &pair.hint_of(name).entry)? {
@@ -128,12 +127,12 @@ fn from_entry<B: RuleSet>(
     }
 }
 
-fn reached_answer<B: RuleSet>(
+fn reached_answer(
     alloc: Global,
-    pair: &Pair<'_, '_, '_, B>,
+    pair: &Pair<'_, '_, '_>,
     blocks: &[AlignedBlock<'_>],
 ) -> Result<Verdict, CheckEnd>
-    ensures { Answers result (judged_answer (judged.reached_judged (asked B.rules pair.now) (map lent_block blocks.now))) }
+    ensures { Answers result (judged_answer (judged.reached_judged (asked called takes pair.now) (map lent_block blocks.now))) }
 {
     match blocks.first() {
         Some(entry) => from_entry(alloc, pair, entry, blocks),
@@ -186,10 +185,10 @@ fn has_same(blocks: &[HeldBlock]) -> bool {
 }
 
 /// The answer on two functions whose blocks align, with what is looked up of them.
-fn parts_answer<'a, B: RuleSet>(
+fn parts_answer<'a>(
     alloc: Global,
     module: &'a Module,
-    book: &'a B,
+    book: &'a RuleBook,
     hints: ByName<'a, HeldBlock>,
     source: &FunctionParts<'a>,
     target: &FunctionParts<'a>,
@@ -198,7 +197,7 @@ fn parts_answer<'a, B: RuleSet>(
     ensures { Answers result
         (judged_answer
         (judged.reached_judged
-        (beside (B.rules book.now) (scope_of «module».now) source.now target.now (record { blocks = hints.entry }))
+        (beside (rules_of called takes book.now) (scope_of «module».now) source.now target.now (record { blocks = hints.entry }))
         (map lent_block blocks.now))) }
 {
     let source = FunctionIndex::new(alloc, source)?;
@@ -208,10 +207,10 @@ fn parts_answer<'a, B: RuleSet>(
 }
 
 /// The answer on two functions whose blocks align.
-fn aligned_answer<'a, B: RuleSet>(
+fn aligned_answer<'a>(
     alloc: Global,
     module: &'a Module,
-    book: &'a B,
+    book: &'a RuleBook,
     hints: ByName<'a, HeldBlock>,
     asked: bool,
     source: &'a Function,
@@ -221,7 +220,7 @@ fn aligned_answer<'a, B: RuleSet>(
     ensures { Answers result
         (judged_answer
         (judged.reached_judged
-        (beside (B.rules book.now) (scope_of «module».now) source.now target.now (record { blocks = hints.entry }))
+        (beside (rules_of called takes book.now) (scope_of «module».now) source.now target.now (record { blocks = hints.entry }))
         (map lent_block blocks.now))) }
 {
     let source = FunctionParts::new(alloc, source, asked)?;
@@ -231,16 +230,16 @@ fn aligned_answer<'a, B: RuleSet>(
 
 /// The answer on two functions, of whose blocks much is looked up by their names.
 #[inline(never)]
-fn looked_up_answer<B: RuleSet>(
+fn looked_up_answer(
     alloc: Global,
     module: &Module,
-    book: &B,
+    book: &RuleBook,
     hint: &Hint,
     source: &Function,
     target: &Function,
 ) -> Result<Verdict, CheckEnd>
     ensures { Answers result
-        (function_answer (beside (B.rules book.now) (scope_of «module».now) source.now target.now hint.now)) }
+        (function_answer (beside (rules_of called takes book.now) (scope_of «module».now) source.now target.now hint.now)) }
 {
     let hints = ByName::new(alloc, hint.blocks.as_slice())?;
     match align(alloc, source, target, &hints) {
@@ -290,10 +289,10 @@ fn is_valid_at_once(
 }
 
 /// The answer on two functions, with the knowledge of nothing.
-pub(crate) fn function_answer<B: RuleSet>(
+pub(crate) fn function_answer(
     alloc: Global,
     module: &Module,
-    book: &B,
+    book: &RuleBook,
     hint: &Hint,
     nothing: &Sides<IndexedSet>,
     source: &Function,
@@ -301,7 +300,7 @@ pub(crate) fn function_answer<B: RuleSet>(
 ) -> Result<Verdict, CheckEnd>
     requires { nothing.now ≡ no_facts }
     ensures { Answers result
-        (function_answer (beside (B.rules book.now) (scope_of «module».now) source.now target.now hint.now)) }
+        (function_answer (beside (rules_of called takes book.now) (scope_of «module».now) source.now target.now hint.now)) }
 {
     if is_valid_at_once(alloc, hint, nothing, source, target)? {
         return Ok(Verdict::Valid);
@@ -344,10 +343,6 @@ pub fn check_function(
         (scope_of «module».now) src.now tgt.now hint.now)
         ≡ None)) }
 {
-    let rules = LentBook {
-        book,
-        boxes: PhantomData,
-    };
     let nothing = Sides::empty(alloc)?;
-    function_answer(alloc, module, &rules, hint, &nothing, src, tgt)
+    function_answer(alloc, module, book, hint, &nothing, src, tgt)
 }

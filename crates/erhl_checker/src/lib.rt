@@ -17,4 +17,4 @@ mod modules;
 pub use block_checker::CheckEnd;
 pub use checked_pair::limits_are_apart;
 pub use functions::check_function;
-pub use modules::{check_module, check_module_under};
+pub use modules::check_module;

@@ -9,7 +9,7 @@ ghost use Rattle.ir_machine.specs.Refinement.{Refines};
 ghost use Rattle.erhl_assert.specs.Acceptance as acceptance;
 ghost use Rattle.erhl_assert.specs.Alignment.{no_facts};
 ghost use Rattle.erhl_assert.specs.Steps.{beside};
-ghost use Rattle.rule_base.specs.Book.{meanings_of};
+ghost use Rattle.rule_base.specs.Book.{meanings_of, rules_of};
 ghost use Rattle.erhl_soundness.specs.Laws.{ArePhisApart};
 ghost use Rattle.erhl_checker.specs.CheckedPair.Progress.{Answers};
 
@@ -21,9 +21,8 @@ use erhl_soundness::accepted_modules_refine;
 use fact_sets::{IndexedSet, Sides};
 use ir_core::{Function, Module, NamedTy, Param, Shared, Ty, same_name, same_ty};
 use line_align::{ByName, Likeness, all_alike};
-use rule_base::{InferRule, LentBook, RuleBook, RuleSet};
+use rule_base::{InferRule, RuleBook, book_is_sound};
 use std::alloc::Global;
-use std::marker::PhantomData;
 
 /// One type.
 struct OneType;
@@ -99,10 +98,10 @@ impl Likeness<Function> for Signature {
 }
 
 /// The answer on two functions under the hint that the hints have for the source's, or an empty one.
-fn hinted_answer<B: RuleSet>(
+fn hinted_answer(
     alloc: Global,
     module: &Module,
-    book: &B,
+    book: &RuleBook,
     hints: &ByName<'_, FunctionHint>,
     nothing: &Sides<IndexedSet>,
     source: &Function,
@@ -111,7 +110,7 @@ fn hinted_answer<B: RuleSet>(
     requires { nothing.now ≡ no_facts }
     ensures { Answers result
         (acceptance.function_answer
-        (beside (B.rules book.now) (scope_of «module».now) source.now target.now
+        (beside (rules_of called takes book.now) (scope_of «module».now) source.now target.now
         (acceptance.hint_for (record { functions = hints.now }) source.now.name))) }
 {
     match hints.first(&source.name) {
@@ -126,10 +125,10 @@ fn hinted_answer<B: RuleSet>(
 }
 
 /// The first function that isn't valid decides.
-fn functions_answer<B: RuleSet>(
+fn functions_answer(
     alloc: Global,
     module: &Module,
-    book: &B,
+    book: &RuleBook,
     hints: &ByName<'_, FunctionHint>,
     nothing: &Sides<IndexedSet>,
     source: &[Function],
@@ -137,7 +136,7 @@ fn functions_answer<B: RuleSet>(
 ) -> Result<ModuleVerdict, CheckEnd>
     requires { nothing.now ≡ no_facts }
     ensures { Answers result
-        (acceptance.functions_answer (B.rules book.now) (scope_of «module».now)
+        (acceptance.functions_answer (rules_of called takes book.now) (scope_of «module».now)
         (record { functions = hints.now }) source.now target.now) }
 {
     let mut rest = target;
@@ -169,16 +168,16 @@ fn functions_answer<B: RuleSet>(
     }
 }
 
-fn definitions_answer<B: RuleSet>(
+fn definitions_answer(
     alloc: Global,
-    book: &B,
+    book: &RuleBook,
     hints: &Hints,
     source: &Module,
     target: &Module,
 ) -> Result<ModuleVerdict, CheckEnd>
     ensures { Answers result
         (acceptance.definitions_answer
-        (B.rules book.now)
+        (rules_of called takes book.now)
         source.now target.now hints.now) }
 {
     let functions = source.functions.as_slice();
@@ -192,14 +191,14 @@ fn definitions_answer<B: RuleSet>(
     }
 }
 
-fn module_answer<B: RuleSet>(
+fn module_answer(
     alloc: Global,
-    book: &B,
+    book: &RuleBook,
     hints: &Hints,
     source: &Module,
     target: &Module,
 ) -> Result<ModuleVerdict, CheckEnd>
-    ensures { Answers result (acceptance.module_answer (B.rules book.now) source.now target.now hints.now) }
+    ensures { Answers result (acceptance.module_answer (rules_of called takes book.now) source.now target.now hints.now) }
 {
     if all_alike(&OneName, source.types.as_slice(), target.types.as_slice()) {
         definitions_answer(alloc, book, hints, source, target)
@@ -258,39 +257,7 @@ pub fn check_module(
         (λ v. AllByRecursion ArePhisApart (definitions_of source.now) → AllByRecursion ArePhisApart (definitions_of target.now)
         → v ≡ ModuleVerdict.Valid → Refines source.now target.now) }
 {
-    let rules = LentBook {
-        book,
-        boxes: PhantomData,
-    };
-    check_module_under(alloc, source, target, hints, &rules)
-}
-
-/// The same, by whatever answers for the rules, and for modules over integers as well.
-pub fn check_module_under<B: RuleSet>(
-    alloc: Global,
-    source: &Module,
-    target: &Module,
-    hints: &Hints,
-    rules: &B,
-) -> Result<ModuleVerdict, CheckEnd>
-    ensures verdict { IfOk result
-        (λ v. acceptance.module_answer (B.rules rules.now) source.now target.now hints.now ≡ Some v) }
-    ensures limit { IfErr result
-        (λ fault. (l : Limit) → fault ≡ CheckEnd.Limit l
-        → (l ≡ Facts) × (acceptance.module_answer (B.rules rules.now) source.now target.now hints.now ≡ None)) }
-    ensures accepted { IfOk result
-        (λ v. v ≡ ModuleVerdict.Valid ↔ acceptance.AreModulesAccepted hints.now (B.rules rules.now) source.now target.now) }
-    ensures types { IfOk result (λ v. v ≡ ModuleVerdict.Differs Difference.Types ↔ (source.now.types ≡ target.now.types → ⊥)) }
-    ensures differs { IfOk result
-        (λ v. v ≡ ModuleVerdict.Differs Difference.Functions
-        ↔ (source.now.types ≡ target.now.types)
-        × (same.same_list acceptance.same_signature (definitions_of source.now) (definitions_of target.now) ≡ false)) }
-    // Where no two phis of a block set one register.
-    ensures refines { IfOk result
-        (λ v. AllByRecursion ArePhisApart (definitions_of source.now) → AllByRecursion ArePhisApart (definitions_of target.now)
-        → v ≡ ModuleVerdict.Valid → Refines source.now target.now) }
-{
-    rules.are_sound();
+    book_is_sound(book);
     accepted_modules_refine();
-    module_answer(alloc, rules, hints, source, target)
+    module_answer(alloc, book, hints, source, target)
 }

@@ -2,7 +2,7 @@
 use Rattle.std.proofs.Common.{refl, arith}
 use Rattle.std.specs.Prelude.{Contains}
 use Rattle.rule_base.specs.declared.shipped.Rule.{Rule}
-use Rattle.rule_base.specs.declared.shipped.Rule.TheVariants.{Refl, Trans, UndefConst, Subst, DropFlags, Fold, ZeroRight}
+use Rattle.rule_base.specs.declared.shipped.Rule.TheVariants.{Refl, Trans, UndefConst, Subst, DropFlags, Fold}
 use Rattle.rule_base.specs.declared.shipped.TheConstants.Rule.{ALL}
 
 pub all_stand_there : (rule : Rule) → Contains ALL rule
@@ -12,4 +12,3 @@ all_stand_there UndefConst = (2, omega arith, refl)
 all_stand_there Subst = (3, omega arith, refl)
 all_stand_there DropFlags = (4, omega arith, refl)
 all_stand_there Fold = (5, omega arith, refl)
-all_stand_there ZeroRight = (6, omega arith, refl)

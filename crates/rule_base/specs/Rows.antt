@@ -1,13 +1,11 @@
 -- What the shipped rules take, as tests that compute. A fact `a >= b` says that a is less defined than b.
-use Rattle.std.specs.Prelude.{ℕ, Bool, true, false, ◌&&◌, ◌||◌, not, nat_eq, List, [], ◌∷◌, map, codes}
+use Rattle.std.specs.Prelude.{ℕ, Bool, true, false, ◌&&◌, ◌||◌, not, nat_eq, List, [], ◌∷◌, codes}
 use Rattle.std.specs.List.{list_any, list_all}
 use Rattle.ir_core.specs.declared.values.Value.TheVariants.{Num, Undef, Poison}
 use Rattle.ir_core.specs.declared.operands.Const.TheVariants as constant
 use Rattle.ir_core.specs.declared.operands.Atom.{Atom}
 use Rattle.ir_core.specs.declared.operands.Atom.TheVariants as atom
 use Rattle.ir_core.specs.declared.operands.Operand.{Operand}
-use Rattle.ir_core.specs.declared.operands.BinOp.{BinOp}
-use Rattle.ir_core.specs.declared.operands.BinOp.TheVariants.{Add, Sub, Or, Xor, Shl, LShr, AShr}
 use Rattle.ir_core.specs.declared.expressions.Reg.{Reg}
 use Rattle.ir_core.specs.declared.expressions.Binary.{Binary}
 use Rattle.ir_core.specs.declared.expressions.Expr.TheVariants as expr
@@ -23,9 +21,8 @@ use Rattle.erhl_assert.specs.declared.facts.Fact.{Fact}
 use Rattle.erhl_assert.specs.declared.facts.Fact.TheVariants.{LessDef}
 use Rattle.erhl_assert.specs.declared.facts.Schema.{Schema}
 use Rattle.erhl_assert.specs.Typed.{has_type, fits_constants}
-use Rattle.erhl_assert.specs.Steps.{Meaning, Rules}
 use Rattle.rule_base.specs.declared.shipped.Rule.{Rule}
-use Rattle.rule_base.specs.declared.shipped.Rule.TheVariants.{Refl, Trans, UndefConst, Subst, DropFlags, Fold, ZeroRight}
+use Rattle.rule_base.specs.declared.shipped.Rule.TheVariants.{Refl, Trans, UndefConst, Subst, DropFlags, Fold}
 
 -- the expression has a type, and its constants fit their stated types
 abbrev pub is_typed : Expr0 → Bool
@@ -56,11 +53,6 @@ is_undef (atom.Register r) = false
 abbrev pub is_constant : Atom Reg → Bool
 is_constant (atom.Constant c) = true
 is_constant (atom.Register r) = false
-
-abbrev pub is_zero : Atom Reg → Bool
-is_zero (atom.Constant (constant.Number n)) = nat_eq n 0
-is_zero (atom.Constant c) = false
-is_zero (atom.Register r) = false
 
 -- `undef >= C`, C a number or undef
 abbrev pub is_undef_const : List Fact → Fact → Bool
@@ -131,27 +123,6 @@ abbrev pub is_fold : List Fact → Fact → Bool
 is_fold [] (LessDef e (expr.Plain c)) = have_one_type e (expr.Plain c) && is_over_numbers e && may_become (folded e) c.atom
 is_fold from to = false
 
--- the operators that leave x as it is where the right operand is 0: `sub x 0` is x, and `mul x 0` isn't
-abbrev pub keeps_beside_zero : BinOp → Bool
-keeps_beside_zero Add = true
-keeps_beside_zero Sub = true
-keeps_beside_zero Or = true
-keeps_beside_zero Xor = true
-keeps_beside_zero Shl = true
-keeps_beside_zero LShr = true
-keeps_beside_zero AShr = true
-keeps_beside_zero op = false
-
--- 0 stands on the right of such an operator
-abbrev pub has_zero_right : Binary Reg → Bool
-has_zero_right e = keeps_beside_zero e.op && is_zero e.right
-
--- `op F x 0 >= x`, op one of add, sub, or, xor, shl, lshr and ashr: `shl nuw i8 %x, 0 >= i8 %x`
-abbrev pub is_zero_right : List Fact → Fact → Bool
-is_zero_right [] (LessDef (expr.Binary e) (expr.Plain x)) =
-    have_one_type (expr.Binary e) (expr.Plain x) && has_zero_right e && same_atom same_reg e.left x.atom
-is_zero_right from to = false
-
 abbrev pub rule_name : Rule → List ℕ
 rule_name Refl = codes "refl"
 rule_name Trans = codes "trans"
@@ -159,7 +130,6 @@ rule_name UndefConst = codes "undef_const"
 rule_name Subst = codes "subst"
 rule_name DropFlags = codes "drop_flags"
 rule_name Fold = codes "fold"
-rule_name ZeroRight = codes "zero_right"
 
 -- no name stands twice
 abbrev pub stand_apart : List (List ℕ) → Bool
@@ -174,12 +144,3 @@ takes_row UndefConst scope schema = is_undef_const schema.from schema.to
 takes_row Subst scope schema = is_subst schema.from schema.to
 takes_row DropFlags scope schema = is_drop_flags schema.from schema.to
 takes_row Fold scope schema = is_fold schema.from schema.to
-takes_row ZeroRight scope schema = is_zero_right schema.from schema.to
-
--- a shipped rule: its name, and what it takes
-abbrev pub meaning_of : Rule → Meaning
-meaning_of rule = record { name = rule_name rule; takes = takes_row rule }
-
--- the rules that are shipped, in the order of the table
-abbrev pub shipped_rules : Rules
-shipped_rules = map meaning_of (Refl ∷ Trans ∷ UndefConst ∷ Subst ∷ DropFlags ∷ Fold ∷ ZeroRight ∷ [])

@@ -1,16 +1,14 @@
 ghost use Rattle.std.specs.Prelude.{◌≡◌, true, [], ◌∷◌, map, Contains};
 ghost use Rattle.rule_base.specs.declared.shipped.Rule.{Rule};
 ghost use Rattle.ir_values.specs.Laws.{flags_among};
-ghost use Rattle.rule_base.specs.Rows.{rule_name, stand_apart, keeps_beside_zero, has_zero_right, is_refl, is_trans, is_undef_const, drops_flags, is_drop_flags, is_zero_right, is_undef, is_constant, is_zero};
+ghost use Rattle.rule_base.specs.Rows.{rule_name, stand_apart, is_refl, is_trans, is_undef_const, drops_flags, is_drop_flags, is_undef, is_constant};
 
 use crate::InferRule;
 use crate::folding::is_fold;
 use crate::substitution::is_subst;
 use crate::typed::have_one_type;
 use erhl_assert::{Fact, Schema};
-use ir_core::{
-    Atom, BinOp, Binary, Const, Expr, Flags, Module, Reg, same_expr, same_op, same_reg_atom,
-};
+use ir_core::{Atom, Binary, Const, Expr, Flags, Module, Reg, same_expr, same_op, same_reg_atom};
 
 /// The rules that are shipped.
 #[derive(Drop, Clone, Copy)]
@@ -27,19 +25,16 @@ pub enum Rule {
     DropFlags,
     /// `e >= C`, e over numbers, C a constant that its outcome may become.
     Fold,
-    /// `op F x 0 >= x`, for add, sub, or, xor, shl, lshr and ashr with any flags.
-    ZeroRight,
 }
 
 impl Rule {
-    pub const ALL: [Rule; 7] = [
+    pub const ALL: [Rule; 6] = [
         Rule::Refl,
         Rule::Trans,
         Rule::UndefConst,
         Rule::Subst,
         Rule::DropFlags,
         Rule::Fold,
-        Rule::ZeroRight,
     ];
 }
 
@@ -61,7 +56,6 @@ impl InferRule for Rule {
             Rule::Subst => "subst",
             Rule::DropFlags => "drop_flags",
             Rule::Fold => "fold",
-            Rule::ZeroRight => "zero_right",
         }
     }
 
@@ -74,7 +68,6 @@ impl InferRule for Rule {
             Rule::Subst => is_subst(from, to),
             Rule::DropFlags => is_drop_flags(from, to),
             Rule::Fold => is_fold(from, to),
-            Rule::ZeroRight => is_zero_right(from, to),
         }
     }
 }
@@ -83,7 +76,7 @@ impl InferRule for Rule {
 ///
 /// The table: each rule stands there once, in this order, and no two of them have one name.
 pub fn rules_stand_in_the_table()
-    ensures table { Rule.ALL ≡ Rule.Refl ∷ Rule.Trans ∷ Rule.UndefConst ∷ Rule.Subst ∷ Rule.DropFlags ∷ Rule.Fold ∷ Rule.ZeroRight ∷ [] }
+    ensures table { Rule.ALL ≡ Rule.Refl ∷ Rule.Trans ∷ Rule.UndefConst ∷ Rule.Subst ∷ Rule.DropFlags ∷ Rule.Fold ∷ [] }
     ensures whole { (rule : Rule) → Contains Rule.ALL rule }
     ensures named_apart { stand_apart (map rule_name Rule.ALL) ≡ true }
 {}
@@ -122,15 +115,6 @@ pub(crate) fn is_constant(atom: &Atom<Reg>) -> bool
     ensures { result ≡ is_constant atom.now }
 {
     matches!(atom, Atom::Constant(_))
-}
-
-fn is_zero(atom: &Atom<Reg>) -> bool
-    ensures { result ≡ is_zero atom.now }
-{
-    match atom {
-        Atom::Constant(Const::Number(number)) => number.get() == 0,
-        _ => false,
-    }
 }
 
 fn is_undef_const(from: &[Fact], to: &Fact) -> bool
@@ -174,40 +158,6 @@ fn is_drop_flags(from: &[Fact], to: &Fact) -> bool
     let Fact::LessDef(a, b) = to;
     match (a, b) {
         (Expr::Binary(many), Expr::Binary(few)) => have_one_type(a, b) && drops_flags(many, few),
-        _ => false,
-    }
-}
-
-/// Whether the operator leaves what stands on the left as it is where 0 stands on the right.
-fn keeps_beside_zero(op: BinOp) -> bool
-    ensures { result ≡ keeps_beside_zero op }
-{
-    match op {
-        BinOp::Add | BinOp::Sub | BinOp::Or | BinOp::Xor => true,
-        BinOp::Shl | BinOp::LShr | BinOp::AShr => true,
-        BinOp::Mul | BinOp::And => false,
-        BinOp::UDiv | BinOp::SDiv | BinOp::URem | BinOp::SRem => false,
-    }
-}
-
-/// Whether 0 stands on the right of such an operator.
-fn has_zero_right(binary: &Binary<Reg>) -> bool
-    ensures { result ≡ has_zero_right binary.now }
-{
-    keeps_beside_zero(binary.op) && is_zero(&binary.right)
-}
-
-fn is_zero_right(from: &[Fact], to: &Fact) -> bool
-    ensures { result ≡ is_zero_right from.now to.now }
-{
-    if !from.is_empty() {
-        return false;
-    }
-    let Fact::LessDef(a, b) = to;
-    match (a, b) {
-        (Expr::Binary(binary), Expr::Plain(x)) => {
-            have_one_type(a, b) && has_zero_right(binary) && same_reg_atom(&binary.left, &x.atom)
-        }
         _ => false,
     }
 }

@@ -128,7 +128,8 @@ fn is_typed(expr: &Expr0) -> bool
     has_type(expr) && fits_constants(expr)
 }
 
-pub(crate) fn have_one_type(a: &Expr0, b: &Expr0) -> bool
+/// Whether both have a type, with constants that fit, and it is one type.
+pub fn have_one_type(a: &Expr0, b: &Expr0) -> bool
     ensures { result ≡ have_one_type a.now b.now }
 {
     let bit = BitType::new();

@@ -1,10 +1,10 @@
 //! Large graphs take a few steps for each node.
-use crate::flow_tests::Reached;
 use crate::flow_tests::graphs::{Form, graph};
 use flow_solver::solve;
 use std::alloc::{AllocError, Global};
 use std::cell::Cell;
 use std::test::*;
+use test_support::Reached;
 
 const NODES: usize = 100_000;
 

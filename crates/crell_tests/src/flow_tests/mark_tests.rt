@@ -1,9 +1,9 @@
 //! What marks find, worked out by hand from the equations.
-use crate::flow_tests::Gathered;
 use crate::flow_tests::graphs::{Form, graph};
 use flow_solver::solve;
 use std::alloc::{AllocError, Global};
 use std::test::*;
+use test_support::Gathered;
 
 /// Whether a thing has come to a node, in a graph of four nodes that give the things 0, 1, 1 and 2.
 fn comes(

@@ -1,9 +1,9 @@
 //! What small sets find, worked out by hand from the equations.
 use crate::flow_tests::graphs::{Form, graph};
-use crate::flow_tests::{Effect, Small};
 use flow_solver::solve;
 use std::alloc::{AllocError, Global};
 use std::test::*;
+use test_support::{Effect, Small};
 
 /// Three things.
 const A: u64 = 1;

@@ -1,9 +1,9 @@
 //! What is found of signs, worked out by hand from the equations.
 use crate::flow_tests::graphs::{Form, graph};
-use crate::flow_tests::{Act, Known, Sign, Signs, is_same};
 use flow_solver::solve;
 use std::alloc::{AllocError, Global};
 use std::test::*;
+use test_support::{Act, Known, Sign, Signs, is_same};
 
 fn found(alloc: Global, edges: &[(usize, usize)], acts: &[Act]) -> Result<Vec<Known>, AllocError> {
     let mut all = Vec::new(alloc);

@@ -1,12 +1,12 @@
-// A row is run: by a book of rules, over a shelf and sinks that fail where the row says so; or, without a book, over texts in memory.
+// A row is run by a book of rules: over a shelf and sinks that fail where the row says so, or over texts in memory.
 ghost use Rattle.std.specs.Prelude.{◌≤◌};
 
-use crate::row_table::{Fault, File, Given, Plan, Row, Table, Wanted};
 use crell_io::{Entry, MemShelf, MemSink};
 use crell_program::{MemoryRun, crell, crell_in_memory};
 use rule_base::RuleBook;
 use std::alloc::{AllocError, Global};
 use std::mem;
+use test_support::{Fault, File, Given, Plan, Row, Table, Wanted};
 
 /// How a row went.
 #[derive(Clone, Copy, PartialEq)]
@@ -19,9 +19,16 @@ pub(crate) enum End {
     Memory,
 }
 
+/// How a row is run: by this book, over a shelf and sinks that fail where the row says so, or, where that is wanted, over texts in memory.
+#[derive(Drop, Clone, Copy)]
+pub(crate) struct Way<'a> {
+    pub(crate) book: &'a RuleBook,
+    pub(crate) in_memory: bool,
+}
+
 /// How the row at that place goes.
-pub(crate) fn end_of(alloc: Global, book: Option<&RuleBook>, table: &Table, place: usize) -> End {
-    match came_so(alloc, book, table, place) {
+pub(crate) fn end_of(alloc: Global, way: &Way, table: &Table, place: usize) -> End {
+    match came_so(alloc, way, table, place) {
         Ok(true) => End::Passed,
         Ok(false) => End::Differs,
         Err(Fault::Unlike(_)) => End::Unlike,
@@ -30,14 +37,9 @@ pub(crate) fn end_of(alloc: Global, book: Option<&RuleBook>, table: &Table, plac
 }
 
 /// Whether all came as the row says.
-fn came_so(
-    alloc: Global,
-    book: Option<&RuleBook>,
-    table: &Table,
-    place: usize,
-) -> Result<bool, Fault> {
+fn came_so(alloc: Global, way: &Way, table: &Table, place: usize) -> Result<bool, Fault> {
     let mut row = table.row(alloc, place)?;
-    let run = run_of(alloc, book, &mut row)?;
+    let run = run_of(alloc, way, &mut row)?;
     Ok(is_wanted(&run, &row.wanted))
 }
 
@@ -49,21 +51,23 @@ fn is_wanted(run: &MemoryRun, wanted: &Wanted) -> bool {
         && wanted.taken.unwrap_or(run.shelf.taken()) == run.shelf.taken()
 }
 
-fn run_of(alloc: Global, book: Option<&RuleBook>, row: &mut Row) -> Result<MemoryRun, AllocError> {
-    match book {
-        Some(book) => run_by_book(alloc, book, row),
-        None => run_in_memory(alloc, row),
+fn run_of(alloc: Global, way: &Way, row: &mut Row) -> Result<MemoryRun, AllocError> {
+    if way.in_memory {
+        run_in_memory(alloc, way.book, row)
+    } else {
+        run_over_shelf(alloc, way.book, row)
     }
 }
 
 /// A run in which no call fails, and err has the room that the row gives to out.
-fn run_in_memory(alloc: Global, row: &mut Row) -> Result<MemoryRun, AllocError> {
+fn run_in_memory(alloc: Global, book: &RuleBook, row: &mut Row) -> Result<MemoryRun, AllocError> {
     let files = mem::replace(&mut row.given.files, Vec::new(alloc));
     let entries = entries_of(alloc, files)?;
-    crell_in_memory(alloc, &row.given.words, entries, row.out.room as usize)
+    let room = row.out.room as usize;
+    crell_in_memory(alloc, &row.given.words, book, entries, room)
 }
 
-fn run_by_book(alloc: Global, book: &RuleBook, row: &mut Row) -> Result<MemoryRun, AllocError> {
+fn run_over_shelf(alloc: Global, book: &RuleBook, row: &mut Row) -> Result<MemoryRun, AllocError> {
     let mut out = sink_of(alloc, &mut row.out)?;
     let mut err = sink_of(alloc, &mut row.err)?;
     let mut shelf = shelf_of(alloc, &mut row.given)?;

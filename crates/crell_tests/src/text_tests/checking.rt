@@ -4,6 +4,7 @@ use hint_format::read_hints;
 use ir_core::{Module, Name};
 use ir_reader::read_module;
 use rule_base::{InferRule, Rule, RuleBook};
+use rules_arith::ArithRule;
 use std::alloc::Global;
 use std::test::*;
 
@@ -121,6 +122,9 @@ fn modules_and_functions_are_checked_by_a_book(rt: HostRuntime) -> Result<(), Fa
     let alloc = rt.alloc();
     let mut rules: Vec<Box<dyn InferRule>> = Vec::new(alloc);
     for rule in Rule::ALL {
+        rules.push(Box::new(alloc, rule)?)?;
+    }
+    for rule in ArithRule::ALL {
         rules.push(Box::new(alloc, rule)?)?;
     }
     assert!(rt; both_seen(alloc, &RuleBook::new(rules)) == (Seen::Valid, Seen::Valid));

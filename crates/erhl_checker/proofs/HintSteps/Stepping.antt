@@ -15,7 +15,6 @@ use Rattle.erhl_assert.specs.Steps.{Beside, Meaning, after_rule, after_step, aft
 use Rattle.erhl_assert.proofs.Courses.{within_more, within_none, within_refused}
 use Rattle.rule_base.specs.Book.{answer_of}
 use Rattle.rule_base.specs.declared.rule_book.Fitness.TheVariants.{Unfit, Fits}
-use Rattle.line_align.specs.Cursor.{left}
 use Rattle.erhl_checker.specs.declared.checked_pair.ends.CheckEnd.{CheckEnd}
 use Rattle.erhl_checker.specs.CheckedPair.Progress.{ended, on_answer, Follows}
 

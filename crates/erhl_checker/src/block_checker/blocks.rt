@@ -21,23 +21,22 @@ use fact_sets::{IndexedSet, Sides, sides_of};
 use ir_core::{Instr, Limit, Name};
 use line_align::{AlignedBlock, StepsByLine, left, on_source, on_target, taken};
 use postcondition::{Line, LineEnd, after_line};
-use rule_base::RuleSet;
 use std::alloc::{AllocError, Global};
 
 /// The terminators, and then the edges.
 #[tactic(auto, using(crate::proofs::CheckedPair::Progressing::end_refused))]
-fn at_terms<B: RuleSet>(
+fn at_terms(
     alloc: Global,
-    pair: &Pair<'_, '_, '_, B>,
+    pair: &Pair<'_, '_, '_>,
     hint: &HintBlock,
     k: u64,
     block: &AlignedBlock<'_>,
     labels: &[&Name],
     known: &Sides<IndexedSet>,
 ) -> Result<Verdict, CheckEnd>
-    requires edges { hint.now.edges ≡ (block_hint (asked B.rules pair.now).hint block.now.source.now.name).edges }
+    requires edges { hint.now.edges ≡ (block_hint (asked called takes pair.now).hint block.now.source.now.name).edges }
     requires labels { names_lent labels.now ≡ judged.labels_once (successors_of block.now.source.now.term) }
-    ensures { Answers result (end_answer (asked B.rules pair.now) (lent_block block.now) k known.now) }
+    ensures { Answers result (end_answer (asked called takes pair.now) (lent_block block.now) k known.now) }
 {
     let name = &block.source.name;
     match term_fault(alloc, &block.source.term, &block.target.term, known)? {
@@ -50,9 +49,9 @@ fn at_terms<B: RuleSet>(
 }
 
 /// The steps before the terminators, then the terminators and the edges.
-fn at_end<B: RuleSet>(
+fn at_end(
     alloc: Global,
-    pair: &Pair<'_, '_, '_, B>,
+    pair: &Pair<'_, '_, '_>,
     hint: &HintBlock,
     steps: &[&HintStep],
     k: u64,
@@ -60,11 +59,11 @@ fn at_end<B: RuleSet>(
     labels: &[&Name],
     known: &mut Sides<IndexedSet>,
 ) -> Result<Verdict, CheckEnd>
-    requires edges { hint.now.edges ≡ (block_hint (asked B.rules pair.now).hint block.now.source.now.name).edges }
+    requires edges { hint.now.edges ≡ (block_hint (asked called takes pair.now).hint block.now.source.now.name).edges }
     requires labels { names_lent labels.now ≡ judged.labels_once (successors_of block.now.source.now.term) }
     ensures { Answers result
-        (answer_at block.now.source.now.name (Spot.Line k) (within (after_steps (asked B.rules pair.now) (map (λ s. s.now) steps.now) known.old))
-        (end_answer (asked B.rules pair.now) (lent_block block.now) k)) }
+        (answer_at block.now.source.now.name (Spot.Line k) (within (after_steps (asked called takes pair.now) (map (λ s. s.now) steps.now) known.old))
+        (end_answer (asked called takes pair.now) (lent_block block.now) k)) }
 {
     match after_steps(alloc, pair, steps, known)? {
         None => at_terms(alloc, pair, hint, k, block, labels, known),
@@ -76,9 +75,9 @@ fn at_end<B: RuleSet>(
 }
 
 #[tactic(auto, using(crate::proofs::CheckedPair::Progressing::line_within, crate::proofs::CheckedPair::Progressing::line_refuses_so, crate::proofs::CheckedPair::Progressing::line_over))]
-fn over_line<B: RuleSet>(
+fn over_line(
     alloc: Global,
-    pair: &Pair<'_, '_, '_, B>,
+    pair: &Pair<'_, '_, '_>,
     letter: Letter,
     xs: &[Instr],
     ys: &[Instr],
@@ -100,9 +99,9 @@ fn over_line<B: RuleSet>(
 
 /// The steps before an aligned line, and then the line.
 #[tactic(auto, using(erhl_assert::proofs::Courses::within_more, erhl_assert::proofs::Courses::within_refused, erhl_assert::proofs::Courses::within_none))]
-fn past_line<B: RuleSet>(
+fn past_line(
     alloc: Global,
-    pair: &Pair<'_, '_, '_, B>,
+    pair: &Pair<'_, '_, '_>,
     steps: &[&HintStep],
     letter: Letter,
     xs: &[Instr],
@@ -110,7 +109,7 @@ fn past_line<B: RuleSet>(
     known: &mut Sides<IndexedSet>,
 ) -> Result<Option<Reason>, CheckEnd>
     ensures { CameOf result known.new
-        (past_line (asked B.rules pair.now) (map (λ s. s.now) steps.now) (aligned_line letter xs.now ys.now) known.old) }
+        (past_line (asked called takes pair.now) (map (λ s. s.now) steps.now) (aligned_line letter xs.now ys.now) known.old) }
 {
     match after_steps(alloc, pair, steps, known)? {
         None => over_line(alloc, pair, letter, xs, ys, known),
@@ -127,17 +126,17 @@ fn letter_at(letters: &[Letter], i: usize) -> Letter
 }
 
 /// Along the aligned lines of two blocks.
-fn along<B: RuleSet>(
+fn along(
     alloc: Global,
-    pair: &Pair<'_, '_, '_, B>,
+    pair: &Pair<'_, '_, '_>,
     hint: &HintBlock,
     block: &AlignedBlock<'_>,
     labels: &[&Name],
     entry: Sides<IndexedSet>,
 ) -> Result<Verdict, CheckEnd>
-    requires parts { AreParts hint.now (block_hint (asked B.rules pair.now).hint block.now.source.now.name) }
+    requires parts { AreParts hint.now (block_hint (asked called takes pair.now).hint block.now.source.now.name) }
     requires labels { names_lent labels.now ≡ judged.labels_once (successors_of block.now.source.now.term) }
-    ensures { Answers result (lines_answer (asked B.rules pair.now) (lent_block block.now) 0 (lent_block block.now).lines entry) }
+    ensures { Answers result (lines_answer (asked called takes pair.now) (lent_block block.now) 0 (lent_block block.now).lines entry) }
 {
     let letters = block.letters.as_slice();
     let placed = hint.steps.as_slice();
@@ -175,16 +174,16 @@ fn along<B: RuleSet>(
 
 /// From what the hint claims at the blocks' start.
 #[inline(never)]
-fn from_start<B: RuleSet>(
+fn from_start(
     alloc: Global,
-    pair: &Pair<'_, '_, '_, B>,
+    pair: &Pair<'_, '_, '_>,
     hint: &HintBlock,
     block: &AlignedBlock<'_>,
     labels: &[&Name],
 ) -> Result<Verdict, CheckEnd>
-    requires parts { AreParts hint.now (block_hint (asked B.rules pair.now).hint block.now.source.now.name) }
+    requires parts { AreParts hint.now (block_hint (asked called takes pair.now).hint block.now.source.now.name) }
     requires labels { names_lent labels.now ≡ judged.labels_once (successors_of block.now.source.now.term) }
-    ensures { Answers result (judged_answer (judged.block_judged (asked B.rules pair.now) (lent_block block.now))) }
+    ensures { Answers result (judged_answer (judged.block_judged (asked called takes pair.now) (lent_block block.now))) }
 {
     match sides_of(
         alloc,
@@ -209,17 +208,17 @@ fn is_empty(hint: &HintBlock) -> bool
 }
 
 /// Whether the blocks agree where nothing is known, and the hint says nothing of them: then they are valid.
-fn is_valid_at_once<B: RuleSet>(
+fn is_valid_at_once(
     alloc: Global,
-    pair: &Pair<'_, '_, '_, B>,
+    pair: &Pair<'_, '_, '_>,
     hint: &HintBlock,
     block: &AlignedBlock<'_>,
     labels: &[&Name],
 ) -> Result<bool, AllocError>
-    requires parts { AreParts hint.now (block_hint (asked B.rules pair.now).hint block.now.source.now.name) }
+    requires parts { AreParts hint.now (block_hint (asked called takes pair.now).hint block.now.source.now.name) }
     requires labels { names_lent labels.now ≡ judged.labels_once (successors_of block.now.source.now.term) }
     ensures { IfOk result
-        (λ valid. valid ≡ true → judged_answer (judged.block_judged (asked B.rules pair.now) (lent_block block.now)) ≡ Some Verdict.Valid) }
+        (λ valid. valid ≡ true → judged_answer (judged.block_judged (asked called takes pair.now) (lent_block block.now)) ≡ Some Verdict.Valid) }
 {
     if !is_empty(hint) {
         return Ok(false);
@@ -229,12 +228,12 @@ fn is_valid_at_once<B: RuleSet>(
 }
 
 /// The answer on two blocks.
-pub fn block_answer<B: RuleSet>(
+pub fn block_answer(
     alloc: Global,
-    pair: &Pair<'_, '_, '_, B>,
+    pair: &Pair<'_, '_, '_>,
     block: &AlignedBlock<'_>,
 ) -> Result<Verdict, CheckEnd>
-    ensures { Answers result (judged_answer (judged.block_judged (asked B.rules pair.now) (lent_block block.now))) }
+    ensures { Answers result (judged_answer (judged.block_judged (asked called takes pair.now) (lent_block block.now))) }
 {
     let hint = pair.hint_of(&block.source.name);
     let labels = labels_once(alloc, &block.source.term)?;

@@ -18,7 +18,6 @@ use fact_sets::{IndexedSet, Sides};
 use ir_core::Name;
 use line_align::ByName;
 use postcondition::{Edge, LineEnd, Phis, after_edge};
-use rule_base::RuleSet;
 use std::alloc::{AllocError, Global};
 
 /// A refusal at a place of a block.
@@ -105,14 +104,14 @@ fn arrival_fault(
 
 /// What is known over an edge with its phis.
 #[tactic(auto, using(erhl_assert::proofs::Judging::edge_within, erhl_assert::proofs::Judging::edge_past))]
-fn cross<B: RuleSet>(
+fn cross(
     alloc: Global,
-    pair: &Pair<'_, '_, '_, B>,
+    pair: &Pair<'_, '_, '_>,
     from: &Name,
     to: &Name,
     known: &Sides<IndexedSet>,
 ) -> Result<Sides<IndexedSet>, CheckEnd>
-    ensures { Gave result (within (over_edge (edge_between (asked B.rules pair.now).source (asked B.rules pair.now).target from.now to.now) known.now)) }
+    ensures { Gave result (within (over_edge (edge_between (asked called takes pair.now).source (asked called takes pair.now).target from.now to.now) known.now)) }
 {
     let edge = Edge {
         from,
@@ -129,15 +128,15 @@ fn cross<B: RuleSet>(
 
 /// Behind the phis: the steps on the edge, and what the block claims that it enters.
 #[tactic(auto, using(crate::proofs::CheckedPair::Progressing::arrived, crate::proofs::CheckedPair::Progressing::arrival_refused, crate::proofs::CheckedPair::Progressing::arrival_stopped))]
-fn arrive<B: RuleSet>(
+fn arrive(
     alloc: Global,
-    pair: &Pair<'_, '_, '_, B>,
+    pair: &Pair<'_, '_, '_>,
     steps: &[&HintStep],
     to: &Name,
     crossed: &mut Sides<IndexedSet>,
 ) -> Result<Option<Reason>, CheckEnd>
     ensures { Answers result
-        (fault_at (within (after_edge_steps (asked B.rules pair.now) (map (λ s. s.now) steps.now) to.now crossed.old))) }
+        (fault_at (within (after_edge_steps (asked called takes pair.now) (map (λ s. s.now) steps.now) to.now crossed.old))) }
 {
     match after_steps(alloc, pair, steps, crossed)? {
         Some(reason) => Ok(Some(reason)),
@@ -157,26 +156,26 @@ fn are_none(phis: &Phis<'_>) -> bool
 }
 
 /// Whether neither side has a phi in the block.
-fn has_no_phis<B: RuleSet>(pair: &Pair<'_, '_, '_, B>, to: &Name) -> bool
-    ensures { result ≡ true → (phis_at to.now (asked B.rules pair.now).source ≡ []) × (phis_at to.now (asked B.rules pair.now).target ≡ []) }
+fn has_no_phis(pair: &Pair<'_, '_, '_>, to: &Name) -> bool
+    ensures { result ≡ true → (phis_at to.now (asked called takes pair.now).source ≡ []) × (phis_at to.now (asked called takes pair.now).target ≡ []) }
 {
     are_none(pair.source_phis(to)) && are_none(pair.target_phis(to))
 }
 
 /// Finds what is known over an edge without steps, to a block without phis, unless it is found. It is the same on each such edge.
 #[tactic(auto, using(crate::proofs::BlockChecker::Plain::plain_over, crate::proofs::CheckedPair::Progressing::edge_stopped))]
-fn find_plain<B: RuleSet>(
+fn find_plain(
     alloc: Global,
-    pair: &Pair<'_, '_, '_, B>,
+    pair: &Pair<'_, '_, '_>,
     from: &Name,
     to: &Name,
     known: &Sides<IndexedSet>,
     plain: &mut Option<Sides<IndexedSet>>,
 ) -> Result<(), CheckEnd>
-    requires edge { IsPlainEdge (asked B.rules pair.now) from.now to.now }
+    requires edge { IsPlainEdge (asked called takes pair.now) from.now to.now }
     requires found { IfSome plain.old (IsOverPlain from.now known.now) }
     ensures found { IfSome plain.new (IsOverPlain from.now known.now) }
-    ensures end { IfErr result (λ end. Stopped end (fault_at (within (judged.along_edge (asked B.rules pair.now) from.now to.now known.now)))) }
+    ensures end { IfErr result (λ end. Stopped end (fault_at (within (judged.along_edge (asked called takes pair.now) from.now to.now known.now)))) }
 {
     if plain.is_none() {
         *plain = Some(cross(alloc, pair, from, to, known)?);
@@ -186,17 +185,17 @@ fn find_plain<B: RuleSet>(
 
 /// Over an edge without steps, to a block without phis.
 #[tactic(auto, using(crate::proofs::BlockChecker::Plain::plain_arrived))]
-fn along_plain_edge<B: RuleSet>(
+fn along_plain_edge(
     alloc: Global,
-    pair: &Pair<'_, '_, '_, B>,
+    pair: &Pair<'_, '_, '_>,
     from: &Name,
     to: &Name,
     known: &Sides<IndexedSet>,
     plain: &mut Option<Sides<IndexedSet>>,
 ) -> Result<Option<Reason>, CheckEnd>
-    requires edge { IsPlainEdge (asked B.rules pair.now) from.now to.now }
+    requires edge { IsPlainEdge (asked called takes pair.now) from.now to.now }
     requires found { IfSome plain.old (IsOverPlain from.now known.now) }
-    ensures answer { Answers result (fault_at (within (judged.along_edge (asked B.rules pair.now) from.now to.now known.now))) }
+    ensures answer { Answers result (fault_at (within (judged.along_edge (asked called takes pair.now) from.now to.now known.now))) }
     ensures found { IfSome plain.new (IsOverPlain from.now known.now) }
 {
     find_plain(alloc, pair, from, to, known, plain)?;
@@ -211,18 +210,18 @@ fn along_plain_edge<B: RuleSet>(
 
 /// Over the edge with its phis, the steps on it, and what the block claims that it enters.
 #[tactic(auto, using(crate::proofs::CheckedPair::Progressing::edge_stopped))]
-fn along_edge<B: RuleSet>(
+fn along_edge(
     alloc: Global,
-    pair: &Pair<'_, '_, '_, B>,
+    pair: &Pair<'_, '_, '_>,
     edges: &ByName<'_, HintEdge>,
     from: &Name,
     to: &Name,
     known: &Sides<IndexedSet>,
     plain: &mut Option<Sides<IndexedSet>>,
 ) -> Result<Option<Reason>, CheckEnd>
-    requires edges { edges.now ≡ (block_hint (asked B.rules pair.now).hint from.now).edges }
+    requires edges { edges.now ≡ (block_hint (asked called takes pair.now).hint from.now).edges }
     requires found { IfSome plain.old (IsOverPlain from.now known.now) }
-    ensures answer { Answers result (fault_at (within (judged.along_edge (asked B.rules pair.now) from.now to.now known.now))) }
+    ensures answer { Answers result (fault_at (within (judged.along_edge (asked called takes pair.now) from.now to.now known.now))) }
     ensures found { IfSome plain.new (IsOverPlain from.now known.now) }
 {
     let steps = steps_on(alloc, edges, to)?;
@@ -234,18 +233,18 @@ fn along_edge<B: RuleSet>(
 }
 
 #[tactic(auto, using(crate::proofs::CheckedPair::Progressing::edge_valid, crate::proofs::CheckedPair::Progressing::edge_refused, crate::proofs::CheckedPair::Progressing::edge_unanswered))]
-fn edge_answer<B: RuleSet>(
+fn edge_answer(
     alloc: Global,
-    pair: &Pair<'_, '_, '_, B>,
+    pair: &Pair<'_, '_, '_>,
     edges: &ByName<'_, HintEdge>,
     from: &Name,
     to: &Name,
     known: &Sides<IndexedSet>,
     plain: &mut Option<Sides<IndexedSet>>,
 ) -> Result<Verdict, CheckEnd>
-    requires edges { edges.now ≡ (block_hint (asked B.rules pair.now).hint from.now).edges }
+    requires edges { edges.now ≡ (block_hint (asked called takes pair.now).hint from.now).edges }
     requires found { IfSome plain.old (IsOverPlain from.now known.now) }
-    ensures answer { Answers result (judged_answer (judged.edge_judged (asked B.rules pair.now) from.now known.now to.now)) }
+    ensures answer { Answers result (judged_answer (judged.edge_judged (asked called takes pair.now) from.now known.now to.now)) }
     ensures found { IfSome plain.new (IsOverPlain from.now known.now) }
 {
     match along_edge(alloc, pair, edges, from, to, known, plain)? {
@@ -258,16 +257,16 @@ fn edge_answer<B: RuleSet>(
 }
 
 /// The edges to these blocks, of which the first that is refused decides.
-pub(crate) fn edges_answer<B: RuleSet>(
+pub(crate) fn edges_answer(
     alloc: Global,
-    pair: &Pair<'_, '_, '_, B>,
+    pair: &Pair<'_, '_, '_>,
     hint: &HintBlock,
     from: &Name,
     labels: &[&Name],
     known: &Sides<IndexedSet>,
 ) -> Result<Verdict, CheckEnd>
-    requires { hint.now.edges ≡ (block_hint (asked B.rules pair.now).hint from.now).edges }
-    ensures { Answers result (judged_answer (judged.edges_judged (asked B.rules pair.now) from.now known.now (names_lent labels.now))) }
+    requires { hint.now.edges ≡ (block_hint (asked called takes pair.now).hint from.now).edges }
+    ensures { Answers result (judged_answer (judged.edges_judged (asked called takes pair.now) from.now known.now (names_lent labels.now))) }
 {
     let edges = ByName::new(alloc, hint.edges.as_slice())?;
     let mut plain = None;

@@ -18,7 +18,6 @@ use fact_sets::{IndexedSet, Sides};
 use ir_core::{Instr, Limit, Name, Term, same_name};
 use line_align::{AlignedBlock, Likeness, all_alike, left, on_source, on_target, taken};
 use postcondition::{IndexedPhi, lines_agree, phis_match};
-use rule_base::RuleSet;
 use std::alloc::{AllocError, Global};
 
 fn instrs_agree(nothing: &Sides<IndexedSet>, source: Option<&Instr>, target: Option<&Instr>) -> bool
@@ -142,8 +141,8 @@ fn are_few_over(lines: usize, phis: usize) -> bool
     8 * (lines as u128) + 4 * (phis as u128) <= most
 }
 
-fn edge_agrees<B: RuleSet>(pair: &Pair<'_, '_, '_, B>, from: &Name, lines: usize, to: &Name) -> bool
-    ensures { result ≡ edge_agrees (asked B.rules pair.now) from.now lines to.now }
+fn edge_agrees(pair: &Pair<'_, '_, '_>, from: &Name, lines: usize, to: &Name) -> bool
+    ensures { result ≡ edge_agrees (asked called takes pair.now) from.now lines to.now }
 {
     let source = pair.source_phis(to).all();
     are_few_over(lines, source.len())
@@ -151,13 +150,8 @@ fn edge_agrees<B: RuleSet>(pair: &Pair<'_, '_, '_, B>, from: &Name, lines: usize
         && phis_agree(pair.nothing(), from, source, pair.target_phis(to).all())
 }
 
-fn edges_agree<B: RuleSet>(
-    pair: &Pair<'_, '_, '_, B>,
-    from: &Name,
-    lines: usize,
-    labels: &[&Name],
-) -> bool
-    ensures { result ≡ edges_agree (asked B.rules pair.now) from.now lines (names_lent labels.now) }
+fn edges_agree(pair: &Pair<'_, '_, '_>, from: &Name, lines: usize, labels: &[&Name]) -> bool
+    ensures { result ≡ edges_agree (asked called takes pair.now) from.now lines (names_lent labels.now) }
 {
     for to in labels {
         if !edge_agrees(pair, from, lines, to) {
@@ -176,13 +170,13 @@ fn are_few(lines: usize) -> bool
 
 /// Whether the blocks' lines agree one by one, their terminators, and the phis on the edges to these blocks, where nothing is known.
 #[tactic(auto, using(crate::proofs::CheckedPair::Agreements::lines_counted))]
-pub fn block_agrees<B: RuleSet>(
+pub fn block_agrees(
     alloc: Global,
-    pair: &Pair<'_, '_, '_, B>,
+    pair: &Pair<'_, '_, '_>,
     block: &AlignedBlock<'_>,
     labels: &[&Name],
 ) -> Result<bool, AllocError>
-    ensures { IfOk result (λ agree. agree ≡ block_agrees (asked B.rules pair.now) (lent_block block.now) (names_lent labels.now)) }
+    ensures { IfOk result (λ agree. agree ≡ block_agrees (asked called takes pair.now) (lent_block block.now) (names_lent labels.now)) }
 {
     let nothing = pair.nothing();
     let letters = block.letters.as_slice();

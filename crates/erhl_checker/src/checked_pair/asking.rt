@@ -4,7 +4,7 @@ ghost use Rattle.ir_core.specs.Modules.{scope_of};
 ghost use Rattle.erhl_assert.specs.Alignment.{block_hint, no_facts};
 ghost use Rattle.erhl_assert.specs.Edges.{phis_at};
 ghost use Rattle.erhl_assert.specs.Steps.{beside, rule_named};
-ghost use Rattle.rule_base.specs.Book.{answer_of};
+ghost use Rattle.rule_base.specs.Book.{answer_of, rules_of};
 ghost use Rattle.erhl_checker.specs.CheckedPair.Asked.{asked};
 ghost use Rattle.erhl_checker.specs.CheckedPair.Empty.{AreParts};
 
@@ -16,22 +16,22 @@ use fact_sets::{IndexedSet, Sides};
 use ir_core::{Function, Module, Name};
 use line_align::ByName;
 use postcondition::Phis;
-use rule_base::{Fitness, RuleSet};
+use rule_base::{Fitness, RuleBook};
 use std::alloc::{AllocError, Global};
 
-impl<'a, 's, 't, B: RuleSet> Pair<'a, 's, 't, B> {
+impl<'a, 's, 't> Pair<'a, 's, 't> {
     #[tactic(auto, unfolding(crate::specs::CheckedPair::Asked::asked))]
     pub fn new(
         alloc: Global,
         module: &'a Module,
-        book: &'a B,
+        book: &'a RuleBook,
         source: FunctionIndex<'s, 'a>,
         target: FunctionIndex<'t, 'a>,
         hints: ByName<'a, HeldBlock>,
-    ) -> Result<Pair<'a, 's, 't, B>, AllocError>
+    ) -> Result<Pair<'a, 's, 't>, AllocError>
         ensures { IfOk result
-            (λ pair. asked B.rules pair
-            ≡ beside (B.rules book.now) (scope_of «module».now) source.entry target.entry (record { blocks = hints.entry })) }
+            (λ pair. asked called takes pair
+            ≡ beside (rules_of called takes book.now) (scope_of «module».now) source.entry target.entry (record { blocks = hints.entry })) }
     {
         let empty = Empty::new(alloc)?;
         Ok(Pair {
@@ -47,7 +47,7 @@ impl<'a, 's, 't, B: RuleSet> Pair<'a, 's, 't, B> {
     /// The module beside which they are checked.
     #[tactic(auto, unfolding(crate::specs::CheckedPair::Asked::asked))]
     pub fn enclosing_module(&self) -> &'a Module
-        ensures { scope_of result.now ≡ (asked B.rules self.now).scope }
+        ensures { scope_of result.now ≡ (asked called takes self.now).scope }
     {
         self.module
     }
@@ -55,7 +55,7 @@ impl<'a, 's, 't, B: RuleSet> Pair<'a, 's, 't, B> {
     /// The source.
     #[tactic(auto, unfolding(crate::specs::CheckedPair::Asked::asked))]
     pub fn source_function(&self) -> &'a Function
-        ensures { result.now ≡ (asked B.rules self.now).source }
+        ensures { result.now ≡ (asked called takes self.now).source }
     {
         self.source.function()
     }
@@ -63,7 +63,7 @@ impl<'a, 's, 't, B: RuleSet> Pair<'a, 's, 't, B> {
     /// The hint of the block: the first of its name, or an empty one.
     #[tactic(auto, unfolding(crate::specs::CheckedPair::Asked::asked))]
     pub fn hint_of(&self, block: &Name) -> &HintBlock
-        ensures { AreParts result.now (block_hint (asked B.rules self.now).hint block.now) }
+        ensures { AreParts result.now (block_hint (asked called takes self.now).hint block.now) }
     {
         match self.hints.first(block) {
             Some(held) => match held.whole() {
@@ -84,7 +84,7 @@ impl<'a, 's, 't, B: RuleSet> Pair<'a, 's, 't, B> {
     /// The phis of the source's block of that name.
     #[tactic(auto, unfolding(crate::specs::CheckedPair::Asked::asked))]
     pub fn source_phis(&self, block: &Name) -> &Phis<'a>
-        ensures { result.now ≡ phis_at block.now (asked B.rules self.now).source }
+        ensures { result.now ≡ phis_at block.now (asked called takes self.now).source }
     {
         self.source.phis_of(block)
     }
@@ -92,7 +92,7 @@ impl<'a, 's, 't, B: RuleSet> Pair<'a, 's, 't, B> {
     /// The phis of the target's block of that name.
     #[tactic(auto, unfolding(crate::specs::CheckedPair::Asked::asked))]
     pub fn target_phis(&self, block: &Name) -> &Phis<'a>
-        ensures { result.now ≡ phis_at block.now (asked B.rules self.now).target }
+        ensures { result.now ≡ phis_at block.now (asked called takes self.now).target }
     {
         self.target.phis_of(block)
     }
@@ -100,7 +100,7 @@ impl<'a, 's, 't, B: RuleSet> Pair<'a, 's, 't, B> {
     /// The source with what is looked up of it.
     #[tactic(auto, unfolding(crate::specs::CheckedPair::Asked::asked))]
     pub fn source(&self) -> &FunctionIndex<'s, 'a>
-        ensures { result.now ≡ (asked B.rules self.now).source }
+        ensures { result.now ≡ (asked called takes self.now).source }
     {
         &self.source
     }
@@ -108,7 +108,7 @@ impl<'a, 's, 't, B: RuleSet> Pair<'a, 's, 't, B> {
     /// The target with what is looked up of it.
     #[tactic(auto, unfolding(crate::specs::CheckedPair::Asked::asked))]
     pub fn target(&self) -> &FunctionIndex<'t, 'a>
-        ensures { result.now ≡ (asked B.rules self.now).target }
+        ensures { result.now ≡ (asked called takes self.now).target }
     {
         &self.target
     }
@@ -116,7 +116,7 @@ impl<'a, 's, 't, B: RuleSet> Pair<'a, 's, 't, B> {
     /// Whether the rule of that name takes the schema.
     #[tactic(auto, unfolding(crate::specs::CheckedPair::Asked::asked))]
     pub fn ask(&self, rule: &Seq<u8>, schema: &Schema) -> Fitness
-        ensures { result ≡ answer_of (rule_named (asked B.rules self.now).rules rule.now) (asked B.rules self.now).scope schema.now }
+        ensures { result ≡ answer_of (rule_named (asked called takes self.now).rules rule.now) (asked called takes self.now).scope schema.now }
     {
         self.book.ask(rule, self.module, schema)
     }

@@ -12,6 +12,7 @@ use erhl_assert::{Assertion, HeldBlock, HintBlock};
 use fact_sets::{IndexedSet, Sides};
 use ir_core::{Module, Name};
 use line_align::ByName;
+use rule_base::RuleBook;
 use std::alloc::{AllocError, Global};
 
 /// A hint of a block that says nothing, and that nothing is known.
@@ -50,16 +51,16 @@ impl Empty {
 }
 
 /// What a check of two functions is asked of: rules, a module, the functions and the blocks of their hint.
-pub struct Pair<'a, 's, 't, B> {
+pub struct Pair<'a, 's, 't> {
     pub(crate) module: &'a Module,
-    pub(crate) book: &'a B,
+    pub(crate) book: &'a RuleBook,
     pub(crate) source: FunctionIndex<'s, 'a>,
     pub(crate) target: FunctionIndex<'t, 'a>,
     pub(crate) hints: ByName<'a, HeldBlock>,
     pub(crate) empty: Empty,
 }
 
-impl<'a, 's, 't, B> Drop for Pair<'a, 's, 't, B> {
+impl<'a, 's, 't> Drop for Pair<'a, 's, 't> {
     fn drop(self) {
         let Pair {
             module: _,

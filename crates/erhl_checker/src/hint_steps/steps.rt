@@ -16,7 +16,7 @@ use erhl_assert::{Fact, GhostStep, HintStep, Reason, RuleStep, SameStep, Side, e
 use fact_sets::{IndexedSet, Sides};
 use ir_core::{Atom, BitType, Expr, Expr0, Limit, Operand, Reg};
 use postcondition::can_trap;
-use rule_base::{Fitness, RuleSet, has_type};
+use rule_base::{Fitness, has_type};
 use std::alloc::{AllocError, Global};
 
 /// Adds the fact to the side's.
@@ -67,14 +67,14 @@ fn on_answer(
 }
 
 #[tactic(auto, using(crate::proofs::HintSteps::Stepping::rule_by_answer))]
-fn after_rule<B: RuleSet>(
+fn after_rule(
     alloc: Global,
-    pair: &Pair<'_, '_, '_, B>,
+    pair: &Pair<'_, '_, '_>,
     step: &RuleStep,
     known: &mut Sides<IndexedSet>,
 ) -> Result<Option<Reason>, CheckEnd>
     ensures { CameOf result known.new
-        (within (logic.after_rule (logic.rule_named (asked B.rules pair.now).rules step.now.rule) (asked B.rules pair.now).scope step.now known.old)) }
+        (within (logic.after_rule (logic.rule_named (asked called takes pair.now).rules step.now.rule) (asked called takes pair.now).scope step.now known.old)) }
 {
     let answer = pair.ask(&step.rule, &step.schema);
     on_answer(alloc, answer, step, known)
@@ -283,14 +283,14 @@ fn target_fault(
     premise_fault(alloc, target, register, expr, Side::Tgt, known, below)
 }
 
-fn same_fault<B: RuleSet>(
+fn same_fault(
     alloc: Global,
-    pair: &Pair<'_, '_, '_, B>,
+    pair: &Pair<'_, '_, '_>,
     register: &Reg,
     expr: &Expr0,
     known: &Sides<IndexedSet>,
 ) -> Result<Option<Reason>, AllocError>
-    ensures { IfOk result (λ fault. fault ≡ logic.same_fault (asked B.rules pair.now) known.now register.now expr.now) }
+    ensures { IfOk result (λ fault. fault ≡ logic.same_fault (asked called takes pair.now) known.now register.now expr.now) }
 {
     if !has_type(expr) {
         return Ok(Some(unfit(alloc)?));
@@ -307,13 +307,13 @@ fn same_fault<B: RuleSet>(
     }
 }
 
-fn after_same<B: RuleSet>(
+fn after_same(
     alloc: Global,
-    pair: &Pair<'_, '_, '_, B>,
+    pair: &Pair<'_, '_, '_>,
     step: &SameStep,
     known: &mut Sides<IndexedSet>,
 ) -> Result<Option<Reason>, CheckEnd>
-    ensures { CameOf result known.new (within (logic.after_same (asked B.rules pair.now) step.now known.old)) }
+    ensures { CameOf result known.new (within (logic.after_same (asked called takes pair.now) step.now known.old)) }
 {
     match same_fault(alloc, pair, &step.register, &step.by, known)? {
         Some(reason) => Ok(Some(reason)),
@@ -324,13 +324,13 @@ fn after_same<B: RuleSet>(
     }
 }
 
-fn after_step<B: RuleSet>(
+fn after_step(
     alloc: Global,
-    pair: &Pair<'_, '_, '_, B>,
+    pair: &Pair<'_, '_, '_>,
     step: &HintStep,
     known: &mut Sides<IndexedSet>,
 ) -> Result<Option<Reason>, CheckEnd>
-    ensures { CameOf result known.new (within (logic.after_step (asked B.rules pair.now) step.now known.old)) }
+    ensures { CameOf result known.new (within (logic.after_step (asked called takes pair.now) step.now known.old)) }
 {
     match step {
         HintStep::Rule(step) => after_rule(alloc, pair, step, known),
@@ -340,13 +340,13 @@ fn after_step<B: RuleSet>(
 }
 
 /// The steps in their order.
-pub fn after_steps<B: RuleSet>(
+pub fn after_steps(
     alloc: Global,
-    pair: &Pair<'_, '_, '_, B>,
+    pair: &Pair<'_, '_, '_>,
     steps: &[&HintStep],
     known: &mut Sides<IndexedSet>,
 ) -> Result<Option<Reason>, CheckEnd>
-    ensures { CameOf result known.new (within (logic.after_steps (asked B.rules pair.now) (map (λ s. s.now) steps.now) known.old)) }
+    ensures { CameOf result known.new (within (logic.after_steps (asked called takes pair.now) (map (λ s. s.now) steps.now) known.old)) }
 {
     for step in steps {
         match after_step(alloc, pair, step, known) {

@@ -11,7 +11,7 @@ returns-in-len3-clause-due g c =
     c.as_slice-in-Ok.result.now c.as_slice-in-Ok-2.result.now c.as_slice-in-Ok-3.result.now
     c.in-Ok.ensures.held c.files_of_check.ensures c.as_slice.ensures c.in-len3.len_at_least c.in-len3.len_below c.source-item.is c.target-item.is c.hints-item.is
     c.as_slice-in-Ok.ensures c.as_slice-in-Ok-2.ensures c.as_slice-in-Ok-3.ensures in
-    files_judged _ shelf names _ _ _ all c.check_texts.result c.check_texts.ensures.due
+    files_judged shelf names _ _ _ all c.judge_pair.result _ c.judge_pair.ensures.due
 
 pub returns-in-len3-clause-refines : goal.returns-in-len3-clause-refines
 returns-in-len3-clause-refines g c =
@@ -21,4 +21,4 @@ returns-in-len3-clause-refines g c =
     c.as_slice-in-Ok.result.now c.as_slice-in-Ok-2.result.now c.as_slice-in-Ok-3.result.now
     c.in-Ok.ensures.held c.files_of_check.ensures c.as_slice.ensures c.in-len3.len_at_least c.in-len3.len_below c.source-item.is c.target-item.is c.hints-item.is
     c.as_slice-in-Ok.ensures c.as_slice-in-Ok-2.ensures c.as_slice-in-Ok-3.ensures in
-    files_refined (g.R.RuleSet.rules c.args.rules.now) shelf names _ _ _ all c.check_texts.result c.check_texts.ensures.refines
+    files_refined shelf names _ _ _ all c.judge_pair.result c.judge_pair.ensures.refines

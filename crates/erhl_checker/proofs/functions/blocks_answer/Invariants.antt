@@ -8,4 +8,5 @@ use Rattle.erhl_checker.proofs.functions.blocks_answer.Given as goal
 -- the blocks that are left answer what all answer
 abbrev pub invariant-loop-block : goal.invariant-loop-block
 invariant-loop-block g l =
-    judged_answer (blocks_judged (asked g.B.RuleSet.rules l.pair) l.rest (map lent_block (drop l.block-index l.blocks))) ≡ judged_answer (blocks_judged (asked g.B.RuleSet.rules l.pair) l.marks (map lent_block l.blocks))
+    let w = asked (λ x. (goal.InferRule-dyn g x).called x.1) (λ x. (goal.InferRule-dyn g x).takes x.1) l.pair in
+    judged_answer (blocks_judged w l.rest (map lent_block (drop l.block-index l.blocks))) ≡ judged_answer (blocks_judged w l.marks (map lent_block l.blocks))

@@ -1,4 +1,4 @@
-use Rattle.std.proofs.Common.{◌∙◌, rules}
+use Rattle.std.proofs.Common.{rules}
 use Rattle.line_align.specs.Lent.{lent_block}
 use Rattle.erhl_checker.proofs.CheckedPair.Progressing.{answers_so}
 use Rattle.erhl_checker.specs.CheckedPair.Asked.{asked}
@@ -7,4 +7,4 @@ use Rattle.erhl_checker.proofs.functions.from_entry.Goals as goal
 
 pub returns-in_ok-marks-in-None : goal.returns-in_ok-marks-in-None
 returns-in_ok-marks-in-None g c =
-    answers_so (entry_passed (asked g.B.RuleSet.rules c.args.pair.now) (lent_block c.args.entry.now) _ _ (search rules) (search rules)) c.blocks_answer.result c.blocks_answer.ensures
+    answers_so (entry_passed (asked _ _ c.args.pair.now) (lent_block c.args.entry.now) _ _ (search rules) (search rules)) c.blocks_answer.result c.blocks_answer.ensures

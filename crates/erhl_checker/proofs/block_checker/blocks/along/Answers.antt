@@ -11,7 +11,7 @@ use Rattle.erhl_checker.proofs.block_checker.blocks.along.Goals as goal
 pub returns : goal.returns
 returns g c =
     let letters = c.as_slice-letters.result.now in
-    lines_end (asked g.B.RuleSet.rules c.args.pair.now) (lent_block c.args.block.now) c.loop-i.i (length letters) letters c.loop-i.xs.now c.loop-i.ys.now c.loop-i.known
+    lines_end (asked _ _ c.args.pair.now) (lent_block c.args.block.now) c.loop-i.i (length letters) letters c.loop-i.xs.now c.loop-i.ys.now c.loop-i.known
     (map (λ (s : Bor HintStep). s.now) c.as_slice-last.result.now)
     (omega arith) (omega arith) (search rules) _ c.loop-i.invariant c.at_end.result c.at_end.ensures
 
@@ -19,7 +19,7 @@ pub loop-i-preserved : goal.loop-i-preserved
 loop-i-preserved g c =
     let letters = c.as_slice-letters.result.now in
     let l = c.letter_at-letter.result in
-    line_done (asked g.B.RuleSet.rules c.args.pair.now) (lent_block c.args.block.now) c.loop-i.i letters l c.loop-i.xs.now c.loop-i.ys.now c.loop-i.known
+    line_done (asked _ _ c.args.pair.now) (lent_block c.args.block.now) c.loop-i.i letters l c.loop-i.xs.now c.loop-i.ys.now c.loop-i.known
     (map (λ (s : Bor HintStep). s.now) c.as_slice-steps.result.now) _ c.loop-i.invariant (drop_at letters c.loop-i.i l c.loop-i-test.true c.letter_at-letter.ensures) (search rules)
     c.in-Ok.refusal c.past_line.new.known c.in-Ok.ensures (search rules) _ _ (search rules) (search rules)
 
@@ -29,7 +29,7 @@ returns-in-Err g c = λ k limit.
     let l = c.letter_at-letter.result in
     let more = c.in-Err.ensures k limit in (
       more.0,
-      line_stops (asked g.B.RuleSet.rules c.args.pair.now) (lent_block c.args.block.now) c.loop-i.i letters l c.loop-i.xs.now c.loop-i.ys.now c.loop-i.known
+      line_stops (asked _ _ c.args.pair.now) (lent_block c.args.block.now) c.loop-i.i letters l c.loop-i.xs.now c.loop-i.ys.now c.loop-i.known
           (map (λ (s : Bor HintStep). s.now) c.as_slice-steps.result.now) _ c.loop-i.invariant (drop_at letters c.loop-i.i l c.loop-i-test.true c.letter_at-letter.ensures) (search rules) more.1,
     )
 
@@ -37,7 +37,7 @@ pub returns-in-Some : goal.returns-in-Some
 returns-in-Some g c =
     let letters = c.as_slice-letters.result.now in
     let l = c.letter_at-letter.result in
-    line_refuses (asked g.B.RuleSet.rules c.args.pair.now) (lent_block c.args.block.now) c.loop-i.i letters l c.loop-i.xs.now c.loop-i.ys.now c.loop-i.known
+    line_refuses (asked _ _ c.args.pair.now) (lent_block c.args.block.now) c.loop-i.i letters l c.loop-i.xs.now c.loop-i.ys.now c.loop-i.known
     (map (λ (s : Bor HintStep). s.now) c.as_slice-steps.result.now) _ c.loop-i.invariant (drop_at letters c.loop-i.i l c.loop-i-test.true c.letter_at-letter.ensures) (search rules)
     c.in-Ok.refusal c.past_line.new.known c.in-Ok.ensures c.in-Some.reason c.in-Some.is
     ∙ ap (λ v. Some v) (sym c.in_ok-verdict-in-Ok.ensures)

@@ -6,4 +6,4 @@ use Rattle.erhl_checker.proofs.block_checker.blocks.at_terms.Goals as goal
 
 pub returns-in-None : goal.returns-in-None
 returns-in-None g c =
-    answers_so (end_passed (asked g.B.RuleSet.rules c.args.pair.now) (lent_block c.args.block.now) c.args.k c.args.known.now _ c.requires.labels (search rules)) c.edges_answer.result c.edges_answer.ensures
+    answers_so (end_passed (asked _ _ c.args.pair.now) (lent_block c.args.block.now) c.args.k c.args.known.now _ c.requires.labels (search rules)) c.edges_answer.result c.edges_answer.ensures

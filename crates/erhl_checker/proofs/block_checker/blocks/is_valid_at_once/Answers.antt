@@ -7,5 +7,5 @@ use Rattle.erhl_checker.proofs.block_checker.blocks.is_valid_at_once.Goals as go
 
 pub returns : goal.returns
 returns g c = λ valid.
-    agreeing_blocks (asked g.B.RuleSet.rules c.args.pair.now) (lent_block c.args.block.now) (names_lent c.args.labels.now) c.requires.labels
+    agreeing_blocks (asked _ _ c.args.pair.now) (lent_block c.args.block.now) (names_lent c.args.labels.now) c.requires.labels
     (empty_too c.args.hint.now _ c.requires.parts (search rules)) (sym c.in_ok-agree.ensures ∙ valid)

@@ -1,0 +1,5 @@
+pub mod Literals
+pub mod Lifting
+pub mod Exact
+pub mod ReadingBack
+pub mod Examples

@@ -1,0 +1,4 @@
+pub mod Exactness
+pub mod Examples
+pub mod Instances
+pub mod Lent

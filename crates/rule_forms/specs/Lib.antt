@@ -1,0 +1,4 @@
+pub mod Conditions
+pub mod Meaning
+pub mod Table
+pub mod Wrong

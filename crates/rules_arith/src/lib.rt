@@ -1,0 +1,9 @@
+//! The rules of arithmetic, as lists of forms.
+#![tactic(auto)]
+
+mod laws;
+mod rules;
+mod table;
+
+pub use laws::{rules_are_lawful, rules_take_their_instances};
+pub use rules::{ArithRule, rules_stand_in_the_table};
