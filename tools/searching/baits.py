@@ -1,11 +1,12 @@
 """Wrong pairs, each with the hint under which a checker would take it that lacks one test. One for each test that was thought of.
 
-Texts are written with i9 for the width, which is drawn; numbers in them are 0 to 3.
+Texts are written with i9 for the width, which is drawn; numbers in them are -2 to 3.
 """
 import copy
 import json
 
 from .functions import read_function
+from .rule_baits import LACKING, WRONG_USES
 
 STRAIGHT = "define i9 @f(i9 %a, i9 %b) {{\nentry:\n{}\n}}\n"
 ONE_BIT = "define i1 @f(i1 %a, i1 %b) {{\nentry:\n{}\n}}\n"
@@ -29,6 +30,31 @@ def through(a, b, c, side="src", at=None):
 
 def straight(name, source, target, lines, *steps, form=STRAIGHT, **members):
     return name, form.format(source), form.format(target), [dict({"at": "%entry", "lines": lines, "steps": list(steps)}, **members)]
+
+
+def by_rule(name, rule, first, left, right, types, asked=None):
+    """A line that becomes the right side by a rule that mustn't take it; asked is the premise where it isn't what the line before says. Its hint
+    names the premise, or names none."""
+    result, params = types.split()
+    whole = not right.startswith("i") or right.startswith("icmp")
+    at, y = 1 + bool(first), f"{result} %y"
+    lines = [f"%z = {first}"] * bool(first)
+    goes = ge(left, right)
+    made = ("i1" if first.startswith("icmp") else first.split()[-1] if " to " in first else params) if first else ""
+    premises = [ge(f"{made} %z", asked or first)] if first and rule != "select_same" else []
+    steps = [step(rule, goes, *premises, at=at), through(y, left, right, at=at)]
+    if whole:
+        steps.append({"at": at, "same": "%y", "by": right})
+    source, target = (["%y = " + left, "ret " + y], ["%y = " + right, "ret " + y] if whole else ["ret " + right])
+    return straight(name, "\n".join(lines + source), "\n".join(lines + target), "b" * (at - 1) + "sb"[whole], *steps,
+                    form=STRAIGHT.replace("define i9", "define " + result).replace("i9 %", params + " %"))
+
+
+def without(bait_):
+    """The same bait, whose hint names no premise."""
+    name, source, target, blocks = copy.deepcopy(bait_)
+    blocks[0]["steps"][0]["from"] = []
+    return name + ", nor named", source, target, blocks
 
 
 A, B, Y = "i9 %a", "i9 %b", "i9 %y"
@@ -158,6 +184,17 @@ BAITS = [
      FORK.format("br label %one", 1, 2).replace("one:\nret i9 1", "one:\nbr label %one"), []),
     ("no result in place of one", STRAIGHT.format("ret i9 1"), STRAIGHT.format("unreachable"), []),
 ]
+BAITS += [by_rule(*row) for row in WRONG_USES]
+BAITS += [made for rule, *row in LACKING for lacking in [by_rule(f"a premise of {rule} that isn't asked", rule, *row)]
+          for made in (lacking, without(lacking))]
+BAITS.append(straight("a premise turned round", "%z = sub i9 %a, 1\n%y = icmp eq i9 %z, 0\n%r = zext i1 %y to i9\nret i9 %r",
+                      "%z = sub i9 %a, 1\n%y = icmp eq i9 %a, undef\n%r = zext i1 %y to i9\nret i9 %r", "bbb",
+                      step("undef_const", ge("i9 undef", "i9 1"), at=2),
+                      step("subst", ge("sub i9 %a, undef", "sub i9 %a, 1"), ge("i9 undef", "i9 1"), at=2),
+                      through("sub i9 %a, undef", "sub i9 %a, 1", "i9 %z", at=2),
+                      step("icmp_diff", ge("icmp eq i9 %z, 0", "icmp eq i9 %a, undef"), ge("sub i9 %a, undef", "i9 %z"), at=2),
+                      through("i1 %y", "icmp eq i9 %z, 0", "icmp eq i9 %a, undef", at=2),
+                      {"at": 2, "same": "%y", "by": "icmp eq i9 %a, undef"}))
 
 
 def bait(rng, number):

@@ -5,14 +5,15 @@ import re
 from .functions import (BINARY, CASTS, DIVISIONS, FLAGS, PREDICATES, definitions, expression_text, function_text, is_register,
                         is_well_formed, labels_of, read_function, term_text, width_of)
 from .generate import available, some_expression, some_operand
-from .pairs import aged, plain, rule, text
+from .pairs import aged, plain, rule, text, trans
+from .rules import NAMES, concluded, rules_for
 
 WORDS = sorted({*BINARY, *CASTS, *PREDICATES, "nuw", "nsw", "exact", "undef"}, key=len, reverse=True)
 TOKEN = re.compile(r"(?<![\w%.])(?:" + "|".join(WORDS) + r")(?![\w.])|%[a-z][a-z0-9.]*|(?<![\w%.])\d+(?![\w.])")
 NEAR = {"lshr": "ashr", "ashr": "lshr", "udiv": "sdiv", "sdiv": "udiv", "urem": "srem", "srem": "urem", "add": "sub", "sub": "add", "or": "xor",
         "xor": "or", "zext": "sext", "sext": "zext", "eq": "ne", "ne": "eq", "ugt": "uge", "uge": "ugt", "ult": "ule", "ule": "ult",
         "sgt": "sge", "sge": "sgt", "slt": "sle", "sle": "slt"}
-RULES = ("refl", "trans", "undef_const", "subst", "drop_flags", "fold", "zero_right")
+RULES = ("refl", "trans", "undef_const", "subst", "drop_flags", "fold", *NAMES)
 
 
 class Case:
@@ -286,6 +287,11 @@ def some_steps(rng, case):
     return rng.choice(lists) if lists else None
 
 
+def other_rule(rng, told):
+    """Another rule for a fact whose left side is the text: any, or one that has a left side of that operator."""
+    return rng.choice((rules_for(told) if rng.random() < 0.6 else None) or RULES)
+
+
 def step_changes(rng, case, functions):
     """A step goes, comes twice, changes places, side, rule or place."""
     steps = some_steps(rng, case)
@@ -305,7 +311,7 @@ def step_changes(rng, case, functions):
     elif how == 3 and "side" in step:
         step["side"] = "tgt" if step["side"] == "src" else "src"
     elif how == 4 and "rule" in step:
-        step["rule"] = rng.choice(RULES)
+        step["rule"] = other_rule(rng, step["to"][1])
     elif how == 5 and "at" in step:
         step["at"] = max(0, step["at"] + rng.choice((-1, 1, 2)))
     elif "at" in step:
@@ -549,10 +555,34 @@ def likely_step(rng, case, functions):
     return True
 
 
+def ruled_step(rng, case, functions):
+    """Of a line something is said by a rule of the table, well or badly, and its register is the same by that, or may be the operand."""
+    which = rng.randrange(2)
+    side, home = ("src", "tgt")[which], rng.choice(functions[which].blocks)
+    block = next((one for one in case.blocks() if one["at"] == "%" + home.name), None)
+    if block is None or not home.lines:
+        return False
+    register, expr = rng.choice(home.lines)
+    found = concluded(rng, expr, {name: line for one in functions[which].blocks for name, line in one.lines})
+    if not found:
+        return False
+    name, premises, right = found
+    at, now = len(block.get("lines", "")), plain(width_of(expr), register)
+    step, fact = trans((now, expr), (expr, right), side)
+    steps = [rule(name, (expr, right), *premises, side=side), step]
+    if right[0] != "val":
+        steps.append({"same": register, "by": expression_text(right)})
+    elif rng.random() < 0.5:
+        for one in case.blocks()[1:]:
+            one.setdefault(side, []).append(text(fact))
+    block.setdefault("steps", []).extend(dict(step, at=at) for step in steps)
+    return True
+
+
 OF_TEXTS = (one_token, one_token, one_token, one_token, every_token, every_token, swapped, line_goes, line_comes, line_comes,
             term_changes, lines_change_places)
 OF_HINTS = (step_changes, step_changes, fact_changes, diff_changes, letters_change, edge_changes, age_changes, first_claims, parts_go,
-            ghosts_differ, types_change, edge_steps, ghosts_early, likely_step, likely_step)
+            ghosts_differ, types_change, edge_steps, ghosts_early, likely_step, likely_step, ruled_step, ruled_step, ruled_step)
 
 
 def mutant(rng, source, target, hint, changes):

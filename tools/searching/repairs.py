@@ -7,8 +7,9 @@ import json
 import re
 
 from .functions import definitions, expression_text, is_register, read_fact_part
-from .mutants import line_facts
+from .mutants import line_facts, other_rule
 from .pairs import plain, rule, text, trans
+from .rules import concluded
 
 TOLD = re.compile(r"refused @f %(\S+) (start|\d+|edge %(\S+)): (.*?)\s*", re.S)
 
@@ -65,7 +66,12 @@ def givers(rng, functions, fact, which, on_edge):
             found.append({"rule": "trans", "side": name, "from": [["ge", first, second], ["ge", second, fact[2]]], "to": fact})
         if second == fact[2]:
             found.append({"rule": "trans", "side": name, "from": [["ge", fact[1], first], ["ge", first, second]], "to": fact})
-    found.append({"rule": rng.choice(("undef_const", "zero_right", "drop_flags", "fold")), "side": name, "from": [], "to": fact})
+    lines = {register: expr for block in functions[which].blocks for register, expr in block.lines}
+    left = read_fact_part(fact[1])
+    by_table = concluded(rng, left, lines) if left else None
+    if by_table and text((left, by_table[2])) == fact:
+        found.append(rule(by_table[0], (left, by_table[2]), *by_table[1], side=name))
+    found.append({"rule": rng.choice(("undef_const", "drop_flags", "fold", other_rule(rng, fact[1]))), "side": name, "from": [], "to": fact})
     return found
 
 
@@ -165,7 +171,7 @@ def bridge(rng, hint, functions, name, spot, operands):
     return True
 
 
-def other_rule(rng, hint, name, label, word):
+def rule_instead(rng, hint, name, label, word):
     """A step that doesn't fit goes, or its fact is turned round, or another rule is named."""
     block = entry_of(hint, name)
     steps = edge_steps(block, label) if label else block.get("steps", [])
@@ -178,7 +184,7 @@ def other_rule(rng, hint, name, label, word):
     elif roll < 0.7:
         steps[k]["to"] = [steps[k]["to"][0], steps[k]["to"][2], steps[k]["to"][1]]
     else:
-        steps[k]["rule"] = rng.choice(("refl", "trans", "undef_const", "subst", "drop_flags", "fold", "zero_right"))
+        steps[k]["rule"] = other_rule(rng, steps[k]["to"][1])
     return True
 
 
@@ -212,7 +218,7 @@ def repaired(rng, source, target, hint, told):
     elif reason.startswith("unmatched "):
         done = bridge(rng, hint, functions, name, spot, reason.split(" ")[1:3])
     elif reason.startswith("rule unfit "):
-        done = other_rule(rng, hint, name, label, first[2])
+        done = rule_instead(rng, hint, name, label, first[2])
     elif reason in ("alignment differs", "target may trap"):
         done = other_letters(rng, hint, functions, name)
     return (source, target, hint, ["repaired: " + " ".join(first[:2])]) if done else None

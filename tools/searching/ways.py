@@ -3,6 +3,7 @@
 Each way has two parts: a seed, which puts lines into the source so that there is something to do, and an edit, which does it to the target
 and writes down facts and steps. All seeds come before all edits. An edit answers False where it doesn't fit behind another.
 """
+from .by_table import by_table
 from .functions import (BINARY, DIVISIONS, FLAGS, Block, can_trap, definitions, dominators, expression_text, is_register, is_well_formed,
                         operands_of, predecessors, width_of, with_operands)
 from .generate import available, fresh, insert, put, some_entries, some_expression, some_function, some_operand, use, uses
@@ -605,7 +606,7 @@ def unreached(rng, function, kept):
 
 
 WAYS = (algebra, algebra, fold_twice, common, common, dead, moved, moved, twin_phi, single_phi, loop_number, twin_loop, swapping_loop,
-        undef_number, two_widths, wide, swapped_phis, fewer_flags, fewer_flags, unreached)
+        undef_number, two_widths, wide, swapped_phis, fewer_flags, fewer_flags, unreached, *[by_table] * 12)
 
 
 def some_pair(rng):
