@@ -1,0 +1,10 @@
+pub mod Attributes
+pub mod Commas
+pub mod Expressions
+pub mod Flow
+pub mod Functions
+pub mod Items
+pub mod Lines
+pub mod Operations
+pub mod Stars
+pub mod Values
