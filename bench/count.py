@@ -184,7 +184,7 @@ EMPTY = {"steps": steps(0), "blocks": blocks(0)}
 # The crates that ask whether a module is well-formed.
 JUDGES = {"whole_functions", "ir_shape", "whole_shapes", "definedness", "flow_solver"}
 # The crates that read the whole grammar, any of whose functions may have been inlined into their callers.
-READERS = {"module_reader", "ir_lexer", "module_tokens", "token_context", "derivation_writer", "derived_trees", "module_trees", "module_surroundings", "module_grammar"}
+READERS = {"module_reader", "ir_lexer", "module_tokens", "token_context", "derivation_writer", "derivation_cursor", "module_trees", "module_surroundings", "module_walk", "fault_walk", "named_modules"}
 
 
 def crate_of(symbol):

@@ -69,6 +69,18 @@ fn arity(rule: u32) -> u8
 }
 
 impl<'a> Cursor<'a> {
+    /// A second walk from the same place.
+    pub fn fork(&self) -> Cursor<'a>
+        ensures { result ≡ self.now }
+    {
+        Cursor {
+            language: self.language,
+            text: self.text,
+            tokens: self.tokens,
+            numbers: self.numbers,
+        }
+    }
+
     /// The number of the next mark, which is taken.
     fn step(&mut self) -> Option<u32>
         ensures same { SameText self.old self.new }

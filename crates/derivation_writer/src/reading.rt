@@ -69,8 +69,6 @@ impl Action for Reading {
     ghost use Rattle.ir_core.specs.declared.limits.Limit.{Limit};
     ghost use Rattle.derivation_writer.specs.Unmarked as unmarked;
     ghost use Rattle.derivation_writer.specs.Watching as watching;
-    ghost use Rattle.module_grammar.specs.Sets as sets_of_tokens;
-    ghost use Rattle.module_grammar.specs.Tokens as tokens;
 
     type State = Reading;
 
@@ -85,10 +83,6 @@ impl Action for Reading {
     ghost shifted = { watching.shifted };
 
     ghost reduced = { watching.reduced };
-
-    ghost chosen = { sets_of_tokens.sets.table };
-
-    ghost sides = { tokens.token_grammar.right };
 
     #[inline(always)]
     fn begin(&mut self, alloc: Global, rule: u16) -> Result<(), AllocError> {
@@ -105,11 +99,6 @@ impl Action for Reading {
     #[inline(always)]
     fn reduce(&mut self, alloc: Global, rule: u16) -> Result<(), AllocError> {
         self.watch.reduce(alloc, rule)
-    }
-
-    #[inline(always)]
-    fn jump(&mut self, _alloc: Global, _non: u8, _kinds: &[u8]) -> Result<usize, AllocError> {
-        Ok(0)
     }
 
     ghost begun_unmarked = { unmarked.begun };

@@ -1,9 +1,11 @@
 pub mod ConstCases
 pub mod Found
-pub mod Items
+pub mod Joined
 pub mod Lexed
 pub mod Lineless
 pub mod OneFault
+pub mod Others
+pub mod Powers
 pub mod Read
 pub mod Spelled
 pub mod Told

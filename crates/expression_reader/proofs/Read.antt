@@ -1,7 +1,10 @@
 -- What a reader of tokens answers, of the text.
 use Rattle.std.proofs.Common.{◌≡◌, ◌∙◌, ℕ, List, length, map, Result, Ok, Err, ap, sym, subst}
+use Rattle.flat.specs.Flat.{mark_of}
 use Rattle.ir_lexer.specs.Cut.{Placed}
 use Rattle.ir_lexer.specs.declared.token.Token.{Token}
+use Rattle.module_derivations.specs.Ahead.{ahead}
+use Rattle.module_derivations.specs.Empty.{made}
 use Rattle.module_grammar.specs.Sorts.{Expr}
 use Rattle.module_grammar.specs.Spelled.{kind_in, placed_in, symbol_in}
 use Rattle.module_grammar.specs.Symbols.{Symbol, kind_of}
@@ -9,7 +12,7 @@ use Rattle.module_grammar.specs.declared.lines.ExprText.{ExprText}
 use Rattle.module_grammar.specs.declared.words.Language.TheVariants.{Logic}
 use Rattle.module_spelling.specs.Context.{AreKinds, all_seen}
 use Rattle.module_texts.specs.Texts.{HasTokens}
-use Rattle.module_trees.specs.Reading.{IsReading}
+use Rattle.module_trees.specs.Reading.{IsMarked, IsReading, read_off}
 use Rattle.module_trees.specs.declared.unread.Unread.{Unread}
 use Rattle.module_trees.specs.declared.unread.Unread.TheVariants as unread
 use Rattle.module_grammar.proofs.TextTokens.{symbols_in}
@@ -36,17 +39,20 @@ module _ (bytes : List ℕ) (small : List Token) (held lent : List ℕ) (same : 
   seen : all_seen own lent ≡ logic_symbols bytes tokens
   seen = ap (all_seen own) kinds ∙ own_seen own ∙ symbols_in Logic bytes small
 
-  module _ (has : HasTokens bytes tokens) (read : Result ExprText Unread) (reading : IsReading Expr expression_number (all_seen own lent) read) where
+  module _ (has : HasTokens bytes tokens) (marks : Result (List ℕ) Unread) (marked : IsMarked Expr expression_number lent marks) where
+    abbrev read : Result ExprText Unread
+    read = read_off Expr own marks
+
     reading_of : (answer : Result ExprText Unread) → read ≡ answer → IsReading Expr expression_number (logic_symbols bytes tokens) answer
     reading_of answer is =
-        subst (λ symbols. IsReading Expr expression_number symbols answer) seen (subst (IsReading Expr expression_number (all_seen own lent)) is reading)
+        subst (λ symbols. IsReading Expr expression_number symbols answer) seen (subst (IsReading Expr expression_number (all_seen own lent)) is (marked own lent_kinds))
 
-    pub tree_by : (tree : ExprText) → read ≡ Ok tree → IsTreeOf bytes tree
-    tree_by tree is = (tokens, has, reading_of (Ok tree) is)
+    pub marks_by : (numbers : List ℕ) → marks ≡ Ok numbers → IsTreeOf bytes ((made (ahead own (map mark_of numbers))).expr)
+    marks_by numbers is = (tokens, has, reading_of (Ok ((made (ahead own (map mark_of numbers))).expr)) (ap (read_off Expr own) is))
 
     told : (why : Unread) → IsReading Expr expression_number (logic_symbols bytes tokens) (Err why) → IsExpressionFault bytes (of_unread tokens (length bytes) why)
     told (unread.Stuck k) stuck = stuck_told bytes tokens has k stuck
     told (unread.Limit l) passes = limit_told bytes tokens has l passes
 
-    pub fault_by : (why : Unread) → read ≡ Err why → IsExpressionFault bytes (of_unread tokens (length bytes) why)
-    fault_by why is = told why (reading_of (Err why) is)
+    pub fault_by : (why : Unread) → marks ≡ Err why → IsExpressionFault bytes (of_unread tokens (length bytes) why)
+    fault_by why is = told why (reading_of (Err why) (ap (read_off Expr own) is))

@@ -1,7 +1,10 @@
 -- What a reader of tokens answers, of the text.
 use Rattle.std.proofs.Common.{◌≡◌, ◌∙◌, ℕ, List, length, map, Result, Ok, Err, ap, sym, subst}
+use Rattle.flat.specs.Flat.{mark_of}
 use Rattle.ir_lexer.specs.Cut.{Placed}
 use Rattle.ir_lexer.specs.declared.token.Token.{Token}
+use Rattle.module_derivations.specs.Ahead.{ahead}
+use Rattle.module_derivations.specs.Types.{any_type}
 use Rattle.module_grammar.specs.Sorts.{AnyType}
 use Rattle.module_grammar.specs.Spelled.{kind_in, placed_in, symbol_in}
 use Rattle.module_grammar.specs.Symbols.{Symbol, kind_of}
@@ -9,7 +12,7 @@ use Rattle.module_grammar.specs.declared.types.TypeText.{TypeText}
 use Rattle.module_grammar.specs.declared.words.Language.TheVariants.{Ir}
 use Rattle.module_spelling.specs.Context.{AreKinds, all_seen}
 use Rattle.module_texts.specs.Texts.{HasTokens, own_symbols}
-use Rattle.module_trees.specs.Reading.{IsReading}
+use Rattle.module_trees.specs.Reading.{IsMarked, IsReading, read_off}
 use Rattle.module_trees.specs.declared.unread.Unread.{Unread}
 use Rattle.module_trees.specs.declared.unread.Unread.TheVariants as unread
 use Rattle.expression_reader.proofs.TypeLexed.{own_are}
@@ -35,17 +38,20 @@ module _ (bytes : List ℕ) (small : List Token) (held lent : List ℕ) (same : 
   seen : all_seen own lent ≡ own_symbols bytes tokens
   seen = ap (all_seen own) kinds ∙ own_seen own ∙ own_are bytes small
 
-  module _ (has : HasTokens bytes tokens) (read : Result TypeText Unread) (reading : IsReading AnyType type_number (all_seen own lent) read) where
+  module _ (has : HasTokens bytes tokens) (marks : Result (List ℕ) Unread) (marked : IsMarked AnyType type_number lent marks) where
+    abbrev read : Result TypeText Unread
+    read = read_off AnyType own marks
+
     reading_of : (answer : Result TypeText Unread) → read ≡ answer → IsReading AnyType type_number (own_symbols bytes tokens) answer
     reading_of answer is =
-        subst (λ symbols. IsReading AnyType type_number symbols answer) seen (subst (IsReading AnyType type_number (all_seen own lent)) is reading)
+        subst (λ symbols. IsReading AnyType type_number symbols answer) seen (subst (IsReading AnyType type_number (all_seen own lent)) is (marked own lent_kinds))
 
-    pub tree_by : (tree : TypeText) → read ≡ Ok tree → IsTreeOf bytes tree
-    tree_by tree is = (tokens, has, reading_of (Ok tree) is)
+    pub marks_by : (numbers : List ℕ) → marks ≡ Ok numbers → IsTreeOf bytes (any_type (ahead own (map mark_of numbers)))
+    marks_by numbers is = (tokens, has, reading_of (Ok (any_type (ahead own (map mark_of numbers)))) (ap (read_off AnyType own) is))
 
     told : (why : Unread) → IsReading AnyType type_number (own_symbols bytes tokens) (Err why) → IsTypeFault bytes (of_unread tokens (length bytes) why)
     told (unread.Stuck k) stuck = stuck_told bytes tokens has k stuck
     told (unread.Limit l) passes = limit_told bytes tokens has l passes
 
-    pub fault_by : (why : Unread) → read ≡ Err why → IsTypeFault bytes (of_unread tokens (length bytes) why)
-    fault_by why is = told why (reading_of (Err why) is)
+    pub fault_by : (why : Unread) → marks ≡ Err why → IsTypeFault bytes (of_unread tokens (length bytes) why)
+    fault_by why is = told why (reading_of (Err why) (ap (read_off AnyType own) is))

@@ -15,7 +15,7 @@ use Rattle.module_texts.specs.Texts.{HasLexFault, IsShort}
 use Rattle.module_trees.proofs.Limits.{not_limited}
 use Rattle.module_trees.proofs.Whole.{expression_starts}
 use Rattle.name_claims.specs.declared.claims.Fault.{Fault}
-use Rattle.expression_building.specs.Expressions.{expression_of}
+use Rattle.module_walk.specs.LogicExpressions.{expression_of}
 use Rattle.predictive.proofs.Faults.{none_in_text}
 use Rattle.predictive.specs.declared.symbol.Symbol.TheVariants.{Non}
 use Rattle.ir_lexer.specs.declared.fault.TextFault.{TextFault}

@@ -2,7 +2,7 @@
 -- then its tokens, then the grammar and the limit on depths, then numbers, counts and alignments that are out of range. No module stands around
 -- it: names in it stand as they are.
 use Rattle.std.specs.Prelude.{◌≡◌, ◌<◌, ℕ, ◌-◌, true, false, List, [], length, map, Ok, Some, slice_get}
-use Rattle.expression_building.specs.Expressions.{expression_of}
+use Rattle.module_walk.specs.LogicExpressions.{expression_of}
 use Rattle.expression_reader.specs.Ranges.{range_faults}
 use Rattle.ir_core.specs.declared.limits.Limit.TheVariants as limit
 use Rattle.ir_core.specs.Expressions.{Expr0}

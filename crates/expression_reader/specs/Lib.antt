@@ -1,5 +1,6 @@
 pub mod Expressions
 pub mod Laws
+pub mod Powers
 pub mod Ranges
 pub mod Told
 pub mod ToldTypes

@@ -2,24 +2,13 @@
 //! them: exact in what it accepts and in the first fault.
 #![tactic(auto)]
 
-mod constants;
-mod counts;
-mod expressions;
-mod faults;
 mod laws;
 mod ranges;
-mod tokens;
-mod trees;
-mod type_counts;
-mod type_laws;
-mod type_reasons;
-mod type_tokens;
-mod type_trees;
-mod types;
+mod readers;
+mod texts;
 
-pub use expressions::read_expr;
 pub use laws::{
-    expression_faults_are_one, faults_and_expressions_exclude, texts_spell_one_expression,
+    expression_faults_are_one, faults_and_expressions_exclude, faults_and_types_exclude,
+    texts_spell_one_expression, texts_spell_one_type, type_faults_are_one,
 };
-pub use type_laws::{faults_and_types_exclude, texts_spell_one_type, type_faults_are_one};
-pub use types::read_type;
+pub use readers::{read_expr, read_type};

@@ -10,13 +10,15 @@ mod operand_laws;
 mod operand_tests;
 mod shape_kinds;
 
-pub use module_limits::{first_limit, first_limit_of_function, limits_are_one, ranges_lie_within};
+pub use module_limits::{
+    Judged, first_limit, first_limit_of_function, limits_are_one, ranges_lie_within,
+};
 pub use operand_laws::{
     examples_of_depths, examples_of_parts, examples_of_sizes, examples_of_wrong_calls,
     examples_of_wrong_constants, examples_of_wrong_globals,
 };
 pub use operand_tests::{
-    Beside, are_types_known, call_kind, constant_kind, element_fits, element_kind, entered,
+    Beside, Callee, are_types_known, call_kind, constant_kind, element_fits, element_kind, entered,
     global_var_kind, is_constant_known, is_type_known, leads_somewhere, number_in, number_of,
 };
 pub use shape_kinds::{

@@ -8,5 +8,6 @@ mod limits;
 mod lines;
 mod sizes;
 
+pub use judged::Judged;
 pub use laws::{limits_are_one, ranges_lie_within};
 pub use limits::{first_limit, first_limit_of_function};

@@ -14,6 +14,7 @@ mod sized;
 
 pub use addresses::{element_fits, element_kind, entered, leads_somewhere, number_in, number_of};
 pub use beside::Beside;
+pub use callees::Callee;
 pub use calls::call_kind;
 pub use constants::constant_kind;
 pub use globals::global_var_kind;

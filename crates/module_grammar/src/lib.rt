@@ -1,6 +1,5 @@
 //! How modules and expressions of textual LLVM IR are written as tokens, with places, and the rules of a parser's grammar with what they
-//! make of what stands on its stack. What the trees name is not said here; `Surroundings` tells the text
-//! around a name that a tree doesn't keep.
+//! make of what stands on its stack. What the trees name is not said here.
 #![tactic(auto)]
 
 mod attributes;
@@ -15,7 +14,6 @@ mod operators;
 mod parts;
 mod places;
 mod stars;
-mod surroundings;
 mod types;
 mod words;
 
@@ -47,6 +45,5 @@ pub use operators::{ExactOp, ExtensionWord, FlagWord, LinkageWord, OverflowOp, P
 pub use parts::{Atom, Flow, Item, Leaf, Line, List, Part, Piece};
 pub use places::Placed;
 pub use stars::Stars;
-pub use surroundings::Surroundings;
 pub use types::{CalledText, NextCalledText, TypeText};
 pub use words::{KeyWord, Language, Word};

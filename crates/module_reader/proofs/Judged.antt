@@ -1,15 +1,10 @@
 -- The first fault and the first place of a large block, told as one.
-use Rattle.std.proofs.Common.{◌≡◌, ◌≤◌, ◌<◌, ◌++◌, ◌∙◌, ℕ, Bool, true, false, cond, List, [], ◌∷◌, map, Option, None, Some, refl, ap, sym, subst, arith}
+use Rattle.std.proofs.Common.{◌≡◌, ◌≤◌, ◌<◌, ℕ, Bool, true, false, cond, List, [], ◌∷◌, Option, None, Some, refl, sym, subst, arith}
 use Rattle.std.specs.Prelude.{◌↔◌, IfSome, nat_lt}
 use Rattle.std.specs.List.{Contains}
 use Rattle.std.proofs.lemmas.Bool.{ltb-false, ltb-true}
-use Rattle.module_building.specs.Heads.{bare, without_bodies}
-use Rattle.ir_core.specs.declared.functions.Function.{Function}
-use Rattle.ir_core.specs.declared.modules.Declaration.{Declaration}
-use Rattle.ir_core.specs.declared.modules.Module.{Module}
-use Rattle.ir_core.specs.Typing.{Signature, declared_signature, defined_signature}
 use Rattle.ir_types.specs.declared.names.Name.{Name}
-use Rattle.large_blocks.specs.First.{IsFirst}
+use Rattle.fault_walk.specs.First.{IsFirst}
 use Rattle.module_grammar.specs.declared.functions.DeclaredText.{DeclaredText}
 use Rattle.module_grammar.specs.declared.items.ModuleText.{ModuleText}
 use Rattle.module_grammar.specs.declared.places.Placed.{Placed}
@@ -17,32 +12,10 @@ use Rattle.module_grammar.specs.declared.types.CalledText.{CalledText}
 use Rattle.module_spelling.specs.Faults.{IsFirstOf}
 use Rattle.name_claims.specs.declared.claims.Fault.{Fault}
 use Rattle.name_claims.specs.Faults.{before}
-use Rattle.named_modules.specs.Faults.{Heads, faults_of, heads_of}
+use Rattle.named_modules.specs.Faults.{faults_of}
 use Rattle.module_reader.specs.Naming.{IsJudged, first_of, large_in}
 use Rattle.module_reader.specs.declared.misnamed.Misnamed.{Misnamed}
 use Rattle.module_reader.specs.declared.misnamed.Misnamed.TheVariants as misnamed
-
--- ---- heads
-
-abbrev signed : Function → Name × Signature
-signed f = (f.name, defined_signature f)
-
-signed_bare : (fs : List Function) → map signed (map bare fs) ≡ map signed fs
-signed_bare [] = refl
-signed_bare (f ∷ fs) = ap (λ l. signed f ∷ l) (signed_bare fs)
-
--- bodies play no part in what is asked of heads
-heads_bare : (m : Module) → heads_of (without_bodies m) ≡ heads_of m
-heads_bare m =
-    ap (λ (l : List (Name × Signature)). let h : Heads = record {
-      types = m.types;
-      globals = m.globals;
-      signatures = l ++ map (λ (d : Declaration). (d.name, declared_signature d)) m.declarations;
-    } in h)
-    (signed_bare m.functions)
-
-pub heads_alone : (m heads : Module) → heads ≡ without_bodies m → heads_of heads ≡ heads_of m
-heads_alone m heads is = ap heads_of is ∙ heads_bare m
 
 -- ---- what is first
 

@@ -5,18 +5,17 @@
 //! `read_whole` tells what is at fault in the module besides, once its text is read.
 #![tactic(auto)]
 
+mod derivations;
 mod fault_laws;
 mod faults;
 mod first_fault;
-mod judging;
 mod misnamed;
 mod modules;
 mod naming;
 mod tokens;
-mod trees;
 
 pub use fault_laws::{first_faults_agree, module_faults_are_one};
 pub use first_fault::read_whole;
 pub use misnamed::Misnamed;
 pub use modules::read_module;
-pub use naming::name_tree;
+pub use naming::name_derivation;

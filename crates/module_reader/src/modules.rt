@@ -1,20 +1,50 @@
-ghost use Rattle.std.specs.Prelude.{◌≡◌, ◌≤◌, ◌<◌, ℕ, length, IfOk, IfErr, Err};
+ghost use Rattle.std.specs.Prelude.{◌≡◌, ◌≤◌, ◌<◌, ℕ, length, map, IfOk, IfErr, Err};
 ghost use Rattle.ir_core.specs.declared.modules.Module.{Module};
 ghost use Rattle.ir_core.specs.Limits.{text_limit};
+ghost use Rattle.ir_lexer.specs.Cut.{AreInOrder};
+ghost use Rattle.module_grammar.specs.Spelled.{placed_in};
 ghost use Rattle.module_spelling.specs.Spells.{Spells};
-ghost use Rattle.module_texts.specs.Texts.{IsTextFault};
+ghost use Rattle.module_texts.specs.Texts.{HasTokens, IsTextFault};
 
+use crate::derivations::marks_in;
 use crate::faults::of_names;
-use crate::name_tree;
-use crate::trees::tree_in;
+use crate::naming::name_derivation;
+use crate::tokens::read_tokens;
+use derivation_cursor::Cursor;
 use ir_core::{Limit, Module};
-use ir_lexer::TextFault;
+use ir_lexer::{TextFault, Token};
+use module_grammar::Language;
 use module_spelling::{
     called_names_stand, declared_names_stand, names_rest_on_these_alone, within_trees_are_short,
 };
 use module_texts::texts_spell_one;
 use named_modules::faultless_trees_name_what_is_built;
 use std::alloc::Global;
+
+/// The module that the tokens of a text spell, or their first fault.
+fn module_of(alloc: Global, text: &[u8], tokens: &[Token]) -> Result<Module, TextFault>
+    requires tokens { HasTokens text.now (map (placed_in text.now) tokens.now) }
+    requires order { AreInOrder 0 (length text.now) tokens.now }
+    ensures spelled { IfOk result (λ m. Spells text.now m) }
+    ensures fault { IfErr result (λ fault. IsTextFault text.now fault) }
+{
+    faultless_trees_name_what_is_built();
+    within_trees_are_short();
+    called_names_stand();
+    declared_names_stand();
+    names_rest_on_these_alone();
+    let (marks, around) = marks_in(alloc, text, tokens)?;
+    let c = Cursor {
+        language: Language::Ir,
+        text,
+        tokens,
+        numbers: marks.as_slice(),
+    };
+    match name_derivation(alloc, &c, &around)? {
+        Ok(module) => Ok(module),
+        Err(misnamed) => Err(of_names(misnamed)),
+    }
+}
 
 /// The module that the text spells, or its first fault.
 fn module_in(alloc: Global, text: &[u8]) -> Result<Module, TextFault>
@@ -23,16 +53,8 @@ fn module_in(alloc: Global, text: &[u8]) -> Result<Module, TextFault>
     ensures fault { IfErr result (λ fault. IsTextFault text.now fault) }
     ensures long { text_limit < length text.now → result ≡ Err (TextFault.Limit Limit.Text) }
 {
-    faultless_trees_name_what_is_built();
-    within_trees_are_short();
-    called_names_stand();
-    declared_names_stand();
-    names_rest_on_these_alone();
-    let (tree, around) = tree_in(alloc, text)?;
-    match name_tree(alloc, tree, &around)? {
-        Ok(module) => Ok(module),
-        Err(misnamed) => Err(of_names(misnamed)),
-    }
+    let tokens = read_tokens(alloc, text)?;
+    module_of(alloc, text, tokens.as_slice())
 }
 
 /// The module that the text spells. That each name is defined before it is used on every path is not tested here, nor is the

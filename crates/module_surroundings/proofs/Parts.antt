@@ -1,8 +1,8 @@
 -- Parts of lists.
-use Rattle.std.proofs.Common.{◌≡◌, ◌<◌, ℕ, zero, suc, ◌+◌, ◌-◌, List, [], ◌∷◌, ◌++◌, length, map, take, drop, get_or, None, Some, refl, ap, sym, ◌∙◌, append_assoc, arith}
+use Rattle.std.proofs.Common.{◌≡◌, ◌<◌, ℕ, zero, suc, ◌+◌, ◌-◌, List, [], ◌∷◌, ◌++◌, length, map, take, drop, get_or, refl, ap, sym, ◌∙◌, append_assoc, arith}
 use Rattle.std.proofs.Math.Seq.{drop-append_seam, take-append_seam}
 use Rattle.std.proofs.lemmas.List.{drop-map, length-append, take-map}
-use Rattle.std.specs.List.{slice_get, slice_range}
+use Rattle.std.specs.List.{slice_range}
 
 -- what stands between two that stand behind what comes before
 pub part_is :
@@ -73,24 +73,3 @@ images f (y ∷ a) b (x ∷ xs) e =
       of_front = ap (λ z. z ∷ map f r.front) head ∙ ap (λ l. y ∷ l) r.of_front;
       of_back = r.of_back;
     }
-
-next_drop : {T : Type 0} (xs : List T) (n : ℕ) (x : T) → slice_get xs n ≡ Some x → drop n xs ≡ x ∷ drop (suc n) xs
-next_drop [] n x e = cc
-next_drop (y ∷ xs) zero x e = let same : y ≡ x = cc in ap (λ z. z ∷ xs) same
-next_drop (y ∷ xs) (suc n) x e = next_drop xs n x e
-
--- one more from the top
-pub next_from_top : {T : Type 0} (xs copied next : List T) (count i : ℕ) (x : T) → i < count → slice_get xs (count - 1 - i) ≡ Some x → copied ≡ drop (count - i) xs → next ≡ x ∷ copied
-    → next ≡ drop (count - (i + 1)) xs
-next_from_top xs copied next count i x less got is more =
-    let here : count - (i + 1) ≡ count - 1 - i = omega arith in
-    let above : count - i ≡ suc (count - 1 - i) = omega arith in
-    more ∙ ap (λ l. x ∷ l) (is ∙ ap (λ n. drop n xs) above) ∙ sym (next_drop xs (count - 1 - i) x got) ∙ ap (λ n. drop n xs) (sym here)
-
-not_past : {T : Type 0} (ys : List T) (n : ℕ) → n < length ys → slice_get ys n ≡ None → ⊥
-not_past [] n h e = absurd (grind arith)
-not_past (y ∷ ys) zero h e = cc
-not_past (y ∷ ys) (suc n) h e = not_past ys n (grind arith) e
-
-pub past_top : {T : Type 0} (xs : List T) (count i : ℕ) → i < count → count ≡ length xs → slice_get xs (count - 1 - i) ≡ None → ⊥
-past_top xs count i less whole none = not_past xs (count - 1 - i) (omega arith) none

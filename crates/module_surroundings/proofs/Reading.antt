@@ -3,6 +3,9 @@ use Rattle.std.proofs.Common.{◌≡◌, ◌≤◌, ◌<◌, ℕ, zero, suc, ◌
 use Rattle.std.specs.List.{slice_range}
 use Rattle.ir_lexer.specs.declared.token.Token.{Token}
 use Rattle.ir_types.specs.declared.names.Name.{Name}
+use Rattle.flat.specs.Flat.{mark_of}
+use Rattle.module_derivations.specs.Ahead.{ahead}
+use Rattle.module_derivations.specs.Empty.{made}
 use Rattle.module_grammar.specs.Sorts.{Called, DeclaredParams}
 use Rattle.module_grammar.specs.Spelled.{symbol_in}
 use Rattle.module_grammar.specs.Symbols.{Symbol, Debug, Global, kind_of, unnamed_addr, void}
@@ -18,7 +21,7 @@ use Rattle.module_surroundings.proofs.Read.{IsReadThing, params_read, types_read
 use Rattle.module_surroundings.proofs.Told.{debug_start}
 use Rattle.module_surroundings.specs.Between.{Between, IsText, end_of, pair_if, seen, start_at}
 use Rattle.module_surroundings.specs.Held.{AreParamsBefore, AreTypesBefore}
-use Rattle.module_trees.specs.Reading.{IsReading}
+use Rattle.module_trees.specs.Reading.{IsMarked, IsReading, read_off}
 use Rattle.module_trees.specs.declared.unread.Unread.{Unread}
 use Rattle.token_context.proofs.Held.{closed_behind}
 use Rattle.token_context.specs.Brackets.{after_all, start}
@@ -117,6 +120,26 @@ module _ (text : List ℕ) (tokens : List Token) (kinds : List ℕ) (is : IsText
       let differ : Err u ≡ Ok t.0 = sym is_u ∙ t.1 in
       cc
 
+  pub types_marked :
+      (pair : Opened) → pair_if (kind_of void) 1 kind closed ≡ Some pair → (part : List Token) → part ≡ slice_range tokens (pair.place + 1) (place - 1)
+      → (ks : List ℕ) → ks ≡ slice_range kinds (pair.place + 1) (place - 1) → (read : Result (List ℕ) Unread) → IsMarked Called 38 ks read
+      → (numbers : List ℕ) → read ≡ Ok numbers
+      → AreTypesBefore (seen text tokens kinds) place (Some (made (ahead (map (symbol_in Ir text) part) (map mark_of numbers))).called)
+  types_marked pair some part of_tokens ks of_kinds read marked numbers is_read =
+      let own : List Symbol = map (symbol_in Ir text) part in
+      types_of pair some part of_tokens ks of_kinds (read_off Called own read)
+      (marked own (are_kinds (kind_of void) 1 pair some part of_tokens ks of_kinds))
+      (made (ahead own (map mark_of numbers))).called (ap (read_off Called own) is_read)
+
+  pub types_unmarked :
+      (pair : Opened) → pair_if (kind_of void) 1 kind closed ≡ Some pair → (part : List Token) → part ≡ slice_range tokens (pair.place + 1) (place - 1)
+      → (ks : List ℕ) → ks ≡ slice_range kinds (pair.place + 1) (place - 1) → (read : Result (List ℕ) Unread) → IsMarked Called 38 ks read
+      → (u : Unread) → read ≡ Err u → AreTypesBefore (seen text tokens kinds) place None
+  types_unmarked pair some part of_tokens ks of_kinds read marked u is_read =
+      let own : List Symbol = map (symbol_in Ir text) part in
+      types_unread pair some part of_tokens ks of_kinds (read_off Called own read)
+      (marked own (are_kinds (kind_of void) 1 pair some part of_tokens ks of_kinds)) u (ap (read_off Called own) is_read)
+
   -- ---- parameters
 
   pub no_params : pair_if 2 (kind_of unnamed_addr) kind closed ≡ None → AreParamsBefore (seen text tokens kinds) place None
@@ -200,3 +223,23 @@ module _ (text : List ℕ) (tokens : List Token) (kinds : List ℕ) (is : IsText
     where
       apart : (u : Unread) (c : DeclaredText) → Err u ≡ Ok c → ⊥
       apart u c e = cc
+
+  pub params_marked :
+      (pair : Opened) → pair_if 2 (kind_of unnamed_addr) kind closed ≡ Some pair → (part : List Token) → part ≡ slice_range tokens (pair.place + 1) (place - 1)
+      → (ks : List ℕ) → ks ≡ slice_range kinds (pair.place + 1) (place - 1) → (read : Result (List ℕ) Unread) → IsMarked DeclaredParams 7 ks read
+      → (numbers : List ℕ) → read ≡ Ok numbers → (key : ℕ) → key ≡ start_at tokens (pair.place - 1)
+      → AreParamsBefore (seen text tokens kinds) place (Some (key, (made (ahead (map (symbol_in Ir text) part) (map mark_of numbers))).declared_params))
+  params_marked pair some part of_tokens ks of_kinds read marked numbers is_read key of_key =
+      let own : List Symbol = map (symbol_in Ir text) part in
+      params_of pair some part of_tokens ks of_kinds (read_off DeclaredParams own read)
+      (marked own (are_kinds 2 (kind_of unnamed_addr) pair some part of_tokens ks of_kinds))
+      (made (ahead own (map mark_of numbers))).declared_params (ap (read_off DeclaredParams own) is_read) key of_key
+
+  pub params_unmarked :
+      (pair : Opened) → pair_if 2 (kind_of unnamed_addr) kind closed ≡ Some pair → (part : List Token) → part ≡ slice_range tokens (pair.place + 1) (place - 1)
+      → (ks : List ℕ) → ks ≡ slice_range kinds (pair.place + 1) (place - 1) → (read : Result (List ℕ) Unread) → IsMarked DeclaredParams 7 ks read
+      → (u : Unread) → read ≡ Err u → AreParamsBefore (seen text tokens kinds) place None
+  params_unmarked pair some part of_tokens ks of_kinds read marked u is_read =
+      let own : List Symbol = map (symbol_in Ir text) part in
+      params_unread pair some part of_tokens ks of_kinds (read_off DeclaredParams own read)
+      (marked own (are_kinds 2 (kind_of unnamed_addr) pair some part of_tokens ks of_kinds)) u (ap (read_off DeclaredParams own) is_read)

@@ -1,8 +1,10 @@
 -- What is told is what stands around names.
-use Rattle.std.proofs.Common.{◌≡◌, ◌≤◌, ℕ, List, ◌∷◌, ◌++◌, length, Option, refl, ap, sym, ◌∙◌, subst, arith, inl, inr}
+use Rattle.std.proofs.Common.{◌≡◌, ◌≤◌, ℕ, List, ◌∷◌, ◌++◌, length, Option, None, Some, refl, ap, sym, ◌∙◌, subst, arith, inl, inr}
 use Rattle.std.proofs.lemmas.Bool.{ltb-true}
+use Rattle.std.specs.Option.{option_map}
 use Rattle.ir_lexer.specs.declared.token.Token.{Token}
 use Rattle.ir_types.specs.declared.names.Name.{Name}
+use Rattle.module_derivations.specs.Empty.{made}
 use Rattle.module_grammar.proofs.ModulesMade.{called_text, declared_text}
 use Rattle.module_grammar.proofs.OneTree.{called, declared}
 use Rattle.module_grammar.specs.Balanced.{IsBalanced}
@@ -18,8 +20,20 @@ use Rattle.module_surroundings.proofs.Parens.{as_many_symbols}
 use Rattle.module_surroundings.proofs.Plain.{plain_text}
 use Rattle.module_surroundings.specs.Between.{Between, IsText, seen}
 use Rattle.module_surroundings.specs.Held.{AreParamsTold, AreTypesTold, params_or_none, types_or_none}
+use Rattle.module_surroundings.specs.Told.{front_of, params_in, types_in}
+use Rattle.module_surroundings.specs.declared.around.Marked.{Marked}
 use Rattle.token_context.proofs.SideBySide.{parens_between}
 use Rattle.token_context.specs.SideBySide.{DoParensMatter, HaveParens}
+
+-- ---- what is told, as a walk over its marks sees it
+
+pub types_seen : (o : Option Marked) → types_or_none (option_map types_in o) ≡ (made (front_of o)).called
+types_seen None = refl
+types_seen (Some m) = refl
+
+pub params_seen : (o : Option Marked) → params_or_none (option_map params_in o) ≡ (made (front_of o)).declared_params
+params_seen None = refl
+params_seen (Some m) = refl
 
 module _ (symbols : List Symbol) where
   -- ---- types before names

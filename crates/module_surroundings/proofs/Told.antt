@@ -1,6 +1,7 @@
 -- What is told of names, token by token.
 use Rattle.std.proofs.Common.{◌≡◌, ◌<◌, ℕ, ◌+◌, Bool, true, false, cond, nat_eq, List, [], ◌∷◌, ◌++◌, length, map, Option, Some, None, refl, ap, sym, ◌∙◌, subst, ◌⊎◌, inl, inr, arith}
 use Rattle.std.proofs.lemmas.Bool.{cases_order, eq-eqb, eqb-false, eqb-true, ne_eqb}
+use Rattle.std.specs.Option.{option_map}
 use Rattle.ir_lexer.specs.declared.token.Token.{Token}
 use Rattle.ir_types.specs.declared.names.Name.{Name}
 use Rattle.module_grammar.specs.Sorts.{Called, DeclaredParams}
@@ -36,6 +37,16 @@ here old new key q c is e = is q ∙ ap (λ b. cond b (Some c) (old q)) (eq-eqb 
 
 elsewhere : {X : Type 0} (old new : ℕ → Option X) (key q : ℕ) (c : X) → IsOneMore old new key c → (key ≡ q → ⊥) → new q ≡ old q
 elsewhere old new key q c is other = is q ∙ ap (λ b. cond b (Some c) (old q)) (ne_eqb key q other)
+
+-- where more is made of what is told
+pub made_of_more :
+    {X Y : Type 0} (f : X → Y) (old new : ℕ → Option X) (key : ℕ) (c : X) → IsOneMore old new key c
+    → IsOneMore (λ q. option_map f (old q)) (λ q. option_map f (new q)) key (f c)
+made_of_more f old new key c is q = ap (option_map f) (is q) ∙ go (nat_eq key q)
+  where
+    go : (b : Bool) → option_map f (cond b (Some c) (old q)) ≡ cond b (Some (f c)) (option_map f (old q))
+    go true = refl
+    go false = refl
 
 start_in : Option (ℕ × DeclaredText) → ℕ
 start_in None = 0

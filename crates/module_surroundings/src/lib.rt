@@ -1,8 +1,6 @@
-//! What stands between parentheses around names whose trees don't keep it, read from the tokens of a text.
+//! What stands between parentheses around names whose derivation doesn't keep it, read from the tokens of a text.
 #![tactic(auto)]
 
 mod around;
-mod before;
-mod copies;
 
 pub use around::Around;

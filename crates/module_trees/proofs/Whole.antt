@@ -1,4 +1,4 @@
--- What a run writes down, and the tree that is read off it.
+-- What a run writes down, and what its marks say.
 use Rattle.std.proofs.Common.{◌≡◌, ℕ, List, map, Result, Ok, Err, ap, sym, ◌∙◌, subst, refl, arith}
 use Rattle.std.proofs.lemmas.Bool.{ltb-true}
 use Rattle.derivation_writer.specs.Writing.{IsDerived}
@@ -7,14 +7,13 @@ use Rattle.derivation_writer.specs.declared.stop.Stop.TheVariants as stop
 use Rattle.flat.specs.Flat.{mark_of}
 use Rattle.module_derivations.specs.Ahead.{ahead, marks, seen}
 use Rattle.module_derivations.specs.Derivations.{AreMeant}
-use Rattle.module_derivations.specs.Parts.{Part}
-use Rattle.module_grammar.specs.Sorts.{Holds, Sort}
+use Rattle.module_grammar.specs.Sorts.{Sort}
 use Rattle.module_grammar.specs.Symbols.{Symbol, kind_of}
 use Rattle.module_grammar.specs.Texts.{IsWritten}
 use Rattle.module_spelling.specs.Context.{AreKinds, all_seen}
 use Rattle.module_spelling.specs.Faults.{IsStuck, PassesLimit}
 use Rattle.module_trees.proofs.AsSeen.{as_seen}
-use Rattle.module_trees.specs.Reading.{IsReadAs, IsReading}
+use Rattle.module_trees.specs.Reading.{IsMarked, IsReadAs, IsReading}
 use Rattle.module_trees.specs.Runs.{IsRun, IsStart, unread_by}
 use Rattle.module_trees.specs.declared.unread.Unread.{Unread}
 use Rattle.module_trees.specs.declared.unread.Unread.TheVariants as unread
@@ -32,40 +31,32 @@ pub run_stopped :
 run_stopped n kinds r s e derived u is =
     subst (λ u. IsRun n kinds (Err u)) (sym is) (told n kinds s (subst (λ r. IsDerived n kinds r) e derived))
 
--- ---- a tree
+-- ---- what is read
 
 module _ (n : ℕ) (x : Sort) (own : List Symbol) (kinds : List ℕ) (are : AreKinds own kinds) where
   unread_as : (u : Unread) → IsRun n kinds (Err u) → IsReading x n (all_seen own kinds) (Err u)
   unread_as (unread.Stuck k) why = subst (λ ks. IsStuck n ks k) (sym are.1) why
   unread_as (unread.Limit l) why = (why.0, subst (λ ks. PassesLimit n ks why.0 l) (sym are.1) why.1)
 
-  pub faulty : (r : Result (List ℕ) Unread) (u : Unread) → r ≡ Err u → IsRun n kinds r → IsReading x n (all_seen own kinds) (Err u)
-  faulty r u e run = unread_as u (subst (λ r. IsRun n kinds r) e run)
-
   -- what stands in front of a derivation's marks is what the symbols are written of
-  read_as :
-      AreMeant n x → (numbers : List ℕ) → IsDerived n kinds (Ok numbers) → (tree : Holds x) → tree ≡ seen x (ahead own (map mark_of numbers))
-      → IsReadAs x n (all_seen own kinds) tree
-  read_as mean numbers derived tree is =
+  read_as : AreMeant n x → (numbers : List ℕ) → IsDerived n kinds (Ok numbers) → IsReadAs x n (all_seen own kinds) (seen x (ahead own (map mark_of numbers)))
+  read_as mean numbers derived =
       let f = derived.0 in
       let yields : yield f ≡ map kind_of (all_seen own kinds) = derived.2 ∙ sym are.1 in
       let same : ahead own (map mark_of numbers) ≡ ahead (all_seen own kinds) (marks f) =
       ap (λ ms. ahead own ms) derived.4 ∙ as_seen own kinds are f derived.2 in
       record {
         written =
-            subst (λ t. IsWritten x t (all_seen own kinds)) (sym (is ∙ ap (λ ps. seen x ps) same))
-            (mean f (all_seen own kinds) derived.1 yields).written;
+            subst (λ t. IsWritten x t (all_seen own kinds)) (sym (ap (λ ps. seen x ps) same)) (mean f (all_seen own kinds) derived.1 yields).written;
         derivation = f;
         formed = derived.1;
         yields = yields;
         within = derived.3;
       }
 
-  pub taken :
-      AreMeant n x → (r : Result (List ℕ) Unread) (numbers : List ℕ) → r ≡ Ok numbers → IsRun n kinds r → (ps : List Part)
-      → ps ≡ ahead own (map mark_of numbers) → (tree : Holds x) → tree ≡ seen x ps → IsReading x n (all_seen own kinds) (Ok tree)
-  taken mean r numbers e run ps in_front tree is =
-      read_as mean numbers (subst (λ r. IsRun n kinds r) e run) tree (is ∙ ap (λ ps. seen x ps) in_front)
+pub marked : (n : ℕ) (x : Sort) (kinds : List ℕ) → AreMeant n x → (r : Result (List ℕ) Unread) → IsRun n kinds r → IsMarked x n kinds r
+marked n x kinds mean (Ok numbers) run own are = read_as n x own kinds are mean numbers run
+marked n x kinds mean (Err u) run own are = unread_as n x own kinds are u run
 
 -- ---- where a text may begin
 

@@ -1,5 +1,5 @@
-//! Tokens of textual LLVM IR (LangRef 3.7) read as trees of the whole grammar, within the limits on depths and lines: a predictive parser writes
-//! down their derivation, and a walk reads the tree off it.
+//! Tokens of textual LLVM IR (LangRef 3.7) read by the whole grammar, within the limits on depths and lines: a predictive parser writes down their
+//! derivation, whose marks say what the tokens are written of.
 #![tactic(auto)]
 
 mod reader;

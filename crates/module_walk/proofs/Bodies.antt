@@ -4,8 +4,7 @@ use Rattle.std.specs.List.{filter}
 use Rattle.ir_core.specs.declared.functions.Instr.{Instr}
 use Rattle.ir_types.specs.declared.named.NamedTy.{NamedTy}
 use Rattle.ir_types.specs.declared.names.Name.{Name}
-use Rattle.module_building.specs.Bodies.{registers_of}
-use Rattle.module_building.specs.Counted.{capped}
+use Rattle.module_walk.specs.Counted.{capped, registers_of}
 use Rattle.module_derivations.specs.Empty.{no_attached, no_operation}
 use Rattle.module_grammar.specs.declared.flow.BodyText.{BodyText}
 use Rattle.module_grammar.specs.declared.places.Placed.{Placed}

@@ -1,7 +1,7 @@
 -- Expressions that are built over registers of the logic are those that the tree names.
 use Rattle.std.proofs.Common.{◌≡◌, ◌∙◌, [], map, Some, ap}
 use Rattle.ir_core.specs.declared.expressions.Expr.TheVariants as expr
-use Rattle.expression_building.specs.Expressions.{expression_of, element_of, operand_of, operation_of, value_at}
+use Rattle.module_walk.specs.LogicExpressions.{expression_of, element_of, operand_of, operation_of, value_at}
 use Rattle.module_grammar.specs.declared.lines.ElementText.{ElementText}
 use Rattle.module_grammar.specs.declared.lines.ExprText.{ExprText}
 use Rattle.module_grammar.specs.declared.lines.ExprText.TheVariants as written

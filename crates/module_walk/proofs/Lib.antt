@@ -2,9 +2,12 @@ pub mod Aligns
 pub mod Bodies
 pub mod BuiltExpressions
 pub mod BuiltLines
+pub mod Counted
 pub mod Differ
+pub mod Due
 pub mod Ended
 pub mod Kept
+pub mod Labels
 pub mod Led
 pub mod Namings
 pub mod OfNothing

@@ -1,7 +1,7 @@
 -- Values and operands over either kind of registers.
 use Rattle.std.proofs.Common.{◌≡◌, ◌∙◌, List, [], ◌∷◌, map, ap, refl}
 use Rattle.ir_types.specs.declared.ty.Ty.{Ty}
-use Rattle.expression_building.specs.Expressions as expressions
+use Rattle.module_walk.specs.LogicExpressions as expressions
 use Rattle.module_grammar.specs.declared.constants.OperandText.{OperandText}
 use Rattle.module_grammar.specs.declared.constants.ValueText.{ValueText}
 use Rattle.module_grammar.specs.declared.constants.ValueText.TheVariants as text

@@ -6,10 +6,9 @@ use Rattle.ir_core.specs.declared.functions.Param.{Param}
 use Rattle.ir_core.specs.declared.functions.Phi.{Phi}
 use Rattle.ir_types.specs.declared.named.NamedTy.{NamedTy}
 use Rattle.ir_types.specs.declared.names.Name.{Name}
-use Rattle.module_building.proofs.Counted.{alike, from_capped, params_capped}
-use Rattle.module_building.proofs.Due.{behind_lines_capped, blocks_capped, lines_capped, phis_capped}
-use Rattle.module_building.specs.Counted.{capped}
-use Rattle.module_building.specs.Heads.{param_at}
+use Rattle.module_walk.proofs.Counted.{alike, from_capped, params_capped}
+use Rattle.module_walk.proofs.Due.{behind_lines_capped, blocks_capped, lines_capped, phis_capped}
+use Rattle.module_walk.specs.Counted.{capped, param_at}
 use Rattle.module_derivations.specs.Empty.{made}
 use Rattle.module_derivations.specs.Parts.{Part}
 use Rattle.module_grammar.specs.declared.flow.BlockText.{BlockText}

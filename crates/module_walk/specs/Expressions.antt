@@ -3,7 +3,7 @@ use Rattle.std.specs.Prelude.{ℕ, [], Option, Some, unwrap_or}
 use Rattle.ir_core.specs.declared.expressions.Expr.TheVariants as expr
 use Rattle.ir_core.specs.Expressions.{Expr0}
 use Rattle.ir_types.specs.declared.ty.Ty.{Ty}
-use Rattle.expression_building.specs.Expressions.{own_align}
+use Rattle.module_walk.specs.LogicExpressions.{own_align}
 use Rattle.module_grammar.specs.declared.lines.ExprText.{ExprText}
 use Rattle.module_grammar.specs.declared.lines.ExprText.TheVariants as written
 use Rattle.module_walk.specs.Operations.{element_by, operation_by}

@@ -5,7 +5,7 @@ use Rattle.ir_core.specs.declared.functions.Phi.{Phi}
 use Rattle.ir_core.specs.declared.functions.Switch.{Switch}
 use Rattle.ir_types.specs.declared.named.NamedTy.{NamedTy}
 use Rattle.ir_types.specs.declared.names.Name.{Name}
-use Rattle.module_building.specs.Counted.{capped}
+use Rattle.module_walk.specs.Counted.{capped}
 use Rattle.module_derivations.specs.Constants.{operand}
 use Rattle.module_derivations.specs.Empty.{made, said}
 use Rattle.module_derivations.specs.Parts.{Part}

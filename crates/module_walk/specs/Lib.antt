@@ -1,10 +1,12 @@
 pub mod Attributes
 pub mod Commas
+pub mod Counted
 pub mod Expressions
 pub mod Flow
 pub mod Functions
 pub mod Items
 pub mod Lines
+pub mod LogicExpressions
 pub mod Operations
 pub mod Stars
 pub mod Values

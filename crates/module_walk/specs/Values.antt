@@ -6,7 +6,7 @@ use Rattle.ir_core.specs.declared.operands.Atom.TheVariants.{Constant, Register}
 use Rattle.ir_core.specs.declared.operands.Operand.{Operand}
 use Rattle.ir_types.specs.declared.names.Name.{Name}
 use Rattle.ir_types.specs.declared.ty.Ty.{Ty}
-use Rattle.expression_building.specs.Expressions.{tagged}
+use Rattle.module_walk.specs.LogicExpressions.{tagged}
 use Rattle.module_grammar.specs.declared.constants.OperandText.{OperandText}
 use Rattle.module_grammar.specs.declared.constants.Tag.{Tag}
 use Rattle.module_grammar.specs.declared.constants.ValueText.{ValueText}

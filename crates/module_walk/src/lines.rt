@@ -1,38 +1,394 @@
-//! Lines.
-ghost use Rattle.std.specs.Prelude.{◌≡◌, [], ◌∷◌, ◌++◌, map, Some, IfOk, OnOk};
+//! Lines: the numbers that are due where no name is written, what stands behind commas, calls, and lines as a whole.
 ghost use Rattle.std.specs.List.{filter};
 ghost use Rattle.std.specs.Option.{option_map};
-ghost use Rattle.derivation_cursor.specs.At.{Closes, Passes, PassesAll, ahead_of};
+ghost use Rattle.std.specs.Prelude.{◌≡◌, ◌^◌, cond, nat_lt, map, unwrap_or, Some, IfOk, OnOk, ◌++◌, [], ◌∷◌};
+ghost use Rattle.derivation_cursor.specs.At.{Closes, Passes, ahead_of, PassesAll};
 ghost use Rattle.flat.specs.Flat.{behind, skip};
-ghost use Rattle.ir_core.specs.declared.expressions.Expr.TheVariants as expr;
 ghost use Rattle.ir_core.specs.Functions.{name_set};
-ghost use Rattle.module_building.specs.Bodies.{due_or};
-ghost use Rattle.module_building.specs.Counted.{capped};
+ghost use Rattle.ir_core.specs.declared.expressions.Expr.TheVariants as expr;
 ghost use Rattle.module_derivations.specs.Constants.{operand};
 ghost use Rattle.module_derivations.specs.Empty.{made};
-ghost use Rattle.module_derivations.specs.Lines.{attach_by, line};
+ghost use Rattle.module_derivations.specs.Lines.{next_count_by, argument, call_body_by, call_end, callee, attach_by, line};
 ghost use Rattle.module_derivations.specs.Types.{any_type};
 ghost use Rattle.module_derivations.specs.declared.rule.TheConstants as rules;
-ghost use Rattle.module_walk.specs.Lines.{alloca_at, call_named, calm_named, first_kept, kept_call, line_named, set_by_call, store_by};
+ghost use Rattle.module_grammar.specs.Joined.{align_from, count_from};
+ghost use Rattle.module_walk.specs.Commas.{count_built};
+ghost use Rattle.module_walk.specs.Counted.{capped, due_or};
+ghost use Rattle.module_walk.specs.Lines.{argument_by, call_with, kept_call, kept_of_void, alloca_at, call_named, calm_named, first_kept, line_named, set_by_call, store_by};
 ghost use Rattle.module_walk.specs.Operations.{element_at};
 ghost use Rattle.module_walk.specs.Values.{names, operand_by};
 ghost use Rattle.named_modules.specs.Built as meaning;
+ghost use Rattle.named_modules.specs.Built.{align_of, count_kept, result_of};
+ghost use Rattle.named_modules.specs.Constants.{global_name};
 ghost use Rattle.named_modules.specs.Lines.{is_kept};
 ghost use Rattle.named_modules.specs.Types.{type_of};
 
-use crate::addresses::element_of;
-use crate::calls::read_call_body;
-use crate::commas::{read_align_behind, read_count_behind, read_indices_behind};
-use crate::counting::counted;
-use crate::operations::{no_operation, read_operation};
-use crate::types::read_type;
-use crate::values::read_operand;
+use crate::constants::{
+    read_align_number, read_attribute, read_extensions, read_global, read_int,
+    read_more_extensions, read_result_type, read_type,
+};
+use crate::operations::{element_of, no_operation, read_operand, read_operation, read_value};
 use contents::{Boxed, Exact, Seq};
 use derivation_cursor::{Cursor, read_inbounds, read_name, skip_part};
-use ir_core::{Alloca, Bits, Call, Calm, Expr, Instr, Load, Name, NamedTypes, Shared, Store, Ty};
+use ir_core::{
+    Alloca, Argument, Bits, Call, Calm, Expr, Extensions, Instr, Load, Name, NamedTypes, Operand,
+    Shared, Store, Ty,
+};
 use module_derivations::rule;
 use module_grammar::Placed;
 use std::alloc::{AllocError, Global};
+
+/// The number, or 0 where no name has it.
+fn number_due(due: u64) -> u32
+    ensures { result ≡ cond (nat_lt due (2 ^ 32)) due 0 }
+{
+    if due < 4_294_967_296 { due as u32 } else { 0 }
+}
+
+/// The name that is written, or the number that is due.
+fn name_due(due: u64, written: Option<Placed<Name>>) -> Name
+    ensures { result ≡ meaning.name_due due written }
+{
+    match written {
+        None => Name::Number(number_due(due)),
+        Some(placed) => placed.what,
+    }
+}
+
+#[tactic(auto, using(crate::proofs::Counted::capped_is))]
+fn due_after(due: u64, name: &Name) -> u64
+    ensures { result ≡ capped (meaning.due_after due name.now) }
+{
+    match name {
+        Name::Text(_) => due,
+        Name::Number(_) => due.saturating_add(1),
+    }
+}
+
+/// The number that is due behind what is written, or left out. Counting ends at the greatest number, which no name has.
+fn due_behind(due: u64, written: &Option<Placed<Name>>) -> u64
+    ensures { result ≡ capped (meaning.due_behind due written.now) }
+{
+    match written {
+        None => due.saturating_add(1),
+        Some(placed) => due_after(due, &placed.what),
+    }
+}
+
+/// The name that is written, or the number that is due, and the number that is due behind it.
+pub(crate) fn counted(due: u64, written: Option<Placed<Name>>) -> (Name, u64)
+    ensures name { result.0 ≡ meaning.name_due due written }
+    ensures due { result.1 ≡ capped (meaning.due_behind due written) }
+{
+    let behind = due_behind(due, &written);
+    (name_due(due, written), behind)
+}
+
+/// `align NUMBER attachments`, or an attachment and those behind it
+#[tactic(auto, using(crate::proofs::OtherCommas::no_align))]
+fn read_next_align(alloc: Global, c: &mut Cursor) -> Result<Option<u32>, AllocError>
+    ensures built { IfOk result (λ it. it ≡ align_of (align_from (made (ahead_of c.old)).next_align).align) }
+    ensures passes { OnOk result (Passes c.old c.new) }
+{
+    match c.rule() {
+        Some(rule::ALIGN_NEXT) => {
+            let align = read_align_number(alloc, c)?;
+            skip_part(c);
+            Ok(align)
+        }
+        other => {
+            c.pass(other);
+            Ok(None)
+        }
+    }
+}
+
+/// `, next_align`, or nothing
+#[tactic(auto, using(crate::proofs::OtherCommas::no_align_behind))]
+fn read_align_behind(alloc: Global, c: &mut Cursor) -> Result<Option<u32>, AllocError>
+    ensures built { IfOk result (λ it. it ≡ align_of (made (ahead_of c.old)).align_behind.align) }
+    ensures passes { OnOk result (Passes c.old c.new) }
+{
+    match c.rule() {
+        Some(rule::ALIGN_BEHIND) => read_next_align(alloc, c),
+        other => {
+            c.pass(other);
+            Ok(None)
+        }
+    }
+}
+
+/// The count behind its type, unless it is 1; a number that the type doesn't have is built as 0.
+fn count_of(ty: Ty, number: Option<u64>) -> Option<(Ty, Bits)>
+    ensures { result ≡ count_kept ty (unwrap_or number 0) }
+{
+    let number = number.unwrap_or(0);
+    if number == 1 {
+        None
+    } else {
+        Some((ty, Bits::new(number)))
+    }
+}
+
+/// What is kept of what stands behind the type of an `alloca`: a count and an alignment.
+type Counted = (Option<(Ty, Bits)>, Option<u32>);
+
+/// `any_type integer align_behind`
+fn read_count(alloc: Global, c: &mut Cursor) -> Result<Counted, AllocError>
+    ensures built { IfOk result (λ it. it ≡ count_built (count_from (next_count_by (Some rules.COUNT_NEXT) (ahead_of c.old)))) }
+    ensures closes { OnOk result (Closes (Some rules.COUNT_NEXT) c.old c.new) }
+{
+    let ty = read_type(alloc, c)?;
+    let number = read_int(alloc, c, &ty)?;
+    let align = read_align_behind(alloc, c)?;
+    Ok((count_of(ty, number), align))
+}
+
+/// `any_type integer align_behind`, or what stands there without a count
+#[tactic(auto, using(crate::proofs::OtherCommas::no_count))]
+fn read_next_count(alloc: Global, c: &mut Cursor) -> Result<Counted, AllocError>
+    ensures built { IfOk result (λ it. it ≡ count_built (count_from (made (ahead_of c.old)).next_count)) }
+    ensures passes { OnOk result (Passes c.old c.new) }
+{
+    match c.rule() {
+        Some(rule::COUNT_NEXT) => read_count(alloc, c),
+        Some(rule::NO_NEXT_COUNT) => Ok((None, read_next_align(alloc, c)?)),
+        other => {
+            c.pass(other);
+            Ok((None, None))
+        }
+    }
+}
+
+/// `, next_count`, or nothing
+#[tactic(auto, using(crate::proofs::OtherCommas::no_count_behind))]
+fn read_count_behind(alloc: Global, c: &mut Cursor) -> Result<Counted, AllocError>
+    ensures built { IfOk result (λ it. it ≡ count_built (made (ahead_of c.old)).count_behind) }
+    ensures passes { OnOk result (Passes c.old c.new) }
+{
+    match c.rule() {
+        Some(rule::COUNT_BEHIND) => read_next_count(alloc, c),
+        other => {
+            c.pass(other);
+            Ok((None, None))
+        }
+    }
+}
+
+/// `, operand` any number of times, and behind them an attachment and those behind it, or nothing
+#[tactic(auto, using(crate::proofs::Differ::differ, crate::proofs::Ended::nothing_behind, crate::proofs::OtherCommas::no_indices_behind, crate::proofs::OtherCommas::no_index))]
+fn read_indices_behind(alloc: Global, c: &mut Cursor) -> Result<Seq<Operand<Name>>, AllocError>
+    ensures built { IfOk result (λ it. it ≡ map (operand_by names) (made (ahead_of c.old)).indices_behind.indices) }
+    ensures passes { OnOk result (Passes c.old c.new) }
+{
+    let mut indices = Seq::new(alloc);
+    loop {
+        match c.rule() {
+            Some(rule::INDICES_BEHIND) => match c.rule() {
+                Some(rule::INDEX_NEXT) => indices.push(read_operand(alloc, c)?)?,
+                other => {
+                    c.pass(other);
+                    return Ok(indices);
+                }
+            },
+            other => {
+                c.pass(other);
+                return Ok(indices);
+            }
+        }
+    }
+}
+
+/// `any_type param_attributes value`
+fn read_argument(alloc: Global, c: &mut Cursor) -> Result<Argument, AllocError>
+    ensures built { IfOk result (λ it. it ≡ argument_by (argument (ahead_of c.old))) }
+    ensures passes { OnOk result (PassesAll 4 c.old c.new) }
+{
+    let ty = read_type(alloc, c)?;
+    let extensions = read_extensions(c);
+    let atom = read_value(alloc, c, &ty)?;
+    Ok(Argument {
+        operand: Operand { ty, atom },
+        extensions,
+    })
+}
+
+/// `, argument` any number of times, behind these
+#[tactic(auto, using(crate::proofs::Differ::differ, crate::proofs::Ended::nothing_behind, crate::proofs::OtherCalls::no_more_arguments))]
+fn read_more_arguments(
+    alloc: Global,
+    c: &mut Cursor,
+    arguments: &mut Seq<Argument>,
+) -> Result<(), AllocError>
+    ensures built { OnOk result (arguments.new ≡ arguments.old ++ map argument_by (made (ahead_of c.old)).more_arguments) }
+    ensures passes { OnOk result (Passes c.old c.new) }
+{
+    loop {
+        match c.rule() {
+            Some(rule::MORE_ARGUMENTS) => arguments.push(read_argument(alloc, c)?)?,
+            other => {
+                c.pass(other);
+                return Ok(());
+            }
+        }
+    }
+}
+
+/// Any number of arguments, with commas between them.
+#[tactic(auto, using(crate::proofs::Differ::differ, crate::proofs::OtherCalls::no_arguments))]
+fn read_arguments(alloc: Global, c: &mut Cursor) -> Result<Seq<Argument>, AllocError>
+    ensures built { IfOk result (λ it. it ≡ map argument_by (made (ahead_of c.old)).arguments) }
+    ensures passes { OnOk result (Passes c.old c.new) }
+{
+    let mut arguments = Seq::new(alloc);
+    match c.rule() {
+        Some(rule::ARGUMENTS) => {
+            arguments.push(read_argument(alloc, c)?)?;
+            read_more_arguments(alloc, c, &mut arguments)?;
+            Ok(arguments)
+        }
+        other => {
+            c.pass(other);
+            Ok(arguments)
+        }
+    }
+}
+
+/// `( arguments ) function_attributes`
+fn read_call_end(alloc: Global, c: &mut Cursor) -> Result<Seq<Argument>, AllocError>
+    ensures built { IfOk result (λ it. it ≡ map argument_by (call_end (ahead_of c.old)).arguments) }
+    ensures passes { OnOk result (PassesAll 2 c.old c.new) }
+{
+    let arguments = read_arguments(alloc, c)?;
+    skip_part(c);
+    Ok(arguments)
+}
+
+/// `function_type global_name call_end`, behind the type of the result
+fn read_callee(
+    alloc: Global,
+    c: &mut Cursor,
+    extensions: Extensions,
+    ty: Ty,
+) -> Result<Option<Call>, AllocError>
+    ensures built { IfOk result (λ it. it ≡ Some (call_with extensions ty (global_name (made (behind (ahead_of c.old))).global_name).what (call_end (skip 2 (ahead_of c.old))).arguments)) }
+    ensures passes { OnOk result (PassesAll 4 c.old c.new) }
+{
+    skip_part(c);
+    let callee = read_global(alloc, c)?;
+    let arguments = read_call_end(alloc, c)?;
+    Ok(Some(Call {
+        name: None,
+        result: ty,
+        result_extensions: extensions,
+        callee,
+        arguments,
+    }))
+}
+
+/// `callee call_end`
+fn read_called(
+    alloc: Global,
+    c: &mut Cursor,
+    extensions: Extensions,
+) -> Result<Option<Call>, AllocError>
+    ensures built { IfOk result (λ it. it ≡ Some (call_with extensions (result_of (callee (ahead_of c.old)).result) (global_name (callee (ahead_of c.old)).name).what (call_end (skip 3 (ahead_of c.old))).arguments)) }
+    ensures passes { OnOk result (PassesAll 5 c.old c.new) }
+{
+    let ty = read_result_type(alloc, c)?;
+    read_callee(alloc, c, extensions, ty)
+}
+
+/// `GLOBAL call_end`, or a call that debugging alone wants
+#[tactic(auto, using(crate::proofs::OtherCalls::no_void_call))]
+fn read_void_call(alloc: Global, c: &mut Cursor) -> Result<Option<Call>, AllocError>
+    ensures built { IfOk result (λ it. it ≡ kept_of_void (made (ahead_of c.old)).void_call) }
+    ensures passes { OnOk result (Passes c.old c.new) }
+{
+    match c.rule() {
+        Some(rule::PLAIN_CALL) => {
+            let callee = read_name(alloc, c)?.what;
+            let arguments = read_call_end(alloc, c)?;
+            Ok(Some(Call {
+                name: None,
+                result: Ty::Void,
+                result_extensions: Extensions::none(),
+                callee,
+                arguments,
+            }))
+        }
+        other => {
+            c.pass(other);
+            Ok(None)
+        }
+    }
+}
+
+/// `void_call`, or `( balanced ) void_call`
+#[tactic(auto, using(crate::proofs::OtherCalls::no_void_callee))]
+fn read_void_callee(alloc: Global, c: &mut Cursor) -> Result<Option<Call>, AllocError>
+    ensures built { IfOk result (λ it. it ≡ kept_of_void (made (ahead_of c.old)).void_callee.call) }
+    ensures passes { OnOk result (Passes c.old c.new) }
+{
+    match c.rule() {
+        Some(rule::VOID_CALLEE) => read_void_call(alloc, c),
+        Some(rule::STATED_CALLEE) => {
+            skip_part(c);
+            read_void_call(alloc, c)
+        }
+        other => {
+            c.pass(other);
+            Ok(None)
+        }
+    }
+}
+
+/// `ccc param_attributes callee call_end`
+fn read_convention_call(alloc: Global, c: &mut Cursor) -> Result<Option<Call>, AllocError>
+    ensures built { IfOk result (λ it. it ≡ kept_call (call_body_by (Some rules.CONVENTION_CALL) (ahead_of c.old))) }
+    ensures closes { OnOk result (Closes (Some rules.CONVENTION_CALL) c.old c.new) }
+{
+    let extensions = read_extensions(c);
+    read_called(alloc, c, extensions)
+}
+
+/// `param_attribute param_attributes callee call_end`
+#[tactic(auto, using(crate::proofs::OtherAttributes::found_behind))]
+fn read_attributes_call(alloc: Global, c: &mut Cursor) -> Result<Option<Call>, AllocError>
+    ensures built { IfOk result (λ it. it ≡ kept_call (call_body_by (Some rules.ATTRIBUTES_CALL) (ahead_of c.old))) }
+    ensures closes { OnOk result (Closes (Some rules.ATTRIBUTES_CALL) c.old c.new) }
+{
+    let first = read_attribute(c);
+    let extensions = read_more_extensions(c, first);
+    read_called(alloc, c, extensions)
+}
+
+/// `any_type function_type global_name call_end`
+fn read_typed_call(alloc: Global, c: &mut Cursor) -> Result<Option<Call>, AllocError>
+    ensures built { IfOk result (λ it. it ≡ kept_call (call_body_by (Some rules.TYPED_CALL) (ahead_of c.old))) }
+    ensures closes { OnOk result (Closes (Some rules.TYPED_CALL) c.old c.new) }
+{
+    let ty = read_type(alloc, c)?;
+    read_callee(alloc, c, Extensions::none(), ty)
+}
+
+/// The call behind `call`, unless debugging alone wants it.
+#[tactic(auto, using(crate::proofs::OtherCalls::no_call))]
+fn read_call_body(alloc: Global, c: &mut Cursor) -> Result<Option<Call>, AllocError>
+    ensures built { IfOk result (λ it. it ≡ kept_call (made (ahead_of c.old)).call_body) }
+    ensures passes { OnOk result (Passes c.old c.new) }
+{
+    match c.rule() {
+        Some(rule::CONVENTION_CALL) => read_convention_call(alloc, c),
+        Some(rule::ATTRIBUTES_CALL) => read_attributes_call(alloc, c),
+        Some(rule::TYPED_CALL) => read_typed_call(alloc, c),
+        Some(rule::CALL_OF_VOID) => read_void_callee(alloc, c),
+        other => {
+            c.pass(other);
+            Ok(None)
+        }
+    }
+}
 
 /// A line that sets a register and does nothing else.
 fn calm(name: Name, right: Expr<Name>) -> Instr
@@ -263,7 +619,7 @@ fn read_line(
 }
 
 /// Any number of lines, but for those that are dropped, are put behind the others. Gives the number that is due behind them.
-#[tactic(auto, using(crate::proofs::Differ::differ, crate::proofs::Ended::nothing_behind, crate::proofs::OtherLines::no_lines, module_building::proofs::Due::capped_is))]
+#[tactic(auto, using(crate::proofs::Differ::differ, crate::proofs::Ended::nothing_behind, crate::proofs::OtherLines::no_lines, crate::proofs::Due::capped_is))]
 fn read_lines(
     alloc: Global,
     c: &mut Cursor,

@@ -1,4 +1,3 @@
-pub mod Addresses
 pub mod Alike
 pub mod Bare
 pub mod BuiltConstants
@@ -6,7 +5,6 @@ pub mod BuiltTypes
 pub mod CallTies
 pub mod ConstKinds
 pub mod ConstTies
-pub mod Extended
 pub mod FileOrder
 pub mod FlowTies
 pub mod FunctionTies
@@ -15,7 +13,6 @@ pub mod InitTies
 pub mod ItemTies
 pub mod LineTies
 pub mod Lists
-pub mod Measures
 pub mod ModuleTies
 pub mod Named
 pub mod NamesAre
@@ -25,7 +22,6 @@ pub mod OneLine
 pub mod OneModule
 pub mod OneName
 pub mod Ordered
-pub mod ReadItems
 pub mod Things
 pub mod Ties
 pub mod TypeKinds

@@ -1,10 +1,11 @@
-//! Numbers at the types that are stated for them.
+//! Numbers at the types that are stated for them, and alignments.
 ghost use Rattle.std.specs.Prelude.{◌≡◌, ◌≤◌, ◌-◌, ◌%◌, ◌^◌, unwrap_or};
+ghost use Rattle.named_modules.specs.Built as aligns;
 ghost use Rattle.named_modules.specs.Types as meaning;
 
 use ir_core::{Bits, Ty, is_width};
 use ir_lexer::Number;
-use module_grammar::IntText;
+use module_grammar::{IntText, Placed};
 
 fn power_of_two(exponent: u32) -> u128
     requires { exponent ≤ 64 }
@@ -113,4 +114,36 @@ pub fn built(number: Option<u64>) -> Bits
     ensures { result ≡ unwrap_or number 0 }
 {
     Bits::new(number.unwrap_or(0))
+}
+
+/// The number, or 0 where no alignment has it.
+fn align_built(number: &Number) -> u32
+    ensures { result ≡ aligns.align_built number.now }
+{
+    let magnitude = number.magnitude.get();
+    if magnitude < 4_294_967_296 {
+        magnitude as u32
+    } else {
+        0
+    }
+}
+
+fn align_kept(number: &Number) -> Option<u32>
+    ensures { result ≡ aligns.align_kept number.now }
+{
+    if number.magnitude.get() == 0 {
+        None
+    } else {
+        Some(align_built(number))
+    }
+}
+
+/// The alignment that is written.
+pub fn align_of(written: &Option<Placed<Number>>) -> Option<u32>
+    ensures { result ≡ aligns.align_of written.now }
+{
+    match written {
+        None => None,
+        Some(placed) => align_kept(&placed.what),
+    }
 }

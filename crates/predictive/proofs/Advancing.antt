@@ -1,9 +1,10 @@
 -- What `advance` keeps and gives, where its stack is `items` and was `old` at first.
-use Rattle.std.proofs.Common.{◌≡◌, ◌<◌, ◌+◌, ℕ, suc, List, [], ◌∷◌, Some, None, refl, ap, sym, ◌∙◌, subst, arith}
+use Rattle.std.proofs.Common.{◌≡◌, ◌<◌, ◌+◌, ℕ, suc, Bool, true, false, eqb, List, [], ◌∷◌, Some, None, refl, ap, sym, ◌∙◌, subst, MatchBool, arith}
+use Rattle.std.proofs.lemmas.Bool.{eqb-true, eqb-false}
 use Rattle.predictive.specs.declared.item.Item.{Item}
 use Rattle.predictive.specs.declared.item.Item.TheVariants as item
 use Rattle.predictive.specs.Grammar.{Grammar}
-use Rattle.predictive.specs.Predictive.{Sets, ahead, IsFollowed, IsPredictive, at_end}
+use Rattle.predictive.specs.Predictive.{Sets, IsFollowed, IsPredictive, at_end}
 use Rattle.predictive.specs.Moves.{opened, wanted, Leads, with_ahead, IsMet, IsStuck}
 use Rattle.predictive.proofs.Happening.{silent_mark}
 use Rattle.predictive.proofs.Stacks.{moves_left, opens_down}
@@ -26,12 +27,6 @@ Kept g s begun shifted reduced look old start items st = IsFollowed s (wanted it
 -- nothing goes on, and the mark is as it was
 abbrev pub Halted : {S M : Type 0} → (S → M) → Grammar → ℕ → List Item → S → S → Type 0
 Halted mark g look old start st = IsStuck g look old × (mark st ≡ mark start)
-
--- the same of what is ahead of tokens
-pub halted_ahead :
-    {S M : Type 0} (mark : S → M) (g : Grammar) (look : ℕ) (ks : List ℕ) (old : List Item) (start st : S)
-    → look ≡ ahead ks → Halted mark g look old start st → Halted mark g (ahead ks) old start st
-halted_ahead mark g look ks old start st e h = subst (λ k. Halted mark g k old start st) e h
 
 pub reduced_kept :
     {S : Type 0} (g : Grammar) (s : Sets) (begun shifted reduced : S → ℕ → S) (look : ℕ) (old : List Item) (start : S) (items : List Item) (st : S)
@@ -73,27 +68,31 @@ module _ {S : Type 0} (g : Grammar) (s : Sets) (is : IsPredictive g s) (begun sh
         let here = at (item.Non n ∷ rest) e in
         halted (item.Non n ∷ rest) here (none_chosen g s is n look rest (sym t) here.0)
 
-    pub other_wanted : (c : ℕ) (rest : List Item) → items ≡ item.Kind c ∷ rest → (c + 1 ≡ look → ⊥) → Halted mark g look old start st
-    other_wanted c rest e differ =
-        let here = at (item.Kind c ∷ rest) e in
-        halted (item.Kind c ∷ rest) here (other_kind g c look rest (λ same. differ (omega arith)))
+    pub kind_taken : (c : ℕ) (rest : List Item) → items ≡ item.Kind c ∷ rest → MatchBool (eqb (c + 1) look) (IsMet g s begun shifted reduced look old start rest st) (Halted mark g look old start st)
+    kind_taken c rest e = go (eqb (c + 1) look) refl
+      where
+        here : Kept g s begun shifted reduced look old start (item.Kind c ∷ rest) st
+        here = at (item.Kind c ∷ rest) e
 
-    pub none_wanted : (rest : List Item) → items ≡ [] → rest ≡ [] → (look ≡ 0 → ⊥) → Halted mark g look old start st
-    none_wanted rest e r some = halted rest (at rest (e ∙ sym r)) (subst (λ i. IsStuck g look i) (sym r) (nothing_wanted g look some))
+        go : (b : Bool) → eqb (c + 1) look ≡ b → MatchBool b (IsMet g s begun shifted reduced look old start rest st) (Halted mark g look old start st)
+        go true h =
+            let f = eqb-true (c + 1) look h in
+            let same : suc c ≡ look = omega arith in
+            (here.0, subst (λ k. Leads g begun shifted reduced look old start (with_ahead k rest) st) same here.1, λ none. absurd (omega arith))
+        go false h =
+            let f = eqb-false (c + 1) look h in
+            halted (item.Kind c ∷ rest) here (other_kind g c look rest (λ same. f (omega arith)))
 
-  pub kind_met : (c : ℕ) (rest : List Item) → items ≡ item.Kind c ∷ rest → c + 1 ≡ look → IsMet g s begun shifted reduced look old start rest st
-  kind_met c rest e h =
-      let here = at (item.Kind c ∷ rest) e in
-      let same : suc c ≡ look = omega arith in
-      (here.0, subst (λ k. Leads g begun shifted reduced look old start (with_ahead k rest) st) same here.1, λ none. absurd (omega arith))
+    pub none_left : (rest : List Item) → items ≡ [] → rest ≡ [] → MatchBool (eqb look 0) (IsMet g s begun shifted reduced look old start rest st) (Halted mark g look old start st)
+    none_left rest e r = go (eqb look 0) refl
+      where
+        here : Kept g s begun shifted reduced look old start rest st
+        here = at rest (e ∙ sym r)
 
-  pub end_met : (rest : List Item) → items ≡ [] → rest ≡ [] → look ≡ 0 → IsMet g s begun shifted reduced look old start rest st
-  end_met rest e r h =
-      let here = at rest (e ∙ sym r) in
-      (here.0, subst (λ k. Leads g begun shifted reduced look old start (with_ahead k rest) st) (sym h) here.1, λ none. r)
-
--- the same of what is ahead of tokens
-pub met_ahead :
-    {S : Type 0} (g : Grammar) (s : Sets) (begun shifted reduced : S → ℕ → S) (look : ℕ) (ks : List ℕ) (old items : List Item) (start st : S)
-    → look ≡ ahead ks → IsMet g s begun shifted reduced look old start items st → IsMet g s begun shifted reduced (ahead ks) old start items st
-met_ahead g s begun shifted reduced look ks old items start st e met = subst (λ k. IsMet g s begun shifted reduced k old start items st) e met
+        go : (b : Bool) → eqb look 0 ≡ b → MatchBool b (IsMet g s begun shifted reduced look old start rest st) (Halted mark g look old start st)
+        go true h =
+            let same = eqb-true look 0 h in
+            (here.0, subst (λ k. Leads g begun shifted reduced look old start (with_ahead k rest) st) (sym same) here.1, λ none. r)
+        go false h =
+            let f = eqb-false look 0 h in
+            halted rest here (subst (λ i. IsStuck g look i) (sym r) (nothing_wanted g look f))

@@ -1,12 +1,10 @@
 mod Advancing
 mod Framing
-mod Going
 mod Holding
 mod Loose
 mod Moving
 mod Splitting
 mod Stacks
-mod Standing
 mod Zeros
 pub mod ByTest
 pub mod Faults

@@ -5,7 +5,6 @@ pub mod Fills
 pub mod Frames
 pub mod GapListing
 pub mod Gapped
-pub mod Going
 pub mod Grammar
 pub mod Listed
 pub mod Listing

@@ -1,34 +1,21 @@
-ghost use Rattle.std.specs.Prelude.{◌≡◌, ◌<◌, ℕ, List, [], ◌∷◌, ◌++◌, take, IfOk, IfSome, MatchOption};
+ghost use Rattle.std.specs.Prelude.{◌≡◌, ℕ, List, [], ◌∷◌, ◌++◌, take, IfOk, IfSome, MatchBool, MatchOption};
 ghost use Rattle.predictive.specs.Frames.{framed};
-ghost use Rattle.predictive.specs.Going.{Advances};
 ghost use Rattle.predictive.specs.Grammar.{Forest, Forms, yield, after_some, after_trees, IsFirstFault};
-ghost use Rattle.predictive.specs.Moves.{wanted};
-ghost use Rattle.predictive.specs.Predictive.{IsFollowed, MayEnd, ahead, at_end};
+ghost use Rattle.predictive.specs.Moves.{IsMet, IsStuck, wanted};
+ghost use Rattle.predictive.specs.Predictive.{IsFollowed, MayEnd, at_end};
 ghost use Rattle.predictive.specs.declared.symbol.Symbol.TheVariants.{Non};
 
 use crate::action::Action;
 use crate::frames::Frame;
 use crate::item::Item;
 use crate::items::{open, pop};
-use crate::next::Next;
 use crate::stack::Stack;
 use crate::symbol::Symbol;
 use crate::table::Table;
 use std::alloc::{AllocError, Global};
 
-/// What is ahead of tokens of these kinds: 0 where there is none, else one more than the kind of the first.
-#[inline(always)]
-fn ahead_of(kinds: &[u8]) -> u16
-    ensures { result ≡ ahead kinds.now }
-{
-    match kinds.first() {
-        Some(kind) => u16::from(*kind) + 1,
-        None => 0,
-    }
-}
-
-/// Reduces and opens rules until a token is wanted, and takes that off, or jumps over tokens of these kinds. The rule that was begun last
-/// is on top; the lowest is none, but what was wanted at first.
+/// Reduces and opens rules until a token is wanted, and takes that off; whether it is what is ahead. The rule that was begun last is on top;
+/// the lowest is none, but what was wanted at first.
 #[inline(always)]
 fn advance<'a, G: Table, A: Action>(
     alloc: Global,
@@ -36,43 +23,27 @@ fn advance<'a, G: Table, A: Action>(
     actions: &mut A,
     top: &mut Frame<'a>,
     below: &mut Stack<Frame<'a>>,
-    kinds: &[u8],
-) -> Result<Next, AllocError>
-    requires followed { IsFollowed (G.sets table.now) (wanted (framed top.old.rest.now top.old.rule below.old)) at_end }
-    requires chosen { A.chosen ≡ (G.sets table.now).table }
-    requires sides { A.sides ≡ (G.grammar table.now).right }
-    ensures { IfOk result (Advances A.mark (G.grammar table.now) (G.sets table.now) A.begun A.shifted A.reduced kinds.now (framed top.old.rest.now top.old.rule below.old) (A.state actions.old) (framed top.new.rest.now top.new.rule below.new) (A.state actions.new)) }
+    ahead: u16,
+) -> Result<bool, AllocError>
+    requires { IsFollowed (G.sets table.now) (wanted (framed top.old.rest.now top.old.rule below.old)) at_end }
+    ensures { IfOk result (λ met. MatchBool met
+        (IsMet (G.grammar table.now) (G.sets table.now) A.begun A.shifted A.reduced ahead (framed top.old.rest.now top.old.rule below.old) (A.state actions.old) (framed top.new.rest.now top.new.rule below.new) (A.state actions.new))
+        (IsStuck (G.grammar table.now) ahead (framed top.old.rest.now top.old.rule below.old) × (A.mark (A.state actions.new) ≡ A.mark (A.state actions.old)))) }
 {
-    let ahead = ahead_of(kinds);
     while let Some(item) = pop(top, below) {
         match item {
             Item::Done(rule) => actions.reduce(alloc, rule)?,
-            Item::Kind(kind) => {
-                if u16::from(kind) + 1 == ahead {
-                    return Ok(Next::Met);
+            Item::Kind(kind) => return Ok(u16::from(kind) + 1 == ahead),
+            Item::Non(non) => match table.choose(non, ahead) {
+                None => return Ok(false),
+                Some(rule) => {
+                    actions.begin(alloc, rule)?;
+                    open(top, below, table.right(rule), rule)?;
                 }
-                return Ok(Next::Stuck);
-            }
-            Item::Non(non) => {
-                let taken = actions.jump(alloc, non, kinds)?;
-                if taken > 0 {
-                    return Ok(Next::Jumped(taken));
-                }
-                match table.choose(non, ahead) {
-                    None => return Ok(Next::Stuck),
-                    Some(rule) => {
-                        actions.begin(alloc, rule)?;
-                        open(top, below, table.right(rule), rule)?;
-                    }
-                }
-            }
+            },
         }
     }
-    if ahead == 0 {
-        Ok(Next::Met)
-    } else {
-        Ok(Next::Stuck)
-    }
+    Ok(ahead == 0)
 }
 
 /// None where the kinds are a text of the start symbol, whose tree's acts are then done, one after another; else the place of the first
@@ -85,9 +56,7 @@ pub fn parse<G: Table, A: Action>(
     start: u8,
     kinds: &[u8],
 ) -> Result<Option<usize>, AllocError>
-    requires may_end { MayEnd (G.sets table.now) start }
-    requires chosen { A.chosen ≡ (G.sets table.now).table }
-    requires sides { A.sides ≡ (G.grammar table.now).right }
+    requires { MayEnd (G.sets table.now) start }
     ensures answer { IfOk result (λ fault. MatchOption fault
         ((f : Forest) × Forms (G.grammar table.now) f (Non start ∷ []) × (yield f ≡ kinds.now) × (A.state actions.new ≡ after_trees A.begun A.shifted A.reduced f (A.state actions.old)))
         (λ place. IsFirstFault (G.grammar table.now) (Non start ∷ []) kinds.now place)) }
@@ -101,18 +70,16 @@ pub fn parse<G: Table, A: Action>(
         rule: 0,
     };
     let mut below = Stack::new(alloc);
-    let mut rest = kinds;
-    loop {
-        match advance(alloc, table, actions, &mut top, &mut below, rest)? {
-            Next::Stuck => return Ok(Some(kinds.len() - rest.len())),
-            Next::Met => match rest.split_first() {
-                None => return Ok(None),
-                Some((kind, more)) => {
-                    actions.shift(alloc, *kind)?;
-                    rest = more;
-                }
-            },
-            Next::Jumped(taken) => rest = &rest[taken..],
+    for (place, kind) in kinds.iter().enumerate() {
+        let ahead = u16::from(*kind) + 1;
+        if !advance(alloc, table, actions, &mut top, &mut below, ahead)? {
+            return Ok(Some(place));
         }
+        actions.shift(alloc, *kind)?;
+    }
+    if advance(alloc, table, actions, &mut top, &mut below, 0)? {
+        Ok(None)
+    } else {
+        Ok(Some(kinds.len()))
     }
 }

@@ -21,7 +21,6 @@ mod grammar_decides;
 mod item;
 mod items;
 mod laws;
-mod next;
 mod parts;
 mod stack;
 mod symbol;

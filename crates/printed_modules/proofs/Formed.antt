@@ -32,7 +32,7 @@ use Rattle.ir_printer.specs.Printed.{called_in}
 use Rattle.named_modules.specs.Addresses.{address_type}
 use Rattle.named_modules.specs.Functions.{labels_of, registers_of}
 use Rattle.named_modules.specs.Values.{IsRegister}
-use Rattle.named_modules.proofs.Addresses.{from_pointer}
+use Rattle.printed_tokens.proofs.Addresses.{from_pointer}
 use Rattle.named_modules.proofs.Lists.{all_left, all_right}
 use Rattle.printed_modules.proofs.Callable.{IsCallee}
 use Rattle.printed_modules.proofs.ConstantValues.{constant_values}

@@ -36,7 +36,7 @@ use Rattle.named_modules.specs.Addresses.{address_type}
 use Rattle.named_modules.specs.Constants.{IsConst, Judged, const_at_level, const_of, index_part, judged, judged_at_level, may_be, part_fits}
 use Rattle.named_modules.specs.Constants as naming
 use Rattle.named_modules.specs.Types.{is_type, type_of}
-use Rattle.named_modules.proofs.Addresses.{from_pointer}
+use Rattle.printed_tokens.proofs.Addresses.{from_pointer}
 use Rattle.named_modules.proofs.ConstKinds as kind
 use Rattle.named_modules.proofs.ConstKinds.{told_each}
 use Rattle.named_modules.proofs.Lists.{all_left, all_right}

@@ -1,3 +1,4 @@
+pub mod Addresses
 pub mod Attributes
 pub mod Calm
 pub mod ConstantParts

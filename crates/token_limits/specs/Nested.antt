@@ -43,11 +43,3 @@ reduced n Part = at_level n (n.level - 1)
 reduced n Plain = n
 reduced n Line = n
 reduced n Definition = n
-
--- a token stands inside, which is as deep as this, and what began with it ends again
-abbrev pub touched : Nesting → ℕ → Nesting
-touched n inner = record { level = n.level; deepest = max (max n.level inner) n.deepest; saved = n.saved }
-
--- one token stands inside, which is as deep as this, and what began with it ends again
-abbrev pub stepped : Nesting → ℕ → Nesting
-stepped n inner = record { level = n.level; deepest = max n.deepest inner; saved = n.saved }

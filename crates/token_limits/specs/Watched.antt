@@ -64,22 +64,6 @@ reduced_as r w = unless_marked w.mark (reduced_by r w) w
 abbrev pub reduced : Watch → ℕ → Watch
 reduced w p = reduced_as (role_of p) w
 
--- a type of one token and so many stars stands there, and no token passed a limit, nor does one of these
-pub record IsWithin (stars : ℕ) (w : Watch) : Type 0 where
-  pub unmarked : w.mark ≡ None
-  pub within : mark_at (w.nesting.level + 1 + stars) w.lines ≡ None
-
-abbrev pub touched : ℕ → Watch → Watch
-touched stars w = record { nesting = nested.touched w.nesting (w.nesting.level + 1 + stars); lines = w.lines; mark = w.mark }
-
--- one token stands there, so much deeper than what is open, and no token passed a limit, nor does it
-pub record MayStep (deeper : ℕ) (w : Watch) : Type 0 where
-  pub unmarked : w.mark ≡ None
-  pub within : mark_at (w.nesting.level + deeper) w.lines ≡ None
-
-abbrev pub stepped : ℕ → Watch → Watch
-stepped deeper w = record { nesting = nested.stepped w.nesting (w.nesting.level + deeper); lines = w.lines; mark = w.mark }
-
 same_mark : (m : Option Limit) (next w : Watch) → next.mark ≡ w.mark → (unless_marked m next w).mark ≡ w.mark
 same_mark None next w e = e
 same_mark (Some l) next w e = refl

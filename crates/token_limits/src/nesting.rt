@@ -102,20 +102,4 @@ impl Nesting {
             Role::Plain | Role::Line | Role::Definition => {}
         }
     }
-
-    /// A token stands inside, as deep as this, and what began with it ends again.
-    #[inline(always)]
-    pub fn touch(&mut self, inner: u32)
-        ensures { self.new ≡ nested.touched self.old inner }
-    {
-        self.deepest = self.level.max(inner).max(self.deepest);
-    }
-
-    /// One token stands inside, as deep as this, and what began with it ends again.
-    #[inline(always)]
-    pub fn step(&mut self, inner: u32)
-        ensures { self.new ≡ nested.stepped self.old inner }
-    {
-        self.deepest = self.deepest.max(inner);
-    }
 }

@@ -53,14 +53,6 @@ fn lines_reduced(lines: u32, role: Role) -> u32
     }
 }
 
-/// How deep the last of so many stars stands behind a type of one token.
-#[inline(always)]
-fn innermost(level: u32, stars: u32) -> Option<u32>
-    ensures { IfSome result (λ inner. inner ≡ level + 1 + stars) }
-{
-    level.checked_add(1)?.checked_add(stars)
-}
-
 impl Watch {
     pub fn new(alloc: Global) -> Watch
         ensures { result ≡ watched.fresh }
@@ -78,44 +70,6 @@ impl Watch {
         ensures { result ≡ self.now.mark }
     {
         self.mark
-    }
-
-    /// Whether a type of one token and so many stars may stand there: no token passed a limit, nor does one of these. Then all is told of
-    /// it, from where the type begins to where it ends.
-    #[inline(always)]
-    pub fn touch(&mut self, stars: u32) -> bool
-        ensures { MatchBool result (watched.IsWithin stars self.old × (self.new ≡ watched.touched stars self.old)) (self.new ≡ self.old) }
-    {
-        if self.mark.is_some() {
-            return false;
-        }
-        let Some(inner) = innermost(self.nesting.level(), stars) else {
-            return false;
-        };
-        if mark_at(inner, self.lines).is_some() {
-            return false;
-        }
-        self.nesting.touch(inner);
-        true
-    }
-
-    /// Whether one token may stand there, so much deeper than what is open: no token passed a limit, nor does this one. Then it is told of
-    /// it, and of what began with it and ends behind it.
-    #[inline(always)]
-    pub fn step(&mut self, deeper: u32) -> bool
-        ensures { MatchBool result (watched.MayStep deeper self.old × (self.new ≡ watched.stepped deeper self.old)) (self.new ≡ self.old) }
-    {
-        if self.mark.is_some() {
-            return false;
-        }
-        let Some(inner) = self.nesting.level().checked_add(deeper) else {
-            return false;
-        };
-        if mark_at(inner, self.lines).is_some() {
-            return false;
-        }
-        self.nesting.step(inner);
-        true
     }
 }
 
@@ -147,8 +101,6 @@ impl Watch {
 
 impl Action for Watch {
     ghost use Rattle.std.specs.Prelude.{Option};
-    ghost use Rattle.module_grammar.specs.Sets as sets_of_tokens;
-    ghost use Rattle.module_grammar.specs.Tokens as tokens;
     ghost use Rattle.ir_core.specs.declared.limits.Limit.{Limit};
 
     type State = Watch;
@@ -164,10 +116,6 @@ impl Action for Watch {
     ghost shifted = { watched.shifted };
 
     ghost reduced = { watched.reduced };
-
-    ghost chosen = { sets_of_tokens.sets.table };
-
-    ghost sides = { tokens.token_grammar.right };
 
     #[inline(always)]
     #[tactic(auto, using(crate::proofs::Plain::plain_begun))]
@@ -197,10 +145,6 @@ impl Action for Watch {
             role => self.reduce_as(role),
         }
         Ok(())
-    }
-
-    fn jump(&mut self, _alloc: Global, _non: u8, _kinds: &[u8]) -> Result<usize, AllocError> {
-        Ok(0)
     }
 
     ghost begun_unmarked = { watched.begun_unmarked };

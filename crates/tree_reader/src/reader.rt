@@ -83,10 +83,6 @@ impl<'a> Action for Reading<'a> {
 
     ghost reduced = { meaning_acts.reduced meaning };
 
-    ghost chosen = { tables.sets.table };
-
-    ghost sides = { rules.grammar.right };
-
     #[inline(always)]
     fn begin(&mut self, _alloc: Global, _rule: u16) -> Result<(), AllocError> {
         Ok(())
@@ -102,11 +98,6 @@ impl<'a> Action for Reading<'a> {
 
     fn reduce(&mut self, alloc: Global, rule: u16) -> Result<(), AllocError> {
         reduce(&mut self.parts, alloc, rule)
-    }
-
-    #[inline(always)]
-    fn jump(&mut self, _alloc: Global, _non: u8, _kinds: &[u8]) -> Result<usize, AllocError> {
-        Ok(0)
     }
 
     ghost begun_unmarked = { λ s rule. refl };

@@ -80,7 +80,7 @@ fn are_named_clear(module: &Module, types: &[NamedTy]) -> bool
 }
 
 /// A module. Beside it stands whether what indices enter in its named types makes blocks. Contracts see it as the module.
-pub(crate) struct Judged<'a> {
+pub struct Judged<'a> {
     whole: &'a Module,
     clear: bool,
 }
@@ -113,7 +113,7 @@ impl<'a> Judged<'a> {
     ghost use Rattle.std.specs.Prelude.{List};
     ghost use Rattle.ir_core.specs.Typing.{Index};
 
-    pub(crate) fn of(module: &'a Module) -> Judged<'a>
+    pub fn of(module: &'a Module) -> Judged<'a>
         ensures { result ≡ «module».now }
     {
         let clear = are_named_clear(module, module.types.as_slice());
@@ -124,21 +124,21 @@ impl<'a> Judged<'a> {
     }
 
     /// The types that the module names.
-    pub(crate) fn types(&self) -> &'a NamedTypes
+    pub fn types(&self) -> &'a NamedTypes
         ensures { result.now ≡ self.now.types }
     {
         &self.whole.types
     }
 
     /// Whether so many of the type take no more than a block may. A type without size passes.
-    pub(crate) fn is_small_block(&self, ty: &Ty, count: u64) -> bool
+    pub fn is_small_block(&self, ty: &Ty, count: u64) -> bool
         ensures { result ≡ small.is_small self.now.types (ty.now, count) }
     {
         makes_block(self.whole, ty, count)
     }
 
     /// Whether it is seen at once that the type makes a block or has no size, and so does whatever indices enter in it.
-    pub(crate) fn is_stepped_clear(&self, ty: &Ty) -> bool
+    pub fn is_stepped_clear(&self, ty: &Ty) -> bool
         ensures { result ≡ true → (indices : List Index) → small.stepped_small self.now.types ty.now indices ≡ true }
     {
         if !self.clear {

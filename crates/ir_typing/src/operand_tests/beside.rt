@@ -104,7 +104,7 @@ impl<'a> Beside<'a> {
     }
 
     /// The types that the module names.
-    pub(crate) fn types(&self) -> &'a NamedTypes
+    pub fn types(&self) -> &'a NamedTypes
         ensures { result.now ≡ self.now.types }
     {
         &self.whole.types
@@ -119,7 +119,7 @@ impl<'a> Beside<'a> {
     }
 
     /// Whether the module names a type so.
-    pub(crate) fn has_type(&self, name: &Name) -> bool
+    pub fn has_type(&self, name: &Name) -> bool
         ensures { result ≡ is_among name.now (type_names self.now) }
     {
         let _ = &self.whole;
@@ -127,7 +127,7 @@ impl<'a> Beside<'a> {
     }
 
     /// The type of what the global variable of that name holds.
-    pub(crate) fn contents(&self, name: &Name) -> Option<&'a Ty>
+    pub fn contents(&self, name: &Name) -> Option<&'a Ty>
         ensures { option_copied result ≡ typing.contents_of self.now.globals name.now }
     {
         let _ = &self.whole;
@@ -139,7 +139,7 @@ impl<'a> Beside<'a> {
 
     /// The first function of that name.
     #[tactic(auto, unfolding(crate::specs::OperandTests::Kept::signature_by))]
-    pub(crate) fn callee(&self, name: &Name) -> Option<Callee<'a>>
+    pub fn callee(&self, name: &Name) -> Option<Callee<'a>>
         ensures { option_map signature_of result ≡ signature_in (typing.signatures_of self.now) name.now }
     {
         let _ = &self.whole;

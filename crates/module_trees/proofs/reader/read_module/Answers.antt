@@ -1,22 +1,11 @@
-use Rattle.std.proofs.Common.{map}
-use Rattle.derivation_cursor.specs.At.{ahead_of}
+use Rattle.std.proofs.lemmas.Result.{IfOk-weaker}
 use Rattle.module_derivations.proofs.Derivations.{derivations_mean}
 use Rattle.module_grammar.specs.Sorts as sort
-use Rattle.module_grammar.specs.Spelled.{symbol_in}
-use Rattle.module_grammar.specs.declared.words.Language.TheVariants.{Ir}
-use Rattle.module_trees.proofs.Whole.{faulty, module_starts, taken}
+use Rattle.module_trees.proofs.Whole.{marked, module_starts}
 use Rattle.module_trees.proofs.reader.read_module.Goals as goal
 
 pub run-requires : goal.run-requires
 run-requires c = module_starts
 
-pub returns-in-Err : goal.returns-in-Err
-returns-in-Err c =
-    faulty 0 sort.Module (map (symbol_in Ir c.args.text.now) c.args.tokens.now) c.args.kinds.now c.requires c.in_ok-unread.field-0 c.in-Err.unread
-    c.in-Err.is c.in_ok-unread.ensures
-
-pub returns-in_ok-read_whole-in-Ok : goal.returns-in_ok-read_whole-in-Ok
-returns-in_ok-read_whole-in-Ok c =
-    taken 0 sort.Module (map (symbol_in Ir c.args.text.now) c.args.tokens.now) c.args.kinds.now c.requires derivations_mean.modules
-    c.in_ok-unread.field-0 c.in-Ok.numbers c.in-Ok.is c.in_ok-unread.ensures (ahead_of c.walk-cursor.result) c.walk-cursor.ensures
-    c.in_ok-read_whole-in-Ok.field-0 c.in_ok-read_whole-in-Ok.ensures.tree
+pub returns : goal.returns
+returns c = IfOk-weaker c.run.result _ _ (λ it h. marked 0 sort.Module c.args.kinds.now derivations_mean.modules it h) c.run.ensures

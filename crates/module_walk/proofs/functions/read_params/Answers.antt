@@ -1,6 +1,6 @@
 use Rattle.std.proofs.Common.{◌≡◌, [], ap, rules}
 use Rattle.derivation_cursor.specs.At.{ahead_of}
-use Rattle.module_building.specs.Counted.{names_of_params}
+use Rattle.module_walk.specs.Counted.{names_of_params}
 use Rattle.module_derivations.specs.Empty.{made}
 use Rattle.module_walk.proofs.Onto.{all_due}
 use Rattle.module_walk.proofs.Others.{no_more_params}

@@ -1,7 +1,7 @@
 use Rattle.std.proofs.Common.{◌≡◌, rules}
 use Rattle.derivation_cursor.specs.At.{ahead_of}
-use Rattle.module_building.proofs.Due.{with_blocks}
-use Rattle.module_building.specs.Counted.{capped, names_of_params}
+use Rattle.module_walk.proofs.Due.{with_blocks}
+use Rattle.module_walk.specs.Counted.{capped, names_of_params}
 use Rattle.module_walk.specs.Functions.{headed}
 use Rattle.module_walk.specs.Items.{definition}
 use Rattle.named_modules.specs.Built.{blocks_from, due_from}

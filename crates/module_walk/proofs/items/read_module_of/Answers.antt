@@ -9,4 +9,4 @@ pub returns-in_default-clause-built : goal.returns-in_default-clause-built
 returns-in_default-clause-built g c =
     let left = (made (ahead_of c.loop-c.c)).whole.items in
     let none : left ≡ [] = search (rules, no_items) in
-    λ are. whole_is (g.S.Surroundings.declared c.args.around.now) c.args.types c.loop-c.whole left (made (ahead_of c.args.c.now)).whole none c.loop-c.invariant.whole are
+    λ are. whole_is (g.S.Gaps.declared c.args.around.now) c.args.types c.loop-c.whole left (made (ahead_of c.args.c.now)).whole none c.loop-c.invariant.whole are

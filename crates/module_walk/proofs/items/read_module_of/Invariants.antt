@@ -8,7 +8,7 @@ use Rattle.module_walk.proofs.items.read_module_of.Given as goal
 abbrev pub invariant-loop-c : goal.invariant-loop-c
 invariant-loop-c g l = record {
   same : SameText l.fn.c l.c;
-  whole : with_items (g.S.Surroundings.declared l.around) l.whole (made (ahead_of l.c)).whole.items ≡ with_items (g.S.Surroundings.declared l.around) (record { types = l.fn.types; globals = []; functions = []; declarations = [] }) (made (ahead_of l.fn.c)).whole.items;
+  whole : with_items (g.S.Gaps.declared l.around) l.whole (made (ahead_of l.c)).whole.items ≡ with_items (g.S.Gaps.declared l.around) (record { types = l.fn.types; globals = []; functions = []; declarations = [] }) (made (ahead_of l.fn.c)).whole.items;
   behind : behind (ahead_of l.c) ≡ behind (ahead_of l.fn.c);
   shorter : length l.c.numbers.now ≤ length l.fn.c.numbers.now;
 }

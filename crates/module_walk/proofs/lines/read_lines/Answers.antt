@@ -3,8 +3,8 @@ use Rattle.std.specs.List.{filter}
 use Rattle.derivation_cursor.proofs.Steps.{same_twice}
 use Rattle.derivation_cursor.specs.At.{IsShorter, ahead_of, passed}
 use Rattle.flat.specs.Flat.{behind, skip}
-use Rattle.module_building.proofs.Due.{small}
-use Rattle.module_building.specs.Counted.{capped}
+use Rattle.module_walk.proofs.Due.{small}
+use Rattle.module_walk.specs.Counted.{capped}
 use Rattle.module_derivations.specs.Ahead.{made_by}
 use Rattle.module_derivations.specs.Empty.{made}
 use Rattle.module_derivations.specs.Lines.{line}

@@ -1,38 +1,38 @@
-use Rattle.std.proofs.Common.{refl, subst, sym, drop, length, ◌≤◌, ◌-◌, arith}
-use Rattle.std.proofs.lemmas.List.{nil_from_length, take_all, length-drop}
-use Rattle.predictive.specs.Going.{Advances}
-use Rattle.predictive.specs.Frames.{framed}
+use Rattle.std.proofs.lemmas.Bool.{MatchBool-at_true, MatchBool-at_false}
 use Rattle.predictive.proofs.Framing.{first_row}
-use Rattle.predictive.proofs.Standing.{at_first, at_jump, at_shift, all_there, marked_there, stuck_there}
+use Rattle.predictive.proofs.Holding.{holds_first, holds_next, fault_in, fault_at_end, marked_in, marked_at_end, whole_at}
 use Rattle.predictive.proofs.engine.parse.Goals as goal
 
-pub loop-below-init : goal.loop-below-init
-loop-below-init g c = at_first _ _ (g.met.G.Table.lawful c.args.table.now) _ _ _ _ _ _ c.requires.may_end _ (first_row c.args.start 0 c.new-below.result c.new-below.ensures)
+pub loop-place-init : goal.loop-place-init
+loop-place-init g c =
+    holds_first _ _ (g.met.G.Table.lawful c.args.table.now) _ _ _ _ _ c.requires _ (first_row c.args.start 0 c.new-below.result c.new-below.ensures)
 
-pub returns-in-Stuck-clause-answer : goal.returns-in-Stuck-clause-answer
-returns-in-Stuck-clause-answer g c =
-    let advances = subst (λ next. Advances g.A.Action.mark (g.G.Table.grammar c.args.table.now) (g.G.Table.sets c.args.table.now) g.A.Action.begun g.A.Action.shifted g.A.Action.reduced c.loop-below.rest.now (framed c.loop-below.top.rest.now c.loop-below.top.rule c.loop-below.below) (g.A.Action.state c.loop-below.actions) (framed c.advance.new.top.rest.now c.advance.new.top.rule c.advance.new.below) (g.A.Action.state c.advance.new.actions) next) c.in-Stuck.is c.in_ok-advance.ensures in
-    stuck_there _ _ (g.met.G.Table.lawful c.args.table.now) _ _ _ _ _ _ c.loop-below.rest.now _ _ _ refl c.loop-below.invariant advances.0
+pub returns-then-not-branch-clause-answer : goal.returns-then-not-branch-clause-answer
+returns-then-not-branch-clause-answer g c =
+    fault_in _ _ (g.met.G.Table.lawful c.args.table.now) _ _ _ _ _ _ _ _ _ _ c.loop-place-test.true c.from-ahead.ensures c.loop-place.invariant
+    (MatchBool-at_false _ _ c.if-not-branch.true c.in_ok-advance.ensures).0
 
-pub returns-in-Stuck-clause-mark : goal.returns-in-Stuck-clause-mark
-returns-in-Stuck-clause-mark g c =
-    let advances = subst (λ next. Advances g.A.Action.mark (g.G.Table.grammar c.args.table.now) (g.G.Table.sets c.args.table.now) g.A.Action.begun g.A.Action.shifted g.A.Action.reduced c.loop-below.rest.now (framed c.loop-below.top.rest.now c.loop-below.top.rule c.loop-below.below) (g.A.Action.state c.loop-below.actions) (framed c.advance.new.top.rest.now c.advance.new.top.rule c.advance.new.below) (g.A.Action.state c.advance.new.actions) next) c.in-Stuck.is c.in_ok-advance.ensures in
-    marked_there _ _ (g.met.G.Table.lawful c.args.table.now) _ _ _ _ _ _ _ g.met.A.Action.begun_unmarked g.met.A.Action.reduced_unmarked c.requires.may_end
-    c.loop-below.rest.now _ _ _ _ refl c.loop-below.invariant advances.1
+pub returns-then-not-branch-clause-mark : goal.returns-then-not-branch-clause-mark
+returns-then-not-branch-clause-mark g c =
+    marked_in _ _ (g.met.G.Table.lawful c.args.table.now) _ _ _ _ _ _ g.met.A.Action.begun_unmarked g.met.A.Action.reduced_unmarked c.requires _ _ _ _ _
+    c.loop-place-test.true c.loop-place.invariant (MatchBool-at_false _ _ c.if-not-branch.true c.in_ok-advance.ensures).1
 
-pub returns-in-None-clause-answer : goal.returns-in-None-clause-answer
-returns-in-None-clause-answer g c =
-    let met = subst (λ next. Advances g.A.Action.mark (g.G.Table.grammar c.args.table.now) (g.G.Table.sets c.args.table.now) g.A.Action.begun g.A.Action.shifted g.A.Action.reduced c.loop-below.rest.now (framed c.loop-below.top.rest.now c.loop-below.top.rule c.loop-below.below) (g.A.Action.state c.loop-below.actions) (framed c.advance.new.top.rest.now c.advance.new.top.rule c.advance.new.below) (g.A.Action.state c.advance.new.actions) next) c.in-Met.is c.in_ok-advance.ensures in
-    all_there _ _ (g.met.G.Table.lawful c.args.table.now) _ _ _ _ _ _ _ _ _ _ _ (nil_from_length c.loop-below.rest.now c.in-None.ensures.cases) c.loop-below.invariant met
+pub loop-place-preserved : goal.loop-place-preserved
+loop-place-preserved g c =
+    holds_next _ _ (g.met.G.Table.lawful c.args.table.now) _ _ _ _ _ _ _ _ _ _ _ _ _ c.loop-place-test.true c.from-ahead.ensures c.loop-place.invariant
+    (MatchBool-at_true _ _ c.if-not-branch.false c.in_ok-advance.ensures) c.in_ok-shift.ensures
 
-pub loop-below-preserved-in-Some : goal.loop-below-preserved-in-Some
-loop-below-preserved-in-Some g c =
-    let met = subst (λ next. Advances g.A.Action.mark (g.G.Table.grammar c.args.table.now) (g.G.Table.sets c.args.table.now) g.A.Action.begun g.A.Action.shifted g.A.Action.reduced c.loop-below.rest.now (framed c.loop-below.top.rest.now c.loop-below.top.rule c.loop-below.below) (g.A.Action.state c.loop-below.actions) (framed c.advance.new.top.rest.now c.advance.new.top.rule c.advance.new.below) (g.A.Action.state c.advance.new.actions) next) c.in-Met.is c.in_ok-advance.ensures in
-    at_shift _ _ (g.met.G.Table.lawful c.args.table.now) _ _ _ _ _ _ c.loop-below.rest.now _ _ _ _ _ _ _ c.in-Some.ensures.cases.0 c.loop-below.invariant met c.in_ok-shift-in-Some.ensures
+pub returns-then-branch-clause-answer : goal.returns-then-branch-clause-answer
+returns-then-branch-clause-answer g c =
+    whole_at _ _ (g.met.G.Table.lawful c.args.table.now) _ _ _ _ _ _ _ _ _ _ _ c.loop-place-test.false c.loop-place.invariant
+    (MatchBool-at_true _ _ c.if-branch.true c.in_ok-advance-2.ensures)
 
-pub loop-below-preserved : goal.loop-below-preserved
-loop-below-preserved g c =
-    let jumped = subst (λ next. Advances g.A.Action.mark (g.G.Table.grammar c.args.table.now) (g.G.Table.sets c.args.table.now) g.A.Action.begun g.A.Action.shifted g.A.Action.reduced c.loop-below.rest.now (framed c.loop-below.top.rest.now c.loop-below.top.rule c.loop-below.below) (g.A.Action.state c.loop-below.actions) (framed c.advance.new.top.rest.now c.advance.new.top.rule c.advance.new.below) (g.A.Action.state c.advance.new.actions) next) c.in-Jumped.is c.in_ok-advance.ensures in
-    at_jump _ _ (g.met.G.Table.lawful c.args.table.now) _ _ _ _ _ _ c.loop-below.rest.now _ _ _ _ _ _
-    (take_all _ (drop c.in-Jumped.taken c.loop-below.rest.now) (subst (λ n. n ≤ length c.loop-below.rest.now - c.in-Jumped.taken) (sym (length-drop c.in-Jumped.taken c.loop-below.rest.now)) (omega arith)))
-    c.loop-below.invariant jumped
+pub returns-clause-answer : goal.returns-clause-answer
+returns-clause-answer g c =
+    fault_at_end _ _ (g.met.G.Table.lawful c.args.table.now) _ _ _ _ _ _ _ _ _ c.loop-place-test.false c.loop-place.invariant
+    (MatchBool-at_false _ _ c.if-branch.false c.in_ok-advance-2.ensures).0
+
+pub returns-clause-mark : goal.returns-clause-mark
+returns-clause-mark g c =
+    marked_at_end _ _ (g.met.G.Table.lawful c.args.table.now) _ _ _ _ _ _ g.met.A.Action.begun_unmarked g.met.A.Action.reduced_unmarked c.requires _ _ _ _ _
+    c.loop-place-test.false c.loop-place.invariant (MatchBool-at_false _ _ c.if-branch.false c.in_ok-advance-2.ensures).1

@@ -1,6 +1,7 @@
 use Rattle.std.proofs.Common.{ap, nat_eq, ◌∙◌}
 use Rattle.std.specs.HashMap.{get}
 use Rattle.module_surroundings.specs.Between.{seen}
+use Rattle.module_surroundings.specs.Told.{params_told, types_told}
 use Rattle.module_surroundings.proofs.Stated.{none_before, none_behind, all_types, all_params}
 use Rattle.token_context.proofs.Steps.{next_opened}
 use Rattle.token_context.specs.Brackets.{State}
@@ -9,8 +10,8 @@ use Rattle.module_surroundings.proofs.around.Around.walk.Goals as goal
 pub loop-place-init : goal.loop-place-init
 loop-place-init c = record {
   opened = c.new-brackets.ensures;
-  types = none_before (seen c.args.text.now c.args.tokens.now c.args.kinds.now) (get nat_eq c.new-called.result);
-  params = none_behind (seen c.args.text.now c.args.tokens.now c.args.kinds.now) (get nat_eq c.new-declared.result);
+  types = none_before (seen c.args.text.now c.args.tokens.now c.args.kinds.now) (types_told (get nat_eq c.new-called.result));
+  params = none_behind (seen c.args.text.now c.args.tokens.now c.args.kinds.now) (params_told (get nat_eq c.new-declared.result));
 }
 
 pub tell_types-requires-clause-closed : goal.tell_types-requires-clause-closed
@@ -34,8 +35,8 @@ loop-place-preserved c = record {
 
 pub returns-clause-types : goal.returns-clause-types
 returns-clause-types c =
-    all_types c.args.text.now c.args.tokens.now c.args.kinds.now c.requires c.loop-place.place (get nat_eq c.loop-place.called) c.loop-place-test.false c.loop-place.invariant.types
+    all_types c.args.text.now c.args.tokens.now c.args.kinds.now c.requires c.loop-place.place (types_told (get nat_eq c.loop-place.called)) c.loop-place-test.false c.loop-place.invariant.types
 
 pub returns-clause-params : goal.returns-clause-params
 returns-clause-params c =
-    all_params c.args.text.now c.args.tokens.now c.args.kinds.now c.requires c.loop-place.place (get nat_eq c.loop-place.declared) c.loop-place-test.false c.loop-place.invariant.params
+    all_params c.args.text.now c.args.tokens.now c.args.kinds.now c.requires c.loop-place.place (params_told (get nat_eq c.loop-place.declared)) c.loop-place-test.false c.loop-place.invariant.params

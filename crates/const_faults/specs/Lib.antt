@@ -1,3 +1,0 @@
-pub mod Indices
-pub mod Parts
-pub mod Dues

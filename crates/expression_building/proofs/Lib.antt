@@ -1,2 +1,0 @@
-pub mod Aligns
-pub mod Led

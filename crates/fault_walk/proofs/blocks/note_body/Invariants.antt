@@ -1,0 +1,19 @@
+use Rattle.std.proofs.Common.{◌≡◌, ◌≤◌, length}
+use Rattle.derivation_cursor.specs.At.{SameText, ahead_of}
+use Rattle.fault_walk.specs.Flow.{body_faults, wanted_by_body}
+use Rattle.fault_walk.specs.Told.{told_more}
+use Rattle.flat.specs.Flat.{behind}
+use Rattle.module_derivations.specs.Empty.{made}
+use Rattle.fault_walk.proofs.blocks.note_body.Given as goal
+
+abbrev pub invariant-loop-c : goal.invariant-loop-c
+invariant-loop-c g l = record {
+  same : SameText l.fn.c l.c;
+  told : told_more l.within.heads (body_faults l.within.heads (g.S.Gaps.called l.around) l.within.things (made (ahead_of l.c)).body) (wanted_by_body l.within.heads (made (ahead_of l.c)).body) l.told
+      ≡ told_more l.within.heads (body_faults l.within.heads (g.S.Gaps.called l.around) l.within.things (made (ahead_of l.fn.c)).body) (wanted_by_body l.within.heads (made (ahead_of l.fn.c)).body) l.fn.told;
+  behind : behind (ahead_of l.c) ≡ behind (ahead_of l.fn.c);
+  shorter : length l.c.numbers.now ≤ length l.fn.c.numbers.now;
+}
+
+abbrev pub decreases-loop-c : goal.decreases-loop-c
+decreases-loop-c g l = length l.c.numbers.now

@@ -1,0 +1,21 @@
+use Rattle.std.proofs.Common.{◌≡◌, ◌≤◌, length}
+use Rattle.derivation_cursor.specs.At.{SameText, ahead_of}
+use Rattle.fault_walk.specs.Flow.{wanted_by_entry}
+use Rattle.fault_walk.specs.Told.{told_more}
+use Rattle.flat.specs.Flat.{behind}
+use Rattle.module_derivations.specs.Empty.{made}
+use Rattle.named_modules.specs.Faults.{entry_faults}
+use Rattle.std.specs.List.{flat_map}
+use Rattle.fault_walk.proofs.blocks.note_entries.Given as goal
+
+abbrev pub invariant-loop-c : goal.invariant-loop-c
+invariant-loop-c l = record {
+  same : SameText l.fn.c l.c;
+  told : told_more l.within.heads (flat_map (entry_faults l.within.heads l.within.things l.ty) (made (ahead_of l.c)).entries_behind.entries) (flat_map (wanted_by_entry l.within.heads) (made (ahead_of l.c)).entries_behind.entries) l.told
+      ≡ told_more l.within.heads (flat_map (entry_faults l.within.heads l.within.things l.ty) (made (ahead_of l.fn.c)).entries_behind.entries) (flat_map (wanted_by_entry l.within.heads) (made (ahead_of l.fn.c)).entries_behind.entries) l.fn.told;
+  behind : behind (ahead_of l.c) ≡ behind (ahead_of l.fn.c);
+  shorter : length l.c.numbers.now ≤ length l.fn.c.numbers.now;
+}
+
+abbrev pub decreases-loop-c : goal.decreases-loop-c
+decreases-loop-c l = length l.c.numbers.now

@@ -1,0 +1,21 @@
+use Rattle.std.proofs.Common.{◌≡◌, ◌≤◌, length}
+use Rattle.derivation_cursor.specs.At.{SameText, ahead_of}
+use Rattle.fault_walk.specs.Lines.{wanted_by_argument}
+use Rattle.fault_walk.specs.Told.{told_more}
+use Rattle.flat.specs.Flat.{behind}
+use Rattle.module_derivations.specs.Empty.{made}
+use Rattle.named_modules.specs.Faults.{argument_faults}
+use Rattle.std.specs.List.{flat_map}
+use Rattle.fault_walk.proofs.lines.note_more_arguments.Given as goal
+
+abbrev pub invariant-loop-c : goal.invariant-loop-c
+invariant-loop-c l = record {
+  same : SameText l.fn.c l.c;
+  told : told_more l.within.heads (flat_map (argument_faults l.within.heads l.within.things) (made (ahead_of l.c)).more_arguments) (flat_map (wanted_by_argument l.within.heads) (made (ahead_of l.c)).more_arguments) l.told
+      ≡ told_more l.within.heads (flat_map (argument_faults l.within.heads l.within.things) (made (ahead_of l.fn.c)).more_arguments) (flat_map (wanted_by_argument l.within.heads) (made (ahead_of l.fn.c)).more_arguments) l.fn.told;
+  behind : behind (ahead_of l.c) ≡ behind (ahead_of l.fn.c);
+  shorter : length l.c.numbers.now ≤ length l.fn.c.numbers.now;
+}
+
+abbrev pub decreases-loop-c : goal.decreases-loop-c
+decreases-loop-c l = length l.c.numbers.now

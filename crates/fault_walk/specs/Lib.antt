@@ -1,0 +1,10 @@
+pub mod Dues
+pub mod First
+pub mod Flow
+pub mod Indices
+pub mod Items
+pub mod Lines
+pub mod Names
+pub mod Parts
+pub mod Stated
+pub mod Told

@@ -1,9 +1,0 @@
-use Rattle.std.proofs.Common.{◌≡◌, drop}
-use Rattle.std.specs.List.{flat_map}
-use Rattle.module_spelling.specs.Blocks.{wanted_by_operand}
-use Rattle.large_blocks.specs.Noted.{noted}
-use Rattle.large_blocks.proofs.constants.note_operands.Given as goal
-
--- what is noted so far, and in those that are left
-abbrev pub invariant-loop-number : goal.invariant-loop-number
-invariant-loop-number l = noted l.judged (flat_map (wanted_by_operand l.judged) (drop l.number l.operands)) l.told ≡ noted l.judged (flat_map (wanted_by_operand l.judged) l.operands) l.fn.told

@@ -1,4 +1,0 @@
-pub mod Counted
-pub mod Due
-pub mod Items
-pub mod Labels

@@ -1,0 +1,17 @@
+use Rattle.std.proofs.Common.{◌≡◌, ◌≤◌, length}
+use Rattle.derivation_cursor.specs.At.{SameText, ahead_of}
+use Rattle.flat.specs.Flat.{behind}
+use Rattle.module_derivations.specs.Empty.{made}
+use Rattle.module_walk.specs.Stars.{pointers_from}
+use Rattle.module_walk.proofs.constants.read_pointers.Given as goal
+
+abbrev pub invariant-loop-c : goal.invariant-loop-c
+invariant-loop-c l = record {
+  same : SameText l.fn.c l.c;
+  built : pointers_from l.ty (made (ahead_of l.c)).stars ≡ pointers_from l.fn.ty (made (ahead_of l.fn.c)).stars;
+  behind : behind (ahead_of l.c) ≡ behind (ahead_of l.fn.c);
+  shorter : length l.c.numbers.now ≤ length l.fn.c.numbers.now;
+}
+
+abbrev pub decreases-loop-c : goal.decreases-loop-c
+decreases-loop-c l = length l.c.numbers.now

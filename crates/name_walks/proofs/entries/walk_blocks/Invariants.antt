@@ -1,8 +1,0 @@
-use Rattle.std.proofs.Common.{take}
-use Rattle.std.specs.List.{flat_map}
-use Rattle.name_walks.specs.Walked.{Walks, block_entries}
-use Rattle.name_walks.proofs.entries.walk_blocks.Given as goal
-
--- those so far are walked over
-abbrev pub invariant-loop-number : goal.invariant-loop-number
-invariant-loop-number l = Walks l.whole (flat_map (block_entries l.types) (take l.number l.blocks)) l.fn.walk l.walk

@@ -1,8 +1,0 @@
-pub mod Noted
-pub mod TypeCases
-pub mod TextKinds
-pub mod SameKinds
-pub mod LentKinds
-pub mod NumberKinds
-pub mod MatchedKinds
-pub mod Firsts

@@ -1,4 +1,0 @@
-pub mod Noted
-pub mod Kept
-pub mod Alike
-pub mod Lent

@@ -1,3 +1,0 @@
-pub mod Got
-pub mod Powers
-pub mod Operations
