@@ -14,7 +14,7 @@ use Rattle.ir_core.specs.Types.{converts, is_width}
 use Rattle.ir_machine.specs.Registers.{selects}
 pub use Rattle.ir_core.specs.Types.{constant_fits}
 
--- the type has values: i1 to i64 have some, and no other type has any
+-- the type is one of numbers: i1 to i64 are; no text that `check` reads states a pointer type, which has values too
 abbrev pub has_values : Ty → Bool
 has_values (Int width) = is_width width
 has_values t = false

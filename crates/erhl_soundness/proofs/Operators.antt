@@ -16,7 +16,8 @@ use Rattle.ir_values.specs.declared.operations.Outcome.TheVariants.{Gives, Trap}
 use Rattle.ir_values.specs.Laws.{flags_among}
 use Rattle.ir_values.specs.Operations.{IsOutcomeLessDefined, traps, binary_value}
 use Rattle.ir_values.specs.Selections.{select_outcome}
-use Rattle.ir_values.proofs.Monotone.{binary_monotone, icmp_monotone, cast_monotone, select_monotone}
+use Rattle.ir_values.proofs.Compared.{icmp_monotone}
+use Rattle.ir_values.proofs.Monotone.{binary_monotone, cast_monotone, select_monotone}
 use Rattle.ir_machine.specs.Registers.{binary_at, icmp_at, cast_at, selects}
 use Rattle.erhl_assert.specs.Sides.{IsRelated}
 
@@ -24,11 +25,12 @@ pub binary_related : (op : BinOp) (many few : Flags) (k : Option Kind) (a b c d 
     → IsOutcomeLessDefined (binary_at op many k a b) (binary_at op few k c d)
 binary_related op many few None a b c d h p q = tt
 binary_related op many few (Some (kind.Int width)) a b c d h p q = binary_monotone op many few width h a b c d p q
+binary_related op many few (Some kind.Ptr) a b c d h p q = tt
 
 pub icmp_related : (pred : Pred) (k : Option Kind) (a b c d : Value) → IsRelated a c → IsRelated b d
     → IsOutcomeLessDefined (icmp_at pred k a b) (icmp_at pred k c d)
 icmp_related pred None a b c d p q = tt
-icmp_related pred (Some k) a b c d p q = icmp_monotone pred k a b c d p q
+icmp_related pred (Some k) a b c d p q = icmp_monotone pred k 0 0 a b c d p q
 
 -- one choice between outcomes that are related
 chosen_related : (b : Bool) (o p : Outcome) → IsOutcomeLessDefined o p → IsOutcomeLessDefined (cond b o (Gives Poison)) (cond b p (Gives Poison))
@@ -60,6 +62,7 @@ traps_at false v w h = absurd (cc)
 pub traps_whatever_flags : (op : BinOp) (f g : Flags) (k : Option Kind) (a b : Value) → binary_at op f k a b ≡ Trap → binary_at op g k a b ≡ Trap
 traps_whatever_flags op f g None a b h = absurd (cc)
 traps_whatever_flags op f g (Some (kind.Int width)) a b h = traps_at (traps op width a b) (binary_value op f width a b) (binary_value op g width a b) h
+traps_whatever_flags op f g (Some kind.Ptr) a b h = absurd (cc)
 
 -- an outcome that is less defined than a trap is one
 pub only_trap : (o : Outcome) → IsOutcomeLessDefined o Trap → o ≡ Trap

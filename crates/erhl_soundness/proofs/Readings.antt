@@ -3,7 +3,7 @@
 use Rattle.std.proofs.Common.{◌≡◌, ◌∙◌, ◌||◌, Bool, true, false, cond, nat_eq, Option, None, Some, refl, sym, ap, ap₂}
 use Rattle.std.proofs.lemmas.Bool.{or_parts}
 use Rattle.ir_core.specs.declared.values.Value.{Value}
-use Rattle.ir_core.specs.declared.values.Value.TheVariants.{Num, Undef, Poison}
+use Rattle.ir_core.specs.declared.values.Value.TheVariants.{Num, Ptr, Bare, Undef, Poison}
 use Rattle.ir_core.specs.declared.values.Kind.{Kind}
 use Rattle.ir_core.specs.declared.operands.Atom.{Atom}
 use Rattle.ir_core.specs.declared.operands.Atom.TheVariants.{Constant, Register}
@@ -95,6 +95,8 @@ cast_to_none op j false a = refl
 selects_poison : (c : Value) → select_outcome c Poison Poison ≡ Gives Poison
 selects_poison Poison = refl
 selects_poison Undef = refl
+selects_poison (Ptr block offset) = refl
+selects_poison (Bare address) = refl
 selects_poison (Num n) = elim (nat_eq n 1) as (λ b. Gives (cond b Poison Poison) ≡ Gives Poison) [ true ↦ refl | false ↦ refl ]
 
 select_of_none : (typed : Bool) (c a b : Value) → (typed ≡ true → (a ≡ Poison) × (b ≡ Poison)) → cond typed (select_outcome c a b) (Gives Poison) ≡ Gives Poison

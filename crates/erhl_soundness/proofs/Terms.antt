@@ -7,7 +7,7 @@ use Rattle.ir_types.specs.declared.names.Name.{Name}
 use Rattle.ir_types.specs.declared.ty.Ty.{Ty}
 use Rattle.ir_core.specs.declared.operands.Operand.{Operand}
 use Rattle.ir_core.specs.declared.values.Value.{Value}
-use Rattle.ir_core.specs.declared.values.Value.TheVariants.{Num, Undef, Poison}
+use Rattle.ir_core.specs.declared.values.Value.TheVariants.{Num, Ptr, Bare, Undef, Poison}
 use Rattle.ir_core.specs.declared.functions.Case.{Case}
 use Rattle.ir_core.specs.declared.functions.Block.{Block}
 use Rattle.ir_core.specs.declared.functions.Term.{Term}
@@ -220,13 +220,10 @@ module _ (first second : Module) (w : Beside) (sound : AreSound w.rules) (blocks
     leads (l ∷ labels) to h all =
         ⊎_elim (λ e. subst IsOpen (sym (same_name_true to l e)) all.0) (λ e. leads labels to e all.1) (or_cases (same_name to l) (list_any (same_name to) labels) h)
 
-    branches : (v u : Value) (label : ℕ → Name) (labels : List Name) → ((n : ℕ) → list_any (same_name (label n)) labels ≡ true) → IsRelated v u → AllByRecursion IsOpen labels
-        → (made : Made) → Follows (branch u label labels (jump y [] no_world)) made → Follow (branch v label labels (jump x [] no_world)) made
-    branches Poison u label labels among less all made f = follow_wrong made
-    branches Undef Poison label labels among less all made f = absurd less
-    branches Undef (Num n) label labels among less all made f =
-        asked labels (label n) made (among n) (jumps (label n) (leads labels (label n) (among n) all) made f)
-    branches Undef Undef label labels among less all made f = told f.0 f.2 f.3
+    -- of two branches on undef
+    undef_follows : (labels : List Name) → AllByRecursion IsOpen labels → (made : Made) → Follows (Ask (is_label labels) (λ t. gone t (jump y [] no_world))) made
+        → Follow (Ask (is_label labels) (λ t. gone t (jump x [] no_world))) made
+    undef_follows labels all made f = told f.0 f.2 f.3
       where
         again : (to : Name) → list_any (same_name to) labels ≡ true → Follow (jump x [] no_world to) f.1 → Follow (Ask (is_label labels) (λ t. gone t (jump x [] no_world))) made
         again to fits h =
@@ -236,6 +233,20 @@ module _ (first second : Module) (w : Beside) (sound : AreSound w.rules) (blocks
         told : (t : Chosen) → is_label labels t ≡ true → Follows (gone t (jump y [] no_world)) f.1 → Follow (Ask (is_label labels) (λ t. gone t (jump x [] no_world))) made
         told (Pick n) fits g = absurd g
         told (Go to) fits g = again to fits (jumps to (leads labels to fits all) f.1 g)
+
+    branches : (v u : Value) (label : ℕ → Name) (labels : List Name) → ((n : ℕ) → list_any (same_name (label n)) labels ≡ true) → IsRelated v u → AllByRecursion IsOpen labels
+        → (made : Made) → Follows (branch u label labels (jump y [] no_world)) made → Follow (branch v label labels (jump x [] no_world)) made
+    branches Poison u label labels among less all made f = follow_wrong made
+    branches Undef Poison label labels among less all made f = absurd less
+    branches Undef (Num n) label labels among less all made f =
+        asked labels (label n) made (among n) (jumps (label n) (leads labels (label n) (among n) all) made f)
+    branches Undef Undef label labels among less all made f = undef_follows labels all made f
+    branches Undef (Ptr block offset) label labels among less all made f = undef_follows labels all made f
+    branches Undef (Bare address) label labels among less all made f = undef_follows labels all made f
+    branches (Ptr block offset) u label labels among less all made f =
+        undef_follows labels all made (subst (λ z. Follows (branch z label labels (jump y [] no_world)) made) less f)
+    branches (Bare address) u label labels among less all made f =
+        undef_follows labels all made (subst (λ z. Follows (branch z label labels (jump y [] no_world)) made) less f)
     branches (Num n) u label labels among less all made f =
         jumps (label n) (leads labels (label n) (among n) all) made
         (subst (λ z. Follows (branch z label labels (jump y [] no_world)) made) less f)

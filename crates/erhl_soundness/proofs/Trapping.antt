@@ -32,6 +32,7 @@ use Rattle.erhl_assert.specs.Allowed.{divides_all, can_trap}
 icmp_no_trap : (pred : Pred) (k : Option Kind) (a b : Value) → icmp_at pred k a b ≡ Trap → ⊥
 icmp_no_trap pred None a b h = cc
 icmp_no_trap pred (Some (kind.Int width)) a b h = cc
+icmp_no_trap pred (Some kind.Ptr) a b h = cc
 
 if_typed : (typed : Bool) (o : Outcome) → (o ≡ Trap → ⊥) → cond typed o (Gives Poison) ≡ Trap → ⊥
 if_typed true o none h = none h
@@ -41,6 +42,9 @@ cast_no_trap : (op : CastOp) (j k : Option Kind) (a : Value) → cast_at op j k 
 cast_no_trap op None k a h = cc
 cast_no_trap op (Some j) None a h = cc
 cast_no_trap op (Some (kind.Int v)) (Some (kind.Int w)) a h = cc
+cast_no_trap op (Some (kind.Int v)) (Some kind.Ptr) a h = cc
+cast_no_trap op (Some kind.Ptr) (Some (kind.Int w)) a h = cc
+cast_no_trap op (Some kind.Ptr) (Some kind.Ptr) a h = cc
 
 select_no_trap : (c a b : Value) → select_outcome c a b ≡ Trap → ⊥
 select_no_trap c a b h = cc
@@ -106,6 +110,7 @@ module _ {R : Type 0} (reading : Kind → R → Value) where
   other_no_trap : (op : BinOp) (flags : Flags) (k : Option Kind) (a b : Value) → is_division op ≡ false → binary_at op flags k a b ≡ Trap → ⊥
   other_no_trap op flags None a b h e = cc
   other_no_trap op flags (Some (kind.Int width)) a b h e = gives_value (traps op width a b) (binary_value op flags width a b) (no_division op width a b h) e
+  other_no_trap op flags (Some kind.Ptr) a b h e = cc
 
   binary_no_trap : (op : BinOp) (flags : Flags) (t : Ty) (a : Value) (b : Atom R) (division safe : Bool) → division ≡ is_division op → safe ≡ divides_all op t b
       → (division && not safe) ≡ false → binary_at op flags (kind_of t) a (atom_value reading (kind_of t) b) ≡ Trap → ⊥

@@ -1,13 +1,18 @@
 -- Which types have values.
-use Rattle.std.proofs.Common.{◌≡◌, ◌∙◌, ◌+◌, ℕ, [], ◌∷◌, refl, ap, arith}
+use Rattle.std.proofs.Common.{◌≡◌, ◌∙◌, ◌+◌, ℕ, [], ◌∷◌, Option, None, Some, cond, refl, ap, arith}
 use Rattle.ir_types.specs.declared.ty.Ty.{Ty, Int, Ptr, Array, Struct, Named}
+use Rattle.ir_types.specs.declared.ty.Ty.TheOpen.{Ty-F}
+use Rattle.ir_types.specs.declared.ty.Ty.TheViews.{outs-Ptr, outs-Array, outs-Struct, outs-Named, outs-Void}
+use Rattle.ir_core.specs.declared.values.Kind.{Kind}
+use Rattle.ir_core.specs.declared.values.Kind.TheVariants as kind
 use Rattle.ir_types.proofs.Induction as types
 use Rattle.ir_core.specs.declared.operands.Const.{Number}
 use Rattle.ir_core.specs.Depths.{depth_at_level, depth_at_part, depth_of, depth_of_constant}
 use Rattle.ir_core.specs.Sizes.{wanted_in_function}
 use Rattle.ir_core.specs.declared.functions.Function.{Function}
 use Rattle.ir_core.specs.Examples.{alone, f, number, passing, x, y}
-use Rattle.ir_core.specs.TypeLaws.{IntegersHaveKinds, OtherTypesAreNot, beside_type, never_returning}
+use Rattle.ir_core.specs.Types.{is_pointer_at_level}
+use Rattle.ir_core.specs.TypeLaws.{TypesHaveKinds, OtherTypesAreNot, beside_type, never_returning}
 use Rattle.ir_core.specs.WellFormed.{HasShape}
 use Rattle.ir_core.proofs.TypeNames.{at_int, at_ptr}
 use Rattle.ir_core.proofs.Typing as typing
@@ -18,17 +23,20 @@ use Rattle.ir_core.proofs.Ranges.{no_void}
 use Rattle.ir_core.proofs.WellFormed.{defined, in_none, in_one, name_f, name_x, name_y}
 use Rattle.ir_core.proofs.Within.{IsSmallBlock, all_joined, blocks_small}
 
-pub integers_have_kinds : IntegersHaveKinds
-integers_have_kinds = record {
+abbrev kind_at_level : Ty-F Ty → Option Kind
+kind_at_level level = cond (is_pointer_at_level level) (Some kind.Ptr) None
+
+pub types_have_kinds : TypesHaveKinds
+types_have_kinds = record {
   one_bit = refl;
   widest = refl;
   no_bits = refl;
   too_wide = refl;
-  void = refl;
-  pointer = refl;
-  array = refl;
-  struct = refl;
-  named = refl;
+  void = ap kind_at_level outs-Void;
+  pointer = ap kind_at_level (outs-Ptr (Int 8));
+  array = ap kind_at_level (outs-Array 4 (Int 8));
+  struct = ap kind_at_level (outs-Struct (Int 32 ∷ []));
+  named = ap kind_at_level (outs-Named x);
 }
 
 abbrev taking : Ty → Function

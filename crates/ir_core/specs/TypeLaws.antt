@@ -12,14 +12,14 @@ use Rattle.ir_core.specs.Types.{kind_of}
 use Rattle.ir_core.specs.Laws.{LacksShapeAlone}
 use Rattle.ir_core.specs.WellFormed.{HasShape, IsDefined, IsWellFormed}
 
--- an integer of 1 to 64 bits has a kind, and no other type has one
-pub record IntegersHaveKinds : Type 0 where
+-- an integer of 1 to 64 bits and a pointer have a kind, and no other type has one
+pub record TypesHaveKinds : Type 0 where
   pub one_bit : kind_of (Int 1) ≡ Some (kind.Int 1)
   pub widest : kind_of (Int 64) ≡ Some (kind.Int 64)
   pub no_bits : kind_of (Int 0) ≡ None
   pub too_wide : kind_of (Int 65) ≡ None
   pub void : kind_of Void ≡ None
-  pub pointer : kind_of (Ptr (Int 8)) ≡ None
+  pub pointer : kind_of (Ptr (Int 8)) ≡ Some kind.Ptr
   pub array : kind_of (Array 4 (Int 8)) ≡ None
   pub struct : kind_of (Struct (Int 32 ∷ [])) ≡ None
   pub named : kind_of (Named x) ≡ None

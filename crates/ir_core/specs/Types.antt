@@ -30,11 +30,6 @@ constant_fits (ty.Int width) (constant.Number n) = fits n width
 constant_fits (ty.Int width) constant.Undef = true
 constant_fits t c = false
 
--- integers of 1 to 64 bits have a kind; other types have no values
-abbrev pub kind_of : Ty → Option Kind
-kind_of (ty.Int width) = cond (is_width width) (Some (kind.Int width)) None
-kind_of t = None
-
 -- ---- classes of types
 
 abbrev pub is_integer : Ty → Bool
@@ -52,6 +47,11 @@ is_pointer t = is_pointer_at_level (out-Ty t)
 abbrev pub is_first_class : Ty → Bool
 is_first_class (ty.Int width) = true
 is_first_class t = is_pointer t
+
+-- integers of 1 to 64 bits and pointers have a kind; other types have no values
+abbrev pub kind_of : Ty → Option Kind
+kind_of (ty.Int width) = cond (is_width width) (Some (kind.Int width)) None
+kind_of t = cond (is_pointer t) (Some kind.Ptr) None
 
 -- ---- conversions
 

@@ -3,7 +3,7 @@ ghost use Rattle.ir_core.specs.Laws.{OtherWidthsAreNot, OtherResultsAreNot, Void
 ghost use Rattle.ir_core.specs.Laws.{LinesWithoutOperatorsAreNot, PhisOfNoEdgeAreNot, PhisOfNothingAreNot};
 ghost use Rattle.ir_core.specs.Laws.{FunctionsOfOneNameAreNot, NamesSetTwiceAreNot, DebugNamesAreNot, FunctionsWithoutBlocksAreNot};
 ghost use Rattle.ir_core.specs.Laws.{ConversionsChangeWidths, SelectionsHaveOneType, ComparisonsGiveBits, FlagsHaveOperators, OperatorsOfFlags, VoidReturns, ExpressionsAreRead, ExpressionsAreMapped};
-ghost use Rattle.ir_core.specs.TypeLaws.{IntegersHaveKinds, NamedTypesAreInRange, NamedTypesAreKnown, OtherTypesAreNot};
+ghost use Rattle.ir_core.specs.TypeLaws.{TypesHaveKinds, NamedTypesAreInRange, NamedTypesAreKnown, OtherTypesAreNot};
 ghost use Rattle.ir_core.specs.MemoryLaws.{AddressesAreRead, IntegersHaveNoMemory, MemoryLinesAreRead};
 ghost use Rattle.ir_core.specs.Placed.{PlacesAreKept};
 ghost use Rattle.ir_core.specs.RangeLaws.{AlignmentsAndCountsHaveRanges, ConstantsHaveRanges, DeclarationsHaveRanges, DeclarationsStandInOrder, GlobalsHaveRanges, LinesHaveRanges, TypesHaveRanges};
@@ -35,11 +35,11 @@ pub fn examples_of_types()
 
 /// Empty on purpose: its contract is the law.
 ///
-/// `i1` and `i64` have a kind; `i0`, `i65`, `void`, a pointer, an array, a struct and a named type have none. No module has shape in which
+/// `i1`, `i64` and a pointer have a kind; `i0`, `i65`, `void`, an array, a struct and a named type have none. No module has shape in which
 /// a parameter or a result is an array, a struct or of a named type. With a pointer for one a module is well-formed.
-#[tactic(auto, using(crate::proofs::TypeExamples::integers_have_kinds, crate::proofs::TypeExamples::other_types_are_not))]
+#[tactic(auto, using(crate::proofs::TypeExamples::types_have_kinds, crate::proofs::TypeExamples::other_types_are_not))]
 pub fn examples_of_kinds()
-    ensures kinds { IntegersHaveKinds }
+    ensures kinds { TypesHaveKinds }
     ensures other_types { OtherTypesAreNot }
 {}
 

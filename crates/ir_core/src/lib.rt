@@ -47,5 +47,5 @@ pub use same::{
     same_pred, same_reg, same_reg_atom, same_reg_operand, tests_are_equality,
 };
 pub use types::{converts, fits, is_first_class, is_integer, is_pointer, is_width, kind_of};
-pub use values::{Kind, Value};
+pub use values::{BlockId, Byte, Kind, Value};
 pub use words::{cast_word, op_word, pred_word};

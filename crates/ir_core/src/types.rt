@@ -31,6 +31,7 @@ pub fn kind_of(ty: &Ty) -> Option<Kind>
                 None
             }
         }
+        Ty::Ptr(_) => Some(Kind::Ptr),
         _ => None,
     }
 }

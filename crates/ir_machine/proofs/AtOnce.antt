@@ -1,8 +1,15 @@
 -- Runs of one step, and lines of constants.
-use Rattle.std.proofs.Common.{◌≡◌, ◌⊎◌, inl, inr, ℕ, suc, List, [], ◌∷◌, ◌++◌, Option, None, Some, MatchOption, refl, sym, ap, ◌∙◌, subst}
+use Rattle.std.proofs.Common.{◌≡◌, ◌⊎◌, inl, inr, ℕ, suc, List, [], ◌∷◌, ◌++◌, Option, None, Some, MatchOption, cond, refl, sym, ap, ◌∙◌, subst}
 use Rattle.std.proofs.lemmas.List.{append-nil}
 use Rattle.ir_types.specs.declared.names.Name.{Name}
-use Rattle.ir_core.specs.declared.operands.Atom.TheVariants.{Register}
+use Rattle.ir_core.specs.declared.operands.Atom.TheVariants.{Constant, Register}
+use Rattle.ir_core.specs.declared.operands.Const.TheVariants.{Number}
+use Rattle.ir_core.specs.declared.operands.Pred.TheVariants.{Slt}
+use Rattle.ir_core.specs.declared.values.Kind.{Kind}
+use Rattle.ir_core.specs.declared.values.Kind.TheVariants as kind
+use Rattle.ir_types.specs.declared.ty.Ty.{Ty}
+use Rattle.ir_types.specs.declared.ty.Ty.TheOpen.{Ty-F}
+use Rattle.ir_types.specs.declared.ty.Ty.TheViews.{outs-Void}
 use Rattle.ir_types.specs.declared.ty.Ty.TheVariants.{Void}
 use Rattle.ir_core.specs.declared.functions.Block.{Block}
 use Rattle.ir_core.specs.declared.modules.Module.{Module}
@@ -14,7 +21,8 @@ use Rattle.ir_machine.specs.State.{no_world, State, Over, Running}
 use Rattle.ir_machine.specs.Machine.{Asks, Does, Follows, Made, asks, at_block, start, ShowsFrom}
 use Rattle.ir_machine.specs.Examples.{dividing, dividing_line, returning_nothing}
 use Rattle.ir_machine.specs.Laws.{AreShownAtOnce, LinesGiveThese, TrapsAreWrong, VoidReturnsAreShown}
-use Rattle.ir_machine.specs.Registers.{no_registers}
+use Rattle.ir_machine.specs.Registers.{atom_value, icmp_at, no_registers}
+use Rattle.ir_core.specs.Types.{is_pointer_at_level}
 use Rattle.ir_machine.proofs.Refining.{alone, entering}
 use Rattle.ir_machine.proofs.Runs.{over_shows, shows_nothing}
 use Rattle.ir_core.specs.Modules.{plain_function}
@@ -60,12 +68,15 @@ nothing_left f b = Running (at_block (plain_function Void f [] (empty_block b �
 pub void_returns_are_shown : VoidReturnsAreShown
 void_returns_are_shown f b = at_once (returning_nothing f b) f (nothing_left f b) (Turn ∷ Returned None ∷ []) (rw (same_name_refl f) refl) refl
 
+abbrev kind_at_level : Ty-F Ty → Option Kind
+kind_at_level level = cond (is_pointer_at_level level) (Some kind.Ptr) None
+
 pub lines_give_these : LinesGiveThese
 lines_give_these reading = record {
   add = refl;
   add_no_i8 = refl;
   icmp = refl;
-  icmp_void = refl;
+  icmp_void = ap (λ (level : Ty-F Ty). icmp_at Slt (kind_at_level level) (atom_value reading (kind_at_level level) (Constant (Number 128))) (atom_value reading (kind_at_level level) (Constant (Number 0)))) outs-Void;
   sext = refl;
   zext_same = refl;
   trunc_wider = refl;

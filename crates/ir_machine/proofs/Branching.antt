@@ -1,6 +1,6 @@
 -- What the code does of a branch is what its tree answers.
 use Rattle.std.proofs.Common.{◌≡◌, ℕ, List, [], ◌∷◌, Option, None, Some, Result, Ok, Err, refl, sym, ap, ◌∙◌, subst}
-use Rattle.std.specs.Prelude.{IsErr, IsErrAnd}
+use Rattle.std.specs.Prelude.{ℤ, IsErr, IsErrAnd}
 use Rattle.ir_core.specs.declared.functions.Block.{Block}
 use Rattle.ir_core.specs.declared.functions.CondBr.{CondBr as CondBrLine}
 use Rattle.ir_core.specs.declared.functions.Switch.{Switch as SwitchLine}
@@ -38,43 +38,49 @@ jump_does frame to = entering_does frame (block_named to frame.function.blocks)
 
 -- ---- a label is told, or none
 
-module _ (frame : Frame) (v : Value) (label : ℕ → Name) (labels : List Name) (before after : List Choice) (undef : v ≡ value.Undef) where
-  abbrev branching : Asks
-  branching = branch v label labels (jump frame [] no_world)
-
+module _ (frame : Frame) (labels : List Name) (before after : List Choice) where
   abbrev asking : Asks
   asking = Ask (is_label labels) (λ c. gone c (jump frame [] no_world))
 
-  asks_so : branching ≡ asking
-  asks_so = rw undef refl
-
-  told_takes : (x : Name) → answer asking before ≡ answer (jump frame [] no_world x) after → TakesAsked branching before after
+  told_takes : (x : Name) → answer asking before ≡ answer (jump frame [] no_world x) after → TakesAsked asking before after
   told_takes x told =
       let does : JustDoes (jump frame [] no_world x) = jump_does frame x in
-      let did : answer branching before ≡ Did does.0 does.1 after = ap (λ (tree : Asks). answer tree before) asks_so ∙ told ∙ ap (λ (tree : Asks). answer tree after) does.2 in
-      did_takes_asked branching before after does.0 does.1 did
+      let did : answer asking before ≡ Did does.0 does.1 after = told ∙ ap (λ (tree : Asks). answer tree after) does.2 in
+      did_takes_asked asking before after does.0 does.1 did
 
   pub told_made : (x : Name) (stepped : Stepped) (state : State) → answer asking before ≡ answer (jump frame [] no_world x) after
-      → jump frame [] no_world x ≡ Does stepped.items state → stepped.progress ≡ progress_of stepped.items state → Answers branching before after state (Ok stepped)
+      → jump frame [] no_world x ≡ Does stepped.items state → stepped.progress ≡ progress_of stepped.items state → Answers asking before after state (Ok stepped)
   told_made x stepped state told made progress = record {
-    made = ap (λ (tree : Asks). answer tree before) asks_so ∙ told ∙ ap (λ (tree : Asks). answer tree after) made;
+    made = told ∙ ap (λ (tree : Asks). answer tree after) made;
     progress = progress;
     no_choice = λ e. cc;
     told = told_takes x told;
   }
 
-  pub told_fails : (x : Name) (r : Result Stepped StepEnd) (state : State) → answer asking before ≡ answer (jump frame [] no_world x) after → r ≡ Err end.Memory → Answers branching before after state r
-  told_fails x r state told fails = subst (λ (r : Result Stepped StepEnd). Answers branching before after state r) (sym fails) (record {
+  pub told_fails : (x : Name) (r : Result Stepped StepEnd) (state : State) → answer asking before ≡ answer (jump frame [] no_world x) after → r ≡ Err end.Memory → Answers asking before after state r
+  told_fails x r state told fails = subst (λ (r : Result Stepped StepEnd). Answers asking before after state r) (sym fails) (record {
     made = tt;
     progress = tt;
     no_choice = λ e. absurd (cc);
     told = told_takes x told;
   })
 
-  pub untold_fails : (state : State) → answer asking before ≡ Lacks after → Answers branching before after state (Err end.NoChoice)
-  untold_fails state lacks =
-      let all : answer branching before ≡ Lacks after = ap (λ (tree : Asks). answer tree before) asks_so ∙ lacks in
-      record { made = tt; progress = tt; no_choice = λ e. all; told = lacks_takes_asked branching before after all }
+  pub untold_fails : (state : State) → answer asking before ≡ Lacks after → Answers asking before after state (Err end.NoChoice)
+  untold_fails state lacks = record { made = tt; progress = tt; no_choice = λ e. lacks; told = lacks_takes_asked asking before after lacks }
+
+-- ---- a branch on undef, or on an address, asks for a label
+
+module _ (v : Value) (label : ℕ → Name) (labels : List Name) (next : Name → Asks) (before after : List Choice) (state : State) (r : Result Stepped StepEnd) where
+  pub branch_on_undef : v ≡ value.Undef → Answers (Ask (is_label labels) (λ c. gone c next)) before after state r → Answers (branch v label labels next) before after state r
+  branch_on_undef e h = rw e h
+
+  pub branch_on_pointer : (block : ℕ) (offset : ℤ) → v ≡ value.Ptr block offset → Answers (Ask (is_label labels) (λ c. gone c next)) before after state r
+      → Answers (branch v label labels next) before after state r
+  branch_on_pointer block offset e h = rw e h
+
+  pub branch_on_bare : (address : ℕ) → v ≡ value.Bare address → Answers (Ask (is_label labels) (λ c. gone c next)) before after state r
+      → Answers (branch v label labels next) before after state r
+  branch_on_bare address e h = rw e h
 
 -- ---- the terminators
 

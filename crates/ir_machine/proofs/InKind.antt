@@ -1,12 +1,12 @@
 -- Every state that a run comes to holds values of their kinds.
 use Rattle.std.proofs.Common.{◌≡◌, ℕ, ◌<◌, ◌^◌, Bool, true, false, cond, List, [], ◌∷◌, Option, None, Some, refl, sym, subst}
-use Rattle.std.specs.Prelude.{nat_le, nat_lt, option_and_then}
-use Rattle.std.proofs.lemmas.Bool.{leb-true, ltb-true}
+use Rattle.std.specs.Prelude.{nat_lt, option_and_then}
+use Rattle.std.proofs.lemmas.Bool.{ltb-true}
 use Rattle.ir_types.specs.declared.names.Name.{Name}
 use Rattle.ir_core.specs.declared.values.Value.{Value}
 use Rattle.ir_core.specs.declared.values.Value.TheVariants as value
 use Rattle.ir_core.specs.declared.values.Kind.{Kind}
-use Rattle.ir_core.specs.declared.values.Kind.TheVariants.{Int}
+use Rattle.ir_core.specs.declared.values.Kind.TheVariants.{Int, Ptr}
 use Rattle.ir_core.specs.declared.operands.Const.{Const}
 use Rattle.ir_core.specs.declared.operands.Const.TheVariants as constant
 use Rattle.ir_core.specs.declared.operands.Atom.{Atom}
@@ -31,7 +31,7 @@ use Rattle.ir_core.specs.declared.functions.Block.{Block}
 use Rattle.ir_core.specs.declared.functions.Function.{Function}
 use Rattle.ir_core.specs.declared.modules.Module.{Module}
 use Rattle.ir_values.specs.declared.operations.Outcome.{Outcome}
-use Rattle.ir_values.specs.Values.{HasWidth, IsInKind, IsInKindOf}
+use Rattle.ir_values.specs.Values.{IsInKind, IsInKindOf}
 use Rattle.ir_values.specs.Operations.{GivesInKind}
 use Rattle.ir_values.proofs.KindLaws.{poison_in_kind}
 use Rattle.ir_values.specs.declared.operations.Outcome.TheVariants.{Gives}
@@ -41,10 +41,10 @@ use Rattle.ir_machine.specs.declared.items.Item.{Item}
 use Rattle.ir_machine.specs.declared.items.Shown.{Shown}
 use Rattle.ir_machine.specs.declared.items.Shown.TheVariants as shown
 use Rattle.ir_machine.specs.declared.items.Input.{Input}
-use Rattle.ir_types.specs.NameLaws.{left_true, right_true}
+use Rattle.ir_types.specs.NameLaws.{right_true}
 use Rattle.ir_types.proofs.SameLaws.{same_ty_true}
 use Rattle.ir_types.specs.Same.{same_ty}
-use Rattle.ir_core.specs.Types.{converts, is_width, kind_of}
+use Rattle.ir_core.specs.Types.{converts, kind_of}
 use Rattle.ir_core.specs.Expressions.{type_of}
 use Rattle.ir_machine.specs.Registers.{Registers, no_registers, read, set, AreInKind, constant_value, atom_at, atom_value, operand_value, binary_at, icmp_at, cast_at, selects, outcome}
 use Rattle.ir_machine.specs.State.{Frame, Pending, World, State, Running, Over}
@@ -60,6 +60,7 @@ pub constant_in_kind : (k : Kind) (c : Const) → IsInKind k (constant_value k c
 constant_in_kind (Int width) (constant.Number n) = number_in_kind n width (nat_lt n (2 ^ width)) (ltb-true n (2 ^ width))
 constant_in_kind (Int width) constant.Undef = tt
 constant_in_kind (Int width) c = tt
+constant_in_kind Ptr c = tt
 
 pub atom_at_in_kind : {R : Type 0} (reading : Kind → R → Value) → ((k : Kind) (r : R) → IsInKind k (reading k r)) → (k : Kind) (a : Atom R) → IsInKind k (atom_at reading k a)
 atom_at_in_kind reading h k (atom.Constant c) = constant_in_kind k c
@@ -75,63 +76,56 @@ operand_in_kind reading h o = atom_value_in_kind reading h (kind_of o.ty) o.atom
 pub binary_in_kind : (op : BinOp) (flags : Flags) (k : Option Kind) (a b : Value) → GivesInKind k (binary_at op flags k a b)
 binary_in_kind op flags None a b = tt
 binary_in_kind op flags (Some (Int width)) a b = law.binary_in_kind op flags width a b
+binary_in_kind op flags (Some Ptr) a b = tt
 
 pub icmp_in_kind : (pred : Pred) (k : Option Kind) (a b : Value) → GivesInKind (Some (Int 1)) (icmp_at pred k a b)
 icmp_in_kind pred None a b = tt
-icmp_in_kind pred (Some k) a b = law.icmp_in_kind pred k a b
+icmp_in_kind pred (Some k) a b = law.icmp_in_kind pred k a b 0 0
 
 pub poison_of : (k : Option Kind) → GivesInKind k (Gives value.Poison)
 poison_of None = tt
 poison_of (Some k) = poison_in_kind k
 
-cast_at_in_kind : (op : CastOp) (from to : Option Kind) (v : Value) → GivesInKind to (cast_at op from to v)
-cast_at_in_kind op None to v = poison_of to
-cast_at_in_kind op (Some from) None v = tt
-cast_at_in_kind op (Some from) (Some to) v = law.cast_in_kind op from to v
+cast_at_in_kind : (op : CastOp) (from to : Option Kind) (v : Value) → IsInKindOf from v → GivesInKind to (cast_at op from to v)
+cast_at_in_kind op None to v p = poison_of to
+cast_at_in_kind op (Some from) None v p = tt
+cast_at_in_kind op (Some from) (Some to) v p = law.cast_in_kind op from to v p
 
 -- where the types are such, else poison
 if_typed : (k : Option Kind) (typed : Bool) (o : Outcome) → (typed ≡ true → GivesInKind k o) → GivesInKind k (cond typed o (Gives value.Poison))
 if_typed k true o h = h refl
 if_typed k false o h = poison_of k
 
-pub cast_in_kind : (op : CastOp) (from to : Option Kind) (typed : Bool) (v : Value) → GivesInKind to (cond typed (cast_at op from to v) (Gives value.Poison))
-cast_in_kind op from to typed v = if_typed to typed (cast_at op from to v) (λ h. cast_at_in_kind op from to v)
+pub cast_in_kind : (op : CastOp) (from to : Option Kind) (typed : Bool) (v : Value) → IsInKindOf from v → GivesInKind to (cond typed (cast_at op from to v) (Gives value.Poison))
+cast_in_kind op from to typed v p = if_typed to typed (cast_at op from to v) (λ h. cast_at_in_kind op from to v p)
 
 select_of : (k : Option Kind) (c a b : Value) → IsInKindOf k a → IsInKindOf k b → GivesInKind k (select_outcome c a b)
 select_of None c a b p q = tt
 select_of (Some k) c a b p q = law.select_in_kind k c a b p q
 
+-- what is chosen between arms of one type
+pub selected_in_kind : (condition left right : Ty) (c a b : Value) (o : Outcome) → selects condition left right ≡ true → o ≡ select_outcome c a b
+    → IsInKindOf (kind_of left) a → IsInKindOf (kind_of right) b → GivesInKind (kind_of left) o
+selected_in_kind condition left right c a b o h e p q =
+    let same : left ≡ right = same_ty_true left right (right_true (same_ty condition (ty.Int 1)) (same_ty left right) h) in
+    subst (λ (x : Outcome). GivesInKind (kind_of left) x) (sym e) (select_of (kind_of left) c a b p (subst (λ (t : Ty). IsInKindOf (kind_of t) b) (sym same) q))
+
 pub select_in_kind : (condition left right : Ty) (c a b : Value) → IsInKindOf (kind_of left) a → IsInKindOf (kind_of right) b
     → GivesInKind (kind_of left) (cond (selects condition left right) (select_outcome c a b) (Gives value.Poison))
 select_in_kind condition left right c a b p q = if_typed (kind_of left) (selects condition left right) (select_outcome c a b)
-    (λ h.
-    let same : left ≡ right = same_ty_true left right (right_true (same_ty condition (ty.Int 1)) (same_ty left right) h) in
-    select_of (kind_of left) c a b p (subst (λ (t : Ty). IsInKindOf (kind_of t) b) (sym same) q))
+    (λ h. selected_in_kind condition left right c a b (select_outcome c a b) h refl p q)
 
 pub outcome_in_kind : {R : Type 0} (reading : Kind → R → Value) → ((k : Kind) (r : R) → IsInKind k (reading k r)) → (e : Expr R) → GivesInKind (kind_of (type_of e)) (outcome reading e)
 outcome_in_kind reading h (expr.Plain o) = operand_in_kind reading h o
 outcome_in_kind reading h (expr.Binary b) = binary_in_kind b.op b.flags (kind_of b.ty) (atom_value reading (kind_of b.ty) b.left) (atom_value reading (kind_of b.ty) b.right)
 outcome_in_kind reading h (expr.Icmp c) = icmp_in_kind c.pred (kind_of c.ty) (atom_value reading (kind_of c.ty) c.left) (atom_value reading (kind_of c.ty) c.right)
 outcome_in_kind reading h (expr.Cast c) = cast_in_kind c.op (kind_of c.operand.ty) (kind_of c.to) (converts c.op c.operand.ty c.to) (operand_value reading c.operand)
+    (operand_in_kind reading h c.operand)
 outcome_in_kind reading h (expr.Select s) =
     select_in_kind s.condition.ty s.left.ty s.right.ty (operand_value reading s.condition) (operand_value reading s.left) (operand_value reading s.right)
     (operand_in_kind reading h s.left) (operand_in_kind reading h s.right)
 outcome_in_kind reading h (expr.Element e) = poison_of (kind_of e.to)
 outcome_in_kind reading h (expr.Load l) = poison_of (kind_of l.of)
-
--- a type's kind has a width
-width_of : (width : ℕ) (is : Bool) → is_width width ≡ is → (k : Kind) → cond is (Some (Int width)) None ≡ Some k → HasWidth k
-width_of width true is (Int w) e =
-    let same : width ≡ w = cc in
-    subst (λ (n : ℕ). HasWidth (Int n)) same (
-      leb-true 1 width (left_true (nat_le 1 width) (nat_le width 64) is),
-      leb-true width 64 (right_true (nat_le 1 width) (nat_le width 64) is),
-    )
-width_of width false is k e = cc
-
-pub kind_has_width : (t : Ty) (k : Kind) → kind_of t ≡ Some k → HasWidth k
-kind_has_width (ty.Int width) k e = width_of width (is_width width) refl k e
-kind_has_width t k e = cc
 
 abbrev pub AllInKind : List Pending → Type 0
 AllInKind [] = Unit {0}
@@ -214,6 +208,7 @@ no_registers_in_kind x k = poison_in_kind k
 pub argument_in_kind : (k : Option Kind) (a : Shown) → fits_kind k a ≡ true → IsInKindOf k (shown_value a)
 argument_in_kind None a h = tt
 argument_in_kind (Some (Int width)) (shown.Num n) h = ltb-true n (2 ^ width) h
+argument_in_kind (Some Ptr) (shown.Num n) h = cc
 
 abbrev pub EntersInKind : Option Registers → Type 0
 EntersInKind None = Unit {0}

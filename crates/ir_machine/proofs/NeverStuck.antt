@@ -7,7 +7,7 @@ use Rattle.ir_types.specs.declared.names.Name.{Name}
 use Rattle.ir_core.specs.declared.values.Value.{Value}
 use Rattle.ir_core.specs.declared.values.Value.TheVariants as value
 use Rattle.ir_core.specs.declared.values.Kind.{Kind}
-use Rattle.ir_core.specs.declared.values.Kind.TheVariants.{Int}
+use Rattle.ir_core.specs.declared.values.Kind.TheVariants.{Int, Ptr}
 use Rattle.ir_core.specs.declared.functions.Block.{Block}
 use Rattle.ir_core.specs.declared.functions.Case.{Case}
 use Rattle.ir_core.specs.declared.functions.Instr.{Instr}
@@ -27,7 +27,7 @@ use Rattle.ir_core.specs.Types.{kind_of}
 use Rattle.ir_core.specs.Expressions.{type_of}
 use Rattle.ir_machine.specs.Registers.{read, operand_value, outcome}
 use Rattle.ir_machine.specs.State.{Frame, Pending, World, State, Running, Over}
-use Rattle.ir_machine.specs.Machine.{Asks, Does, Ask, Never, Made, Follows, asks, block_named, branch, entering, gone, is_label, is_pick, jump, picked, show, set_to, frame_step, term_step, return_step, return_void}
+use Rattle.ir_machine.specs.Machine.{Asks, Does, Ask, Never, Made, Follows, asks, block_named, branch, entering, gone, is_label, is_pick, jump, picked, show, show_undef, set_to, frame_step, term_step, return_step, return_void}
 use Rattle.ir_machine.specs.Choices.{Lacks, NoStep, answer, RunsAnswer}
 use Rattle.ir_machine.specs.Refinement.{IsEnd, EndTheRun, NoneIsStuck, EndsAreShown}
 use Rattle.ir_types.specs.NameLaws.{same_name_refl}
@@ -40,16 +40,22 @@ does_step : (items : List Item) (after : State) → CanStep (Does items after)
 does_step items after = (record { told = []; items = items; after = after }, refl)
 
 -- of each width there is a number, 0
-show_can_step : (k : Option Kind) (v : Value) (world : World) (poison : Asks) (next : Shown → World → Asks) → CanStep poison → ((s : Shown) (after : World) → CanStep (next s after)) → CanStep (show k v world poison next)
-show_can_step k value.Poison world poison next bad good = bad
-show_can_step k (value.Num n) world poison next bad good = good (shown.Num n) world
-show_can_step None value.Undef world poison next bad good = bad
-show_can_step (Some (Int width)) value.Undef world poison next bad good =
+undef_can_step : (k : Option Kind) (world : World) (poison : Asks) (next : Shown → World → Asks) → CanStep poison → ((s : Shown) (after : World) → CanStep (next s after)) → CanStep (show_undef k world poison next)
+undef_can_step None world poison next bad good = bad
+undef_can_step (Some Ptr) world poison next bad good = bad
+undef_can_step (Some (Int width)) world poison next bad good =
     let more : CanStep (next (shown.Num 0) world) = good (shown.Num 0) world in
     let fits : nat_lt 0 (2 ^ width) ≡ true = lt-ltb 0 (2 ^ width) (pow_pos width) in (
       record { told = Pick (shown.Num 0) ∷ more.0.told; items = more.0.items; after = more.0.after },
       (Pick (shown.Num 0), more.0, fits, more.1, refl),
     )
+
+show_can_step : (k : Option Kind) (v : Value) (world : World) (poison : Asks) (next : Shown → World → Asks) → CanStep poison → ((s : Shown) (after : World) → CanStep (next s after)) → CanStep (show k v world poison next)
+show_can_step k value.Poison world poison next bad good = bad
+show_can_step k (value.Num n) world poison next bad good = good (shown.Num n) world
+show_can_step k value.Undef world poison next bad good = undef_can_step k world poison next bad good
+show_can_step k (value.Ptr block offset) world poison next bad good = undef_can_step k world poison next bad good
+show_can_step k (value.Bare address) world poison next bad good = undef_can_step k world poison next bad good
 
 return_can_step : (k : Option Kind) (v : Value) (rest : List Pending) (world : World) → CanStep (return_step k v rest world)
 return_can_step k v [] world = show_can_step k v world _ _ (does_step (Turn ∷ Wrong ∷ []) Over) (λ s after. does_step (Turn ∷ Returned (Some s) ∷ []) Over)
@@ -67,14 +73,19 @@ jump_can_step : (frame : Frame) (rest : List Pending) (world : World) (to : Name
 jump_can_step frame rest world to = entering_can_step frame rest world (block_named to frame.function.blocks)
 
 -- undef may go to the first of the labels
-branch_can_step : (v : Value) (label : ℕ → Name) (x : Name) (labels : List Name) (next : Name → Asks) → ((y : Name) → CanStep (next y)) → CanStep (branch v label (x ∷ labels) next)
-branch_can_step (value.Num n) label x labels next h = h (label n)
-branch_can_step value.Undef label x labels next h =
+label_can_step : (x : Name) (labels : List Name) (next : Name → Asks) → ((y : Name) → CanStep (next y)) → CanStep (Ask (is_label (x ∷ labels)) (λ c. gone c next))
+label_can_step x labels next h =
     let more : CanStep (next x) = h x in
     let fits : is_label (x ∷ labels) (Go x) ≡ true = rw (same_name_refl x) refl in (
       record { told = Go x ∷ more.0.told; items = more.0.items; after = more.0.after },
       (Go x, more.0, fits, more.1, refl),
     )
+
+branch_can_step : (v : Value) (label : ℕ → Name) (x : Name) (labels : List Name) (next : Name → Asks) → ((y : Name) → CanStep (next y)) → CanStep (branch v label (x ∷ labels) next)
+branch_can_step (value.Num n) label x labels next h = h (label n)
+branch_can_step value.Undef label x labels next h = label_can_step x labels next h
+branch_can_step (value.Ptr block offset) label x labels next h = label_can_step x labels next h
+branch_can_step (value.Bare address) label x labels next h = label_can_step x labels next h
 branch_can_step value.Poison label x labels next h = does_step (Wrong ∷ []) Over
 
 term_can_step : (t : Term) (frame : Frame) (rest : List Pending) (world : World) → CanStep (term_step t frame rest world)
@@ -165,11 +176,17 @@ picked_always : (k : Kind) (c : Choice) (next : Shown → Asks) → is_pick k c 
 picked_always k (Pick s) next fits good = good s
 picked_always k (Go x) next fits good = cc
 
+undef_always : (k : Option Kind) (world : World) (poison : Asks) (next : Shown → World → Asks) → AlwaysSteps poison → ((s : Shown) (after : World) → AlwaysSteps (next s after)) → AlwaysSteps (show_undef k world poison next)
+undef_always None world poison next bad good = bad
+undef_always (Some (Int width)) world poison next bad good = λ c fits. picked_always (Int width) c (λ s. next s world) fits (λ s. good s world)
+undef_always (Some Ptr) world poison next bad good = bad
+
 show_always : (k : Option Kind) (v : Value) (world : World) (poison : Asks) (next : Shown → World → Asks) → AlwaysSteps poison → ((s : Shown) (after : World) → AlwaysSteps (next s after)) → AlwaysSteps (show k v world poison next)
 show_always k value.Poison world poison next bad good = bad
 show_always k (value.Num n) world poison next bad good = good (shown.Num n) world
-show_always None value.Undef world poison next bad good = bad
-show_always (Some k) value.Undef world poison next bad good = λ c fits. picked_always k c (λ s. next s world) fits (λ s. good s world)
+show_always k value.Undef world poison next bad good = undef_always k world poison next bad good
+show_always k (value.Ptr block offset) world poison next bad good = undef_always k world poison next bad good
+show_always k (value.Bare address) world poison next bad good = undef_always k world poison next bad good
 
 return_always : (k : Option Kind) (v : Value) (rest : List Pending) (world : World) → AlwaysSteps (return_step k v rest world)
 return_always k v [] world = show_always k v world _ _ tt (λ s after. tt)
@@ -193,6 +210,8 @@ gone_always labels (Pick s) next fits good = cc
 branch_always : (v : Value) (label : ℕ → Name) (labels : List Name) (next : Name → Asks) → ((x : Name) → AlwaysSteps (next x)) → AlwaysSteps (branch v label labels next)
 branch_always (value.Num n) label labels next h = h (label n)
 branch_always value.Undef label labels next h = λ c fits. gone_always labels c next fits h
+branch_always (value.Ptr block offset) label labels next h = λ c fits. gone_always labels c next fits h
+branch_always (value.Bare address) label labels next h = λ c fits. gone_always labels c next fits h
 branch_always value.Poison label labels next h = tt
 
 term_always : (t : Term) (frame : Frame) (rest : List Pending) (world : World) → AlwaysSteps (term_step t frame rest world)

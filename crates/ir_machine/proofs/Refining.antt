@@ -1,5 +1,5 @@
 -- Which of the modules written out refine which.
-use Rattle.std.proofs.Common.{◌≡◌, ◌⊎◌, inl, inr, ℕ, Bool, true, false, cond, List, [], ◌∷◌, Option, None, Some, MatchOption, refl, sym, ◌∙◌, subst, arith}
+use Rattle.std.proofs.Common.{◌≡◌, ◌⊎◌, inl, inr, ℕ, ◌<◌, ◌^◌, Bool, true, false, cond, List, [], ◌∷◌, Option, None, Some, MatchOption, refl, sym, ◌∙◌, subst, lit<, arith}
 use Rattle.std.specs.Prelude.{option_and_then}
 use Rattle.ir_types.specs.declared.names.Name.{Name}
 use Rattle.ir_core.specs.declared.values.Value.TheVariants as value
@@ -80,6 +80,7 @@ starts f b lines result = rw (same_name_refl f) refl
 pub constants_refine : ConstantsRefineByValue
 constants_refine f b c d = (
   λ h. less_defined (returning f b (Constant c)) (returning f b (Constant d)) (entering (returner f b (Constant c)) b [] (Constant c) no_registers) (entering (returner f b (Constant d)) b [] (Constant d) no_registers) (constant_value (Int 32) c) (constant_value (Int 32) d) refl refl
+      (constant_in_kind (Int 32) c) (constant_in_kind (Int 32) d)
       (refines_from (returning f b (Constant c)) (returning f b (Constant d)) f (record { args = [] }) (entering (returner f b (Constant c)) b [] (Constant c) no_registers) (entering (returner f b (Constant d)) b [] (Constant d) no_registers) (starts f b [] (Constant c)) (starts f b [] (Constant d)) h),
   λ less. refines_by f [] b b [] [] (Constant c) (Constant d) (λ registers.
       simulates (returning f b (Constant c)) (returning f b (Constant d)) (entering (returner f b (Constant c)) b [] (Constant c) registers) (entering (returner f b (Constant d)) b [] (Constant d) registers) (constant_value (Int 32) c) (constant_value (Int 32) d) refl refl
@@ -158,18 +159,18 @@ taken x n = set no_registers x (Some (Int 32)) (value.Num n)
 returns_argument : (m : Module) (f x b : Name) (n : ℕ) → Returns m (entering (taker f x b (Register x)) b [] (Register x) (taken x n)) (value.Num n)
 returns_argument m f x b n = rw (same_name_refl x) refl
 
-argument_kept : (f x b : Name) (c : Const) (n : ℕ) → Refines (taking f x b (Register x)) (taking f x b (Constant c))
+argument_kept : (f x b : Name) (c : Const) (n : ℕ) → n < 2 ^ 32 → Refines (taking f x b (Register x)) (taking f x b (Constant c))
     → start (taking f x b (Register x)) f (record { args = shown.Num n ∷ [] }) ≡ Some (entering (taker f x b (Register x)) b [] (Register x) (taken x n))
     → start (taking f x b (Constant c)) f (record { args = shown.Num n ∷ [] }) ≡ Some (entering (taker f x b (Constant c)) b [] (Constant c) (taken x n))
     → constant_value (Int 32) c ≡ value.Num n
-argument_kept f x b c n h p q =
+argument_kept f x b c n fits h p q =
     less_defined (taking f x b (Register x)) (taking f x b (Constant c)) (entering (taker f x b (Register x)) b [] (Register x) (taken x n)) (entering (taker f x b (Constant c)) b [] (Constant c) (taken x n))
-    (value.Num n) (constant_value (Int 32) c) (returns_argument (taking f x b (Register x)) f x b n) refl
+    (value.Num n) (constant_value (Int 32) c) (returns_argument (taking f x b (Register x)) f x b n) refl fits (constant_in_kind (Int 32) c)
     (refines_from (taking f x b (Register x)) (taking f x b (Constant c)) f (record { args = shown.Num n ∷ [] }) (entering (taker f x b (Register x)) b [] (Register x) (taken x n)) (entering (taker f x b (Constant c)) b [] (Constant c) (taken x n)) p q h)
 
 pub arguments_are_seen : ArgumentsAreSeen
 arguments_are_seen f x b c h =
-    let none : constant_value (Int 32) c ≡ value.Num 0 = argument_kept f x b c 0 h (rw (same_name_refl f) refl) (rw (same_name_refl f) refl) in
-    let one : constant_value (Int 32) c ≡ value.Num 1 = argument_kept f x b c 1 h (rw (same_name_refl f) refl) (rw (same_name_refl f) refl) in
+    let none : constant_value (Int 32) c ≡ value.Num 0 = argument_kept f x b c 0 (lit< tt) h (rw (same_name_refl f) refl) (rw (same_name_refl f) refl) in
+    let one : constant_value (Int 32) c ≡ value.Num 1 = argument_kept f x b c 1 (lit< tt) h (rw (same_name_refl f) refl) (rw (same_name_refl f) refl) in
     let differ = one_number 0 1 (sym none ∙ one) in
     omega arith

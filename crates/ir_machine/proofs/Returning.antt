@@ -14,7 +14,7 @@ use Rattle.ir_machine.specs.declared.items.Shown.TheVariants as shown
 use Rattle.ir_machine.specs.declared.items.Choice.{Choice}
 use Rattle.ir_machine.specs.declared.items.Choice.TheVariants.{Go, Pick}
 use Rattle.ir_machine.specs.State.{no_world, State, Over}
-use Rattle.ir_machine.specs.Machine.{Asks, Does, Made, Follows, asks, is_pick, picked, return_step, ShowsFrom}
+use Rattle.ir_machine.specs.Machine.{Asks, Does, Ask, Made, Follows, asks, is_pick, picked, return_step, ShowsFrom}
 use Rattle.ir_machine.specs.Refinement.{MayShowFrom}
 use Rattle.ir_machine.proofs.Trees.{AllDo, all_do_made}
 use Rattle.ir_machine.proofs.Runs.{over_shows, may_show_nothing}
@@ -23,22 +23,31 @@ use Rattle.ir_machine.proofs.Runs.{over_shows, may_show_nothing}
 abbrev pub Returns : Module → State → Value → Type 0
 Returns m s v = asks m s ≡ return_step (Some (Int 32)) v [] no_world
 
--- what the return of the value shows
+-- what the return of undef shows: some number
+abbrev pub IsPicked : List Item → Type 0
+IsPicked items = (k : ℕ) × (k < 2 ^ 32) × (items ≡ Turn ∷ Returned (Some (shown.Num k)) ∷ [])
+
+-- what the return of the value shows; an address counts as undef
 abbrev pub IsReturn : Value → List Item → Type 0
 IsReturn (value.Num n) items = items ≡ Turn ∷ Returned (Some (shown.Num n)) ∷ []
-IsReturn value.Undef items = (k : ℕ) × (k < 2 ^ 32) × (items ≡ Turn ∷ Returned (Some (shown.Num k)) ∷ [])
+IsReturn value.Undef items = IsPicked items
+IsReturn (value.Ptr block offset) items = IsPicked items
+IsReturn (value.Bare address) items = IsPicked items
 IsReturn value.Poison items = items ≡ Turn ∷ Wrong ∷ []
 
 abbrev EndsReturned : Value → List Item → State → Type 0
 EndsReturned v items after = (after ≡ Over) × IsReturn v items
 
+picks_end : (v : Value) → ((items : List Item) → IsPicked items → IsReturn v items) → (c : Choice) → is_pick (Int 32) c ≡ true
+    → AllDo (EndsReturned v) (picked c (λ s. Does (Turn ∷ Returned (Some s) ∷ []) Over))
+picks_end v returns (Pick (shown.Num k)) fits = (refl, returns (Turn ∷ Returned (Some (shown.Num k)) ∷ []) (k, ltb-true k (2 ^ 32) fits, refl))
+picks_end v returns (Go x) fits = tt
+
 return_ends : (v : Value) → AllDo (EndsReturned v) (return_step (Some (Int 32)) v [] no_world)
 return_ends (value.Num n) = (refl, refl)
-return_ends value.Undef = picks
-  where
-    picks : (c : Choice) → is_pick (Int 32) c ≡ true → AllDo (EndsReturned value.Undef) (picked c (λ s. Does (Turn ∷ Returned (Some s) ∷ []) Over))
-    picks (Pick (shown.Num k)) fits = (refl, (k, ltb-true k (2 ^ 32) fits, refl))
-    picks (Go x) fits = tt
+return_ends value.Undef = picks_end value.Undef (λ items h. h)
+return_ends (value.Ptr block offset) = picks_end (value.Ptr block offset) (λ items h. h)
+return_ends (value.Bare address) = picks_end (value.Bare address) (λ items h. h)
 return_ends value.Poison = (refl, refl)
 
 -- nothing is shown, or the return
@@ -55,12 +64,21 @@ returns_only m s v is (suc n) items (inr h) =
 shown_by : (m : Module) (s : State) (tree : Asks) (made : Made) → asks m s ≡ tree → Follows tree made → made.after ≡ Over → ShowsFrom m (suc zero) s (made.items ++ [])
 shown_by m s tree made is f over = inr (made, [], subst (λ (asked : Asks). Follows asked made) (sym is) f, refl, refl)
 
+-- what undef of i32 is shown as
+abbrev picking : Asks
+picking = Ask (is_pick (Int 32)) (λ c. picked c (λ s. Does (Turn ∷ Returned (Some s) ∷ []) Over))
+
+picks_shown : (m : Module) (s : State) → asks m s ≡ picking → (items : List Item) → IsPicked items → ShowsFrom m (suc zero) s items
+picks_shown m s is items (k, fits, e) = subst (λ (l : List Item). ShowsFrom m (suc zero) s l) (sym e)
+    (shown_by m s picking (record { told = Pick (shown.Num k) ∷ []; items = Turn ∷ Returned (Some (shown.Num k)) ∷ []; after = Over })
+    is (Pick (shown.Num k), record { told = []; items = Turn ∷ Returned (Some (shown.Num k)) ∷ []; after = Over }, lt-ltb k (2 ^ 32) fits, refl, refl) refl)
+
 pub returns_shown : (m : Module) (s : State) (v : Value) → Returns m s v → (items : List Item) → IsReturn v items → ShowsFrom m (suc zero) s items
 returns_shown m s (value.Num n) is items e = subst (λ (l : List Item). ShowsFrom m (suc zero) s l) (sym e)
     (shown_by m s (return_step (Some (Int 32)) (value.Num n) [] no_world) (record { told = []; items = Turn ∷ Returned (Some (shown.Num n)) ∷ []; after = Over }) is refl refl)
-returns_shown m s value.Undef is items (k, fits, e) = subst (λ (l : List Item). ShowsFrom m (suc zero) s l) (sym e)
-    (shown_by m s (return_step (Some (Int 32)) value.Undef [] no_world) (record { told = Pick (shown.Num k) ∷ []; items = Turn ∷ Returned (Some (shown.Num k)) ∷ []; after = Over })
-    is (Pick (shown.Num k), record { told = []; items = Turn ∷ Returned (Some (shown.Num k)) ∷ []; after = Over }, lt-ltb k (2 ^ 32) fits, refl, refl) refl)
+returns_shown m s value.Undef is items picked = picks_shown m s is items picked
+returns_shown m s (value.Ptr block offset) is items picked = picks_shown m s is items picked
+returns_shown m s (value.Bare address) is items picked = picks_shown m s is items picked
 returns_shown m s value.Poison is items e = subst (λ (l : List Item). ShowsFrom m (suc zero) s l) (sym e)
     (shown_by m s (return_step (Some (Int 32)) value.Poison [] no_world) (record { told = []; items = Turn ∷ Wrong ∷ []; after = Over }) is refl refl)
 
@@ -77,6 +95,8 @@ something (a ∷ seen) x e = cc
 return_not_wrong : (v : Value) → (v ≡ value.Poison → ⊥) → (seen : List Item) → IsReturn v (seen ++ Wrong ∷ []) → ⊥
 return_not_wrong (value.Num n) other seen e = not_wrong (Some (shown.Num n)) seen e
 return_not_wrong value.Undef other seen (k, fits, e) = not_wrong (Some (shown.Num k)) seen e
+return_not_wrong (value.Ptr block offset) other seen (k, fits, e) = not_wrong (Some (shown.Num k)) seen e
+return_not_wrong (value.Bare address) other seen (k, fits, e) = not_wrong (Some (shown.Num k)) seen e
 return_not_wrong value.Poison other seen e = other refl
 
 -- what may be shown where no poison is returned
@@ -96,6 +116,8 @@ may_show_turn m s rest is = inr (suc zero, Turn ∷ [], rest, refl, returns_show
 pub return_turns : (v : Value) (items : List Item) → IsReturn v items → (rest : List Item) × (items ≡ Turn ∷ rest)
 return_turns (value.Num n) items e = (Returned (Some (shown.Num n)) ∷ [], e)
 return_turns value.Undef items (k, fits, e) = (Returned (Some (shown.Num k)) ∷ [], e)
+return_turns (value.Ptr block offset) items (k, fits, e) = (Returned (Some (shown.Num k)) ∷ [], e)
+return_turns (value.Bare address) items (k, fits, e) = (Returned (Some (shown.Num k)) ∷ [], e)
 return_turns value.Poison items e = (Wrong ∷ [], e)
 
 module _ (source target : Module) (s t : State) (u v : Value) (first : Returns source s u) (second : Returns target t v) where
@@ -114,8 +136,8 @@ module _ (source target : Module) (s t : State) (u v : Value) (first : Returns s
       among (inr r) = r
 
   -- where each run of the target may be one of the source, the source's value is less defined
-  pub less_defined : Simulates → IsLessDefined u v
-  less_defined h = by_values u v refl refl
+  pub less_defined : IsInKind (Int 32) u → IsInKind (Int 32) v → Simulates → IsLessDefined u v
+  less_defined lies fits h = by_values u v refl refl lies fits
     where
       number_of : (m : ℕ) → u ≡ value.Num m → (k : ℕ) → ShowsFrom target (suc zero) t (Turn ∷ Returned (Some (shown.Num k)) ∷ []) → k ≡ m
       number_of m e k shows =
@@ -123,21 +145,27 @@ module _ (source target : Module) (s t : State) (u v : Value) (first : Returns s
           subst (λ (x : Value). IsReturn x (Turn ∷ Returned (Some (shown.Num k)) ∷ [])) e (returned_by h (λ p. cc) (Returned (Some (shown.Num k)) ∷ []) shows) in
           cc
 
-      by_values : (a b : Value) → u ≡ a → v ≡ b → IsLessDefined a b
-      by_values value.Poison b p q = tt
-      by_values value.Undef (value.Num k) p q = tt
-      by_values value.Undef value.Undef p q = tt
-      by_values value.Undef value.Poison p q =
+      by_values : (a b : Value) → u ≡ a → v ≡ b → IsInKind (Int 32) a → IsInKind (Int 32) b → IsLessDefined a b
+      by_values value.Poison b p q j k = tt
+      by_values (value.Ptr block offset) b p q j k = absurd j
+      by_values (value.Bare address) b p q j k = absurd j
+      by_values value.Undef (value.Num n) p q j k = tt
+      by_values value.Undef value.Undef p q j k = tt
+      by_values value.Undef (value.Ptr block offset) p q j k = tt
+      by_values value.Undef (value.Bare address) p q j k = tt
+      by_values value.Undef value.Poison p q j k =
           let r : (k : ℕ) × (k < 2 ^ 32) × (Turn ∷ Wrong ∷ [] ≡ Turn ∷ Returned (Some (shown.Num k)) ∷ []) =
           subst (λ (x : Value). IsReturn x (Turn ∷ Wrong ∷ [])) p (returned_by h (λ e. cc) (Wrong ∷ []) (shows_return value.Poison q (Turn ∷ Wrong ∷ []) refl)) in
           let no : Turn ∷ Wrong ∷ [] ≡ Turn ∷ Returned (Some (shown.Num r.0)) ∷ [] = r.2 in
           cc
-      by_values (value.Num m) (value.Num k) p q = ap value.Num (number_of m p k (shows_return (value.Num k) q (Turn ∷ Returned (Some (shown.Num k)) ∷ []) refl))
-      by_values (value.Num m) value.Undef p q =
+      by_values (value.Num m) (value.Num n) p q j k = ap value.Num (number_of m p n (shows_return (value.Num n) q (Turn ∷ Returned (Some (shown.Num n)) ∷ []) refl))
+      by_values (value.Num m) (value.Ptr block offset) p q j k = absurd k
+      by_values (value.Num m) (value.Bare address) p q j k = absurd k
+      by_values (value.Num m) value.Undef p q j k =
           let zero_is : 0 ≡ m = number_of m p 0 (shows_return value.Undef q (Turn ∷ Returned (Some (shown.Num 0)) ∷ []) (0, lit< tt, refl)) in
           let one_is : 1 ≡ m = number_of m p 1 (shows_return value.Undef q (Turn ∷ Returned (Some (shown.Num 1)) ∷ []) (1, lit< tt, refl)) in
           absurd (omega arith)
-      by_values (value.Num m) value.Poison p q =
+      by_values (value.Num m) value.Poison p q j k =
           let r : Turn ∷ Wrong ∷ [] ≡ Turn ∷ Returned (Some (shown.Num m)) ∷ [] =
           subst (λ (x : Value). IsReturn x (Turn ∷ Wrong ∷ [])) p (returned_by h (λ e. cc) (Wrong ∷ []) (shows_return value.Poison q (Turn ∷ Wrong ∷ []) refl)) in
           cc
@@ -153,7 +181,11 @@ module _ (source target : Module) (s t : State) (u v : Value) (first : Returns s
       by_values value.Undef (value.Num n) p q k l r =
           inl (suc zero, returns_shown source s u first items (subst (λ (x : Value). IsReturn x items) (sym p) (n, k, r)))
       by_values value.Undef value.Undef p q k l r = inl (suc zero, returns_shown source s u first items (subst (λ (x : Value). IsReturn x items) (sym p) r))
+      by_values value.Undef (value.Ptr block offset) p q k l r = absurd k
+      by_values value.Undef (value.Bare address) p q k l r = absurd k
       by_values value.Undef value.Poison p q k l r = absurd l
+      by_values (value.Ptr block offset) b p q k l r = absurd (subst (IsInKind (Int 32)) l k)
+      by_values (value.Bare address) b p q k l r = absurd (subst (IsInKind (Int 32)) l k)
       by_values (value.Num m) b p q k l r =
           inl (suc zero, returns_shown source s u first items (subst (λ (x : Value). IsReturn x items) (sym p) (subst (λ (x : Value). IsReturn x items) l r)))
 

@@ -220,6 +220,8 @@ all_do_among : (P : List Item → State → Type 0) (v : Value) (label : ℕ →
     → ((x : Name) → Contains labels x → AllDo P (next x)) → AllDo P (branch v label labels next)
 all_do_among P (value.Num n) label labels next bad among h = h (label n) (among n)
 all_do_among P value.Undef label labels next bad among h = λ c is. all_do_told P labels c next is h
+all_do_among P (value.Ptr block offset) label labels next bad among h = λ c is. all_do_told P labels c next is h
+all_do_among P (value.Bare address) label labels next bad among h = λ c is. all_do_told P labels c next is h
 all_do_among P value.Poison label labels next bad among h = bad
 
 side_among : (a b : Name) (n : ℕ) → Contains (a ∷ b ∷ []) (side_of a b n)

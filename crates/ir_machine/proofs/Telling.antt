@@ -1,9 +1,11 @@
 -- How choices that are told answer a step.
 use Rattle.std.proofs.Common.{◌≡◌, ℕ, Bool, true, false, cond, List, [], ◌∷◌, ◌++◌, Option, None, Some, refl, sym, ap, subst}
+use Rattle.std.specs.Prelude.{ℤ}
 use Rattle.std.proofs.lemmas.List.{append_cancel_right}
 use Rattle.ir_core.specs.declared.values.Value.{Value}
 use Rattle.ir_core.specs.declared.values.Value.TheVariants as value
 use Rattle.ir_core.specs.declared.values.Kind.{Kind}
+use Rattle.ir_core.specs.declared.values.Kind.TheVariants.{Int, Ptr}
 use Rattle.ir_machine.specs.declared.items.Item.{Item}
 use Rattle.ir_machine.specs.declared.items.Item.TheVariants.{Turn, Returned, Wrong}
 use Rattle.ir_machine.specs.declared.items.Shown.{Shown}
@@ -13,7 +15,7 @@ use Rattle.ir_machine.specs.declared.items.Choice.TheVariants.{Pick}
 use Rattle.ir_machine.specs.declared.choosing.Showing.{Showing}
 use Rattle.ir_machine.specs.declared.choosing.Showing.TheVariants as showing
 use Rattle.ir_machine.specs.State.{World, no_world, State, Over}
-use Rattle.ir_machine.specs.Machine.{Asks, Does, Ask, Never, Made, Follows, is_pick, is_shown_of, show, return_step}
+use Rattle.ir_machine.specs.Machine.{Asks, Does, Ask, Never, Made, Follows, is_pick, is_shown_of, show, show_undef, return_step}
 use Rattle.ir_machine.specs.Choices.{Answer, Did, Lacks, answer, Leaves, TakesAsked, AnswersAreSteps, AnswersTakeAsked}
 use Rattle.ir_machine.specs.Showing.{ShowingAnswers}
 
@@ -84,21 +86,39 @@ pub show_poison : (k : Option Kind) (v : Value) (world : World) (poison : Asks) 
     → answer (show k v world poison next) script ≡ answer poison script
 show_poison k v world poison next script e = rw e refl
 
-pub show_kindless : (k : Option Kind) (v : Value) (world : World) (poison : Asks) (next : Shown → World → Asks) (script : List Choice) → v ≡ value.Undef → k ≡ None
-    → answer (show k v world poison next) script ≡ answer poison script
-show_kindless k v world poison next script e none = rw (e, none) refl
+-- an address is shown as undef is
+module _ (shows : Showing) (k : Option Kind) (v : Value) (world : World) (poison : Asks) (next : Shown → World → Asks) (before after : List Choice) where
+  pub show_as_undef : v ≡ value.Undef → ShowingAnswers shows (show_undef k world poison next) before poison (λ s. next s world) after
+      → ShowingAnswers shows (show k v world poison next) before poison (λ s. next s world) after
+  show_as_undef e h = rw e h
 
-pub show_picks : (k : Option Kind) (v : Value) (own : Kind) (s : Shown) (world : World) (poison : Asks) (next : Shown → World → Asks) (before after : List Choice) → v ≡ value.Undef → k ≡ Some own
-    → before ≡ Pick s ∷ after → is_shown_of own s ≡ true → answer (show k v world poison next) before ≡ answer (next s world) after
-show_picks k v own s world poison next before after e some taken fits = rw (e, some, taken, fits) refl
+  pub show_pointer : (block : ℕ) (offset : ℤ) → v ≡ value.Ptr block offset → ShowingAnswers shows (show_undef k world poison next) before poison (λ s. next s world) after
+      → ShowingAnswers shows (show k v world poison next) before poison (λ s. next s world) after
+  show_pointer block offset e h = rw e h
 
-pub show_lacks : (k : Option Kind) (v : Value) (own : Kind) (world : World) (poison : Asks) (next : Shown → World → Asks) (before after : List Choice) → v ≡ value.Undef → k ≡ Some own
-    → before ≡ [] → after ≡ [] → answer (show k v world poison next) before ≡ Lacks after
-show_lacks k v own world poison next before after e some none left = rw (e, some, none, left) refl
+  pub show_bare : (address : ℕ) → v ≡ value.Bare address → ShowingAnswers shows (show_undef k world poison next) before poison (λ s. next s world) after
+      → ShowingAnswers shows (show k v world poison next) before poison (λ s. next s world) after
+  show_bare address e h = rw e h
 
-pub show_misfits : (k : Option Kind) (v : Value) (own : Kind) (c : Choice) (world : World) (poison : Asks) (next : Shown → World → Asks) (before after : List Choice) → v ≡ value.Undef → k ≡ Some own
-    → before ≡ c ∷ after → is_pick own c ≡ false → answer (show k v world poison next) before ≡ Lacks after
-show_misfits k v own c world poison next before after e some taken misfit = rw (e, some, taken, misfit) refl
+pub show_kindless : (k : Option Kind) (world : World) (poison : Asks) (next : Shown → World → Asks) (script : List Choice) → k ≡ None
+    → answer (show_undef k world poison next) script ≡ answer poison script
+show_kindless k world poison next script none = rw none refl
+
+pub show_address : (k : Option Kind) (world : World) (poison : Asks) (next : Shown → World → Asks) (script : List Choice) → k ≡ Some Ptr
+    → answer (show_undef k world poison next) script ≡ answer poison script
+show_address k world poison next script some = rw some refl
+
+pub show_picks : (k : Option Kind) (width : ℕ) (s : Shown) (world : World) (poison : Asks) (next : Shown → World → Asks) (before after : List Choice) → k ≡ Some (Int width)
+    → before ≡ Pick s ∷ after → is_shown_of (Int width) s ≡ true → answer (show_undef k world poison next) before ≡ answer (next s world) after
+show_picks k width s world poison next before after some taken fits = rw (some, taken, fits) refl
+
+pub show_lacks : (k : Option Kind) (width : ℕ) (world : World) (poison : Asks) (next : Shown → World → Asks) (before after : List Choice) → k ≡ Some (Int width)
+    → before ≡ [] → after ≡ [] → answer (show_undef k world poison next) before ≡ Lacks after
+show_lacks k width world poison next before after some none left = rw (some, none, left) refl
+
+pub show_misfits : (k : Option Kind) (width : ℕ) (c : Choice) (world : World) (poison : Asks) (next : Shown → World → Asks) (before after : List Choice) → k ≡ Some (Int width)
+    → before ≡ c ∷ after → is_pick (Int width) c ≡ false → answer (show_undef k world poison next) before ≡ Lacks after
+show_misfits k width c world poison next before after some taken misfit = rw (some, taken, misfit) refl
 
 -- whatever showing the result leads to, the choices that were taken are asked for
 pub return_takes_asked : (shows : Showing) (k : Option Kind) (v : Value) (before after : List Choice)

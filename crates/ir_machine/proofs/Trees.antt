@@ -5,6 +5,7 @@ use Rattle.ir_types.specs.declared.names.Name.{Name}
 use Rattle.ir_core.specs.declared.values.Value.{Value}
 use Rattle.ir_core.specs.declared.values.Value.TheVariants as value
 use Rattle.ir_core.specs.declared.values.Kind.{Kind}
+use Rattle.ir_core.specs.declared.values.Kind.TheVariants.{Int, Ptr}
 use Rattle.ir_values.specs.declared.operations.Outcome.{Outcome}
 use Rattle.ir_values.specs.declared.operations.Outcome.TheVariants.{Gives, Trap}
 use Rattle.ir_machine.specs.declared.items.Item.{Item}
@@ -15,7 +16,7 @@ use Rattle.ir_machine.specs.declared.items.Choice.{Choice}
 use Rattle.ir_machine.specs.declared.items.Choice.TheVariants.{Go, Pick}
 use Rattle.ir_machine.specs.Registers.{set}
 use Rattle.ir_machine.specs.State.{Frame, Pending, World, State, Running, Over}
-use Rattle.ir_machine.specs.Machine.{Asks, Does, Ask, Never, Made, Follows, at_block, block_named, branch, entering, gone, jump, picked, show, set_to, with_phis}
+use Rattle.ir_machine.specs.Machine.{Asks, Does, Ask, Never, Made, Follows, at_block, block_named, branch, entering, gone, jump, picked, show, show_undef, set_to, with_phis}
 
 -- whatever is chosen, the items shown and the state after are related so
 abbrev pub AllDo : (List Item → State → Type 0) → Asks → Type 0
@@ -33,12 +34,19 @@ all_do_picked : (P : List Item → State → Type 0) (c : Choice) (next : Shown 
 all_do_picked P (Pick s) next h = h s
 all_do_picked P (Go x) next h = tt
 
+all_do_undef : (P : List Item → State → Type 0) (k : Option Kind) (world : World) (bad : Asks) (next : Shown → World → Asks)
+    → AllDo P bad → ((s : Shown) (after : World) → AllDo P (next s after)) → AllDo P (show_undef k world bad next)
+all_do_undef P None world bad next b h = b
+all_do_undef P (Some (Int width)) world bad next b h = λ c e. all_do_picked P c (λ s. next s world) (λ s. h s world)
+all_do_undef P (Some Ptr) world bad next b h = b
+
 pub all_do_show : (P : List Item → State → Type 0) (k : Option Kind) (v : Value) (world : World) (bad : Asks) (next : Shown → World → Asks)
     → AllDo P bad → ((s : Shown) (after : World) → AllDo P (next s after)) → AllDo P (show k v world bad next)
 all_do_show P k value.Poison world bad next b h = b
 all_do_show P k (value.Num n) world bad next b h = h (shown.Num n) world
-all_do_show P None value.Undef world bad next b h = b
-all_do_show P (Some k) value.Undef world bad next b h = λ c e. all_do_picked P c (λ s. next s world) (λ s. h s world)
+all_do_show P k value.Undef world bad next b h = all_do_undef P k world bad next b h
+all_do_show P k (value.Ptr block offset) world bad next b h = all_do_undef P k world bad next b h
+all_do_show P k (value.Bare address) world bad next b h = all_do_undef P k world bad next b h
 
 -- what follows a branch, wherever it goes
 all_do_gone : (P : List Item → State → Type 0) (c : Choice) (next : Name → Asks) → ((x : Name) → AllDo P (next x)) → AllDo P (gone c next)
@@ -49,6 +57,8 @@ pub all_do_branch : (P : List Item → State → Type 0) (v : Value) (label : �
     → P (Wrong ∷ []) Over → ((x : Name) → AllDo P (next x)) → AllDo P (branch v label labels next)
 all_do_branch P (value.Num n) label labels next bad h = h (label n)
 all_do_branch P value.Undef label labels next bad h = λ c e. all_do_gone P c next h
+all_do_branch P (value.Ptr block offset) label labels next bad h = λ c e. all_do_gone P c next h
+all_do_branch P (value.Bare address) label labels next bad h = λ c e. all_do_gone P c next h
 all_do_branch P value.Poison label labels next bad h = bad
 
 -- what holds of undefined behaviour and of the block that is entered holds of a jump

@@ -1,14 +1,14 @@
 -- Registers as the code keeps them.
-use Rattle.std.specs.Prelude.{cond, List, [], ◌∷◌, Option, None, Some}
+use Rattle.std.specs.Prelude.{ℤ, cond, List, [], ◌∷◌, Option, None, Some}
 use Rattle.std.specs.Coded.{Unit-prop, le_prop}
-use mathlib.Core.HLevel.{Π_prop}
+use mathlib.Core.HLevel.{⊥_prop, Π_prop}
 use Rattle.ir_types.specs.declared.names.Name.{Name}
 use Rattle.ir_core.specs.declared.values.Value.{Value}
-use Rattle.ir_core.specs.declared.values.Value.TheVariants.{Num, Undef, Poison}
+use Rattle.ir_core.specs.declared.values.Value.TheVariants.{Num, Ptr, Bare, Undef, Poison}
 use Rattle.ir_core.specs.declared.values.Kind.{Kind}
-use Rattle.ir_core.specs.declared.values.Kind.TheVariants.{Int}
+use Rattle.ir_core.specs.declared.values.Kind.TheVariants as kind
 use Rattle.ir_types.specs.Same.{same_name}
-use Rattle.ir_values.specs.Values.{IsInKind}
+use Rattle.ir_values.specs.Values.{IsInKind, IsOffset}
 use Rattle.ir_machine.specs.declared.registers.Assigned.{Assigned}
 use Rattle.ir_machine.specs.Registers.{Held, Registers, no_registers, read, AreInKind}
 
@@ -26,10 +26,20 @@ abbrev pub put : Name → Option (Kind × Value) → List Assigned → List Assi
 put x held [] = record { name = x; held = held } ∷ []
 put x held (e ∷ es) = cond (same_name e.name x) (record e { held = held } ∷ es) (e ∷ put x held es)
 
+IsOffset-prop : (z : ℤ) → IsProp (IsOffset z)
+IsOffset-prop z x y = λ i. record { sfits = le_prop x.sfits y.sfits i }
+
 pub IsInKind-prop : (k : Kind) (v : Value) → IsProp (IsInKind k v)
-IsInKind-prop (Int width) (Num n) = le_prop
-IsInKind-prop (Int width) Undef = Unit-prop
-IsInKind-prop (Int width) Poison = Unit-prop
+IsInKind-prop (kind.Int width) (Num n) = le_prop
+IsInKind-prop (kind.Int width) (Ptr block offset) = ⊥_prop
+IsInKind-prop (kind.Int width) (Bare address) = ⊥_prop
+IsInKind-prop (kind.Int width) Undef = Unit-prop
+IsInKind-prop (kind.Int width) Poison = Unit-prop
+IsInKind-prop kind.Ptr (Num n) = ⊥_prop
+IsInKind-prop kind.Ptr (Ptr block offset) = IsOffset-prop offset
+IsInKind-prop kind.Ptr (Bare address) = le_prop
+IsInKind-prop kind.Ptr Undef = Unit-prop
+IsInKind-prop kind.Ptr Poison = Unit-prop
 
 pub AreInKind-prop : (registers : Registers) → IsProp (AreInKind registers)
 AreInKind-prop registers = Π_prop (λ x. Π_prop (λ k. IsInKind-prop k (read registers k x)))

@@ -7,7 +7,7 @@ use Rattle.ir_types.specs.declared.ty.Ty.{Ty}
 use Rattle.ir_core.specs.declared.values.Value.{Value}
 use Rattle.ir_core.specs.declared.values.Value.TheVariants as value
 use Rattle.ir_core.specs.declared.values.Kind.{Kind}
-use Rattle.ir_core.specs.declared.values.Kind.TheVariants.{Int}
+use Rattle.ir_core.specs.declared.values.Kind.TheVariants.{Int, Ptr}
 use Rattle.ir_core.specs.declared.functions.Instr.{Instr}
 use Rattle.ir_core.specs.declared.functions.Instr.TheVariants as line
 use Rattle.ir_core.specs.declared.functions.Term.{Term}
@@ -46,9 +46,10 @@ pub data Asks : Type 0 where
   Ask : (Chosen → Bool) → (Chosen → Asks) → Asks
   Never : Asks
 
--- a value of that kind, as the outside sees it
+-- a value of that kind, as the outside sees it; the outside sees no address
 abbrev pub is_shown_of : Kind → Shown → Bool
 is_shown_of (Int width) (shown.Num n) = fits n width
+is_shown_of Ptr (shown.Num n) = false
 
 -- undefined behaviour: it is shown, and the run is over
 abbrev pub wrong : Asks
@@ -63,13 +64,20 @@ abbrev pub picked : Chosen → (Shown → Asks) → Asks
 picked (Pick s) next = next s
 picked (Go x) next = Never
 
--- A value is shown to the outside: a number as itself, undef as what is picked. Showing poison is undefined behaviour. What
+-- undef is shown as what is picked; undef of no kind as poison is, and undef of the kind of addresses too, which the outside doesn't see
+abbrev pub show_undef : Option Kind → World → Asks → (Shown → World → Asks) → Asks
+show_undef None world poison next = poison
+show_undef (Some (Int width)) world poison next = Ask (is_pick (Int width)) (λ c. picked c (λ s. next s world))
+show_undef (Some Ptr) world poison next = poison
+
+-- A value is shown to the outside: a number as itself, and what is no number as undef. Showing poison is undefined behaviour. What
 -- follows takes what is shown, and the world after it.
 abbrev pub show : Option Kind → Value → World → Asks → (Shown → World → Asks) → Asks
 show k value.Poison world poison next = poison
 show k (value.Num n) world poison next = next (shown.Num n) world
-show None value.Undef world poison next = poison
-show (Some k) value.Undef world poison next = Ask (is_pick k) (λ c. picked c (λ s. next s world))
+show k value.Undef world poison next = show_undef k world poison next
+show k (value.Ptr block offset) world poison next = show_undef k world poison next
+show k (value.Bare address) world poison next = show_undef k world poison next
 
 -- a line sets its register to its outcome; a trap is undefined behaviour
 abbrev pub set_to : Option Kind → Name → Outcome → Frame → List Pending → World → Asks
@@ -153,10 +161,13 @@ abbrev pub gone : Chosen → (Name → Asks) → Asks
 gone (Go x) next = next x
 gone (Pick s) next = Never
 
--- A number leads to its label, and undef to whichever of the labels is told. A branch on poison is undefined behaviour.
+-- A number leads to its label, and undef to whichever of the labels is told; an address counts as undef. A branch on poison is undefined
+-- behaviour.
 abbrev pub branch : Value → (ℕ → Name) → List Name → (Name → Asks) → Asks
 branch (value.Num n) label labels next = next (label n)
 branch value.Undef label labels next = Ask (is_label labels) (λ c. gone c next)
+branch (value.Ptr block offset) label labels next = Ask (is_label labels) (λ c. gone c next)
+branch (value.Bare address) label labels next = Ask (is_label labels) (λ c. gone c next)
 branch value.Poison label labels next = wrong
 
 -- 1 is true

@@ -60,11 +60,12 @@ set registers x k v = λ y. cond (same_name x y) (holding k v) (registers y)
 abbrev pub AreInKind : Registers → Type 0
 AreInKind registers = (x : Name) (k : Kind) → IsInKind k (read registers k x)
 
--- a number that isn't of its type is worth poison, and so is a constant that is none of integers
+-- a number that isn't of its type is worth poison, and so is a constant that is none of integers, and each at the kind of addresses
 abbrev pub constant_value : Kind → Const → Value
 constant_value (kind.Int width) (constant.Number n) = cond (fits n width) (Num n) Poison
 constant_value (kind.Int width) constant.Undef = Undef
 constant_value (kind.Int width) c = Poison
+constant_value kind.Ptr c = Poison
 
 -- what an atom is worth at a kind, where registers are read by the function given
 abbrev pub atom_at : {R : Type 0} → (Kind → R → Value) → Kind → Atom R → Value
@@ -83,11 +84,12 @@ operand_value reading o = atom_value reading (kind_of o.ty) o.atom
 abbrev pub binary_at : BinOp → Flags → Option Kind → Value → Value → Outcome
 binary_at op flags None a b = Gives Poison
 binary_at op flags (Some (kind.Int width)) a b = binary_outcome op flags width a b
+binary_at op flags (Some kind.Ptr) a b = Gives Poison
 
--- the outcome of a comparison of values of a kind
+-- the outcome of a comparison of values of a kind; no register holds an address, so there are no sizes
 abbrev pub icmp_at : Pred → Option Kind → Value → Value → Outcome
 icmp_at pred None a b = Gives Poison
-icmp_at pred (Some k) a b = icmp_outcome pred k a b
+icmp_at pred (Some k) a b = icmp_outcome pred k a b 0 0
 
 -- the outcome of a conversion from a kind to a kind
 abbrev pub cast_at : CastOp → Option Kind → Option Kind → Value → Outcome

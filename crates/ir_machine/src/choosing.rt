@@ -29,21 +29,21 @@ pub enum Showing {
     LacksChoice,
 }
 
-#[tactic(auto, using(crate::proofs::Telling::show_number, crate::proofs::Telling::show_poison, crate::proofs::Telling::show_kindless, crate::proofs::Telling::show_picks, crate::proofs::Telling::show_lacks, crate::proofs::Telling::show_misfits))]
-pub(crate) fn show<C: Chooser>(kind: Option<Kind>, value: Value, chooser: &mut C) -> Showing
+/// What showing undef of a kind leads to.
+#[tactic(auto, using(crate::proofs::Telling::show_kindless, crate::proofs::Telling::show_address, crate::proofs::Telling::show_picks, crate::proofs::Telling::show_lacks, crate::proofs::Telling::show_misfits))]
+fn show_undef<C: Chooser>(kind: Option<Kind>, chooser: &mut C) -> Showing
     ensures { (world : World) (poison : machine.Asks) (next : Shown → World → machine.Asks)
-        → ShowingAnswers result (machine.show kind value world poison next)
+        → ShowingAnswers result (machine.show_undef kind world poison next)
         (C.script chooser.old) poison (λ s. next s world) (C.script chooser.new) }
 {
-    let own = match (value, kind) {
-        (Value::Num(n), _) => return Showing::Shows(Shown::Num(n)),
-        (Value::Poison, _) => return Showing::IsPoison,
-        (Value::Undef, None) => return Showing::IsPoison,
-        (Value::Undef, Some(own)) => own,
+    let width = match kind {
+        Some(Kind::Int(width)) => width,
+        Some(Kind::Ptr) => return Showing::IsPoison,
+        None => return Showing::IsPoison,
     };
     match chooser.take() {
         Some(Choice::Pick(shown)) => {
-            if is_shown_of(&own, &shown) {
+            if is_shown_of(&Kind::Int(width), &shown) {
                 Showing::Shows(shown)
             } else {
                 Showing::LacksChoice
@@ -51,5 +51,18 @@ pub(crate) fn show<C: Chooser>(kind: Option<Kind>, value: Value, chooser: &mut C
         }
         Some(Choice::Go(_)) => Showing::LacksChoice,
         None => Showing::LacksChoice,
+    }
+}
+
+#[tactic(auto, using(crate::proofs::Telling::show_number, crate::proofs::Telling::show_poison, crate::proofs::Telling::show_as_undef, crate::proofs::Telling::show_pointer, crate::proofs::Telling::show_bare))]
+pub(crate) fn show<C: Chooser>(kind: Option<Kind>, value: Value, chooser: &mut C) -> Showing
+    ensures { (world : World) (poison : machine.Asks) (next : Shown → World → machine.Asks)
+        → ShowingAnswers result (machine.show kind value world poison next)
+        (C.script chooser.old) poison (λ s. next s world) (C.script chooser.new) }
+{
+    match value {
+        Value::Num(n) => Showing::Shows(Shown::Num(n)),
+        Value::Undef | Value::Ptr(_, _) | Value::Bare(_) => show_undef(kind, chooser),
+        Value::Poison => Showing::IsPoison,
     }
 }

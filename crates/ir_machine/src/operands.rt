@@ -20,14 +20,18 @@ use ir_values::{Outcome, eval_binary, eval_cast, eval_icmp, eval_select};
 pub(crate) fn is_shown_of(kind: &Kind, shown: &Shown) -> bool
     ensures { result ≡ machine.is_shown_of kind.now shown.now }
 {
-    let (Kind::Int(width), Shown::Num(n)) = (kind, shown);
-    fits(*n, *width)
+    match (kind, shown) {
+        (Kind::Int(width), Shown::Num(n)) => fits(*n, *width),
+        (Kind::Ptr, Shown::Num(_)) => false,
+    }
 }
 
 fn constant_value(kind: &Kind, constant: &Const) -> Value
     ensures { result ≡ meaning.constant_value kind.now constant.now }
 {
-    let Kind::Int(width) = kind;
+    let Kind::Int(width) = kind else {
+        return Value::Poison;
+    };
     match constant {
         Const::Number(bits) => {
             let n = bits.get();
@@ -70,6 +74,7 @@ fn binary_at(binary: &Binary<Name>, kind: Option<Kind>, left: &Value, right: &Va
 {
     match kind {
         Some(Kind::Int(width)) => eval_binary(binary.op, binary.flags, width, left, right),
+        Some(Kind::Ptr) => Outcome::Gives(Value::Poison),
         None => Outcome::Gives(Value::Poison),
     }
 }
@@ -86,7 +91,7 @@ fn binary_outcome(registers: &RegisterFile, binary: &Binary<Name>) -> Outcome
 }
 
 /// What a comparison leads to on values of a kind.
-#[tactic(auto, using(crate::proofs::InKind::kind_has_width))]
+#[tactic(auto, using(ir_values::proofs::KindLaws::kind_has_width))]
 fn icmp_at(icmp: &Icmp<Name>, kind: Option<Kind>, left: &Value, right: &Value) -> Outcome
     requires kind { kind ≡ types.kind_of icmp.now.ty }
     requires left { IsInKindOf kind left.now }
@@ -94,7 +99,7 @@ fn icmp_at(icmp: &Icmp<Name>, kind: Option<Kind>, left: &Value, right: &Value) -
     ensures { result ≡ meaning.icmp_at icmp.now.pred kind left.now right.now }
 {
     match kind {
-        Some(own) => eval_icmp(icmp.pred, own, left, right),
+        Some(own) => eval_icmp(icmp.pred, own, left, right, 0, 0),
         None => Outcome::Gives(Value::Poison),
     }
 }
@@ -111,7 +116,7 @@ fn icmp_outcome(registers: &RegisterFile, icmp: &Icmp<Name>) -> Outcome
 }
 
 /// What a conversion leads to from a kind to a kind.
-#[tactic(auto, using(crate::proofs::InKind::kind_has_width))]
+#[tactic(auto, using(ir_values::proofs::KindLaws::kind_has_width))]
 fn cast_at(cast: &Cast<Name>, from: Option<Kind>, to: Option<Kind>, value: &Value) -> Outcome
     requires from { from ≡ types.kind_of cast.now.operand.ty }
     requires to { to ≡ types.kind_of cast.now.to }

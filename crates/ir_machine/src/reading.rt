@@ -14,8 +14,12 @@ use std::alloc::{AllocError, Global};
 fn same_kind(a: &Kind, b: &Kind) -> bool
     ensures { result ≡ values.same_kind a.now b.now }
 {
-    let (Kind::Int(mine), Kind::Int(theirs)) = (a, b);
-    *mine == *theirs
+    match (a, b) {
+        (Kind::Int(mine), Kind::Int(theirs)) => *mine == *theirs,
+        (Kind::Ptr, Kind::Ptr) => true,
+        (Kind::Int(_), Kind::Ptr) => false,
+        (Kind::Ptr, Kind::Int(_)) => false,
+    }
 }
 
 fn held_at(kind: &Kind, held: &Option<(Kind, Value)>) -> Value

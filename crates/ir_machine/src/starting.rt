@@ -70,7 +70,7 @@ fn enter(alloc: Global, params: &[Param], arguments: &[Shown]) -> Result<Registe
 
 /// The state in which a run of that function on that input starts.
 ///
-/// It is meant for modules over integers, as long as the machine has no memory: a pointer has no value yet, a `getelementptr` or
+/// It is meant for modules over integers, as long as the machine has no memory: no argument fits a pointer, a `getelementptr` or
 /// `load` gives poison, and an `alloca`, `store` or `call` is undefined behaviour.
 #[tactic(auto, using(crate::proofs::Starts::starts_at, crate::proofs::Starts::starts_not))]
 pub fn start(

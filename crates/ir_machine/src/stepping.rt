@@ -9,7 +9,7 @@ ghost use Rattle.ir_machine.specs.Registers as registers;
 ghost use Rattle.ir_machine.specs.State.{no_world, Over};
 ghost use Rattle.ir_machine.specs.Machine as machine;
 ghost use Rattle.ir_machine.specs.Choices.{Did, Lacks, answer, TakesAsked};
-ghost use Rattle.ir_machine.specs.Machine.{Does};
+ghost use Rattle.ir_machine.specs.Machine.{Ask, Does};
 ghost use Rattle.ir_machine.specs.Places.{at_end, registers_in, state_in, state_of, progress_of, next_line};
 ghost use Rattle.ir_machine.specs.Stepping.{Answers, StaysIn, line_outcome, line_set};
 ghost use Rattle.ir_core.specs.Functions.{successors_of};
@@ -143,7 +143,27 @@ fn go_to(
     })
 }
 
-/// A branch on a value: a number goes to its label, undef to the one that is told.
+/// A branch on undef: the run goes to the label that is told.
+fn do_told<C: Chooser>(
+    alloc: Global,
+    here: &Here,
+    state: &mut RunState,
+    chooser: &mut C,
+) -> Result<Stepped, StepEnd>
+    ensures answers { Answers (Ask (machine.is_label (successors_of here.now.block.now.term))
+        (λ c. machine.gone c (machine.jump (at_end here.now.function.now here.now.block.now (registers_in state.old.registers)) [] no_world)))
+        (C.script chooser.old) (C.script chooser.new) (state_in here.now.function.now state.new) result }
+    ensures place { IfOk result (λ stepped. StaysIn here.now.place state.new.place) }
+    ensures same { OnErr result (state.new ≡ state.old) }
+{
+    match told_label(&here.block.term, chooser) {
+        Some(label) => Ok(go_to(alloc, here, &label, state)?),
+        None => Err(StepEnd::NoChoice),
+    }
+}
+
+/// A branch on a value: a number goes to its label, undef to the one that is told; an address counts as undef.
+#[tactic(auto, using(crate::proofs::Branching::branch_on_undef, crate::proofs::Branching::branch_on_pointer, crate::proofs::Branching::branch_on_bare))]
 fn do_branch<C: Chooser>(
     alloc: Global,
     here: &Here,
@@ -161,10 +181,7 @@ fn do_branch<C: Chooser>(
 {
     match value {
         Value::Num(_) => Ok(go_to(alloc, here, numbered, state)?),
-        Value::Undef => match told_label(&here.block.term, chooser) {
-            Some(label) => Ok(go_to(alloc, here, &label, state)?),
-            None => Err(StepEnd::NoChoice),
-        },
+        Value::Undef | Value::Ptr(_, _) | Value::Bare(_) => do_told(alloc, here, state, chooser),
         Value::Poison => Ok(go_wrong(alloc, state)?),
     }
 }

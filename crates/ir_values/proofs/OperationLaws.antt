@@ -1,8 +1,8 @@
 -- Proofs of the laws of specs/Laws.
 use Rattle.std.proofs.Common.{◌≡◌, ℕ, refl, sym}
 use Rattle.ir_core.specs.declared.values.Value.{Value}
-use Rattle.ir_core.specs.declared.values.Value.TheVariants.{Num, Undef, Poison}
-use Rattle.ir_values.specs.Values.{IsLessDefined}
+use Rattle.ir_core.specs.declared.values.Value.TheVariants.{Num, Ptr, Bare, Undef, Poison}
+use Rattle.ir_values.specs.Values.{IsLessDefined, IsNotPoison}
 use Rattle.ir_values.specs.declared.operations.Outcome.{Outcome}
 use Rattle.ir_values.specs.declared.operations.Outcome.TheVariants.{Gives, Trap}
 use Rattle.ir_values.specs.Operations.{IsOutcomeLessDefined}
@@ -12,22 +12,38 @@ pub less_defined_refl : LessDefinedIsReflexive
 less_defined_refl Poison = tt
 less_defined_refl Undef = tt
 less_defined_refl (Num n) = refl
+less_defined_refl (Ptr b o) = refl
+less_defined_refl (Bare n) = refl
+
+-- what is more defined than a value that isn't poison isn't either
+not_poison_kept : (b c : Value) → IsNotPoison b → IsLessDefined b c → IsNotPoison c
+not_poison_kept Poison c p q = absurd p
+not_poison_kept Undef c p q = q
+not_poison_kept (Num n) c p q = rw q tt
+not_poison_kept (Ptr b o) c p q = rw q tt
+not_poison_kept (Bare n) c p q = rw q tt
 
 pub less_defined_trans : LessDefinedIsTransitive
 less_defined_trans Poison b c p q = tt
-less_defined_trans Undef Poison c p q = absurd p
-less_defined_trans Undef Undef c p q = q
-less_defined_trans Undef (Num n) c p q = rw q tt
+less_defined_trans Undef b c p q = not_poison_kept b c p q
 less_defined_trans (Num m) b c p q = rw p at q
+less_defined_trans (Ptr m o) b c p q = rw p at q
+less_defined_trans (Bare m) b c p q = rw p at q
 
 pub less_defined_antisym : LessDefinedIsAntisymmetric
 less_defined_antisym Poison Poison p q = refl
 less_defined_antisym Poison Undef p q = absurd q
 less_defined_antisym Poison (Num n) p q = cc
+less_defined_antisym Poison (Ptr b o) p q = cc
+less_defined_antisym Poison (Bare n) p q = cc
 less_defined_antisym Undef Poison p q = absurd p
 less_defined_antisym Undef Undef p q = refl
 less_defined_antisym Undef (Num n) p q = cc
+less_defined_antisym Undef (Ptr b o) p q = cc
+less_defined_antisym Undef (Bare n) p q = cc
 less_defined_antisym (Num m) b p q = sym p
+less_defined_antisym (Ptr m o) b p q = sym p
+less_defined_antisym (Bare m) b p q = sym p
 
 -- the same of outcomes
 pub outcome_less_defined_trans : (a b c : Outcome) → IsOutcomeLessDefined a b → IsOutcomeLessDefined b c → IsOutcomeLessDefined a c

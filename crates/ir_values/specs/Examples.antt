@@ -2,10 +2,12 @@
 use Rattle.std.specs.Prelude.{◌≡◌, ℕ, true, false}
 use Rattle.ir_core.specs.declared.values.Value.{Value}
 use Rattle.ir_core.specs.declared.values.Value.TheVariants.{Num, Undef, Poison}
+use Rattle.ir_core.specs.declared.values.Kind.{Kind}
 use Rattle.ir_core.specs.declared.values.Kind.TheVariants.{Int}
 use Rattle.ir_core.specs.declared.operands.BinOp.TheVariants as op
 use Rattle.ir_core.specs.declared.operands.CastOp.TheVariants as cast
 use Rattle.ir_core.specs.declared.operands.Flags.{Flags}
+use Rattle.ir_core.specs.declared.operands.Pred.{Pred}
 use Rattle.ir_core.specs.declared.operands.Pred.TheVariants as pred
 use Rattle.ir_values.specs.declared.operations.Outcome.{Outcome}
 use Rattle.ir_values.specs.declared.operations.Outcome.TheVariants.{Gives, Trap}
@@ -18,6 +20,10 @@ use Rattle.ir_values.specs.Values.{HasWidth}
 
 abbrev pub gives : ℕ → Outcome
 gives n = Gives (Num n)
+
+-- numbers are compared; sizes of blocks are passed over
+abbrev pub compared : Pred → Kind → Value → Value → Outcome
+compared pred k a b = icmp_outcome pred k a b 0 0
 
 abbrev pub no_flags : Flags
 no_flags = record { nuw = false; nsw = false; exact = false }
@@ -146,34 +152,34 @@ pub record FlagsBreak : Type 0 where
 
 -- comparisons of i8 where no other type is named: 128 is -128
 pub record ComparisonsAreThese : Type 0 where
-  pub eq_5_5 : icmp_outcome pred.Eq (Int 8) (Num 5) (Num 5) ≡ gives 1
-  pub eq_5_6 : icmp_outcome pred.Eq (Int 8) (Num 5) (Num 6) ≡ gives 0
-  pub ne_5_6 : icmp_outcome pred.Ne (Int 8) (Num 5) (Num 6) ≡ gives 1
-  pub ne_5_5 : icmp_outcome pred.Ne (Int 8) (Num 5) (Num 5) ≡ gives 0
-  pub ugt_128_0 : icmp_outcome pred.Ugt (Int 8) (Num 128) (Num 0) ≡ gives 1
-  pub ugt_0_0 : icmp_outcome pred.Ugt (Int 8) (Num 0) (Num 0) ≡ gives 0
-  pub uge_0_0 : icmp_outcome pred.Uge (Int 8) (Num 0) (Num 0) ≡ gives 1
-  pub uge_0_1 : icmp_outcome pred.Uge (Int 8) (Num 0) (Num 1) ≡ gives 0
-  pub ult_0_128 : icmp_outcome pred.Ult (Int 8) (Num 0) (Num 128) ≡ gives 1
-  pub ult_128_0 : icmp_outcome pred.Ult (Int 8) (Num 128) (Num 0) ≡ gives 0
-  pub ule_0_0 : icmp_outcome pred.Ule (Int 8) (Num 0) (Num 0) ≡ gives 1
-  pub ule_1_0 : icmp_outcome pred.Ule (Int 8) (Num 1) (Num 0) ≡ gives 0
-  pub sgt_0_128 : icmp_outcome pred.Sgt (Int 8) (Num 0) (Num 128) ≡ gives 1
-  pub sgt_128_0 : icmp_outcome pred.Sgt (Int 8) (Num 128) (Num 0) ≡ gives 0
-  pub sge_0_0 : icmp_outcome pred.Sge (Int 8) (Num 0) (Num 0) ≡ gives 1
-  pub sge_128_0 : icmp_outcome pred.Sge (Int 8) (Num 128) (Num 0) ≡ gives 0
-  pub slt_128_0 : icmp_outcome pred.Slt (Int 8) (Num 128) (Num 0) ≡ gives 1
-  pub slt_0_128 : icmp_outcome pred.Slt (Int 8) (Num 0) (Num 128) ≡ gives 0
-  pub sle_0_0 : icmp_outcome pred.Sle (Int 8) (Num 0) (Num 0) ≡ gives 1
-  pub sle_0_128 : icmp_outcome pred.Sle (Int 8) (Num 0) (Num 128) ≡ gives 0
-  pub slt_1_0_of_i1 : icmp_outcome pred.Slt (Int 1) (Num 1) (Num 0) ≡ gives 1
-  pub ult_1_0_of_i1 : icmp_outcome pred.Ult (Int 1) (Num 1) (Num 0) ≡ gives 0
-  pub eq_poison_1 : icmp_outcome pred.Eq (Int 8) Poison (Num 1) ≡ Gives Poison
-  pub eq_1_poison : icmp_outcome pred.Eq (Int 8) (Num 1) Poison ≡ Gives Poison
-  pub eq_undef_poison : icmp_outcome pred.Eq (Int 8) Undef Poison ≡ Gives Poison
-  pub eq_undef_undef : icmp_outcome pred.Eq (Int 8) Undef Undef ≡ Gives Undef
-  pub ult_undef_0 : icmp_outcome pred.Ult (Int 8) Undef (Num 0) ≡ Gives Undef
-  pub ult_0_undef : icmp_outcome pred.Ult (Int 8) (Num 0) Undef ≡ Gives Undef
+  pub eq_5_5 : compared pred.Eq (Int 8) (Num 5) (Num 5) ≡ gives 1
+  pub eq_5_6 : compared pred.Eq (Int 8) (Num 5) (Num 6) ≡ gives 0
+  pub ne_5_6 : compared pred.Ne (Int 8) (Num 5) (Num 6) ≡ gives 1
+  pub ne_5_5 : compared pred.Ne (Int 8) (Num 5) (Num 5) ≡ gives 0
+  pub ugt_128_0 : compared pred.Ugt (Int 8) (Num 128) (Num 0) ≡ gives 1
+  pub ugt_0_0 : compared pred.Ugt (Int 8) (Num 0) (Num 0) ≡ gives 0
+  pub uge_0_0 : compared pred.Uge (Int 8) (Num 0) (Num 0) ≡ gives 1
+  pub uge_0_1 : compared pred.Uge (Int 8) (Num 0) (Num 1) ≡ gives 0
+  pub ult_0_128 : compared pred.Ult (Int 8) (Num 0) (Num 128) ≡ gives 1
+  pub ult_128_0 : compared pred.Ult (Int 8) (Num 128) (Num 0) ≡ gives 0
+  pub ule_0_0 : compared pred.Ule (Int 8) (Num 0) (Num 0) ≡ gives 1
+  pub ule_1_0 : compared pred.Ule (Int 8) (Num 1) (Num 0) ≡ gives 0
+  pub sgt_0_128 : compared pred.Sgt (Int 8) (Num 0) (Num 128) ≡ gives 1
+  pub sgt_128_0 : compared pred.Sgt (Int 8) (Num 128) (Num 0) ≡ gives 0
+  pub sge_0_0 : compared pred.Sge (Int 8) (Num 0) (Num 0) ≡ gives 1
+  pub sge_128_0 : compared pred.Sge (Int 8) (Num 128) (Num 0) ≡ gives 0
+  pub slt_128_0 : compared pred.Slt (Int 8) (Num 128) (Num 0) ≡ gives 1
+  pub slt_0_128 : compared pred.Slt (Int 8) (Num 0) (Num 128) ≡ gives 0
+  pub sle_0_0 : compared pred.Sle (Int 8) (Num 0) (Num 0) ≡ gives 1
+  pub sle_0_128 : compared pred.Sle (Int 8) (Num 0) (Num 128) ≡ gives 0
+  pub slt_1_0_of_i1 : compared pred.Slt (Int 1) (Num 1) (Num 0) ≡ gives 1
+  pub ult_1_0_of_i1 : compared pred.Ult (Int 1) (Num 1) (Num 0) ≡ gives 0
+  pub eq_poison_1 : compared pred.Eq (Int 8) Poison (Num 1) ≡ Gives Poison
+  pub eq_1_poison : compared pred.Eq (Int 8) (Num 1) Poison ≡ Gives Poison
+  pub eq_undef_poison : compared pred.Eq (Int 8) Undef Poison ≡ Gives Poison
+  pub eq_undef_undef : compared pred.Eq (Int 8) Undef Undef ≡ Gives Undef
+  pub ult_undef_0 : compared pred.Ult (Int 8) Undef (Num 0) ≡ Gives Undef
+  pub ult_0_undef : compared pred.Ult (Int 8) (Num 0) Undef ≡ Gives Undef
 
 -- conversions, each from a width to a width
 pub record ConversionsAreThese : Type 0 where

@@ -1,10 +1,16 @@
+pub mod Addresses
 pub mod Comparisons
+pub mod ConstantLaws
+pub mod Constants
 pub mod Conversions
 pub mod Examples
 pub mod Laws
 pub mod Numbers
 pub mod Operations
+pub mod PointerExamples
+pub mod PointerLaws
 pub mod Private
+pub mod Related
 pub mod Results
 pub mod Selections
 pub mod ValueLaws

@@ -2,14 +2,14 @@
 -- case that fits.
 use Rattle.std.specs.Prelude.{ℕ, ◌-◌, ◌^◌, Bool, true, ◌&&◌, ◌||◌, cond, nat_eq, Option}
 use Rattle.ir_core.specs.declared.values.Value.{Value}
-use Rattle.ir_core.specs.declared.values.Value.TheVariants.{Num, Undef, Poison}
+use Rattle.ir_core.specs.declared.values.Value.TheVariants.{Num, Ptr, Bare, Undef, Poison}
 use Rattle.ir_core.specs.declared.values.Kind.{Kind}
 use Rattle.ir_core.specs.declared.operands.BinOp.{BinOp}
 use Rattle.ir_core.specs.declared.operands.Flags.{Flags}
 use Rattle.ir_values.specs.declared.operations.Outcome.{Outcome}
 use Rattle.ir_values.specs.declared.operations.Outcome.TheVariants.{Gives, Trap}
 use Rattle.ir_values.specs.Results.{breaks_flag, is_division, is_past_width, is_signed_division, result}
-use Rattle.ir_values.specs.Values.{IsInKindOf, IsLessDefined}
+use Rattle.ir_values.specs.Values.{IsInKindOf, IsLessDefined, on_numbers}
 
 -- an outcome is less defined than another: undefined behaviour than every outcome, a value as values are
 abbrev pub IsOutcomeLessDefined : Outcome → Outcome → Type 0
@@ -22,9 +22,11 @@ abbrev pub GivesInKind : Option Kind → Outcome → Type 0
 GivesInKind k (Gives v) = IsInKindOf k v
 GivesInKind k Trap = Unit {0}
 
--- the value is that number, or it may be any, as undef and poison may
+-- the value is that number, or it may be any, as undef and poison may, and as a value of another kind counts
 abbrev pub may_be : ℕ → Value → Bool
 may_be n (Num m) = nat_eq m n
+may_be n (Ptr block offset) = true
+may_be n (Bare address) = true
 may_be n Undef = true
 may_be n Poison = true
 
@@ -43,15 +45,9 @@ abbrev pub number_value : BinOp → Flags → ℕ → ℕ → ℕ → Value
 number_value op flags width m n =
     cond (is_past_width op width n) (undef_under flags) (cond (breaks_flag op flags width m n) Poison (Num (result op width m n)))
 
--- poison, where an operand is; undef_under the flags, where an operand is undef; else what two numbers give
+-- poison, where an operand is; undef_under the flags, where an operand is no number; else what two numbers give
 abbrev pub binary_value : BinOp → Flags → ℕ → Value → Value → Value
-binary_value op flags width Poison b = Poison
-binary_value op flags width Undef Poison = Poison
-binary_value op flags width (Num m) Poison = Poison
-binary_value op flags width Undef Undef = undef_under flags
-binary_value op flags width Undef (Num n) = undef_under flags
-binary_value op flags width (Num m) Undef = undef_under flags
-binary_value op flags width (Num m) (Num n) = number_value op flags width m n
+binary_value op flags width a b = on_numbers (undef_under flags) (number_value op flags width) a b
 
 -- undefined behaviour before all else
 abbrev pub binary_outcome : BinOp → Flags → ℕ → Value → Value → Outcome

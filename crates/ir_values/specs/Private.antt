@@ -1,5 +1,12 @@
 -- How the code reckons with signed numbers: a sign and a magnitude. Only contracts of private functions cite these.
-use Rattle.std.specs.Prelude.{ℕ, ℤ, neg_ℤ, pos, Bool, true, false, ◌^◌, ◌-◌, cond, nat_le}
+use Rattle.std.specs.Prelude.{◌≡◌, ◌≤◌, ℕ, ℤ, neg_ℤ, pos, Bool, true, false, ◌&&◌, ◌^◌, ◌-◌, cond, nat_le, List, Option, None, Some}
+use Rattle.ir_types.specs.declared.named.NamedTy.{NamedTy}
+use Rattle.ir_types.specs.declared.ty.Ty.{Ty}
+use Rattle.ir_types.specs.Named.{is_sized, size_of}
+use Rattle.ir_core.specs.declared.values.Kind.TheVariants as kind
+use Rattle.ir_values.specs.Addresses.{GivenIndex, is_past, leaves, moved_by}
+use Rattle.ir_values.specs.Numbers.{modulo}
+use Rattle.ir_values.specs.Values.{IsInKind}
 
 -- the number is negative in two's complement
 abbrev pub is_negative : ℕ → ℕ → Bool
@@ -15,3 +22,26 @@ differ true true = false
 differ true false = true
 differ false true = true
 differ false false = false
+
+-- ---- addresses
+
+-- where a base comes by so many distances, as a word: nowhere, where it leaves its block on the way
+abbrev pub ended_at : Bool → ℕ → ℤ → List ℤ → Option ℕ
+ended_at inbounds size at ds = cond (inbounds && leaves size at ds) None (Some (modulo 64 (moved_by at ds)))
+
+-- also where the indices lead nowhere
+abbrev pub ended : Bool → ℕ → ℤ → Option (List ℤ) → Option ℕ
+ended inbounds size at None = None
+ended inbounds size at (Some ds) = ended_at inbounds size at ds
+
+-- one distance further
+abbrev pub stepped : Bool → ℕ → ℤ → Option ℕ
+stepped inbounds size at = cond (inbounds && is_past size at) None (Some (modulo 64 at))
+
+-- the type has a size, within the limit on blocks
+abbrev pub IsSmall : List NamedTy → Ty → Type 0
+IsSmall types t = (is_sized types t ≡ true) × (size_of types t ≤ 2 ^ 31)
+
+-- an index is a value of its width
+abbrev pub IsIndex : GivenIndex → Type 0
+IsIndex i = (1 ≤ i.0) × (i.0 ≤ 64) × IsInKind (kind.Int i.0) i.1

@@ -1,7 +1,7 @@
 -- The laws that operations meet.
 use Rattle.std.specs.Prelude.{◌≡◌, ℕ, true, false, Some}
 use Rattle.ir_core.specs.declared.values.Value.{Value}
-use Rattle.ir_core.specs.declared.values.Value.TheVariants.{Num, Undef, Poison}
+use Rattle.ir_core.specs.declared.values.Value.TheVariants.{Num, Ptr, Bare, Undef, Poison}
 use Rattle.ir_core.specs.declared.values.Kind.{Kind}
 use Rattle.ir_core.specs.declared.values.Kind.TheVariants.{Int}
 use Rattle.ir_core.specs.declared.operands.BinOp.{BinOp}
@@ -30,7 +30,8 @@ OperationsAreMonotone = (op : BinOp) (many few : Flags) (width : ℕ) → flags_
     → AreMonotone (binary_outcome op many width) (binary_outcome op few width)
 
 abbrev pub ComparisonsAreMonotone : Type 0
-ComparisonsAreMonotone = (pred : Pred) (kind : Kind) → AreMonotone (icmp_outcome pred kind) (icmp_outcome pred kind)
+ComparisonsAreMonotone = (pred : Pred) (kind : Kind) (size other : ℕ)
+    → AreMonotone (λ a b. icmp_outcome pred kind a b size other) (λ a b. icmp_outcome pred kind a b size other)
 
 abbrev pub ConversionsAreMonotone : Type 0
 ConversionsAreMonotone = (op : CastOp) (from to : Kind) (a b : Value) → IsLessDefined a b
@@ -46,10 +47,10 @@ abbrev pub OperationsStayInKind : Type 0
 OperationsStayInKind = (op : BinOp) (flags : Flags) (width : ℕ) (a b : Value) → GivesInKind (Some (Int width)) (binary_outcome op flags width a b)
 
 abbrev pub ComparisonsGiveBits : Type 0
-ComparisonsGiveBits = (pred : Pred) (kind : Kind) (a b : Value) → GivesInKind (Some (Int 1)) (icmp_outcome pred kind a b)
+ComparisonsGiveBits = (pred : Pred) (kind : Kind) (a b : Value) (size other : ℕ) → GivesInKind (Some (Int 1)) (icmp_outcome pred kind a b size other)
 
 abbrev pub ConversionsGiveTheirKind : Type 0
-ConversionsGiveTheirKind = (op : CastOp) (from to : Kind) (a : Value) → GivesInKind (Some to) (cast_outcome op from to a)
+ConversionsGiveTheirKind = (op : CastOp) (from to : Kind) (a : Value) → IsInKind from a → GivesInKind (Some to) (cast_outcome op from to a)
 
 abbrev pub SelectionsStayInKind : Type 0
 SelectionsStayInKind = (kind : Kind) (c a b : Value) → IsInKind kind a → IsInKind kind b → GivesInKind (Some kind) (select_outcome c a b)
@@ -58,6 +59,8 @@ SelectionsStayInKind = (kind : Kind) (c a b : Value) → IsInKind kind a → IsI
 
 abbrev pub IsNumber : Value → Type 0
 IsNumber (Num n) = Unit {0}
+IsNumber (Ptr block offset) = ⊥
+IsNumber (Bare address) = ⊥
 IsNumber Undef = ⊥
 IsNumber Poison = ⊥
 
@@ -71,10 +74,10 @@ OperationsGiveNumbers = (op : BinOp) (flags : Flags) (width m n : ℕ) → traps
     → is_past_width op width n ≡ false → breaks_flag op flags width m n ≡ false → GivesNumber (binary_outcome op flags width (Num m) (Num n))
 
 abbrev pub ComparisonsGiveNumbers : Type 0
-ComparisonsGiveNumbers = (pred : Pred) (kind : Kind) (m n : ℕ) → GivesNumber (icmp_outcome pred kind (Num m) (Num n))
+ComparisonsGiveNumbers = (pred : Pred) (width m n size other : ℕ) → GivesNumber (icmp_outcome pred (Int width) (Num m) (Num n) size other)
 
 abbrev pub ConversionsGiveNumbers : Type 0
-ConversionsGiveNumbers = (op : CastOp) (from to : Kind) (n : ℕ) → GivesNumber (cast_outcome op from to (Num n))
+ConversionsGiveNumbers = (op : CastOp) (from to n : ℕ) → GivesNumber (cast_outcome op (Int from) (Int to) (Num n))
 
 -- whatever the arm is that isn't chosen
 abbrev pub SelectionsGiveTheChosen : Type 0

@@ -14,13 +14,25 @@ pub fn eval_cast(op: CastOp, from: Kind, to: Kind, a: &Value) -> Outcome
     requires operand { IsInKind from a.now }
     ensures { result ≡ meaning.cast_outcome op from to a.now }
 {
-    let Kind::Int(few) = from;
-    let Kind::Int(many) = to;
-    Outcome::Gives(match a {
-        Value::Poison => Value::Poison,
-        Value::Undef => Value::Undef,
-        Value::Num(number) => Value::Num(converted(op, few, many, *number)),
-    })
+    match (from, to) {
+        (Kind::Int(few), Kind::Int(many)) => Outcome::Gives(match a {
+            Value::Poison => Value::Poison,
+            Value::Undef | Value::Ptr(_, _) | Value::Bare(_) => Value::Undef,
+            Value::Num(number) => Value::Num(converted(op, few, many, *number)),
+        }),
+        (Kind::Ptr, Kind::Ptr) => Outcome::Gives(recast_value(a)),
+        (Kind::Int(_), Kind::Ptr) | (Kind::Ptr, Kind::Int(_)) => Outcome::Gives(Value::Poison),
+    }
+}
+
+/// An address, as one of another type.
+fn recast_value(value: &Value) -> Value
+    ensures { result ≡ meaning.recast_value value.now }
+{
+    match value {
+        Value::Num(_) => Value::Undef,
+        Value::Ptr(_, _) | Value::Bare(_) | Value::Undef | Value::Poison => *value,
+    }
 }
 
 fn converted(op: CastOp, from: u32, to: u32, number: u64) -> u64

@@ -3,7 +3,7 @@ ghost use Rattle.ir_values.specs.Examples as example;
 ghost use Rattle.ir_values.specs.ValueLaws as law;
 
 /// More defined operands, and for a binary operation fewer flags, give a more defined outcome. Undefined behaviour is the least defined.
-#[tactic(auto, using(crate::proofs::Monotone::binary_monotone, crate::proofs::Monotone::icmp_monotone, crate::proofs::Monotone::cast_monotone, crate::proofs::Monotone::select_monotone))]
+#[tactic(auto, using(crate::proofs::Monotone::cast_monotone, crate::proofs::Monotone::select_monotone))]
 pub fn operations_are_monotone()
     ensures binary { law.OperationsAreMonotone }
     ensures comparisons { law.ComparisonsAreMonotone }
@@ -11,9 +11,9 @@ pub fn operations_are_monotone()
     ensures selections { law.SelectionsAreMonotone }
 {}
 
-/// An operation on iN gives a value of iN, if it gives one, whatever its operands are; a comparison gives one of i1, a conversion one of the
-/// kind that it leads to, and a selection one of the kind of its arms.
-#[tactic(auto, using(crate::proofs::InKind::binary_in_kind, crate::proofs::InKind::icmp_in_kind, crate::proofs::InKind::cast_in_kind, crate::proofs::InKind::select_in_kind))]
+/// An operation on iN gives a value of iN, if it gives one, whatever its operands are; a comparison gives one of i1, a conversion of a value
+/// of its kind one of the kind that it leads to, and a selection one of the kind of its arms.
+#[tactic(auto, using(crate::proofs::InKind::binary_in_kind, crate::proofs::InKind::select_in_kind))]
 pub fn operations_stay_in_kind()
     ensures binary { law.OperationsStayInKind }
     ensures comparisons { law.ComparisonsGiveBits }

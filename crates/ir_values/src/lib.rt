@@ -1,7 +1,8 @@
-//! The operations on values (LangRef 3.7, Binary Operations, Bitwise Binary Operations, Conversion Operations, icmp, select, Undefined
-//! Values, Poison Values), and their laws.
+//! The operations on values (LangRef 3.7, Binary Operations, Bitwise Binary Operations, Conversion Operations, icmp, select, getelementptr,
+//! Undefined Values, Poison Values), and their laws. Values are related over pairs of blocks, of a source's memory and a target's.
 #![tactic(auto)]
 
+mod addresses;
 mod comparisons;
 mod conversions;
 mod flags;
@@ -9,9 +10,11 @@ mod kinds_kept;
 mod laws;
 mod numbers;
 mod operations;
+mod pointer_laws;
 mod results;
 mod selections;
 
+pub use addresses::eval_gep;
 pub use comparisons::eval_icmp;
 pub use conversions::eval_cast;
 pub use kinds_kept::{
@@ -20,4 +23,8 @@ pub use kinds_kept::{
 };
 pub use laws::less_defined_is_an_order;
 pub use operations::{Outcome, eval_binary, refines};
+pub use pointer_laws::{
+    addresses_are_addresses, constants_are_of_their_kind, examples_of_pointers,
+    less_defined_is_related, operations_keep_related,
+};
 pub use selections::eval_select;

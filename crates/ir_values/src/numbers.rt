@@ -137,3 +137,18 @@ pub(crate) fn scaled(number: u64, places: u64) -> u128
 {
     u128::from(number) << places
 }
+
+/// The word of 64 bits that an offset is.
+#[tactic(auto, using(crate::proofs::Wrapped::word_is))]
+pub(crate) fn word(offset: i64) -> u64
+    ensures { result ≡ meaning.modulo 64 offset }
+{
+    offset.cast_unsigned()
+}
+
+/// The word of 64 bits that an integer is.
+pub(crate) fn word_of(integer: i128) -> u64
+    ensures { result ≡ meaning.modulo 64 integer }
+{
+    integer.rem_euclid(1 << 64) as u64
+}

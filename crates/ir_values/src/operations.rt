@@ -2,6 +2,7 @@ ghost use Rattle.std.specs.Prelude.{◌≡◌, ◌↔◌, ◌<◌, ◌≤◌, �
 ghost use Rattle.ir_core.specs.declared.values.Kind.TheVariants.{Int};
 ghost use Rattle.ir_core.specs.declared.values.Value.TheVariants.{Num};
 ghost use Rattle.ir_values.specs.Values.{IsInKind, IsLessDefined};
+ghost use Rattle.ir_values.specs.Values as values;
 ghost use Rattle.ir_values.specs.Operations as meaning;
 ghost use Rattle.ir_values.specs.Results as results;
 
@@ -18,6 +19,7 @@ pub enum Outcome {
 }
 
 /// The outcome of `op flags iN a, b` at a width N from 1 to 64, on values of that width.
+#[tactic(auto, using(crate::proofs::AsNumbers::number_below, crate::proofs::AsNumbers::numbers_trap))]
 pub fn eval_binary(op: BinOp, flags: Flags, width: u32, a: &Value, b: &Value) -> Outcome
     requires narrow { width ≤ 64 }
     requires wide { 1 ≤ width }
@@ -28,12 +30,16 @@ pub fn eval_binary(op: BinOp, flags: Flags, width: u32, a: &Value, b: &Value) ->
     if traps(op, width, a, b) {
         return Outcome::Trap;
     }
-    let (left, right) = match (a, b) {
-        (Value::Poison, _) | (_, Value::Poison) => return Outcome::Gives(Value::Poison),
-        (Value::Undef, _) | (_, Value::Undef) => return Outcome::Gives(undef_under(flags)),
-        (Value::Num(left), Value::Num(right)) => (*left, *right),
-    };
-    Outcome::Gives(number_value(op, flags, width, left, right))
+    if is_poison(a) || is_poison(b) {
+        return Outcome::Gives(Value::Poison);
+    }
+    Outcome::Gives(match as_number(a) {
+        Some(left) => match as_number(b) {
+            Some(right) => number_value(op, flags, width, left, right),
+            None => undef_under(flags),
+        },
+        None => undef_under(flags),
+    })
 }
 
 /// Whether the target's value refines the source's: the source's is less defined (Crellvm's lessdef).
@@ -46,6 +52,31 @@ pub fn refines(source: &Value, target: &Value) -> bool
         (Value::Undef, _) => true,
         (Value::Num(mine), Value::Num(theirs)) => *mine == *theirs,
         (Value::Num(_), _) => false,
+        (Value::Ptr(block, offset), Value::Ptr(other, place)) => {
+            *block == *other && *offset == *place
+        }
+        (Value::Ptr(_, _), _) => false,
+        (Value::Bare(mine), Value::Bare(theirs)) => *mine == *theirs,
+        (Value::Bare(_), _) => false,
+    }
+}
+
+pub(crate) fn is_poison(value: &Value) -> bool
+    ensures { result ≡ values.is_poison value.now }
+{
+    match value {
+        Value::Poison => true,
+        Value::Undef | Value::Num(_) | Value::Ptr(_, _) | Value::Bare(_) => false,
+    }
+}
+
+/// The number that it is, if it is one.
+pub(crate) fn as_number(value: &Value) -> Option<u64>
+    ensures { result ≡ values.as_number value.now }
+{
+    match value {
+        Value::Num(number) => Some(*number),
+        Value::Ptr(_, _) | Value::Bare(_) | Value::Undef | Value::Poison => None,
     }
 }
 
@@ -76,12 +107,14 @@ fn is_shift(op: BinOp) -> bool
     }
 }
 
-/// Whether the value is that number, or undef or poison.
+/// Whether the value is that number, or counts as undef, or is poison.
 fn may_be(number: u128, value: &Value) -> bool
     ensures { result ≡ meaning.may_be number value.now }
 {
     match value {
         Value::Num(mine) => u128::from(*mine) == number,
+        Value::Ptr(_, _) => true,
+        Value::Bare(_) => true,
         Value::Undef => true,
         Value::Poison => true,
     }

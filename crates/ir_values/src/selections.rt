@@ -2,7 +2,7 @@ ghost use Rattle.std.specs.Prelude.{◌≡◌};
 ghost use Rattle.ir_core.specs.declared.values.Value.TheVariants.{Undef};
 ghost use Rattle.ir_values.specs.Selections as meaning;
 
-use crate::operations::Outcome;
+use crate::operations::{Outcome, is_poison};
 use ir_core::Value;
 
 /// The outcome of `select c, a, b`, on a condition of `i1` and two values of one kind. The arm that isn't chosen has no effect.
@@ -11,19 +11,9 @@ pub fn eval_select(c: &Value, a: &Value, b: &Value) -> Outcome
 {
     Outcome::Gives(match c {
         Value::Poison => Value::Poison,
-        Value::Undef => undef_unless_poison(a, b),
+        Value::Undef | Value::Ptr(_, _) | Value::Bare(_) => undef_unless_poison(a, b),
         Value::Num(number) => { if *number == 1 { *a } else { *b } }
     })
-}
-
-fn is_poison(value: &Value) -> bool
-    ensures { result ≡ meaning.is_poison value.now }
-{
-    match value {
-        Value::Poison => true,
-        Value::Undef => false,
-        Value::Num(_) => false,
-    }
 }
 
 /// What an undef condition gives.

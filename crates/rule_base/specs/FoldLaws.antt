@@ -1,7 +1,7 @@
 -- What an expression over numbers comes to is the same in every state, and what it may be made is more defined.
 use Rattle.std.proofs.Common.{◌≡◌, ℕ, true, ◌&&◌, List, [], Option, None, Some, refl, sym, ap}
 use Rattle.std.proofs.lemmas.Bool.{eqb-true}
-use Rattle.ir_core.specs.declared.values.Value.TheVariants.{Num, Undef, Poison}
+use Rattle.ir_core.specs.declared.values.Value.TheVariants.{Num, Ptr, Bare, Undef, Poison}
 use Rattle.ir_core.specs.declared.values.Kind.{Kind}
 use Rattle.ir_types.specs.declared.ty.Ty.{Ty}
 use Rattle.ir_types.specs.declared.ty.Ty.TheVariants as ty
@@ -84,6 +84,8 @@ module _ (side : SideState) where
   become_less (Gives Poison) t c p v r = tt
   become_less (Gives Undef) t c p v r = undef_less t c p v r
   become_less (Gives (Num m)) t c p v r = number_less m t c p v r
+  become_less (Gives (Ptr block offset)) t c p v r = absurd (cc)
+  become_less (Gives (Bare address)) t c p v r = absurd (cc)
 
   pub fold_is_sound : (from : List Fact) (to : Fact) → is_fold from to ≡ true → Holds side to
   fold_is_sound [] (LessDef e (Plain c)) h =

@@ -27,7 +27,8 @@ use Rattle.ir_values.specs.Operations.{IsOutcomeLessDefined}
 use Rattle.ir_values.specs.Selections.{select_outcome}
 use Rattle.ir_values.specs.Values.{IsLessDefined}
 use Rattle.ir_values.proofs.OperationLaws.{less_defined_refl}
-use Rattle.ir_values.proofs.Monotone.{binary_monotone, icmp_monotone, cast_monotone, select_monotone}
+use Rattle.ir_values.proofs.Compared.{icmp_monotone}
+use Rattle.ir_values.proofs.Monotone.{binary_monotone, cast_monotone, select_monotone}
 use Rattle.ir_machine.specs.Registers.{atom_value, binary_at, cast_at, icmp_at, operand_value, selects}
 use Rattle.erhl_assert.specs.declared.facts.Fact.{Fact}
 use Rattle.erhl_assert.specs.declared.facts.Fact.TheVariants.{LessDef}
@@ -42,11 +43,12 @@ binary_less : (f g : BinOp) (many few : Flags) (j k : Option Kind) (a b c d : Va
     → IsLessDefined a c → IsLessDefined b d → IsOutcomeLessDefined (binary_at f many j a b) (binary_at g few k c d)
 binary_less f g many few None k a b c d p h q u v = rw (← q) tt
 binary_less f g many few (Some (kind.Int width)) k a b c d p h q u v = rw (p, ← q) (binary_monotone g many few width h a b c d u v)
+binary_less f g many few (Some kind.Ptr) k a b c d p h q u v = rw (← q) tt
 
 icmp_less : (f g : Pred) (j k : Option Kind) (a b c d : Value) → f ≡ g → j ≡ k → IsLessDefined a c → IsLessDefined b d
     → IsOutcomeLessDefined (icmp_at f j a b) (icmp_at g k c d)
 icmp_less f g None k a b c d p q u v = rw (← q) tt
-icmp_less f g (Some j) k a b c d p q u v = rw (p, ← q) (icmp_monotone g j a b c d u v)
+icmp_less f g (Some j) k a b c d p q u v = rw (p, ← q) (icmp_monotone g j 0 0 a b c d u v)
 
 -- one choice between outcomes
 chosen_less : (b : Bool) (o p : Outcome) → IsOutcomeLessDefined o p → IsOutcomeLessDefined (cond b o (Gives Poison)) (cond b p (Gives Poison))

@@ -73,7 +73,7 @@ module _ (side : SideState) (fine : IsSideInKind side) where
   undef_less (ty.Int w) (atom.Constant constant.Undef) (atom.Register s) p q v r = cc
   undef_less (ty.Int w) (atom.Constant c) y p q v r = cc
   undef_less (ty.Int w) (atom.Register s) y p q v r = cc
-  undef_less t x y p q v r = tt
+  undef_less t x y p q v r = absurd (cc)
 
   undef_const_is_sound : (from : List Fact) (to : Fact) → is_undef_const from to ≡ true → Holds side to
   undef_const_is_sound [] (LessDef (Plain a) (Plain b)) h =

@@ -1,7 +1,7 @@
 -- What the shipped rules take, as tests that compute. A fact `a >= b` says that a is less defined than b.
 use Rattle.std.specs.Prelude.{ℕ, Bool, true, false, ◌&&◌, ◌||◌, not, nat_eq, List, [], ◌∷◌, codes}
 use Rattle.std.specs.List.{list_any, list_all}
-use Rattle.ir_core.specs.declared.values.Value.TheVariants.{Num, Undef, Poison}
+use Rattle.ir_core.specs.declared.values.Value.TheVariants.{Num, Ptr, Bare, Undef, Poison}
 use Rattle.ir_core.specs.declared.operands.Const.TheVariants as constant
 use Rattle.ir_core.specs.declared.operands.Atom.{Atom}
 use Rattle.ir_core.specs.declared.operands.Atom.TheVariants as atom
@@ -109,7 +109,7 @@ is_over_numbers e = list_all (λ o. is_number o.atom) (operands_in e)
 abbrev pub folded : Expr0 → Outcome
 folded e = outcome (λ k r. Poison) e
 
--- The constants that an outcome may be made: undefined behaviour, poison and undef each of them, a number itself alone.
+-- The constants that an outcome may be made: undefined behaviour, poison and undef each of them, a number itself alone, an address none.
 abbrev pub may_become : Outcome → Atom Reg → Bool
 may_become Trap c = is_constant c
 may_become (Gives Poison) c = is_constant c
@@ -117,6 +117,8 @@ may_become (Gives Undef) c = is_constant c
 may_become (Gives (Num m)) (atom.Constant (constant.Number n)) = nat_eq m n
 may_become (Gives (Num m)) (atom.Constant c) = false
 may_become (Gives (Num m)) (atom.Register r) = false
+may_become (Gives (Ptr block offset)) c = false
+may_become (Gives (Bare address)) c = false
 
 -- `e >= C`, e over numbers: `add i8 200, 100 >= i8 44`, `udiv i8 5, 0 >= i8 3`
 abbrev pub is_fold : List Fact → Fact → Bool

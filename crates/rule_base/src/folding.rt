@@ -77,6 +77,8 @@ fn may_become(outcome: &Outcome, atom: &Atom<Reg>) -> bool
 {
     match outcome {
         Outcome::Gives(Value::Num(given)) => is_that_number(*given, atom),
+        Outcome::Gives(Value::Ptr(_, _)) => false,
+        Outcome::Gives(Value::Bare(_)) => false,
         _ => is_constant(atom),
     }
 }
@@ -97,7 +99,9 @@ fn value_at(kind: Kind, atom: &Atom<Reg>) -> Value
     ensures value { result ≡ atom_at (λ k r. Poison) kind atom.now }
     ensures in_kind { IsInKind kind result }
 {
-    let Kind::Int(width) = kind;
+    let Kind::Int(width) = kind else {
+        return Value::Poison;
+    };
     match atom {
         Atom::Constant(Const::Number(number)) => {
             let number = number.get();
@@ -144,7 +148,9 @@ fn folded_binary(binary: &Binary<Reg>) -> Outcome
     };
     let left = value_at(kind, &binary.left);
     let right = value_at(kind, &binary.right);
-    let Kind::Int(width) = kind;
+    let Kind::Int(width) = kind else {
+        return Outcome::Gives(Value::Poison);
+    };
     eval_binary(binary.op, binary.flags, width, &left, &right)
 }
 
@@ -156,7 +162,7 @@ fn folded_icmp(icmp: &Icmp<Reg>) -> Outcome
     };
     let left = value_at(kind, &icmp.left);
     let right = value_at(kind, &icmp.right);
-    eval_icmp(icmp.pred, kind, &left, &right)
+    eval_icmp(icmp.pred, kind, &left, &right, 0, 0)
 }
 
 fn folded_cast(cast: &Cast<Reg>) -> Outcome

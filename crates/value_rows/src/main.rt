@@ -111,6 +111,7 @@ fn tell<R: Print>(rt: &R, row: &str, came: Outcome) -> io::Result<()> {
     match came {
         Outcome::Trap => println!(rt; "{row}: came trap"),
         Outcome::Gives(Value::Num(number)) => println!(rt; "{row}: came {number}"),
+        Outcome::Gives(Value::Ptr(_, _) | Value::Bare(_)) => println!(rt; "{row}: came an address"),
         Outcome::Gives(Value::Undef) => println!(rt; "{row}: came undef"),
         Outcome::Gives(Value::Poison) => println!(rt; "{row}: came poison"),
     }

@@ -36,7 +36,7 @@ fn compared(words: &mut SplitWhitespace<'_>) -> Option<Outcome> {
     let width = width_in(words)?;
     let a = value_in(width, words)?;
     let b = value_in(width, words)?;
-    Some(eval_icmp(pred, Kind::Int(width), &a, &b))
+    Some(eval_icmp(pred, Kind::Int(width), &a, &b, 0, 0))
 }
 
 /// `FROM TO A`

@@ -93,6 +93,8 @@ fn is_of(width: u32, value: &Value) -> bool
 {
     match value {
         Value::Num(number) => fits(*number, width),
+        Value::Ptr(_, _) => false,
+        Value::Bare(_) => false,
         Value::Undef => true,
         Value::Poison => true,
     }

@@ -13,6 +13,7 @@ fn is_of(width: u32, value: &Value) -> bool
 {
     match value {
         Num(number) => fits(*number, width),
+        Value::Ptr(_, _) | Value::Bare(_) => false,
         Undef | Poison => true,
     }
 }

@@ -157,6 +157,7 @@ fn same_kind(a: &Option<Kind>, b: &Option<Kind>) -> bool
 {
     match (a, b) {
         (Some(Kind::Int(v)), Some(Kind::Int(w))) => *v == *w,
+        (Some(Kind::Ptr), Some(Kind::Ptr)) => true,
         (None, None) => true,
         _ => false,
     }

@@ -19,10 +19,12 @@ use ir_core::{Atom, Expr, Expr0, Kind, Name, Operand, Reg, Ty, kind_of, same_con
 fn is_kind(ty: &Ty, kind: Kind) -> bool
     ensures { result ≡ is_kind (kind_of ty.now) kind }
 {
-    let Kind::Int(width) = kind;
-    match kind_of(ty) {
-        Some(Kind::Int(other)) => other == width,
-        None => false,
+    match (kind_of(ty), kind) {
+        (Some(Kind::Int(other)), Kind::Int(width)) => other == width,
+        (Some(Kind::Ptr), Kind::Ptr) => true,
+        (Some(Kind::Int(_)), Kind::Ptr) => false,
+        (Some(Kind::Ptr), Kind::Int(_)) => false,
+        (None, _) => false,
     }
 }
 

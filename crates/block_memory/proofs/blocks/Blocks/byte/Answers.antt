@@ -1,0 +1,16 @@
+use Rattle.std.proofs.Common.{ap, ◌∙◌, sym, slice_get}
+use Rattle.std.specs.Option.{option_and_then}
+use Rattle.block_memory.specs.Memory.{Cell, cell_at}
+use Rattle.block_memory.proofs.Places.{found_at, not_at}
+use Rattle.block_memory.proofs.blocks.Blocks.byte.Goals as goal
+
+pub returns-in-Some : goal.returns-in-Some
+returns-in-Some c =
+    c.byte.ensures
+    ∙ ap (option_and_then (λ (x : Cell). slice_get x.bytes c.args.place))
+    (sym (found_at c.deref.result.now c.args.block c.in-Some.cell.now c.in-Some.ensures.lookup.3.0 c.in-Some.ensures.lookup.1) ∙ ap (λ m. cell_at m c.args.block) (c.deref.ensures.value ∙ c.self.view_is))
+
+pub returns-in-None : goal.returns-in-None
+returns-in-None c =
+    ap (option_and_then (λ (x : Cell). slice_get x.bytes c.args.place))
+    (sym (not_at c.deref.result.now c.args.block c.in-None.ensures.lookup.3) ∙ ap (λ m. cell_at m c.args.block) (c.deref.ensures.value ∙ c.self.view_is))

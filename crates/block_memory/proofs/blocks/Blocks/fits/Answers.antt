@@ -1,0 +1,14 @@
+use Rattle.std.proofs.Common.{ap, ◌∙◌, sym}
+use Rattle.block_memory.specs.Memory.{fits_maybe, cell_at}
+use Rattle.block_memory.proofs.Places.{found_at, not_at}
+use Rattle.block_memory.proofs.blocks.Blocks.fits.Goals as goal
+
+pub returns-in-Some : goal.returns-in-Some
+returns-in-Some c =
+    c.fits.ensures ∙ ap (λ o. fits_maybe o c.args.count c.args.start c.args.align)
+    (sym (found_at c.deref.result.now c.args.block c.in-Some.cell.now c.in-Some.ensures.lookup.3.0 c.in-Some.ensures.lookup.1) ∙ ap (λ m. cell_at m c.args.block) (c.deref.ensures.value ∙ c.self.view_is))
+
+pub returns-in-None : goal.returns-in-None
+returns-in-None c =
+    ap (λ o. fits_maybe o c.args.count c.args.start c.args.align)
+    (sym (not_at c.deref.result.now c.args.block c.in-None.ensures.lookup.3) ∙ ap (λ m. cell_at m c.args.block) (c.deref.ensures.value ∙ c.self.view_is))
