@@ -3,9 +3,9 @@ use Rattle.std.proofs.Common.{◌≡◌, ◌∙◌, ◌+◌, ◌-◌, ◌<◌, �
 use Rattle.std.proofs.lemmas.Bool.{le-ltb, lt-ltb}
 use Rattle.derivation_cursor.specs.At.{Closes, Opens, SameText, Takes, ahead_of, passed, symbol_by, symbols_of}
 use Rattle.derivation_cursor.specs.declared.cursor.Cursor.{Cursor}
-use Rattle.flat.proofs.Passing.{skip_skip}
-use Rattle.flat.specs.Flat as flat
-use Rattle.flat.specs.Flat.{Mark, behind, mark_of, skip}
+use Rattle.module_derivations.proofs.FlatMarks.Passing.{skip_skip}
+use Rattle.module_derivations.specs.FlatMarks.Flat as flat
+use Rattle.module_derivations.specs.FlatMarks.Flat.{Mark, behind, mark_of, skip}
 use Rattle.ir_lexer.specs.declared.token.Token.{Token}
 use Rattle.std.specs.List.{slice_get}
 use Rattle.module_derivations.specs.Ahead.{ahead, arity, leaf_part, rule_part}

@@ -2,7 +2,7 @@
 use Rattle.std.specs.Prelude.{◌≡◌, ◌≤◌, ◌<◌, ℕ, List, [], ◌∷◌, length, map, Option, Some, None}
 use Rattle.derivation_cursor.specs.declared.cursor.Cursor.{Cursor}
 use Rattle.ir_lexer.specs.declared.token.Token.{Token}
-use Rattle.flat.specs.Flat.{Mark, behind, mark_of, skip}
+use Rattle.module_derivations.specs.FlatMarks.Flat.{Mark, behind, mark_of, skip}
 use Rattle.module_derivations.specs.Ahead.{ahead, arity, made_by}
 use Rattle.module_derivations.specs.Empty.{made, said}
 use Rattle.module_derivations.specs.Parts.{Part}

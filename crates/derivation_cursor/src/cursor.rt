@@ -1,7 +1,7 @@
 ghost use Rattle.std.specs.Prelude.{◌≡◌, ◌∷◌, ℕ, [], get_or, MatchOption};
 ghost use Rattle.std.specs.List.{slice_get};
 ghost use Rattle.derivation_cursor.specs.At.{Closes, Opens, SameText, Takes};
-ghost use Rattle.flat.specs.Flat.{mark_of};
+ghost use Rattle.module_derivations.specs.FlatMarks.Flat.{mark_of};
 ghost use Rattle.module_derivations.specs.Ahead as see;
 
 use ir_lexer::Token;

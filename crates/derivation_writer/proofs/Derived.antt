@@ -8,8 +8,8 @@ use Rattle.derivation_writer.specs.Writing as writing
 use Rattle.derivation_writer.specs.Writing.{IsDerived, written_by}
 use Rattle.derivation_writer.specs.declared.reading.Reading.{Reading}
 use Rattle.derivation_writer.specs.declared.stop.Stop.{Stop}
-use Rattle.flat.proofs.Running.{writes}
-use Rattle.flat.specs.Flat.{Written}
+use Rattle.module_derivations.proofs.FlatMarks.Running.{writes}
+use Rattle.module_derivations.specs.FlatMarks.Flat.{Written}
 use Rattle.ir_core.specs.declared.limits.Limit.{Limit}
 use Rattle.module_derivations.specs.Ahead.{chosen, marks, says}
 use Rattle.module_grammar.specs.Sets.{sets}
@@ -19,10 +19,10 @@ use Rattle.predictive.proofs.Keeping.{kept_some, kept_trees}
 use Rattle.predictive.specs.Grammar.{Forest, Forms, IsFirstFault, after_some, after_trees, yield}
 use Rattle.predictive.specs.Predictive.{MayEnd}
 use Rattle.predictive.specs.declared.symbol.Symbol.TheVariants.{Non}
-use Rattle.token_limits.specs.Laws.{base_number}
-use Rattle.token_limits.specs.Watched as watched
-use Rattle.token_limits.specs.Watched.{fresh}
-use Rattle.token_limits.specs.declared.watch.Watch.{Watch}
+use Rattle.derivation_writer.specs.TokenLimits.Laws.{base_number}
+use Rattle.derivation_writer.specs.TokenLimits.Watched as watched
+use Rattle.derivation_writer.specs.TokenLimits.Watched.{fresh}
+use Rattle.derivation_writer.specs.declared.token_limits.watch.Watch.{Watch}
 
 -- ---- what the parser answers
 

@@ -5,8 +5,8 @@ use Rattle.module_grammar.specs.Tokens.{token_grammar}
 use Rattle.module_spelling.specs.Opened.{IsWithin}
 use Rattle.predictive.specs.Grammar.{End, Forest, Forms, Leaf, Node}
 use Rattle.predictive.specs.declared.symbol.Symbol.TheVariants.{Non}
-use Rattle.token_limits.proofs.Marks.{marked_all}
-use Rattle.token_limits.specs.Roles.{role_of}
+use Rattle.derivation_writer.proofs.TokenLimits.Marks.{marked_all}
+use Rattle.derivation_writer.specs.TokenLimits.Roles.{role_of}
 
 -- a rule's number is one
 is_rule : (p : ℕ) → nat_lt p 280 ≡ true → p < 280

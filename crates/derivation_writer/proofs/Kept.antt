@@ -3,11 +3,11 @@ use Rattle.std.proofs.Common.{◌≡◌, ℕ, Option, None, Some, refl, ap, sym,
 use Rattle.derivation_writer.specs.Watching.{begun, reduced, shifted, unless_marked}
 use Rattle.derivation_writer.specs.Writing as writing
 use Rattle.derivation_writer.specs.declared.reading.Reading.{Reading}
-use Rattle.flat.specs.Flat.{Written}
+use Rattle.module_derivations.specs.FlatMarks.Flat.{Written}
 use Rattle.ir_core.specs.declared.limits.Limit.{Limit}
 use Rattle.predictive.proofs.Keeping.{Keeps}
-use Rattle.token_limits.specs.Watched as watched
-use Rattle.token_limits.specs.declared.watch.Watch.{Watch}
+use Rattle.derivation_writer.specs.TokenLimits.Watched as watched
+use Rattle.derivation_writer.specs.declared.token_limits.watch.Watch.{Watch}
 
 -- ---- what is written down
 

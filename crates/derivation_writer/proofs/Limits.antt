@@ -11,9 +11,9 @@ use Rattle.module_spelling.specs.Opened.{IsWithin}
 use Rattle.predictive.specs.Grammar.{Forest, Forms, IsFirstFault, after_events, after_some, after_trees, yield}
 use Rattle.predictive.specs.Predictive.{MayEnd}
 use Rattle.predictive.specs.declared.symbol.Symbol.TheVariants.{Non}
-use Rattle.token_limits.proofs.Marks.{marked, marked_all}
-use Rattle.token_limits.specs.Laws.{SaysBefore, SaysWhole, base_number}
-use Rattle.token_limits.specs.Watched.{begun, fresh, reduced, shifted}
+use Rattle.derivation_writer.proofs.TokenLimits.Marks.{marked, marked_all}
+use Rattle.derivation_writer.specs.TokenLimits.Laws.{SaysBefore, SaysWhole, base_number}
+use Rattle.derivation_writer.specs.TokenLimits.Watched.{begun, fresh, reduced, shifted}
 
 -- ---- beginnings of lists
 

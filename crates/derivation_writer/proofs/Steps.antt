@@ -3,8 +3,8 @@ use Rattle.std.proofs.Common.{◌≡◌, ◌∙◌, ◌<◌, ◌+◌, ◌-◌, �
 use Rattle.std.proofs.lemmas.Bool.{lt-ltb, le-ltb}
 use Rattle.std.proofs.lemmas.List.{append-nil, map-append}
 use Rattle.derivation_writer.specs.Writing.{begun, shifted, written_by}
-use Rattle.flat.specs.Flat as flat
-use Rattle.flat.specs.Flat.{Mark, mark_of}
+use Rattle.module_derivations.specs.FlatMarks.Flat as flat
+use Rattle.module_derivations.specs.FlatMarks.Flat.{Mark, mark_of}
 use Rattle.module_derivations.specs.Ahead.{chosen}
 
 -- a rule's number, and a token's

@@ -1,7 +1,7 @@
 -- What is written down of a text means the one tree that the text is written of.
 use Rattle.std.specs.Prelude.{ℕ, List, map, Ok}
 use Rattle.derivation_writer.specs.Writing.{IsDerived}
-use Rattle.flat.specs.Flat.{mark_of}
+use Rattle.module_derivations.specs.FlatMarks.Flat.{mark_of}
 use Rattle.module_derivations.specs.Derivations.{Means}
 use Rattle.module_derivations.specs.declared.start.TheConstants as start
 use Rattle.module_grammar.specs.Sorts.{AnyType, Called, DeclaredParams, Expr, GlobalName, LocalName, Module, Sort}

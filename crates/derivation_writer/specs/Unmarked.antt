@@ -2,7 +2,7 @@
 use Rattle.std.proofs.Common.{◌≡◌, ℕ}
 use Rattle.derivation_writer.specs.Watching as watching
 use Rattle.derivation_writer.specs.declared.reading.Reading.{Reading}
-use Rattle.token_limits.specs.Watched as watched
+use Rattle.derivation_writer.specs.TokenLimits.Watched as watched
 
 pub begun : (s : Reading) (rule : ℕ) → (watching.begun s rule).watch.mark ≡ s.watch.mark
 begun s rule = watched.begun_unmarked s.watch rule

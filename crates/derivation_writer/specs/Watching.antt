@@ -5,10 +5,10 @@ use Rattle.derivation_writer.specs.Writing.{written_by}
 use Rattle.derivation_writer.specs.declared.reading.Reading.{Reading}
 use Rattle.derivation_writer.specs.declared.stop.Stop.{Stop}
 use Rattle.derivation_writer.specs.declared.stop.Stop.TheVariants as stop
-use Rattle.flat.specs.Flat.{Written}
+use Rattle.module_derivations.specs.FlatMarks.Flat.{Written}
 use Rattle.ir_core.specs.declared.limits.Limit.{Limit}
-use Rattle.token_limits.specs.Watched as watched
-use Rattle.token_limits.specs.declared.watch.Watch.{Watch}
+use Rattle.derivation_writer.specs.TokenLimits.Watched as watched
+use Rattle.derivation_writer.specs.declared.token_limits.watch.Watch.{Watch}
 
 abbrev pub first : Reading
 first = record { writer = written_by 0 []; watch = watched.fresh }

@@ -2,8 +2,8 @@
 use Rattle.std.specs.Prelude.{◌≡◌, ℕ, List, [], ◌∷◌, map, Result, Ok, Err}
 use Rattle.derivation_writer.specs.declared.stop.Stop.{Stop}
 use Rattle.derivation_writer.specs.declared.stop.Stop.TheVariants as stop
-use Rattle.flat.specs.Flat as flat
-use Rattle.flat.specs.Flat.{Written, mark_of}
+use Rattle.module_derivations.specs.FlatMarks.Flat as flat
+use Rattle.module_derivations.specs.FlatMarks.Flat.{Written, mark_of}
 use Rattle.module_derivations.specs.Ahead.{chosen, marks, says}
 use Rattle.module_grammar.specs.Tokens.{token_grammar}
 use Rattle.module_spelling.specs.Faults.{IsStuck, PassesLimit}

@@ -3,13 +3,13 @@ ghost use Rattle.derivation_writer.specs.Watching.{stop_by};
 ghost use Rattle.derivation_writer.specs.Writing.{IsDerived};
 ghost use Rattle.module_grammar.specs.Sets.{sets};
 ghost use Rattle.predictive.specs.Predictive.{MayEnd};
-ghost use Rattle.token_limits.specs.Laws.{base_number};
+ghost use Rattle.derivation_writer.specs.TokenLimits.Laws.{base_number};
 
 use crate::reading::Reading;
 use crate::stop::Stop;
 use contents::Seq;
 use ir_core::Limit;
-use module_tables::TokenGrammar;
+use module_derivations::TokenGrammar;
 use predictive::parse;
 use std::alloc::{AllocError, Global};
 

@@ -2,12 +2,12 @@ ghost use Rattle.std.specs.Prelude.{◌≡◌, ℕ, OnOk};
 ghost use Rattle.derivation_writer.specs.Watching as watching;
 ghost use Rattle.derivation_writer.specs.Writing.{written_by};
 
+use crate::Watch;
 use crate::writer::Writer;
 use contents::Seq;
 use ir_core::Limit;
 use predictive::Action;
 use std::alloc::{AllocError, Global};
-use token_limits::Watch;
 
 /// What a parser writes down of a text, and a watch over the limits. Once a token has passed one, nothing more is written down.
 #[derive(Drop)]

@@ -46,7 +46,7 @@ pub(crate) struct Writer {
 
 impl Model for Writer {
     ghost use Rattle.std.specs.Coded.{codes};
-    ghost use Rattle.flat.specs.Flat.{Written};
+    ghost use Rattle.module_derivations.specs.FlatMarks.Flat.{Written};
     ghost use Rattle.derivation_writer.specs.Writing.{written_by};
 
     ghost Value = { Written };

@@ -7,7 +7,7 @@ use Rattle.ir_lexer.specs.declared.fault.TextFault.TheVariants as fault
 use Rattle.ir_lexer.specs.declared.token.LexFault.TheVariants as lexer
 use Rattle.module_grammar.specs.Laws.{WritesOneTree}
 use Rattle.module_grammar.specs.Sorts.{Expr}
-use Rattle.module_trees.proofs.Whole.{expression_starts}
+use Rattle.derivation_writer.proofs.ReadMarks.Whole.{expression_starts}
 use Rattle.expression_reader.proofs.OneFault.{Deep, Form, Found, Lexed, Long, Out, Stuck, expected, left_out, one_told}
 use Rattle.expression_reader.specs.Expressions.{IsExpressionFault, expression_number, logic_symbols}
 use Rattle.expression_reader.specs.Laws.{ExpressionFaultsAreOne}

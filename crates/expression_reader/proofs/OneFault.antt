@@ -16,9 +16,9 @@ use Rattle.module_grammar.specs.Tokens.{token_grammar}
 use Rattle.module_spelling.specs.Faults.{IsFirstOf, IsStuck, PassesLimit}
 use Rattle.module_texts.specs.Texts.{HasLexFault, IsShort, is_left_out_at, place_at}
 use Rattle.ir_lexer.specs.LeftOut.{is_left_out}
-use Rattle.module_trees.proofs.Limits.{not_limited}
-use Rattle.module_trees.specs.Reading.{IsReadAs}
-use Rattle.module_trees.specs.Runs.{IsStart}
+use Rattle.derivation_writer.proofs.ReadMarks.Limits.{not_limited}
+use Rattle.derivation_writer.specs.ReadMarks.Reading.{IsReadAs}
+use Rattle.derivation_writer.specs.ReadMarks.Runs.{IsStart}
 use Rattle.name_claims.specs.Faults.{rank}
 use Rattle.name_claims.specs.declared.claims.Fault.{Fault}
 use Rattle.predictive.proofs.Faults.{none_in_text, one_fault}

@@ -1,6 +1,6 @@
 -- What a reader of tokens answers, of the text.
 use Rattle.std.proofs.Common.{◌≡◌, ◌∙◌, ℕ, List, length, map, Result, Ok, Err, ap, sym, subst}
-use Rattle.flat.specs.Flat.{mark_of}
+use Rattle.module_derivations.specs.FlatMarks.Flat.{mark_of}
 use Rattle.ir_lexer.specs.Cut.{Placed}
 use Rattle.ir_lexer.specs.declared.token.Token.{Token}
 use Rattle.module_derivations.specs.Ahead.{ahead}
@@ -12,9 +12,9 @@ use Rattle.module_grammar.specs.declared.lines.ExprText.{ExprText}
 use Rattle.module_grammar.specs.declared.words.Language.TheVariants.{Logic}
 use Rattle.module_spelling.specs.Context.{AreKinds, all_seen}
 use Rattle.module_texts.specs.Texts.{HasTokens}
-use Rattle.module_trees.specs.Reading.{IsMarked, IsReading, read_off}
-use Rattle.module_trees.specs.declared.unread.Unread.{Unread}
-use Rattle.module_trees.specs.declared.unread.Unread.TheVariants as unread
+use Rattle.derivation_writer.specs.ReadMarks.Reading.{IsMarked, IsReading, read_off}
+use Rattle.derivation_writer.specs.declared.read_marks.unread.Unread.{Unread}
+use Rattle.derivation_writer.specs.declared.read_marks.unread.Unread.TheVariants as unread
 use Rattle.module_grammar.proofs.TextTokens.{symbols_in}
 use Rattle.expression_reader.proofs.TypeOwn.{kinds_are, own_kinds, own_seen}
 use Rattle.expression_reader.proofs.Told.{limit_told, stuck_told}

@@ -8,7 +8,7 @@ use Rattle.ir_lexer.specs.declared.token.LexFault.TheVariants as lexer
 use Rattle.module_grammar.specs.Laws.{WritesOneTree}
 use Rattle.module_grammar.specs.Sorts.{AnyType}
 use Rattle.module_texts.specs.Texts.{own_symbols}
-use Rattle.module_trees.proofs.Whole.{type_starts}
+use Rattle.derivation_writer.proofs.ReadMarks.Whole.{type_starts}
 use Rattle.expression_reader.proofs.OneFault.{Deep, Form, Found, Lexed, Long, Out, Stuck, expected, left_out, one_told}
 use Rattle.expression_reader.specs.TypeLaws.{TypeFaultsAreOne}
 use Rattle.expression_reader.specs.Types.{IsTypeFault, count_faults, type_number}

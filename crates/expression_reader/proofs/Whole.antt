@@ -12,8 +12,8 @@ use Rattle.module_grammar.specs.Tokens.{token_grammar}
 use Rattle.module_grammar.specs.declared.lines.ExprText.{ExprText}
 use Rattle.module_spelling.specs.Faults.{IsFirstOf, PassesLimit}
 use Rattle.module_texts.specs.Texts.{HasLexFault, IsShort}
-use Rattle.module_trees.proofs.Limits.{not_limited}
-use Rattle.module_trees.proofs.Whole.{expression_starts}
+use Rattle.derivation_writer.proofs.ReadMarks.Limits.{not_limited}
+use Rattle.derivation_writer.proofs.ReadMarks.Whole.{expression_starts}
 use Rattle.name_claims.specs.declared.claims.Fault.{Fault}
 use Rattle.module_walk.specs.LogicExpressions.{expression_of}
 use Rattle.predictive.proofs.Faults.{none_in_text}

@@ -17,7 +17,7 @@ use Rattle.module_grammar.specs.declared.words.Language.TheVariants.{Logic}
 use Rattle.module_spelling.specs.Faults.{IsFirstOf, IsStuck, PassesLimit}
 use Rattle.module_texts.specs.Texts.{HasLexFault, is_left_out_at, place_at}
 use Rattle.ir_lexer.specs.LeftOut.{is_left_out}
-use Rattle.module_trees.specs.Reading.{IsReadAs}
+use Rattle.derivation_writer.specs.ReadMarks.Reading.{IsReadAs}
 use Rattle.name_claims.specs.declared.claims.Fault.{Fault}
 use Rattle.ir_lexer.specs.declared.fault.TextFault.{TextFault}
 use Rattle.ir_lexer.specs.declared.fault.TextFault.TheVariants as fault

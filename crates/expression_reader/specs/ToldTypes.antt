@@ -5,8 +5,8 @@ use Rattle.ir_lexer.specs.declared.token.LexFault.{LexFault}
 use Rattle.ir_lexer.specs.declared.token.LexFault.TheVariants as lexer
 use Rattle.module_grammar.specs.declared.types.TypeText.{TypeText}
 use Rattle.ir_lexer.specs.LeftOut.{is_left_out}
-use Rattle.module_trees.specs.declared.unread.Unread.{Unread}
-use Rattle.module_trees.specs.declared.unread.Unread.TheVariants as unread
+use Rattle.derivation_writer.specs.declared.read_marks.unread.Unread.{Unread}
+use Rattle.derivation_writer.specs.declared.read_marks.unread.Unread.TheVariants as unread
 use Rattle.ir_lexer.specs.declared.fault.TextFault.{TextFault}
 use Rattle.ir_lexer.specs.declared.fault.TextFault.TheVariants as fault
 use Rattle.expression_reader.specs.Types.{AreOfType, OfTokens}

@@ -15,7 +15,7 @@ use Rattle.module_grammar.specs.declared.types.TypeText.TheOpen as types
 use Rattle.module_spelling.specs.Faults.{IsFirstOf, IsStuck, PassesLimit}
 use Rattle.module_texts.specs.Texts.{HasLexFault, HasTokens, is_left_out_at, own_symbols, place_at}
 use Rattle.ir_lexer.specs.LeftOut.{is_left_out}
-use Rattle.module_trees.specs.Reading.{IsReadAs}
+use Rattle.derivation_writer.specs.ReadMarks.Reading.{IsReadAs}
 use Rattle.name_claims.specs.declared.claims.Fault.{Fault}
 use Rattle.name_claims.specs.declared.claims.Reason.TheVariants as reason
 use Rattle.named_modules.specs.Faults.{at, unless}

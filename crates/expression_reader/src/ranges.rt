@@ -7,7 +7,7 @@ ghost use Rattle.expression_reader.specs.Ranges as meaning;
 ghost use Rattle.expression_reader.specs.Told as part;
 ghost use Rattle.expression_reader.specs.Types.{count_faults};
 ghost use Rattle.fault_walk.specs.Told.{noted, with_fault};
-ghost use Rattle.flat.specs.Flat.{behind, skip};
+ghost use Rattle.module_derivations.specs.FlatMarks.Flat.{behind, skip};
 ghost use Rattle.module_derivations.specs.Constants.{operand};
 ghost use Rattle.module_derivations.specs.Empty.{made, said};
 ghost use Rattle.module_derivations.specs.Said.{number_of, place_of};

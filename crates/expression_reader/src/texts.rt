@@ -4,7 +4,7 @@ ghost use Rattle.expression_reader.specs.Expressions.{IsExpressionFault};
 ghost use Rattle.expression_reader.specs.Told.{IsTreeOf};
 ghost use Rattle.expression_reader.specs.ToldTypes as told;
 ghost use Rattle.expression_reader.specs.Types.{IsTypeFault};
-ghost use Rattle.flat.specs.Flat.{mark_of};
+ghost use Rattle.module_derivations.specs.FlatMarks.Flat.{mark_of};
 ghost use Rattle.ir_core.specs.Limits.{text_limit};
 ghost use Rattle.module_derivations.specs.Ahead.{ahead};
 ghost use Rattle.module_derivations.specs.Empty.{made};
@@ -14,11 +14,11 @@ ghost use Rattle.module_grammar.specs.declared.words.Language.TheVariants.{Ir, L
 ghost use Rattle.module_texts.specs.Texts.{HasTokens};
 
 use contents::Seq;
+use derivation_writer::{Unread, read_expression, read_type};
 use ir_core::Limit;
 use ir_lexer::{LexFault, TextFault, Token, is_left_out, lex};
 use module_grammar::Language;
 use module_tokens::kinds_of;
-use module_trees::{Unread, read_expression, read_type};
 use std::alloc::Global;
 
 fn of_lexer(fault: LexFault) -> TextFault

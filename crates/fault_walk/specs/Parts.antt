@@ -1,7 +1,7 @@
 -- Words of private functions: constants, and the parts of constants.
 use Rattle.std.specs.Prelude.{ℕ, Bool, cond, nat_eq, List, ◌++◌}
 use Rattle.std.specs.List.{list_any}
-use Rattle.flat.specs.Flat.{behind, skip}
+use Rattle.module_derivations.specs.FlatMarks.Flat.{behind, skip}
 use Rattle.ir_core.specs.Typing.{contents_of}
 use Rattle.ir_types.specs.declared.names.Name.{Name}
 use Rattle.ir_types.specs.declared.ty.Ty.{Ty}

@@ -5,7 +5,7 @@
 ghost use Rattle.std.specs.Prelude.{◌≡◌, ◌∷◌, ◌++◌, [], map, Some, IfOk, OnOk};
 ghost use Rattle.std.specs.List.{flat_map};
 ghost use Rattle.derivation_cursor.specs.At.{Closes, Passes, PassesAll, ahead_of};
-ghost use Rattle.flat.specs.Flat.{behind, skip};
+ghost use Rattle.module_derivations.specs.FlatMarks.Flat.{behind, skip};
 ghost use Rattle.module_derivations.specs.Blocks as see;
 ghost use Rattle.module_derivations.specs.Constants.{operand};
 ghost use Rattle.module_derivations.specs.Empty as empty;

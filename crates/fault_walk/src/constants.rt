@@ -3,7 +3,7 @@ ghost use Rattle.std.specs.Prelude.{◌≡◌, ◌++◌, ◌∷◌, ◌&&◌, �
 ghost use Rattle.std.specs.List.{flat_map};
 ghost use Rattle.std.specs.Option.{option_copied, option_map};
 ghost use Rattle.derivation_cursor.specs.At.{Passes, PassesAll, ahead_of};
-ghost use Rattle.flat.specs.Flat.{behind, skip};
+ghost use Rattle.module_derivations.specs.FlatMarks.Flat.{behind, skip};
 ghost use Rattle.ir_core.specs.Typing as typing;
 ghost use Rattle.ir_core.specs.Typing.{Index};
 ghost use Rattle.ir_types.specs.declared.named.NamedTy.{NamedTy as NamedTyOf};

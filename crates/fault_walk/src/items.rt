@@ -2,7 +2,7 @@
 ghost use Rattle.std.specs.Prelude.{◌≡◌, ◌↔◌, ◌∷◌, ◌++◌, List, [], None, false, IfOk, IfSome, OnOk};
 ghost use Rattle.std.specs.List.{filter_map, flat_map};
 ghost use Rattle.derivation_cursor.specs.At.{Passes, PassesAll, ahead_of};
-ghost use Rattle.flat.specs.Flat.{behind, skip};
+ghost use Rattle.module_derivations.specs.FlatMarks.Flat.{behind, skip};
 ghost use Rattle.module_derivations.specs.Blocks.{block};
 ghost use Rattle.module_derivations.specs.Empty.{made};
 ghost use Rattle.module_derivations.specs.Functions as see;

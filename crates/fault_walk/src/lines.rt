@@ -5,7 +5,7 @@ ghost use Rattle.std.specs.Prelude.{◌≡◌, ◌∷◌, [], map, Some, None, I
 ghost use Rattle.std.specs.List.{flat_map};
 ghost use Rattle.std.specs.Option.{option_copied, option_map};
 ghost use Rattle.derivation_cursor.specs.At.{Closes, Passes, PassesAll, ahead_of};
-ghost use Rattle.flat.specs.Flat.{behind, skip};
+ghost use Rattle.module_derivations.specs.FlatMarks.Flat.{behind, skip};
 ghost use Rattle.ir_core.specs.Typing.{index_of, number_in};
 ghost use Rattle.ir_types.specs.Same as same;
 ghost use Rattle.ir_typing.specs.OperandTests.Kept.{signature_of};

@@ -4,7 +4,7 @@ ghost use Rattle.std.specs.Prelude.{◌≡◌, ◌∷◌, [], None, Some, cond, 
 ghost use Rattle.std.specs.List.{flat_map};
 ghost use Rattle.std.specs.Option.{option_copied, option_map};
 ghost use Rattle.derivation_cursor.specs.At.{Passes, PassesAll, ahead_of};
-ghost use Rattle.flat.specs.Flat.{skip};
+ghost use Rattle.module_derivations.specs.FlatMarks.Flat.{skip};
 ghost use Rattle.ir_core.specs.Typing as typing;
 ghost use Rattle.ir_types.specs.declared.names.Name.{Name as NameOf};
 ghost use Rattle.module_derivations.specs.Blocks as see;

@@ -12,11 +12,11 @@ use Rattle.ir_reader.specs.declared.fault.ModuleFault.TheVariants as fault
 use Rattle.module_spelling.specs.Spells.{Spells}
 use Rattle.module_texts.specs.Texts.{IsShort}
 use Rattle.ir_shape.specs.ShapeLaws.Laws.{FaultlessModulesHaveShape}
-use Rattle.spelled_limits.specs.Laws.{ModulesAreWithin}
-use Rattle.spelled_limits.specs.Ranges.{ModulesAreInRange}
+use Rattle.module_texts.specs.SpelledLimits.Laws.{ModulesAreWithin}
+use Rattle.module_texts.specs.SpelledLimits.Ranges.{ModulesAreInRange}
 use Rattle.renaming_laws.specs.Judged.{FunctionsAreJudged}
 use Rattle.renaming_laws.proofs.Texts.{HasFirstUndefined, of_functions}
-use Rattle.judged_texts.specs.Laws.{EachTextIsJudged}
+use Rattle.module_texts.specs.JudgedTexts.Laws.{EachTextIsJudged}
 use Rattle.judged_runs.specs.Texts.{IsAtFault, IsFitting}
 
 module _

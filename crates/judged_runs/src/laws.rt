@@ -5,10 +5,9 @@ use crell_program::runs_are_judged;
 use definedness::{shape_knows_labels, undefined_uses_are_faults};
 use hint_format::hint_files_are_read;
 use ir_shape::faultless_modules_have_shape;
-use judged_texts::each_text_is_judged;
 use module_reader::module_faults_are_one;
+use module_texts::{each_text_is_judged, spelled_modules_are_in_range, spelled_modules_are_within};
 use renaming_laws::{functions_are_judged, texts_are_judged};
-use spelled_limits::{spelled_modules_are_in_range, spelled_modules_are_within};
 
 /// The body calls laws alone, since the clause is a law.
 ///

@@ -1,8 +1,8 @@
 -- What the marks of a text's derivation mean.
 use Rattle.std.proofs.Common.{◌<◌, ℕ, refl}
 use Rattle.std.proofs.lemmas.Bool.{ltb-true}
-use Rattle.flat.proofs.Meaning.{means_text}
-use Rattle.flat.specs.Seeing.{IsSeeing}
+use Rattle.module_derivations.proofs.FlatMarks.Meaning.{means_text}
+use Rattle.module_derivations.specs.FlatMarks.Seeing.{IsSeeing}
 use Rattle.module_derivations.proofs.SaidAsKinds.{kept, plain}
 use Rattle.module_derivations.proofs.Seen.{are_seen}
 use Rattle.module_derivations.specs.Ahead.{seeing}

@@ -11,8 +11,8 @@ use Rattle.module_derivations.specs.declared.rule.TheConstants as rule
 use Rattle.module_derivations.specs.Parts.{Made, Part}
 use Rattle.module_derivations.specs.Empty.{made, nothing, said}
 use Rattle.module_derivations.specs.Said.{said_as}
-use Rattle.flat.specs.Flat.{Mark, marks_from, parts}
-use Rattle.flat.specs.Seeing.{Seeing}
+use Rattle.module_derivations.specs.FlatMarks.Flat.{Mark, marks_from, parts}
+use Rattle.module_derivations.specs.FlatMarks.Seeing.{Seeing}
 use Rattle.module_grammar.specs.Kinds.{kind}
 use Rattle.module_grammar.specs.Sorts.{Sort, Holds, sort, vocabulary, Module, Item, TypeBody, GlobalBody, GlobalLinkage, Align, DeclaredName, DeclaredParams, MoreDeclared, NextDeclared, Result, Convention, ResultType, Head, HeadEnd, UnnamedAddr, Linkage, Params, MoreParams, Param, ParamName, ParamAttributes, ParamAttribute, FunctionAttributes, FunctionAttribute, AttributeValue, Attached, Attachments, Attachment, Meta, MetaArguments, Bang, Distinct, AnyType, BaseType, Stars, Types, MoreTypes, Called, MoreCalled, NextCalled, FunctionType, GlobalName, Int, Inbounds, Const, MoreConsts, Init, Inits, MoreInits, Value, Operand, Operator, Flags, Exactness, Operation, Attach, AlignBehind, NextAlign, CountBehind, NextCount, IndicesBehind, NextIndex, CallBody, Callee, VoidCallee, VoidCall, CallEnd, Arguments, MoreArguments, Argument, Line, Register, Lines, Expr, Indices, LocalName, Block, BlockLabel, Blocks, Body, Behind, Node, EntriesBehind, NextEntry, Entry, End, Term, Returned, Branch, Cases, Case}
 use Rattle.module_grammar.specs.Symbols.{Symbol, balanced, foreign, kind_of}

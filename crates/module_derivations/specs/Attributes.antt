@@ -8,7 +8,7 @@ use Rattle.module_grammar.specs.declared.attributes.BangText.TheVariants as bang
 use Rattle.module_grammar.specs.declared.attributes.FunctionAttributeText.TheVariants as function_attribute
 use Rattle.module_grammar.specs.declared.attributes.MetaText.TheVariants as meta
 use Rattle.module_grammar.specs.declared.attributes.ParamAttributeText.TheVariants as param_attribute
-use Rattle.flat.specs.Flat.{behind}
+use Rattle.module_derivations.specs.FlatMarks.Flat.{behind}
 use Rattle.module_derivations.specs.declared.rule.TheConstants as rule
 use Rattle.module_derivations.specs.Parts.{Part, if_rule}
 use Rattle.module_derivations.specs.Empty.{made, said, no_meta}

@@ -19,7 +19,7 @@ use Rattle.module_grammar.specs.declared.commas.NextEntryText.TheVariants as nex
 use Rattle.module_grammar.specs.declared.flow.BehindText.TheVariants as behind_text
 use Rattle.module_grammar.specs.declared.flow.BranchText.TheVariants as branch_text
 use Rattle.module_grammar.specs.declared.flow.TermText.TheVariants as term_text
-use Rattle.flat.specs.Flat.{behind, skip}
+use Rattle.module_derivations.specs.FlatMarks.Flat.{behind, skip}
 use Rattle.module_derivations.specs.declared.rule.TheConstants as rule
 use Rattle.module_derivations.specs.Parts.{Part, if_rule}
 use Rattle.module_derivations.specs.Empty.{made, said, no_name, no_meta, no_attached}

@@ -13,7 +13,7 @@ use Rattle.module_grammar.specs.declared.constants.InitText as init
 use Rattle.module_grammar.specs.declared.constants.IntText.TheVariants as integer
 use Rattle.module_grammar.specs.declared.constants.Tag.TheVariants.{Old, Ghost}
 use Rattle.module_grammar.specs.declared.constants.ValueText.TheVariants as value
-use Rattle.flat.specs.Flat.{behind, skip}
+use Rattle.module_derivations.specs.FlatMarks.Flat.{behind, skip}
 use Rattle.module_derivations.specs.declared.rule.TheConstants as rule
 use Rattle.module_derivations.specs.Parts.{Part, if_rule}
 use Rattle.module_derivations.specs.Empty.{made, said, no_name, no_number, no_value}

@@ -1,6 +1,6 @@
 -- What the marks of a text's derivation mean.
 use Rattle.std.specs.Prelude.{◌≡◌, ℕ, List, [], ◌∷◌, map}
-use Rattle.flat.specs.Flat.{Mark}
+use Rattle.module_derivations.specs.FlatMarks.Flat.{Mark}
 use Rattle.module_derivations.specs.Ahead.{ahead, marks, seen}
 use Rattle.module_derivations.specs.declared.start.TheConstants as start
 use Rattle.module_grammar.specs.Sorts.{AnyType, Called, DeclaredParams, Expr, GlobalName, Holds, LocalName, Module, Sort}

@@ -1,6 +1,6 @@
 -- Examples of derivations, and what they mean.
 use Rattle.std.specs.Prelude.{◌≡◌, false, List, [], ◌∷◌, Some, None}
-use Rattle.flat.specs.Flat.{Mark, Rule, Token}
+use Rattle.module_derivations.specs.FlatMarks.Flat.{Mark, Rule, Token}
 use Rattle.module_derivations.specs.Ahead.{ahead, seen}
 use Rattle.module_derivations.specs.Empty.{no_value}
 use Rattle.module_derivations.specs.declared.rule.TheConstants as rule

@@ -15,7 +15,7 @@ use Rattle.module_grammar.specs.Joined.{declared_from}
 use Rattle.module_grammar.specs.declared.functions.DeclaredNameText.TheVariants as declared_name
 use Rattle.module_grammar.specs.declared.functions.LinkageText.TheVariants as linkage
 use Rattle.module_grammar.specs.declared.functions.NextDeclaredText.TheVariants as next_declared
-use Rattle.flat.specs.Flat.{behind, skip}
+use Rattle.module_derivations.specs.FlatMarks.Flat.{behind, skip}
 use Rattle.module_derivations.specs.declared.rule.TheConstants as rule
 use Rattle.module_derivations.specs.Parts.{Part, if_rule}
 use Rattle.module_derivations.specs.Empty.{made, said, no_name, no_head_end}

@@ -10,7 +10,7 @@ use Rattle.module_grammar.specs.declared.places.Placed.{Placed}
 use Rattle.module_grammar.specs.declared.items.HeldText.TheVariants as held
 use Rattle.module_grammar.specs.declared.items.ItemText.TheVariants as item
 use Rattle.module_grammar.specs.declared.items.TypeBodyText.TheVariants as type_body
-use Rattle.flat.specs.Flat.{behind, skip}
+use Rattle.module_derivations.specs.FlatMarks.Flat.{behind, skip}
 use Rattle.module_derivations.specs.declared.rule.TheConstants as rule
 use Rattle.module_derivations.specs.Parts.{Part, if_rule}
 use Rattle.module_derivations.specs.Empty.{made, said, no_global_body}

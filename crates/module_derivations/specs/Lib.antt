@@ -5,10 +5,12 @@ pub mod Constants
 pub mod Derivations
 pub mod Empty
 pub mod Examples
+pub mod FlatMarks
 pub mod Functions
 pub mod Items
 pub mod Lines
 pub mod Named
+pub mod ParserTables
 pub mod Parts
 pub mod Said
 pub mod Types

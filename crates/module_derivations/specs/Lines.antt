@@ -32,7 +32,7 @@ use Rattle.module_grammar.specs.declared.lines.InstructionText.TheVariants as in
 use Rattle.module_grammar.specs.declared.lines.OperationText.TheVariants as form
 use Rattle.module_grammar.specs.declared.lines.OperatorText.TheVariants as operators
 use Rattle.module_grammar.specs.declared.lines.VoidCallText.TheVariants as void_call
-use Rattle.flat.specs.Flat.{behind, skip}
+use Rattle.module_derivations.specs.FlatMarks.Flat.{behind, skip}
 use Rattle.module_derivations.specs.declared.rule.TheConstants as rule
 use Rattle.module_derivations.specs.Parts.{Part, if_rule}
 use Rattle.module_derivations.specs.Empty.{made, said, no_operand, no_meta, no_operator, no_operation, no_attached, no_next_align, no_void_call, no_void_callee}

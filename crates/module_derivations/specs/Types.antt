@@ -6,7 +6,7 @@ use Rattle.module_grammar.specs.declared.types.TypeText.{TypeText}
 use Rattle.module_grammar.specs.Joined.{called_from, pointers_to}
 use Rattle.module_grammar.specs.declared.types.NextCalledText.TheVariants as next_called
 use Rattle.module_grammar.specs.declared.types.TypeText as type_text
-use Rattle.flat.specs.Flat.{behind, skip}
+use Rattle.module_derivations.specs.FlatMarks.Flat.{behind, skip}
 use Rattle.module_derivations.specs.declared.rule.TheConstants as rule
 use Rattle.module_derivations.specs.Parts.{Part, if_rule}
 use Rattle.module_derivations.specs.Empty.{made, said, no_type}

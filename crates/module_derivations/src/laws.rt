@@ -1,4 +1,4 @@
-ghost use Rattle.flat.specs.Seeing.{AreSeen};
+ghost use Rattle.module_derivations.specs.FlatMarks.Seeing.{AreSeen};
 ghost use Rattle.module_derivations.specs.Ahead.{seeing};
 ghost use Rattle.module_derivations.specs.Derivations.{DerivationsMean};
 ghost use Rattle.module_derivations.specs.Examples.{MarksMean};

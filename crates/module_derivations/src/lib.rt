@@ -5,8 +5,12 @@
 //! a nonterminal of one rule is, which isn't written down.
 #![tactic(auto)]
 
+mod flat_marks;
 mod laws;
+mod parser_tables;
 pub mod rule;
 pub mod start;
 
+pub use flat_marks::{examples_of_marks, marks_are_written, parts_are_passed};
 pub use laws::{derivations_mean, examples_of_derivations, rules_are_named, rules_are_seen};
+pub use parser_tables::TokenGrammar;

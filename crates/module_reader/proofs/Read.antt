@@ -22,9 +22,9 @@ use Rattle.module_reader.specs.Told.{is_deep, of_grammar, of_unread}
 use Rattle.module_spelling.specs.Context.{StandFor, all_seen}
 use Rattle.module_spelling.specs.Faults.{IsDeepAt, IsStuck}
 use Rattle.module_texts.specs.Texts.{HasSymbols, HasTokens, IsTextFault, own_symbols}
-use Rattle.module_trees.specs.Reading.{IsReading}
-use Rattle.module_trees.specs.declared.unread.Unread.{Unread}
-use Rattle.module_trees.specs.declared.unread.Unread.TheVariants as unread
+use Rattle.derivation_writer.specs.ReadMarks.Reading.{IsReading}
+use Rattle.derivation_writer.specs.declared.read_marks.unread.Unread.{Unread}
+use Rattle.derivation_writer.specs.declared.read_marks.unread.Unread.TheVariants as unread
 use Rattle.ir_lexer.specs.declared.fault.TextFault.TheVariants as fault
 
 module _ (bytes : List ℕ) (small : List Token) where

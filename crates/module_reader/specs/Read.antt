@@ -11,7 +11,7 @@ use Rattle.module_grammar.specs.declared.places.Placed.{Placed}
 use Rattle.module_grammar.specs.declared.types.CalledText.{CalledText}
 use Rattle.module_spelling.specs.Spells.{StatesParams, StatesTypes}
 use Rattle.module_texts.specs.Texts.{HasSymbols}
-use Rattle.module_trees.specs.Reading.{IsReadAs}
+use Rattle.derivation_writer.specs.ReadMarks.Reading.{IsReadAs}
 
 -- what is told of names is what stands around them
 pub record Surround (symbols : List Symbol) (stated : Placed Name → CalledText) (params : Placed Name → DeclaredText) : Type 0 where

@@ -6,8 +6,8 @@ use Rattle.ir_lexer.specs.Cut.{Placed}
 use Rattle.ir_lexer.specs.declared.token.LexFault.{LexFault}
 use Rattle.ir_lexer.specs.declared.token.LexFault.TheVariants as lexer
 use Rattle.ir_lexer.specs.LeftOut.{is_left_out}
-use Rattle.module_trees.specs.declared.unread.Unread.{Unread}
-use Rattle.module_trees.specs.declared.unread.Unread.TheVariants as unread
+use Rattle.derivation_writer.specs.declared.read_marks.unread.Unread.{Unread}
+use Rattle.derivation_writer.specs.declared.read_marks.unread.Unread.TheVariants as unread
 use Rattle.name_claims.specs.declared.claims.Fault.{Fault}
 use Rattle.name_claims.specs.declared.claims.Reason.{Reason}
 use Rattle.name_claims.specs.declared.claims.Reason.TheVariants as reason

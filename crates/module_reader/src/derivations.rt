@@ -1,25 +1,24 @@
 //! The derivation of a text, with what stands around its names.
 ghost use Rattle.std.specs.Prelude.{◌≡◌, ◌↔◌, ℕ, length, map, IfOk, IfErr};
 ghost use Rattle.std.specs.List.{Contains};
-ghost use Rattle.flat.specs.Flat.{mark_of};
+ghost use Rattle.module_derivations.specs.FlatMarks.Flat.{mark_of};
 ghost use Rattle.ir_lexer.specs.Cut.{AreInOrder};
 ghost use Rattle.module_derivations.specs.Ahead.{ahead};
 ghost use Rattle.module_derivations.specs.Empty.{made};
 ghost use Rattle.module_grammar.specs.Spelled.{placed_in, symbol_in};
 ghost use Rattle.module_grammar.specs.declared.words.Language.TheVariants.{Ir};
-ghost use Rattle.module_surroundings.specs.Told as around;
+ghost use Rattle.token_context.specs.NameSurroundings.Told as around;
 ghost use Rattle.module_texts.specs.Texts.{HasTokens, IsTextFault};
 ghost use Rattle.module_reader.specs.Read.{IsTreeOf};
 ghost use Rattle.module_reader.specs.Told as told;
 
 use crate::faults::of_grammar;
 use contents::Seq;
+use derivation_writer::{Unread, read_module};
 use ir_core::Limit;
 use ir_lexer::{TextFault, Token};
-use module_surroundings::Around;
-use module_trees::{Unread, read_module};
 use std::alloc::Global;
-use token_context::kinds_in_context;
+use token_context::{Around, kinds_in_context};
 
 /// Why tokens are no tree, where those of these indices would be expected if what stands before them weren't too deep.
 fn of_unread(text: &[u8], tokens: &[Token], deep: &[usize], why: Unread) -> TextFault

@@ -8,7 +8,7 @@ use crate::read_module;
 use ir_core::Module;
 use ir_reader::{ModuleFault, fits, of_text};
 use ir_shape::faultless_modules_have_shape;
-use spelled_limits::{spelled_modules_are_in_range, spelled_modules_are_within};
+use module_texts::{spelled_modules_are_in_range, spelled_modules_are_within};
 use std::alloc::Global;
 
 /// Whether the module that the text spells is well-formed; if not, the text's first fault.

@@ -35,7 +35,7 @@ use Rattle.predictive.specs.Predictive.{MayEnd}
 use Rattle.predictive.specs.declared.symbol.Symbol.TheVariants.{Non}
 use Rattle.ir_lexer.specs.declared.fault.TextFault.{TextFault}
 use Rattle.ir_lexer.specs.declared.fault.TextFault.TheVariants as fault
-use Rattle.token_limits.specs.Laws.{IsWatched, MarksFirst}
+use Rattle.derivation_writer.specs.TokenLimits.Laws.{IsWatched, MarksFirst}
 use Rattle.module_texts.proofs.Lists.{all_mapped}
 use Rattle.module_texts.proofs.Needs.{needs, retold}
 use Rattle.module_texts.proofs.Prefixes.{pass_both}

@@ -18,7 +18,7 @@ use Rattle.name_claims.specs.declared.claims.Fault.{Fault}
 use Rattle.name_claims.specs.declared.claims.Reason.TheVariants as reason
 use Rattle.ir_lexer.specs.declared.fault.TextFault.{TextFault}
 use Rattle.ir_lexer.specs.declared.fault.TextFault.TheVariants as fault
-use Rattle.token_limits.specs.Laws.{MarksFirst}
+use Rattle.derivation_writer.specs.TokenLimits.Laws.{MarksFirst}
 use Rattle.module_spelling.specs.TokenLaws.{CalledNamesStand, DeclaredNamesStand}
 use Rattle.module_texts.proofs.Apart.{told}
 use Rattle.module_texts.proofs.OneLimit.{fault_or_read, limit_or_fault, limit_or_read, one_grammar_fault, one_limit}

@@ -11,7 +11,7 @@ use Rattle.module_spelling.specs.Opened.{PassesFirst}
 use Rattle.predictive.proofs.Faults.{one_fault}
 use Rattle.predictive.specs.Grammar.{Agree, Forest, Forms, yield}
 use Rattle.predictive.specs.declared.symbol.Symbol.TheVariants.{Non}
-use Rattle.token_limits.specs.Laws.{MarksFirst}
+use Rattle.derivation_writer.specs.TokenLimits.Laws.{MarksFirst}
 use Rattle.module_texts.proofs.Excluded.{module_may_end, no_limit, not_stuck, watched}
 use Rattle.module_texts.proofs.Prefixes.{pass_both}
 use Rattle.module_texts.proofs.Rises.{low_where_lines_pass}

@@ -11,8 +11,8 @@ use Rattle.predictive.specs.declared.symbol.Symbol.{Symbol}
 use Rattle.predictive.specs.declared.symbol.Symbol.TheVariants.{Kind, Non}
 use Rattle.predictive.specs.Grammar.{Begin, End, Event, Forest, Forms, Grammar, Leaf, Node, Reduce, Shift, after_events, after_some, events, until_shifted, yield}
 use Rattle.predictive.specs.Predictive.{IsFollowed, IsPredictive, MayEnd, Sets, ahead, at_end}
-use Rattle.token_limits.specs.Laws.{IsWatched, MarksFirst, SaysBefore}
-use Rattle.token_limits.specs.Watched.{begun, fresh, reduced, shifted}
+use Rattle.derivation_writer.specs.TokenLimits.Laws.{IsWatched, MarksFirst, SaysBefore}
+use Rattle.derivation_writer.specs.TokenLimits.Watched.{begun, fresh, reduced, shifted}
 
 -- ---- events
 

@@ -1,2 +1,5 @@
-pub mod Texts
+pub mod JudgedTexts
 pub mod Laws
+pub mod NamedModuleLaws
+pub mod SpelledLimits
+pub mod Texts

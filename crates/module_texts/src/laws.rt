@@ -1,9 +1,9 @@
 ghost use Rattle.module_texts.specs.Laws.{FaultsAreOne, FaultsExclude, ModulesAreOne};
 
+use derivation_writer::marks_the_first;
 use module_grammar::written_once;
 use module_spelling::{called_names_stand, declared_names_stand};
 use named_modules::named_trees_are_faultless;
-use token_limits::marks_the_first;
 
 /// The body calls laws alone, since the clause is a law.
 ///

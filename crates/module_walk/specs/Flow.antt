@@ -1,6 +1,6 @@
 -- Words of private functions: parts of blocks.
 use Rattle.std.specs.Prelude.{ℕ, List, map}
-use Rattle.flat.specs.Flat.{skip}
+use Rattle.module_derivations.specs.FlatMarks.Flat.{skip}
 use Rattle.ir_core.specs.declared.functions.Phi.{Phi}
 use Rattle.ir_core.specs.declared.functions.Switch.{Switch}
 use Rattle.ir_types.specs.declared.named.NamedTy.{NamedTy}

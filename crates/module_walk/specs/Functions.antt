@@ -1,6 +1,6 @@
 -- Words of private functions: heads of functions.
 use Rattle.std.specs.Prelude.{ℕ, cond, List, [], ◌∷◌, map}
-use Rattle.flat.specs.Flat.{skip}
+use Rattle.module_derivations.specs.FlatMarks.Flat.{skip}
 use Rattle.ir_core.specs.declared.functions.Extensions.{Extensions}
 use Rattle.ir_core.specs.declared.functions.Function.{Function}
 use Rattle.ir_core.specs.declared.modules.Declaration.{Declaration}

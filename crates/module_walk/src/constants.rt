@@ -1,7 +1,7 @@
 //! Types, names, numbers, constants, what globals hold at the start, and attributes of parameters, of which extensions alone are kept.
 ghost use Rattle.std.specs.Prelude.{◌≡◌, ◌++◌, map, IfOk, OnOk, [], ◌∷◌};
 ghost use Rattle.derivation_cursor.specs.At.{Passes, PassesAll, ahead_of};
-ghost use Rattle.flat.specs.Flat.{behind, skip};
+ghost use Rattle.module_derivations.specs.FlatMarks.Flat.{behind, skip};
 ghost use Rattle.ir_types.specs.declared.ty.Ty.{Ty as Stated};
 ghost use Rattle.module_derivations.specs.Empty as empty;
 ghost use Rattle.module_derivations.specs.Empty.{made, said};

@@ -2,7 +2,7 @@
 ghost use Rattle.std.specs.List.{filter};
 ghost use Rattle.std.specs.Prelude.{◌≡◌, ◌∷◌, ◌++◌, [], map, IfOk, OnOk};
 ghost use Rattle.derivation_cursor.specs.At.{Passes, PassesAll, ahead_of};
-ghost use Rattle.flat.specs.Flat.{skip};
+ghost use Rattle.module_derivations.specs.FlatMarks.Flat.{skip};
 ghost use Rattle.module_derivations.specs.Blocks as see;
 ghost use Rattle.module_derivations.specs.Empty.{made, no_operation};
 ghost use Rattle.module_derivations.specs.Functions as heads;

@@ -3,7 +3,7 @@ ghost use Rattle.std.specs.List.{filter};
 ghost use Rattle.std.specs.Option.{option_map};
 ghost use Rattle.std.specs.Prelude.{◌≡◌, ◌^◌, cond, nat_lt, map, unwrap_or, Some, IfOk, OnOk, ◌++◌, [], ◌∷◌};
 ghost use Rattle.derivation_cursor.specs.At.{Closes, Passes, ahead_of, PassesAll};
-ghost use Rattle.flat.specs.Flat.{behind, skip};
+ghost use Rattle.module_derivations.specs.FlatMarks.Flat.{behind, skip};
 ghost use Rattle.ir_core.specs.Functions.{name_set};
 ghost use Rattle.ir_core.specs.declared.expressions.Expr.TheVariants as expr;
 ghost use Rattle.module_derivations.specs.Constants.{operand};

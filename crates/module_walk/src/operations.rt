@@ -2,7 +2,7 @@
 ghost use Rattle.std.specs.Option.{option_copied, option_map};
 ghost use Rattle.std.specs.Prelude.{◌≡◌, IfOk, OnOk, map, unwrap_or, Some, []};
 ghost use Rattle.derivation_cursor.specs.At.{Passes, PassesAll, ahead_of, Closes};
-ghost use Rattle.flat.specs.Flat.{skip};
+ghost use Rattle.module_derivations.specs.FlatMarks.Flat.{skip};
 ghost use Rattle.ir_core.specs.Typing as typing;
 ghost use Rattle.ir_core.specs.Typing.{index_of};
 ghost use Rattle.ir_core.specs.declared.expressions.Expr.TheVariants as expr;

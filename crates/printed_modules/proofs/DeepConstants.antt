@@ -13,7 +13,7 @@ use Rattle.module_grammar.proofs.ConstFolds.{by_parts}
 use Rattle.module_grammar.proofs.InitFolds as held_folds
 use Rattle.named_modules.specs.Constants.{const_of, init_of}
 use Rattle.named_modules.specs.Types.{int_at_level, int_of}
-use Rattle.spelled_limits.proofs.Depths.{of_array_init, of_bytes, of_cast, of_const, of_element, of_global, of_null, of_number, of_struct_init, of_undef, of_zero}
+use Rattle.module_texts.proofs.SpelledLimits.Depths.{of_array_init, of_bytes, of_cast, of_const, of_element, of_global, of_null, of_number, of_struct_init, of_undef, of_zero}
 use Rattle.printed_modules.proofs.Deep.{ConstFits, InitFits}
 
 -- where nothing stands around

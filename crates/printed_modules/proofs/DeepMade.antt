@@ -37,8 +37,8 @@ use Rattle.predictive.specs.declared.symbol.Symbol.{Symbol}
 use Rattle.predictive.specs.declared.symbol.Symbol.TheVariants.{Kind, Non}
 use Rattle.predictive.specs.Meaning.{Each, EachOf}
 use Rattle.predictive.specs.Typed.{Rule, made, nth}
-use Rattle.spelled_limits.proofs.Depths.{of_array, of_array_init, of_bytes, of_cast, of_const, of_element, of_global, of_int, of_named, of_null, of_number, of_struct, of_struct_init, of_undef, of_zero, pair_depth, pairs_depth, part_depth}
-use Rattle.spelled_limits.proofs.FitsMade.{UnlessPointers, deeper}
+use Rattle.module_texts.proofs.SpelledLimits.Depths.{of_array, of_array_init, of_bytes, of_cast, of_const, of_element, of_global, of_int, of_named, of_null, of_number, of_struct, of_struct_init, of_undef, of_zero, pair_depth, pairs_depth, part_depth}
+use Rattle.module_texts.proofs.SpelledLimits.FitsMade.{UnlessPointers, deeper}
 use Rattle.printed_modules.proofs.Deep.{BehindFits, BodyFits, CalledFits, ConstFits, CountFits, DeclaredFits, EntryFits, Fits, InitFits, NextCalledFits, NextCountFits, NextEntryFits, NextFits, NextIndexFits, OperandFits, PairFits, PartFits, TypeFits}
 
 abbrev pub fits_at : (n : ℕ) → ℕ → ℕ → vocabulary.Value n → Type 0

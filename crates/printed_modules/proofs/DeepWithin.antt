@@ -21,9 +21,9 @@ use Rattle.predictive.specs.declared.symbol.Symbol.{Symbol as Sign}
 use Rattle.predictive.specs.declared.symbol.Symbol.TheVariants.{Kind, Non}
 use Rattle.predictive.specs.Meaning.{Each}
 use Rattle.predictive.specs.Typed.{nth}
-use Rattle.spelled_limits.proofs.Claimed.{AreUpTo}
-use Rattle.spelled_limits.proofs.Depths.{of_pointers}
-use Rattle.spelled_limits.proofs.FitsMade.{UnlessPointers, deeper_is}
+use Rattle.module_texts.proofs.SpelledLimits.Claimed.{AreUpTo}
+use Rattle.module_texts.proofs.SpelledLimits.Depths.{of_pointers}
+use Rattle.module_texts.proofs.SpelledLimits.FitsMade.{UnlessPointers, deeper_is}
 use Rattle.printed_modules.proofs.Deep.{StarsFit, TypeFits}
 use Rattle.printed_modules.proofs.DeepMade.{EachFits, IsSplit, each_splits, fits_at}
 use Rattle.printed_modules.proofs.ReadTrees as trees

@@ -36,7 +36,7 @@ use Rattle.named_modules.specs.Types.{int_of, is_type, is_value_type, type_of}
 use Rattle.named_modules.proofs.ConstKinds as kind
 use Rattle.named_modules.proofs.ConstKinds.{told_each}
 use Rattle.named_modules.proofs.Lists.{all_append, all_left, all_right}
-use Rattle.spelled_limits.proofs.SmallConstants.{AreFew}
+use Rattle.module_texts.proofs.SpelledLimits.SmallConstants.{AreFew}
 
 -- ---- what is wanted of types
 

@@ -75,7 +75,7 @@ use Rattle.named_modules.specs.Types.{int_of, type_of}
 use Rattle.named_modules.specs.Values.{IsOperand, IsValue, Registers}
 use Rattle.named_modules.proofs.Lists.{all_append, all_left, all_right}
 use Rattle.named_modules.proofs.OneLine.{operand_is}
-use Rattle.spelled_limits.proofs.SmallConstants.{AreFew}
+use Rattle.module_texts.proofs.SpelledLimits.SmallConstants.{AreFew}
 use Rattle.printed_modules.proofs.DeepConstants.{numbered}
 use Rattle.printed_modules.proofs.FewConstants.{constants_few, inits_few, wants_few}
 

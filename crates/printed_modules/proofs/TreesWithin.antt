@@ -28,7 +28,7 @@ use Rattle.named_modules.specs.Modules.{definition_item}
 use Rattle.named_modules.specs.Types.{type_of}
 use Rattle.predictive.specs.Grammar.{Forest, Forms, yield}
 use Rattle.predictive.specs.declared.symbol.Symbol.TheVariants.{Non}
-use Rattle.spelled_limits.proofs.Claimed.{AreUpTo}
+use Rattle.module_texts.proofs.SpelledLimits.Claimed.{AreUpTo}
 use Rattle.module_spelling.proofs.Shown.{AllFew}
 use Rattle.printed_modules.proofs.BuiltShort.{built_short}
 use Rattle.printed_modules.proofs.Deep.{Fits, TypeFits}

@@ -1,7 +1,6 @@
 ghost use Rattle.printed_modules.specs.Laws.{PrintedModulesAreRead, PrintingAgainChangesNothing, SpelledModulesAreApart, SpelledModulesArePrinted};
 
-use module_texts::texts_spell_one;
-use spelled_limits::{spelled_modules_are_in_range, spelled_modules_are_within};
+use module_texts::{spelled_modules_are_in_range, spelled_modules_are_within, texts_spell_one};
 
 /// Empty on purpose: its contract is the law.
 ///

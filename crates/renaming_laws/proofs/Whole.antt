@@ -16,8 +16,8 @@ use Rattle.ir_types.specs.declared.names.Name.{Name}
 use Rattle.ir_types.specs.declared.names.Name.TheVariants.{Text}
 use Rattle.named_modules.specs.Modules.{global_names, names_in_file}
 use Rattle.printed_modules.specs.Laws.{PrintedModulesAreRead}
-use Rattle.spelled_limits.specs.Laws.{ModulesAreWithin}
-use Rattle.spelled_limits.specs.Ranges.{ModulesAreInRange}
+use Rattle.module_texts.specs.SpelledLimits.Laws.{ModulesAreWithin}
+use Rattle.module_texts.specs.SpelledLimits.Ranges.{ModulesAreInRange}
 use Rattle.renaming_laws.specs.Kept.{LimitsStay, NamesStayApart}
 use Rattle.renaming_laws.specs.Laws.{KeepsRange, KeepsShape}
 use Rattle.renaming_laws.specs.Whole.{IsReadAgain, SpelledIsReadAgain}

@@ -8,8 +8,8 @@ use ir_reader::spelled_modules_fit;
 use ir_rename::{
     named_functions_are_renamed, numbered_functions_are_renamed, renamed_functions_keep_their_shape,
 };
+use module_texts::{spelled_modules_are_in_range, spelled_modules_are_within};
 use printer_laws::{printed_modules_are_read, spelled_modules_are_printed};
-use spelled_limits::{spelled_modules_are_in_range, spelled_modules_are_within};
 
 /// The body calls a law alone, since the clauses are laws.
 ///

@@ -1,12 +1,13 @@
 mod ByNumber
-pub mod Runs
 pub mod Classes
-pub mod Held
-pub mod Slices
-pub mod Readings
-pub mod Seen
 pub mod Contexts
-pub mod Steps
-pub mod SideBySide
+pub mod Held
 pub mod Lineless
+pub mod NameSurroundings
+pub mod Readings
+pub mod Runs
+pub mod Seen
+pub mod SideBySide
+pub mod Slices
+pub mod Steps
 pub mod Watched

@@ -12,10 +12,10 @@ use Rattle.token_context.proofs.Lineless.{lineless, no_lines_passed}
 use Rattle.token_context.specs.Readings.{Reads, reading_of}
 use Rattle.token_context.specs.declared.reading.Reading.{Reading}
 use Rattle.token_context.specs.declared.reading.Reading.TheVariants.{Other}
-use Rattle.token_limits.proofs.Marks.{marked_all}
-use Rattle.token_limits.specs.Laws.{SaysWhole, base_number}
-use Rattle.token_limits.specs.Watched.{begun, fresh, reduced, shifted}
-use Rattle.token_limits.specs.declared.watch.Watch.{Watch}
+use Rattle.derivation_writer.proofs.TokenLimits.Marks.{marked_all}
+use Rattle.derivation_writer.specs.TokenLimits.Laws.{SaysWhole, base_number}
+use Rattle.derivation_writer.specs.TokenLimits.Watched.{begun, fresh, reduced, shifted}
+use Rattle.derivation_writer.specs.declared.token_limits.watch.Watch.{Watch}
 
 abbrev pub IsStart : ℕ → Type 0
 IsStart n = (n ≡ called_number) ⊎ (n ≡ declared_number)

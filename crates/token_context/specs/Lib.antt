@@ -1,3 +1,4 @@
 pub mod Brackets
+pub mod NameSurroundings
 pub mod Readings
 pub mod SideBySide

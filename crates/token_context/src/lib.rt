@@ -5,8 +5,10 @@
 mod brackets;
 mod context;
 mod matters;
+mod name_surroundings;
 mod reading;
 
 pub use brackets::{Brackets, Opened};
 pub use context::{InContext, kinds_in_context};
 pub use matters::do_parens_matter;
+pub use name_surroundings::Around;

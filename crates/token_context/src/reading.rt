@@ -3,11 +3,11 @@ ghost use Rattle.module_spelling.specs.Context.{called_number, declared_number};
 ghost use Rattle.token_context.specs.Readings.{IsReadBehind, Reads, due, due_in_parens, reading_of};
 
 use crate::brackets::{Opened, between};
+use derivation_writer::Watch;
 use ir_core::Limit;
-use module_tables::TokenGrammar;
+use module_derivations::TokenGrammar;
 use predictive::parse;
 use std::alloc::{AllocError, Global};
-use token_limits::Watch;
 
 /// How the tokens between two parentheses are read.
 #[derive(Drop, Clone, Copy)]

@@ -4,7 +4,7 @@ use Rattle.derivation_cursor.specs.At.{SameText, ahead_of}
 use Rattle.expression_reader.proofs.ranges.+constants.Given as goal
 use Rattle.expression_reader.specs.Told.{part_faults}
 use Rattle.fault_walk.specs.Told.{noted}
-use Rattle.flat.specs.Flat.{behind}
+use Rattle.module_derivations.specs.FlatMarks.Flat.{behind}
 use Rattle.module_derivations.specs.Empty.{made}
 
 abbrev pub decreases-note_const : goal.decreases-note_const

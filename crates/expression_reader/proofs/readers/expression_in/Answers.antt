@@ -2,7 +2,7 @@
 use Rattle.std.proofs.Common.{map, subst, sym, ◌∙◌}
 use Rattle.expression_reader.proofs.readers.expression_in.Goals as goal
 use Rattle.expression_reader.specs.Told.{IsTreeOf}
-use Rattle.flat.specs.Flat.{mark_of}
+use Rattle.module_derivations.specs.FlatMarks.Flat.{mark_of}
 use Rattle.module_derivations.specs.Ahead.{ahead}
 use Rattle.module_derivations.specs.Empty.{made}
 use Rattle.module_grammar.specs.Spelled.{symbol_in}

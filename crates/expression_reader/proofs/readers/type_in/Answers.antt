@@ -2,7 +2,7 @@
 use Rattle.std.proofs.Common.{map, subst, sym, ◌∙◌}
 use Rattle.expression_reader.proofs.readers.type_in.Goals as goal
 use Rattle.expression_reader.specs.ToldTypes.{IsTreeOf}
-use Rattle.flat.specs.Flat.{mark_of}
+use Rattle.module_derivations.specs.FlatMarks.Flat.{mark_of}
 use Rattle.module_derivations.specs.Ahead.{ahead}
 use Rattle.module_derivations.specs.Types.{any_type}
 use Rattle.module_grammar.specs.Spelled.{symbol_in}

@@ -3,7 +3,7 @@ use Rattle.derivation_cursor.specs.At.{ahead_of}
 use Rattle.fault_walk.proofs.Behind.{faults_last, so_many_counted}
 use Rattle.fault_walk.specs.Lines.{counted, counted_faults}
 use Rattle.fault_walk.specs.Told.{faults_more, told_more}
-use Rattle.flat.specs.Flat.{skip}
+use Rattle.module_derivations.specs.FlatMarks.Flat.{skip}
 use Rattle.module_derivations.specs.Empty.{made}
 use Rattle.module_derivations.specs.Types.{any_type}
 use Rattle.module_spelling.specs.Blocks.{so_many, wanted_by_count}

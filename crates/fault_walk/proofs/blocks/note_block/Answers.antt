@@ -3,7 +3,7 @@ use Rattle.derivation_cursor.specs.At.{ahead_of}
 use Rattle.fault_walk.proofs.Behind.{in_turn, regrouped}
 use Rattle.fault_walk.specs.Flow.{body_faults, wanted_by_body}
 use Rattle.fault_walk.specs.Told.{told_more}
-use Rattle.flat.specs.Flat.{behind, skip}
+use Rattle.module_derivations.specs.FlatMarks.Flat.{behind, skip}
 use Rattle.module_derivations.specs.Empty.{made}
 use Rattle.module_spelling.specs.Blocks.{wanted_by_line, wanted_by_phi, wanted_by_term}
 use Rattle.named_modules.specs.Faults.{line_faults, phi_faults, term_faults}

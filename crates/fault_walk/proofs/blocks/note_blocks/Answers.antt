@@ -3,7 +3,7 @@ use Rattle.derivation_cursor.proofs.Steps.{same_twice}
 use Rattle.derivation_cursor.specs.At.{IsShorter, ahead_of, passed}
 use Rattle.fault_walk.proofs.Behind.{one_more}
 use Rattle.fault_walk.specs.Told.{told_more}
-use Rattle.flat.specs.Flat.{behind, skip}
+use Rattle.module_derivations.specs.FlatMarks.Flat.{behind, skip}
 use Rattle.module_derivations.specs.Ahead.{made_by}
 use Rattle.module_derivations.specs.Blocks.{block}
 use Rattle.module_derivations.specs.Empty.{made}

@@ -6,7 +6,7 @@ use Rattle.fault_walk.proofs.Joined.{told_joined}
 use Rattle.fault_walk.proofs.Other.{no_line_told}
 use Rattle.fault_walk.specs.Flow.{body_faults, node_faults, wanted_by_body, wanted_by_node}
 use Rattle.fault_walk.specs.Told.{told_more}
-use Rattle.flat.specs.Flat.{behind, skip}
+use Rattle.module_derivations.specs.FlatMarks.Flat.{behind, skip}
 use Rattle.module_derivations.specs.Ahead.{made_by}
 use Rattle.module_derivations.specs.Blocks.{node}
 use Rattle.module_derivations.specs.Empty.{made, no_attached}

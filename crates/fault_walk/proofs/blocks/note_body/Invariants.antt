@@ -2,7 +2,7 @@ use Rattle.std.proofs.Common.{◌≡◌, ◌≤◌, length}
 use Rattle.derivation_cursor.specs.At.{SameText, ahead_of}
 use Rattle.fault_walk.specs.Flow.{body_faults, wanted_by_body}
 use Rattle.fault_walk.specs.Told.{told_more}
-use Rattle.flat.specs.Flat.{behind}
+use Rattle.module_derivations.specs.FlatMarks.Flat.{behind}
 use Rattle.module_derivations.specs.Empty.{made}
 use Rattle.fault_walk.proofs.blocks.note_body.Given as goal
 

@@ -4,7 +4,7 @@ use Rattle.fault_walk.proofs.Behind.{in_turn, on_ok, told_late}
 use Rattle.fault_walk.specs.Lines.{built_index}
 use Rattle.fault_walk.specs.Stated.{stated}
 use Rattle.fault_walk.specs.Told.{told_more}
-use Rattle.flat.specs.Flat.{behind, skip}
+use Rattle.module_derivations.specs.FlatMarks.Flat.{behind, skip}
 use Rattle.module_derivations.specs.Constants.{operand}
 use Rattle.module_derivations.specs.Empty.{made}
 use Rattle.module_derivations.specs.Types.{any_type}

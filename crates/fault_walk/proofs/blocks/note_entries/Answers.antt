@@ -4,7 +4,7 @@ use Rattle.derivation_cursor.specs.At.{IsShorter, ahead_of, passed}
 use Rattle.fault_walk.proofs.Behind.{one_more}
 use Rattle.fault_walk.specs.Flow.{wanted_by_entry}
 use Rattle.fault_walk.specs.Told.{told_more}
-use Rattle.flat.specs.Flat.{behind, skip}
+use Rattle.module_derivations.specs.FlatMarks.Flat.{behind, skip}
 use Rattle.module_derivations.specs.Ahead.{made_by}
 use Rattle.module_derivations.specs.Blocks.{entry}
 use Rattle.module_derivations.specs.Empty.{made}

@@ -6,7 +6,7 @@ use Rattle.fault_walk.specs.Indices.{IsPath, index_at}
 use Rattle.fault_walk.specs.Lines.{built_index}
 use Rattle.fault_walk.specs.Stated.{stated}
 use Rattle.fault_walk.specs.Told.{told_more}
-use Rattle.flat.specs.Flat.{behind, skip}
+use Rattle.module_derivations.specs.FlatMarks.Flat.{behind, skip}
 use Rattle.ir_core.specs.Typing.{Index}
 use Rattle.ir_types.specs.declared.ty.Ty.{Ty}
 use Rattle.module_derivations.specs.Ahead.{made_by}

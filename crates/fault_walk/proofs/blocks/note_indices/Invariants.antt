@@ -3,7 +3,7 @@ use Rattle.derivation_cursor.specs.At.{SameText, ahead_of}
 use Rattle.fault_walk.proofs.Behind.{IsLed}
 use Rattle.fault_walk.specs.Lines.{built_index}
 use Rattle.fault_walk.specs.Told.{told_more}
-use Rattle.flat.specs.Flat.{behind}
+use Rattle.module_derivations.specs.FlatMarks.Flat.{behind}
 use Rattle.module_derivations.specs.Empty.{made}
 use Rattle.module_spelling.specs.Blocks.{wanted_by_operand}
 use Rattle.named_modules.specs.Faults.{operand_faults}

@@ -1,7 +1,7 @@
 use Rattle.std.proofs.Common.{◌≡◌, ◌≤◌, length}
 use Rattle.derivation_cursor.specs.At.{SameText, ahead_of}
 use Rattle.fault_walk.specs.Told.{told_more}
-use Rattle.flat.specs.Flat.{behind}
+use Rattle.module_derivations.specs.FlatMarks.Flat.{behind}
 use Rattle.module_derivations.specs.Empty.{made}
 use Rattle.module_spelling.specs.Blocks.{wanted_by_line}
 use Rattle.named_modules.specs.Faults.{line_faults}

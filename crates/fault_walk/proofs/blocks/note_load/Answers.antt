@@ -2,7 +2,7 @@ use Rattle.std.proofs.Common.{◌≡◌, ◌∙◌, ◌++◌, [], ap}
 use Rattle.derivation_cursor.specs.At.{ahead_of}
 use Rattle.fault_walk.proofs.Behind.{faults_last, in_turn, on_ok}
 use Rattle.fault_walk.specs.Told.{faults_more, told_more}
-use Rattle.flat.specs.Flat.{skip}
+use Rattle.module_derivations.specs.FlatMarks.Flat.{skip}
 use Rattle.module_derivations.specs.Constants.{operand}
 use Rattle.module_derivations.specs.Empty.{made}
 use Rattle.module_derivations.specs.Types.{any_type}

@@ -3,7 +3,7 @@ use Rattle.derivation_cursor.specs.At.{ahead_of}
 use Rattle.fault_walk.proofs.Behind.{in_turn, on_ok}
 use Rattle.fault_walk.specs.Flow.{wanted_by_entry}
 use Rattle.fault_walk.specs.Told.{told_more}
-use Rattle.flat.specs.Flat.{skip}
+use Rattle.module_derivations.specs.FlatMarks.Flat.{skip}
 use Rattle.module_derivations.specs.Blocks.{entry}
 use Rattle.module_derivations.specs.Empty.{made}
 use Rattle.module_derivations.specs.Types.{any_type}

@@ -1,7 +1,7 @@
 use Rattle.std.proofs.Common.{◌≡◌, ◌≤◌, ◌+◌, ◌*◌, ◌++◌, List, length, map}
 use Rattle.std.specs.List.{flat_map}
 use Rattle.derivation_cursor.specs.At.{SameText, ahead_of}
-use Rattle.flat.specs.Flat.{behind}
+use Rattle.module_derivations.specs.FlatMarks.Flat.{behind}
 use Rattle.ir_core.specs.Typing.{Index}
 use Rattle.module_derivations.specs.Empty.{made}
 use Rattle.fault_walk.specs.Indices.{IsPath, const_index}

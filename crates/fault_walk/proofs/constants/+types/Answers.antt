@@ -1,7 +1,7 @@
 use Rattle.std.proofs.Common.{◌≡◌, ◌∙◌, [], List, sym, ap, rules}
 use Rattle.std.specs.List.{flat_map}
 use Rattle.derivation_cursor.specs.At.{ahead_of}
-use Rattle.flat.specs.Flat.{behind}
+use Rattle.module_derivations.specs.FlatMarks.Flat.{behind}
 use Rattle.module_derivations.specs.Empty.{made, no_type, said}
 use Rattle.module_derivations.specs.Parts.{Part}
 use Rattle.module_derivations.specs.Said.{number_of, place_of, width_of}

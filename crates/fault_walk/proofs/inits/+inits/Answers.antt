@@ -1,7 +1,7 @@
 use Rattle.std.proofs.Common.{◌≡◌, ◌∙◌, ◌∷◌, List, sym, ap, rules}
 use Rattle.std.proofs.lemmas.Result.{on_ok_weaker}
 use Rattle.derivation_cursor.specs.At.{ahead_of}
-use Rattle.flat.specs.Flat.{skip}
+use Rattle.module_derivations.specs.FlatMarks.Flat.{skip}
 use Rattle.module_derivations.specs.Empty.{made, said}
 use Rattle.module_derivations.specs.Parts.{Part}
 use Rattle.module_derivations.specs.Said.{bytes_of}

@@ -1,6 +1,6 @@
 use Rattle.std.proofs.Common.{◌∙◌, ap}
 use Rattle.derivation_cursor.specs.At.{ahead_of}
-use Rattle.flat.specs.Flat.{behind}
+use Rattle.module_derivations.specs.FlatMarks.Flat.{behind}
 use Rattle.module_derivations.specs.Empty.{made}
 use Rattle.named_modules.specs.Functions.{is_dropped_name}
 use Rattle.fault_walk.proofs.items.is_dropped_ahead.Goals as goal

@@ -1,6 +1,6 @@
 use Rattle.std.proofs.Common.{◌≡◌, ◌∙◌, List, [], Some, ap, rules}
 use Rattle.derivation_cursor.specs.At.{ahead_of}
-use Rattle.flat.specs.Flat.{skip}
+use Rattle.module_derivations.specs.FlatMarks.Flat.{skip}
 use Rattle.ir_types.specs.declared.ty.Ty.{Ty}
 use Rattle.module_derivations.specs.Empty.{made}
 use Rattle.module_derivations.specs.Parts.{Part}

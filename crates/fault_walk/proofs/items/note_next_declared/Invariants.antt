@@ -1,7 +1,7 @@
 use Rattle.std.proofs.Common.{◌≡◌, ◌≤◌, length}
 use Rattle.std.specs.List.{flat_map}
 use Rattle.derivation_cursor.specs.At.{SameText, ahead_of}
-use Rattle.flat.specs.Flat.{behind}
+use Rattle.module_derivations.specs.FlatMarks.Flat.{behind}
 use Rattle.module_derivations.specs.Empty.{made}
 use Rattle.module_grammar.specs.Joined.{declared_from}
 use Rattle.named_modules.specs.Faults.{param_faults}

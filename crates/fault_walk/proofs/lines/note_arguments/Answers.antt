@@ -3,7 +3,7 @@ use Rattle.derivation_cursor.specs.At.{ahead_of}
 use Rattle.fault_walk.proofs.Behind.{on_ok, one_more}
 use Rattle.fault_walk.specs.Lines.{wanted_by_argument}
 use Rattle.fault_walk.specs.Told.{told_more}
-use Rattle.flat.specs.Flat.{skip}
+use Rattle.module_derivations.specs.FlatMarks.Flat.{skip}
 use Rattle.module_derivations.specs.Ahead.{made_by}
 use Rattle.module_derivations.specs.Empty.{made}
 use Rattle.module_derivations.specs.Lines.{argument}

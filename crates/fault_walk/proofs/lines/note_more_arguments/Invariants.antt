@@ -2,7 +2,7 @@ use Rattle.std.proofs.Common.{◌≡◌, ◌≤◌, length}
 use Rattle.derivation_cursor.specs.At.{SameText, ahead_of}
 use Rattle.fault_walk.specs.Lines.{wanted_by_argument}
 use Rattle.fault_walk.specs.Told.{told_more}
-use Rattle.flat.specs.Flat.{behind}
+use Rattle.module_derivations.specs.FlatMarks.Flat.{behind}
 use Rattle.module_derivations.specs.Empty.{made}
 use Rattle.named_modules.specs.Faults.{argument_faults}
 use Rattle.std.specs.List.{flat_map}

@@ -4,7 +4,7 @@ use Rattle.fault_walk.proofs.Behind.{in_turn, on_ok}
 use Rattle.fault_walk.proofs.Called.{faults_built}
 use Rattle.fault_walk.specs.Lines.{called_built, name_faults}
 use Rattle.fault_walk.specs.Told.{faults_more, told_more}
-use Rattle.flat.specs.Flat.{behind}
+use Rattle.module_derivations.specs.FlatMarks.Flat.{behind}
 use Rattle.module_derivations.specs.Ahead.{made_by}
 use Rattle.module_derivations.specs.Empty.{made, said}
 use Rattle.module_derivations.specs.Lines.{call_end}

@@ -1,6 +1,6 @@
 use Rattle.std.proofs.Common.{◌≡◌, ◌≤◌, length}
 use Rattle.derivation_cursor.specs.At.{SameText, ahead_of}
-use Rattle.flat.specs.Flat.{behind}
+use Rattle.module_derivations.specs.FlatMarks.Flat.{behind}
 use Rattle.module_derivations.specs.Empty.{made}
 use Rattle.fault_walk.specs.Names.{body_written, counted_in, with_all}
 use Rattle.fault_walk.proofs.names.write_body.Given as goal

@@ -1,6 +1,6 @@
 use Rattle.std.proofs.Common.{◌≡◌, ◌≤◌, length}
 use Rattle.derivation_cursor.specs.At.{SameText, ahead_of}
-use Rattle.flat.specs.Flat.{behind}
+use Rattle.module_derivations.specs.FlatMarks.Flat.{behind}
 use Rattle.module_derivations.specs.Empty.{made}
 use Rattle.fault_walk.specs.Names.{counted_in, lines_written, with_all}
 use Rattle.fault_walk.proofs.names.write_lines.Given as goal

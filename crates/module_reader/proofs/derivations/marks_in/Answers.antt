@@ -3,9 +3,9 @@ use Rattle.std.proofs.Common.{ap, subst, sym}
 use Rattle.std.specs.List.{Contains}
 use Rattle.module_grammar.specs.Sorts.{Module}
 use Rattle.module_spelling.specs.Context.{AreKinds}
-use Rattle.module_surroundings.specs.Told as around
+use Rattle.token_context.specs.NameSurroundings.Told as around
 use Rattle.module_texts.specs.Texts.{IsTextFault}
-use Rattle.module_trees.specs.Reading.{read_off}
+use Rattle.derivation_writer.specs.ReadMarks.Reading.{read_off}
 use Rattle.module_reader.proofs.Read.{fault_by, own, tree_by}
 use Rattle.module_reader.proofs.derivations.marks_in.Goals as goal
 

@@ -1,10 +1,10 @@
 -- The module of a derivation is spelled, and what is at fault in it is the text's.
 use Rattle.std.proofs.Common.{ℕ, List, map, subst, sym}
-use Rattle.flat.specs.Flat.{mark_of}
+use Rattle.module_derivations.specs.FlatMarks.Flat.{mark_of}
 use Rattle.module_derivations.specs.Ahead.{ahead}
 use Rattle.module_derivations.specs.Empty.{made}
 use Rattle.module_grammar.specs.declared.items.ModuleText.{ModuleText}
-use Rattle.module_surroundings.specs.Told as around
+use Rattle.token_context.specs.NameSurroundings.Told as around
 use Rattle.module_texts.specs.Texts.{IsTextFault}
 use Rattle.module_reader.specs.Naming.{IsNaming}
 use Rattle.module_reader.proofs.Read.{own}

@@ -1,6 +1,6 @@
 use Rattle.std.proofs.Common.{◌≡◌, ◌≤◌, [], length}
 use Rattle.derivation_cursor.specs.At.{SameText, ahead_of}
-use Rattle.flat.specs.Flat.{behind}
+use Rattle.module_derivations.specs.FlatMarks.Flat.{behind}
 use Rattle.module_derivations.specs.Empty.{made}
 use Rattle.module_walk.specs.Counted.{capped, registers_of}
 use Rattle.module_walk.proofs.Onto.{counted_from, phis_onto}

@@ -2,7 +2,7 @@ use Rattle.std.proofs.Common.{◌≡◌, ◌∙◌, ◌∷◌, ◌++◌, [], Som
 use Rattle.std.specs.List.{filter}
 use Rattle.derivation_cursor.proofs.Steps.{same_twice}
 use Rattle.derivation_cursor.specs.At.{IsShorter, ahead_of, passed}
-use Rattle.flat.specs.Flat.{behind, skip}
+use Rattle.module_derivations.specs.FlatMarks.Flat.{behind, skip}
 use Rattle.module_walk.proofs.Due.{small}
 use Rattle.module_walk.specs.Counted.{capped}
 use Rattle.module_derivations.specs.Ahead.{made_by}

@@ -1,7 +1,7 @@
 use Rattle.std.proofs.Common.{◌≡◌, ◌≤◌, ◌++◌, length}
 use Rattle.std.specs.List.{filter}
 use Rattle.derivation_cursor.specs.At.{SameText, ahead_of}
-use Rattle.flat.specs.Flat.{behind}
+use Rattle.module_derivations.specs.FlatMarks.Flat.{behind}
 use Rattle.module_walk.specs.Counted.{capped}
 use Rattle.module_derivations.specs.Empty.{made}
 use Rattle.named_modules.specs.Built.{due_behind_lines, lines_from}

@@ -2,8 +2,8 @@
 use Rattle.std.proofs.Common.{ap, subst, sym}
 use Rattle.ir_printer.specs.Printed.{printed_module}
 use Rattle.module_spelling.specs.Spells.{Spells}
-use Rattle.spelled_limits.specs.Laws.{ModulesAreWithin}
-use Rattle.spelled_limits.specs.Ranges.{ModulesAreInRange}
+use Rattle.module_texts.specs.SpelledLimits.Laws.{ModulesAreWithin}
+use Rattle.module_texts.specs.SpelledLimits.Ranges.{ModulesAreInRange}
 use Rattle.printed_modules.specs.Laws.{SpelledModulesArePrinted}
 use Rattle.printed_modules.proofs.InOrder.{spelled_in_order}
 use Rattle.printed_modules.proofs.Shaped.{fits_module}

@@ -1,6 +1,6 @@
 use Rattle.std.proofs.Common.{◌≡◌, ◌≤◌, ◌+◌, ◌*◌, length}
 use Rattle.derivation_cursor.specs.At.{SameText, ahead_of, passed}
-use Rattle.flat.specs.Flat.{skip}
+use Rattle.module_derivations.specs.FlatMarks.Flat.{skip}
 use Rattle.derivation_cursor.proofs.cursor.Cursor.pass.Given as goal
 
 abbrev pub invariant-loop-left : goal.invariant-loop-left

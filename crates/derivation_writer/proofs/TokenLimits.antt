@@ -1,0 +1,10 @@
+pub mod Counting
+pub mod Depths
+pub mod Facts
+pub mod Firsts
+pub mod Listed
+pub mod Marks
+pub mod Plain
+pub mod Seen
+pub mod Standing
+pub mod Tokens

@@ -1,6 +1,0 @@
-//! What stands between parentheses around names whose derivation doesn't keep it, read from the tokens of a text.
-#![tactic(auto)]
-
-mod around;
-
-pub use around::Around;

@@ -1,5 +1,0 @@
-use Rattle.std.proofs.Common.{refl}
-use Rattle.module_tables.proofs.tables.starts.Goals as goal
-
-pub returns : goal.returns
-returns c = refl

@@ -1,8 +1,0 @@
-//! The whole grammar of textual LLVM IR as the tables of a predictive parser.
-#![tactic(auto)]
-
-mod choices;
-mod sides;
-mod tables;
-
-pub use tables::TokenGrammar;

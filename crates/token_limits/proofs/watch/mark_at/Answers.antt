@@ -1,5 +1,0 @@
-use Rattle.std.proofs.Common.{rules}
-use Rattle.token_limits.proofs.watch.mark_at.Goals as goal
-
-pub returns-else-from-number-2 : goal.returns-else-from-number-2
-returns-else-from-number-2 c = search rules

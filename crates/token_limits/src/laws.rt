@@ -1,8 +1,0 @@
-ghost use Rattle.token_limits.specs.Laws.{MarksFirst};
-
-/// Empty on purpose: its contract is the law.
-///
-/// A watch that is told the derivation of a text marks the limit that is passed by the first token which passes one.
-pub fn marks_the_first()
-    ensures { MarksFirst }
-{}
