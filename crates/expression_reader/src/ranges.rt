@@ -14,7 +14,6 @@ ghost use Rattle.module_derivations.specs.Said.{number_of, place_of};
 ghost use Rattle.module_derivations.specs.Types.{any_type};
 ghost use Rattle.module_grammar.specs.declared.constants.ConstText as constant;
 ghost use Rattle.module_grammar.specs.declared.types.TypeText as text;
-ghost use Rattle.name_claims.specs.Faults as claims;
 ghost use Rattle.name_claims.specs.declared.claims.Reason.TheVariants as claim;
 ghost use Rattle.named_modules.specs.Faults as faults;
 ghost use Rattle.named_modules.specs.Types as types;
@@ -26,31 +25,12 @@ use ir_lexer::Number;
 use module_derivations::rule;
 use module_grammar::{IntText, Placed};
 use module_walk::{read_integer, read_type};
-use name_claims::{Fault, Reason};
+use name_claims::{Fault, Reason, before};
 use named_modules::int_of;
 use std::alloc::{AllocError, Global};
 
 /// The counts are below it.
 const COUNTS: u128 = 18_446_744_073_709_551_616;
-
-/// The order of faults at one place.
-fn rank(reason: Reason) -> u8
-    ensures { result ≡ claims.rank reason }
-{
-    match reason {
-        Reason::Twice => 0,
-        Reason::WrongNumber(_) => 1,
-        Reason::Unknown => 2,
-        Reason::LeftOut => 3,
-        Reason::WrongType => 4,
-    }
-}
-
-fn before(a: Fault, b: Fault) -> bool
-    ensures { result ≡ claims.before a b }
-{
-    a.start < b.start || (a.start == b.start && rank(a.reason) < rank(b.reason))
-}
 
 /// The first of both.
 fn sooner(first: Option<Fault>, fault: Fault) -> Option<Fault>

@@ -28,6 +28,7 @@ use ir_core::{BitType, Block, Element, Expr, Function, Instr, Name, Param, Phi, 
 use ir_typing::{LentNames, LentTypes, number_in};
 use module_derivations::rule;
 use module_grammar::Placed;
+use module_walk::read_register;
 use name_claims::{Fault, Reason};
 use std::alloc::{AllocError, Global};
 use std::collections::HashMap;
@@ -491,20 +492,6 @@ fn read_param_name(alloc: Global, c: &mut Cursor) -> Result<Option<Placed<Name>>
 {
     match c.rule() {
         Some(rule::NAMED) => Ok(Some(read_name(alloc, c)?)),
-        other => {
-            c.pass(other);
-            Ok(None)
-        }
-    }
-}
-
-/// `[LOCAL =]`
-fn read_register(alloc: Global, c: &mut Cursor) -> Result<Option<Placed<Name>>, AllocError>
-    ensures said { IfOk result (λ it. it ≡ (made (ahead_of c.old)).register) }
-    ensures passes { OnOk result (Passes c.old c.new) }
-{
-    match c.rule() {
-        Some(rule::REGISTER) => Ok(Some(read_name(alloc, c)?)),
         other => {
             c.pass(other);
             Ok(None)

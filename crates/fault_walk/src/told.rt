@@ -2,36 +2,16 @@
 ghost use Rattle.std.specs.Prelude.{◌≡◌, [], ◌∷◌};
 ghost use Rattle.fault_walk.specs.Told as meaning;
 ghost use Rattle.fault_walk.specs.Told.{faults_more};
-ghost use Rattle.name_claims.specs.Faults as claims;
 ghost use Rattle.named_modules.specs.Faults as faults;
 
 use module_grammar::Placed;
-use name_claims::{Fault, Reason};
+use name_claims::{Fault, Reason, before};
 
 /// What is told so far: the first fault, and the first place where the limit on blocks is passed.
 #[derive(Drop, Clone, Copy)]
 pub struct Told {
     pub fault: Option<Fault>,
     pub large: Option<u32>,
-}
-
-/// The order of faults at one place.
-fn rank(reason: Reason) -> u8
-    ensures { result ≡ claims.rank reason }
-{
-    match reason {
-        Reason::Twice => 0,
-        Reason::WrongNumber(_) => 1,
-        Reason::Unknown => 2,
-        Reason::LeftOut => 3,
-        Reason::WrongType => 4,
-    }
-}
-
-fn before(a: Fault, b: Fault) -> bool
-    ensures { result ≡ claims.before a b }
-{
-    a.start < b.start || (a.start == b.start && rank(a.reason) < rank(b.reason))
 }
 
 /// The first of both.

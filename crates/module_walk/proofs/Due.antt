@@ -24,8 +24,7 @@ use Rattle.module_grammar.specs.declared.lines.VoidCallText.{VoidCallText}
 use Rattle.module_grammar.specs.declared.lines.VoidCallText.TheVariants as of_void
 use Rattle.module_grammar.specs.declared.places.Placed.{Placed}
 use Rattle.module_grammar.specs.declared.types.TypeText.{TypeText}
-use Rattle.module_walk.proofs.Counted as counted
-use Rattle.module_walk.proofs.Counted.{alike, behind_capped, from_capped, name_capped}
+use Rattle.module_walk.proofs.Counted.{alike, behind_capped, capped_is, from_capped, name_capped, twice_capped}
 use Rattle.module_walk.specs.Counted.{capped, due_or, names_of_params, registers_of}
 use Rattle.module_walk.specs.Functions.{headed}
 use Rattle.module_walk.specs.Lines.{alloca_at}
@@ -35,12 +34,6 @@ use Rattle.named_modules.specs.Constants.{global_name}
 use Rattle.named_modules.specs.Functions.{blocks_in, linkage_said}
 use Rattle.named_modules.specs.Types.{type_of}
 use Rattle.named_modules.specs.Values.{extensions_of}
-
-pub capped_is : (n : ℕ) → n < 2 ^ 64 → n ≡ capped n
-capped_is = counted.capped_is
-
-pub twice_capped : (n : ℕ) → capped (capped n) ≡ capped n
-twice_capped = counted.twice_capped
 
 pub small : (n d : ℕ) → n ≡ capped d → n ≡ capped n
 small n d e = e ∙ sym (twice_capped d) ∙ ap capped (sym e)

@@ -6,7 +6,8 @@ use Rattle.ir_core.specs.declared.functions.Instr.{Instr}
 use Rattle.ir_core.specs.Functions.{name_set}
 use Rattle.ir_types.specs.declared.named.NamedTy.{NamedTy}
 use Rattle.ir_types.specs.declared.names.Name.{Name}
-use Rattle.module_walk.proofs.Due.{behind_lines_capped, capped_is, lines_capped, or_capped}
+use Rattle.module_walk.proofs.Counted.{capped_is}
+use Rattle.module_walk.proofs.Due.{behind_lines_capped, lines_capped, or_capped}
 use Rattle.module_walk.specs.Counted.{capped, due_or}
 use Rattle.module_grammar.specs.declared.lines.AttachedText.{AttachedText}
 use Rattle.module_grammar.specs.declared.lines.LineText.{LineText}

@@ -12,10 +12,11 @@ either P (Some m) n then other p q = both (nat_eq m n)
     both true = p
     both false = q
 
-another : {T : Type 0} (r : Option ℕ) (n : ℕ) (then other : T) → (r ≡ Some n → ⊥) → other ≡ if_rule r n then other
+-- what another rule than this makes is the other
+pub another : {T : Type 0} (r : Option ℕ) (n : ℕ) (then other : T) → (r ≡ Some n → ⊥) → if_rule r n then other ≡ other
 another None n then other h = refl
-another (Some m) n then other h = ap (λ b. cond b then other) (sym (differ m n (λ e. h (ap (λ m. Some m) e))))
+another (Some m) n then other h = ap (λ b. cond b then other) (differ m n (λ e. h (ap (λ m. Some m) e)))
 
 -- what holds of the other holds where it isn't this rule
 pub by_another : {T : Type 0} (P : T → Type 0) (r : Option ℕ) (n : ℕ) (then other : T) → (r ≡ Some n → ⊥) → P other → P (if_rule r n then other)
-by_another P r n then other h q = subst P (another r n then other h) q
+by_another P r n then other h q = subst P (sym (another r n then other h)) q

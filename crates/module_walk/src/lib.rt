@@ -9,4 +9,5 @@ mod operations;
 
 pub use constants::{read_integer, read_type, read_types};
 pub use items::{read_module_of, read_named_types};
+pub use lines::read_register;
 pub use operations::read_expression;

@@ -551,10 +551,7 @@ fn read_attach(
 }
 
 /// `LOCAL =`, or nothing
-pub(crate) fn read_register(
-    alloc: Global,
-    c: &mut Cursor,
-) -> Result<Option<Placed<Name>>, AllocError>
+pub fn read_register(alloc: Global, c: &mut Cursor) -> Result<Option<Placed<Name>>, AllocError>
     ensures built { IfOk result (λ it. it ≡ (made (ahead_of c.old)).register) }
     ensures passes { OnOk result (Passes c.old c.new) }
 {
@@ -619,7 +616,7 @@ fn read_line(
 }
 
 /// Any number of lines, but for those that are dropped, are put behind the others. Gives the number that is due behind them.
-#[tactic(auto, using(crate::proofs::Differ::differ, crate::proofs::Ended::nothing_behind, crate::proofs::OtherLines::no_lines, crate::proofs::Due::capped_is))]
+#[tactic(auto, using(crate::proofs::Differ::differ, crate::proofs::Ended::nothing_behind, crate::proofs::OtherLines::no_lines, crate::proofs::Counted::capped_is))]
 fn read_lines(
     alloc: Global,
     c: &mut Cursor,

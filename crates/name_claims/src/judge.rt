@@ -160,7 +160,8 @@ fn rank(reason: Reason) -> u8
     }
 }
 
-fn before(a: Fault, b: Fault) -> bool
+/// Whether the first fault comes before the second: by its place, at one place by `rank`.
+pub fn before(a: Fault, b: Fault) -> bool
     ensures { result ≡ before a b }
 {
     a.start < b.start || (a.start == b.start && rank(a.reason) < rank(b.reason))

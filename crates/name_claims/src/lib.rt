@@ -12,5 +12,5 @@ mod laws;
 mod places;
 
 pub use claims::{Claim, Count, Definition, Fault, Item, Meaning, Reason, Says, Use};
-pub use judge::{first_fault, first_with};
+pub use judge::{before, first_fault, first_with};
 pub use laws::examples_of_faults;
