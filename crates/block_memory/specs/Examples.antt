@@ -82,7 +82,7 @@ pub record ShowingsAreThese : Type 0 where
   pub undef_as_next : chosen kind.Ptr one_block one_name (choice.Fresh (Some 0) (pos 2)) ≡ Some (shown.Name 1 (pos 2), two_names)
   pub undef_as_nothing : chosen kind.Ptr one_block one_name (choice.Fresh None (pos 2)) ≡ Some (shown.Name 1 (pos 2), Some 1 ∷ None ∷ [])
   pub undef_as_named_block : chosen kind.Ptr one_block two_names (choice.Fresh (Some 0) (pos 2)) ≡ None
-  pub undef_as_no_block : chosen kind.Ptr one_block one_name (choice.Fresh (Some 1) (pos 2)) ≡ None
+  pub undef_as_no_block : chosen kind.Ptr one_block [] (choice.Fresh (Some 1) (pos 2)) ≡ None
   pub number_as_next : chosen (kind.Int 8) one_block one_name (choice.Fresh None (pos 0)) ≡ None
   pub resolves : resolved two_names 1 (pos 3) ≡ value.Ptr 0 (pos 3)
   pub bound_to_nothing : resolved (None ∷ []) 0 (pos 3) ≡ value.Undef

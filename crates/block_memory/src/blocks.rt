@@ -1,9 +1,10 @@
-ghost use Rattle.std.specs.Prelude.{◌≡◌, ◌≤◌, ◌<◌, ◌+◌, ◌++◌, [], ◌∷◌, pos, true, false, IfNone, IfSome, IfOk, OnOk, OnErr, length, take, drop, IsTrue, ◌↔◌};
+ghost use Rattle.std.specs.Prelude.{◌≡◌, ◌≤◌, ◌<◌, ◌+◌, ◌++◌, [], ◌∷◌, pos, true, false, Some, IfNone, IfSome, IfOk, OnOk, OnErr, length, take, drop, IsTrue, ◌↔◌};
 ghost use Rattle.std.specs.Prelude.{slice_get};
 ghost use Rattle.std.specs.Option.{option_and_then, option_map};
 ghost use Rattle.ir_core.specs.Types.{kind_of as kind_meant};
 ghost use Rattle.ir_core.specs.declared.values.Value.TheVariants as value;
-ghost use Rattle.ir_values.specs.Values.{HasWidth};
+ghost use Rattle.ir_values.specs.Values.{HasWidth, IsInKind};
+ghost use Rattle.ir_values.specs.Operations.{GivesInKind};
 ghost use Rattle.block_memory.specs.Bytes.{byte_count as byte_number, bytes_of, value_of as value_meant};
 ghost use Rattle.block_memory.specs.Memory.{Cell, Memory, cell_at, fits_in, fits_maybe, can_access, loaded_of, put, with_bytes, updated, stored, stored_of, loaded, new_cell, filled, or_undef, ended};
 ghost use Rattle.block_memory.specs.Blocks.{Stores};
@@ -78,7 +79,8 @@ impl Block {
     fn read(&self, kind: Kind, start: u64) -> Value
         requires kind { HasWidth kind }
         requires inside { start + byte_number kind ≤ length self.now.bytes }
-        ensures { result ≡ value_meant kind (take (byte_number kind) (drop start self.now.bytes)) }
+        ensures value { result ≡ value_meant kind (take (byte_number kind) (drop start self.now.bytes)) }
+        ensures in_kind { IsInKind kind result }
     {
         let from = start as usize;
         value_of(kind, &self.bytes[from..from + byte_count(kind)])
@@ -232,7 +234,8 @@ impl Blocks {
     /// Loads a value of the type. At a type without values it is poison.
     #[tactic(auto, using(ir_values::proofs::KindLaws::kind_has_width))]
     pub fn load(&self, ty: &Ty, ptr: &Value, align: u64) -> Outcome
-        ensures { result ≡ loaded_of self.now (kind_meant ty.now) ptr.now align }
+        ensures value { result ≡ loaded_of self.now (kind_meant ty.now) ptr.now align }
+        ensures in_kind { GivesInKind (kind_meant ty.now) result }
     {
         match kind_of(ty) {
             Some(kind) => self.load_at(kind, ptr, align),
@@ -253,7 +256,8 @@ impl Blocks {
 
     fn load_at(&self, kind: Kind, ptr: &Value, align: u64) -> Outcome
         requires kind { HasWidth kind }
-        ensures { result ≡ loaded self.now kind ptr.now align }
+        ensures value { result ≡ loaded self.now kind ptr.now align }
+        ensures in_kind { GivesInKind (Some kind) result }
     {
         match self.place(kind, ptr, align) {
             Some((block, start)) => Outcome::Gives(self.cells[block].read(kind, start)),

@@ -2,7 +2,8 @@
 ghost use Rattle.std.specs.Prelude.{◌≡◌, ◌≤◌, ◌<◌, ◌+◌, ◌^◌, length};
 ghost use Rattle.std.specs.List.{list_any};
 ghost use Rattle.block_memory.specs.Bytes as meaning;
-ghost use Rattle.ir_values.specs.Values.{HasWidth};
+ghost use Rattle.ir_core.specs.declared.values.Kind.TheVariants.{Int, Ptr};
+ghost use Rattle.ir_values.specs.Values.{HasWidth, IsInKind};
 
 use ir_core::{BlockId, Byte, Kind, Value};
 
@@ -40,7 +41,8 @@ fn number_byte(number: u64, place: usize) -> u8
 pub(crate) fn value_of(kind: Kind, bytes: &[Byte]) -> Value
     requires kind { HasWidth kind }
     requires few { length bytes.now ≤ 8 }
-    ensures { result ≡ meaning.value_of kind bytes.now }
+    ensures value { result ≡ meaning.value_of kind bytes.now }
+    ensures in_kind { IsInKind kind result }
 {
     if has_poison(bytes) {
         return Value::Poison;
@@ -58,7 +60,8 @@ pub(crate) fn value_of(kind: Kind, bytes: &[Byte]) -> Value
 
 fn number_within(width: u32, number: u64) -> Value
     requires { width ≤ 64 }
-    ensures { result ≡ meaning.number_within width number }
+    ensures value { result ≡ meaning.number_within width number }
+    ensures in_kind { IsInKind (Int width) result }
 {
     if u128::from(number) < power_of_two(width) {
         Value::Num(number)
@@ -110,7 +113,8 @@ fn number_of(bytes: &[Byte]) -> Option<u64>
 
 fn pointer_of(bytes: &[Byte]) -> Value
     requires { length bytes.now ≤ 8 }
-    ensures { result ≡ meaning.pointer_of bytes.now }
+    ensures value { result ≡ meaning.pointer_of bytes.now }
+    ensures in_kind { IsInKind Ptr result }
 {
     let Some(Byte::Frag(block, offset, _)) = bytes.first() else {
         return Value::Undef;

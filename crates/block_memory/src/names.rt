@@ -180,6 +180,8 @@ impl Names {
         ensures ok { IfOk result (λ s. meaning.IsShown value.now kind blocks.now self.old s self.new) }
         ensures wrong { (result ≡ Err end.Wrong) ↔ (value.now ≡ Poison) }
         ensures no_choice { (result ≡ Err end.NoChoice) ↔ ((value.now ≡ Undef) × (meaning.chosen_maybe kind blocks.now self.old (option_copied choice.entry) ≡ None)) }
+        ensures chosen { value.now ≡ Undef
+            → meaning.Chooses self.old (meaning.chosen_maybe kind blocks.now self.old (option_copied choice.entry)) result self.new }
         ensures err { OnErr result (self.new ≡ self.old) }
     {
         match value {

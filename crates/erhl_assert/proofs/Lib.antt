@@ -2,3 +2,4 @@ pub mod Courses
 pub mod Edges
 pub mod Judging
 pub mod SameFact
+pub mod SameGlobals

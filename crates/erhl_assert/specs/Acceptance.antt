@@ -15,7 +15,9 @@ use Rattle.ir_core.specs.declared.functions.Function.{Function}
 use Rattle.ir_core.specs.declared.modules.Module.{Module}
 use Rattle.ir_types.specs.Same.{same_list, same_name, same_ty}
 use Rattle.ir_core.specs.Functions.{successors_of}
-use Rattle.ir_core.specs.Modules.{Scope, scope_of, definitions_of}
+use Rattle.ir_core.specs.Modules.{definitions_of, declarations_of}
+use Rattle.ir_values.specs.Constants.{Scope}
+use Rattle.ir_machine.specs.State.{scope_of}
 use Rattle.ir_printer.specs.ExpressionPrinter.Printed.{printed_register}
 use Rattle.flow_solver.specs.Near.{reached_nodes}
 use Rattle.definedness.specs.Graph.{flow_of}
@@ -33,6 +35,7 @@ use Rattle.erhl_assert.specs.declared.verdict.Verdict.TheVariants as verdict
 use Rattle.erhl_assert.specs.declared.verdict.Difference.TheVariants as difference
 use Rattle.erhl_assert.specs.declared.verdict.ModuleVerdict.{ModuleVerdict}
 use Rattle.erhl_assert.specs.declared.verdict.ModuleVerdict.TheVariants as modules
+use Rattle.erhl_assert.specs.Globals.{same_global, same_declaration, AreDeclaredAlike}
 use Rattle.erhl_assert.specs.Sides.{has_reg}
 use Rattle.erhl_assert.specs.Matched.{matched}
 use Rattle.erhl_assert.specs.Edges.{is_old, without_old, edge_between}
@@ -220,9 +223,11 @@ AreAccepted rules scope (f ∷ fs) (g ∷ gs) =
 AreAccepted rules scope (f ∷ fs) [] = ⊥
 AreAccepted rules scope [] (g ∷ gs) = ⊥
 
--- The modules are accepted: they name the same types, and each pair of their functions is accepted.
+-- The modules are accepted: they name the same types, have the same globals, declare the same, and each pair of their functions is accepted.
 pub record AreModulesAccepted (hints : Hints) (rules : Rules) (source target : Module) : Type 0 where
   pub types : source.types ≡ target.types
+  pub globals : source.globals ≡ target.globals
+  pub declarations : AreDeclaredAlike (declarations_of source) (declarations_of target)
   pub functions : AreAcceptedUnder hints rules (scope_of source) (definitions_of source) (definitions_of target)
 
 -- name and fields are equal, in their order; an opaque type has none
@@ -243,7 +248,19 @@ definitions_answer rules source target hints =
     (functions_answer rules (scope_of source) hints (definitions_of source) (definitions_of target))
     (Some (modules.Differs difference.Functions))
 
--- THE answer on two modules: their named types are equal, in their order; then what is answered on their functions.
+-- and on their declarations before: each says what the one at its place does, wherever they stand among the functions
+abbrev pub declarations_answer : Rules → Module → Module → Hints → Option ModuleVerdict
+declarations_answer rules source target hints =
+    cond (same_list same_declaration (declarations_of source) (declarations_of target))
+    (definitions_answer rules source target hints)
+    (Some (modules.Differs difference.Declarations))
+
+-- and on their globals before these: they are equal, in their order
+abbrev pub globals_answer : Rules → Module → Module → Hints → Option ModuleVerdict
+globals_answer rules source target hints =
+    cond (same_list same_global source.globals target.globals) (declarations_answer rules source target hints) (Some (modules.Differs difference.Globals))
+
+-- THE answer on two modules: their named types are equal, in their order; then what is answered on their globals, declarations and functions.
 abbrev pub module_answer : Rules → Module → Module → Hints → Option ModuleVerdict
 module_answer rules source target hints =
-    cond (same_list same_named_type source.types target.types) (definitions_answer rules source target hints) (Some (modules.Differs difference.Types))
+    cond (same_list same_named_type source.types target.types) (globals_answer rules source target hints) (Some (modules.Differs difference.Types))

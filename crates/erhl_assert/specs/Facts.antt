@@ -5,7 +5,7 @@ use Rattle.ir_core.specs.declared.values.Kind.{Kind}
 use Rattle.ir_core.specs.declared.expressions.Reg.{Reg}
 use Rattle.ir_core.specs.Same.{same_reg, same_expr}
 use Rattle.ir_core.specs.Expressions.{Expr0, type_of, expr_has}
-use Rattle.ir_core.specs.Modules.{Scope}
+use Rattle.ir_values.specs.Constants.{Scope}
 use Rattle.ir_values.specs.Operations.{IsOutcomeLessDefined}
 use Rattle.ir_core.specs.Types.{kind_of}
 use Rattle.erhl_assert.specs.declared.facts.Fact.{Fact}

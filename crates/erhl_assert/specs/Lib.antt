@@ -5,6 +5,7 @@ pub mod Course
 pub mod Edges
 pub mod FactLaws
 pub mod Facts
+pub mod Globals
 pub mod Growth
 pub mod Hashed
 pub mod Held

@@ -14,7 +14,7 @@ use Rattle.ir_core.specs.Expressions.{Expr0, type_of, operands_in}
 use Rattle.ir_core.specs.Functions.{typed_of}
 use Rattle.ir_types.specs.Same.{same_list, same_name}
 use Rattle.ir_core.specs.Types.{kind_of}
-use Rattle.ir_core.specs.Modules.{Scope}
+use Rattle.ir_values.specs.Constants.{Scope}
 use Rattle.ir_values.specs.Values.{same_kind}
 use Rattle.erhl_assert.specs.declared.facts.Fact.{Fact}
 use Rattle.erhl_assert.specs.declared.facts.Assertion.{Assertion}

@@ -4,6 +4,7 @@
 
 mod fact_set;
 mod facts;
+mod globals;
 mod hashing;
 mod held;
 mod hints;
@@ -11,6 +12,7 @@ mod verdict;
 
 pub use fact_set::{FactSet, Kill, bare_name, expr_names, fact_names};
 pub use facts::{Assertion, Expr, Fact, Schema, Side, same_fact, same_fact_is_equality};
+pub use globals::{globals_are_compared, same_declaration, same_global};
 pub use held::HeldBlock;
 pub use hints::{
     FunctionHint, FunctionLoops, GhostStep, Hint, HintBlock, HintEdge, HintStep, Hints, Letter,

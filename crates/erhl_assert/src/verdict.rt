@@ -75,6 +75,8 @@ pub enum Verdict {
 #[derive(Drop, Clone, Copy)]
 pub enum Difference {
     Types,
+    Globals,
+    Declarations,
     Functions,
 }
 

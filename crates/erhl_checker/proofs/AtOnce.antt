@@ -14,7 +14,7 @@ use Rattle.ir_core.specs.declared.functions.Function.{Function}
 use Rattle.ir_core.specs.declared.functions.Instr.{Instr}
 use Rattle.ir_core.specs.declared.functions.Phi.{Phi}
 use Rattle.ir_core.specs.Functions.{successors_of}
-use Rattle.ir_core.specs.Modules.{Scope}
+use Rattle.ir_values.specs.Constants.{Scope}
 use Rattle.ir_machine.specs.Machine.{block_named}
 use Rattle.flow_solver.specs.Near.{reached_nodes}
 use Rattle.definedness.specs.Graph.{flow_of}

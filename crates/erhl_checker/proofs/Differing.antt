@@ -1,5 +1,5 @@
--- Two modules differ exactly where their signatures do, and are valid exactly where each pair is accepted.
-use Rattle.std.proofs.Common.{◌≡◌, ◌∙◌, ◌&&◌, Bool, true, false, cond, List, [], ◌∷◌, map, Option, None, Some, refl, sym, subst, ap}
+-- Two modules differ exactly where their types, globals, declarations or signatures do, and are valid exactly where each pair is accepted.
+use Rattle.std.proofs.Common.{◌≡◌, ◌∙◌, ◌&&◌, Bool, true, false, cond, List, [], ◌∷◌, map, Option, None, Some, refl, sym, subst, ap, ap₂}
 use Rattle.std.proofs.lemmas.Bool.{false≢true}
 use Rattle.std.specs.List.{AllByRecursion}
 use Rattle.std.specs.Prelude.{◌↔◌, Result, Ok, Err, IfOk}
@@ -9,10 +9,13 @@ use Rattle.ir_types.specs.declared.names.Name.{Name}
 use Rattle.ir_types.specs.declared.ty.Ty.{Ty}
 use Rattle.ir_core.specs.declared.functions.Function.{Function}
 use Rattle.ir_core.specs.declared.functions.Param.{Param}
+use Rattle.ir_core.specs.declared.modules.GlobalVar.{GlobalVar}
 use Rattle.ir_core.specs.declared.modules.Module.{Module}
 use Rattle.ir_types.specs.Same.{same_list, same_name, same_ty}
 use Rattle.ir_types.proofs.SameLaws.{same_ty_true, same_ty_refl}
-use Rattle.ir_core.specs.Modules.{Scope, scope_of, definitions_of}
+use Rattle.ir_core.specs.Modules.{definitions_of, declarations_of}
+use Rattle.ir_values.specs.Constants.{Scope}
+use Rattle.ir_machine.specs.State.{scope_of}
 use Rattle.ir_types.specs.NameLaws.{left_true, right_true, all_true, same_list_true, same_list_refl, same_name_true, same_name_refl}
 use Rattle.erhl_assert.specs.declared.hints.Hints.{Hints}
 use Rattle.erhl_assert.specs.declared.verdict.Verdict.{Verdict}
@@ -22,11 +25,13 @@ use Rattle.erhl_assert.specs.declared.verdict.Difference.TheVariants as differen
 use Rattle.erhl_assert.specs.declared.verdict.ModuleVerdict.{ModuleVerdict}
 use Rattle.erhl_assert.specs.declared.verdict.ModuleVerdict.TheVariants as modules
 use Rattle.erhl_assert.specs.Steps.{Rules, beside, AreSound}
-use Rattle.erhl_assert.specs.Acceptance.{function_judged, function_answer, hint_for, of_function, functions_answer, definitions_answer, module_answer, same_fields, same_named_type, same_signature, AreAcceptedUnder, AreAccepted, AreModulesAccepted}
+use Rattle.erhl_assert.specs.Acceptance.{function_judged, function_answer, hint_for, of_function, functions_answer, definitions_answer, declarations_answer, globals_answer, module_answer, same_fields, same_named_type, same_signature, AreAcceptedUnder, AreAccepted, AreModulesAccepted}
 use Rattle.erhl_soundness.specs.Laws.{ArePhisApart, AcceptedModulesRefine}
 use Rattle.erhl_checker.specs.declared.checked_pair.ends.CheckEnd.{CheckEnd}
 use Rattle.erhl_checker.specs.CheckedPair.Progress.{Answers}
+use Rattle.erhl_assert.specs.Globals.{same_global, same_declaration, AreDeclaredAlike}
 use Rattle.erhl_assert.proofs.Courses.{answer_is_good, good_answers}
+use Rattle.erhl_assert.proofs.SameGlobals.{globals_true, globals_are, declarations_true, declarations_are}
 
 -- parameters are compared by their types
 pub same_types : (ps qs : List Param) → same_list (λ p q. same_ty p.ty q.ty) ps qs ≡ same_list same_ty (map (λ p. p.ty) ps) (map (λ p. p.ty) qs)
@@ -157,60 +162,150 @@ module _ (rules : Rules) (source target : Module) (hints : Hints) (v : ModuleVer
     λ other. let e = by_test false other in cc,
   )
 
-  never_by_types : v ≡ modules.Differs difference.Types → ⊥
-  never_by_types differs = (elim test as (λ b. test ≡ b → ⊥) [
+  never_otherwise : (d : Difference) → (difference.Functions ≡ d → ⊥) → v ≡ modules.Differs d → ⊥
+  never_otherwise d other differs = (elim test as (λ b. test ≡ b → ⊥) [
     | true ↦ λ same.
-        functions_never_differ rules (scope_of source) hints (definitions_of source) (definitions_of target) difference.Types same
-        (by_test true same ∙ ap (λ v. Some v) differs)
-    | false ↦ λ other. let e = by_test false other ∙ ap (λ v. Some v) differs in cc
+        functions_never_differ rules (scope_of source) hints (definitions_of source) (definitions_of target) d same (by_test true same ∙ ap (λ v. Some v) differs)
+    | false ↦ λ not. let e = by_test false not ∙ ap (λ v. Some v) differs in other (cc)
   ]) refl
 
--- of an answer that is the one on the two modules
-module _ (rules : Rules) (source target : Module) (hints : Hints) (v : ModuleVerdict) (is : module_answer rules source target hints ≡ Some v) where
+-- ---- a test that comes first, and what differs where it fails
+
+module _ (what : Difference) (rest : Option ModuleVerdict) (v : ModuleVerdict) where
+  abbrev after : Bool → Option ModuleVerdict
+  after test = cond test rest (Some (modules.Differs what))
+
+  behind_test : (test : Bool) → after test ≡ Some v → test ≡ true → rest ≡ Some v
+  behind_test true is passed = is
+  behind_test false is passed = absurd (false≢true passed)
+
+  test_fails : (test : Bool) → after test ≡ Some v → (test ≡ true → ⊥) → v ≡ modules.Differs what
+  test_fails true is fails = absurd (fails refl)
+  test_fails false is fails = cc
+
+  test_passes : (test : Bool) → after test ≡ Some v → (v ≡ modules.Differs what → ⊥) → test ≡ true
+  test_passes true is other = refl
+  test_passes false is other = absurd (other (cc))
+
+  -- whatever else differs is of the rest
+  never_behind : (test : Bool) → after test ≡ Some v → (d : Difference) → (what ≡ d → ⊥) → (rest ≡ Some v → v ≡ modules.Differs d → ⊥) → v ≡ modules.Differs d → ⊥
+  never_behind true is d other never differs = never is differs
+  never_behind false is d other never differs = other (cc)
+
+-- of an answer that is the one on the two modules, or on what is compared behind their types, their globals or their declarations
+module _ (rules : Rules) (source target : Module) (hints : Hints) (v : ModuleVerdict) where
+  abbrev IsAnswer : Option ModuleVerdict → Type 0
+  IsAnswer answer = answer ≡ Some v
+
+  abbrev AreAlike : Type 0
+  AreAlike = AreDeclaredAlike (declarations_of source) (declarations_of target)
+
+  abbrev on_declarations : Option ModuleVerdict
+  on_declarations = declarations_answer rules source target hints
+
+  abbrev on_functions : Option ModuleVerdict
+  on_functions = definitions_answer rules source target hints
+
+  abbrev on_globals : Option ModuleVerdict
+  on_globals = globals_answer rules source target hints
+
   abbrev one : Bool
   one = same_list same_named_type source.types target.types
 
-  by_types : (b : Bool) → one ≡ b → cond b (definitions_answer rules source target hints) (Some (modules.Differs difference.Types)) ≡ Some v
-  by_types b e = sym (ap (λ b. cond b (definitions_answer rules source target hints) (Some (modules.Differs difference.Types))) e) ∙ is
+  abbrev two : Bool
+  two = same_list same_global source.globals target.globals
 
-  same_where : source.types ≡ target.types → definitions_answer rules source target hints ≡ Some v
-  same_where e = by_types true (types_are source.types target.types e)
+  abbrev three : Bool
+  three = same_list same_declaration (declarations_of source) (declarations_of target)
 
-  other_where : one ≡ false → source.types ≡ target.types → ⊥
-  other_where other e = false≢true (sym other ∙ types_are source.types target.types e)
+  behind_types : IsAnswer (module_answer rules source target hints) → source.types ≡ target.types → IsAnswer on_globals
+  behind_types is e = behind_test difference.Types on_globals v one is (types_are source.types target.types e)
 
-  -- each answer but that of the types comes of the functions, and where the types are equal
-  by_functions : (v ≡ modules.Differs difference.Types → ⊥) → source.types ≡ target.types
-  by_functions not_types = (elim one as (λ b. one ≡ b → source.types ≡ target.types) [
-    | true ↦ λ same. types_true source.types target.types same
-    | false ↦ λ other. absurd (not_types (let e = by_types false other in cc))
-  ]) refl
+  behind_globals : IsAnswer on_globals → source.globals ≡ target.globals → IsAnswer on_declarations
+  behind_globals is e = behind_test difference.Globals on_declarations v two is (globals_are source.globals target.globals e)
 
-  pub modules_accepted : v ≡ modules.Valid ↔ AreModulesAccepted hints rules source target
-  modules_accepted = (
-    λ valid.
-        let types = by_functions (λ e. let both = sym e ∙ valid in cc) in
-        record { types = types; functions = (accepted_where rules source target hints v (same_where types)).0 valid },
-    λ accepted. (accepted_where rules source target hints v (same_where accepted.types)).1 accepted.functions,
-  )
+  behind_declarations : IsAnswer on_declarations → AreAlike → IsAnswer on_functions
+  behind_declarations is e = behind_test difference.Declarations on_functions v three is (declarations_are (declarations_of source) (declarations_of target) e)
 
-  pub types_differ : v ≡ modules.Differs difference.Types ↔ (source.types ≡ target.types → ⊥)
-  types_differ = (
-    λ differs types. never_by_types rules source target hints v (same_where types) differs,
-    λ other. (elim one as (λ b. one ≡ b → v ≡ modules.Differs difference.Types) [
-      | true ↦ λ same. absurd (other (types_true source.types target.types same))
-      | false ↦ λ not. let e = by_types false not in cc
-    ]) refl,
-  )
+  -- what differs is tested there or behind
+  never_functions : (d : Difference) → (difference.Functions ≡ d → ⊥) → IsAnswer on_functions → v ≡ modules.Differs d → ⊥
+  never_functions d not is = never_otherwise rules source target hints v is d not
 
-  pub functions_differ : v ≡ modules.Differs difference.Functions
-      ↔ (source.types ≡ target.types) × (same_list same_signature (definitions_of source) (definitions_of target) ≡ false)
-  functions_differ = (
-    λ differs.
-        let types = by_functions (λ e. let both = sym e ∙ differs in cc) in
-        (types, (differs_where rules source target hints v (same_where types)).0 differs),
-    λ other. (differs_where rules source target hints v (same_where other.0)).1 other.1,
-  )
+  never_declarations : (d : Difference) → (difference.Declarations ≡ d → ⊥) → (difference.Functions ≡ d → ⊥) → IsAnswer on_declarations → v ≡ modules.Differs d → ⊥
+  never_declarations d not nor is = never_behind difference.Declarations on_functions v three is d not (never_functions d nor)
+
+  module _ (is : IsAnswer (module_answer rules source target hints)) where
+    -- behind all three
+    behind_all : source.types ≡ target.types → source.globals ≡ target.globals → AreAlike → IsAnswer on_functions
+    behind_all types globals declarations = behind_declarations (behind_globals (behind_types is types) globals) declarations
+
+    types_pass : (v ≡ modules.Differs difference.Types → ⊥) → source.types ≡ target.types
+    types_pass not = types_true source.types target.types (test_passes difference.Types on_globals v one is not)
+
+    globals_pass : (v ≡ modules.Differs difference.Globals → ⊥) → source.types ≡ target.types → source.globals ≡ target.globals
+    globals_pass not types = globals_true source.globals target.globals (test_passes difference.Globals on_declarations v two (behind_types is types) not)
+
+    declarations_pass : (v ≡ modules.Differs difference.Declarations → ⊥) → source.types ≡ target.types → source.globals ≡ target.globals → AreAlike
+    declarations_pass not types globals =
+        declarations_true (declarations_of source) (declarations_of target)
+        (test_passes difference.Declarations on_functions v three (behind_globals (behind_types is types) globals) not)
+
+    pub modules_accepted : v ≡ modules.Valid ↔ AreModulesAccepted hints rules source target
+    modules_accepted = (
+      λ valid.
+          let types = types_pass (λ e. let both = sym e ∙ valid in cc) in
+          let globals = globals_pass (λ e. let both = sym e ∙ valid in cc) types in
+          let declarations = declarations_pass (λ e. let both = sym e ∙ valid in cc) types globals in
+          record {
+            types = types;
+            globals = globals;
+            declarations = declarations;
+            functions = (accepted_where rules source target hints v (behind_all types globals declarations)).0 valid;
+          },
+      λ accepted. (accepted_where rules source target hints v (behind_all accepted.types accepted.globals accepted.declarations)).1 accepted.functions,
+    )
+
+    pub types_differ : v ≡ modules.Differs difference.Types ↔ (source.types ≡ target.types → ⊥)
+    types_differ = (
+      λ differs types.
+          never_behind difference.Globals on_declarations v two (behind_types is types) difference.Types (λ e. cc) (never_declarations difference.Types (λ e. cc) (λ e. cc)) differs,
+      λ other. test_fails difference.Types on_globals v one is (λ same. other (types_true source.types target.types same)),
+    )
+
+    pub globals_differ : v ≡ modules.Differs difference.Globals ↔ (source.types ≡ target.types) × (source.globals ≡ target.globals → ⊥)
+    globals_differ = (
+      λ differs.
+          let types = types_pass (λ e. let both = sym e ∙ differs in cc) in
+          (types, λ globals. never_declarations difference.Globals (λ e. cc) (λ e. cc) (behind_globals (behind_types is types) globals) differs),
+      λ other.
+          test_fails difference.Globals on_declarations v two (behind_types is other.0) (λ same. other.1 (globals_true source.globals target.globals same)),
+    )
+
+    pub declarations_differ : v ≡ modules.Differs difference.Declarations ↔ (source.types ≡ target.types) × (source.globals ≡ target.globals) × (AreAlike → ⊥)
+    declarations_differ = (
+      λ differs.
+          let types = types_pass (λ e. let both = sym e ∙ differs in cc) in
+          let globals = globals_pass (λ e. let both = sym e ∙ differs in cc) types in
+          (types, globals, λ declarations. never_functions difference.Declarations (λ e. cc) (behind_all types globals declarations) differs),
+      λ other.
+          test_fails difference.Declarations on_functions v three (behind_globals (behind_types is other.0) other.1)
+          (λ same. other.2 (declarations_true (declarations_of source) (declarations_of target) same)),
+    )
+
+    pub functions_differ : v ≡ modules.Differs difference.Functions
+        ↔ (source.types ≡ target.types) × (source.globals ≡ target.globals) × AreAlike × (same_list same_signature (definitions_of source) (definitions_of target) ≡ false)
+    functions_differ = (
+      λ differs.
+          let types = types_pass (λ e. let both = sym e ∙ differs in cc) in
+          let globals = globals_pass (λ e. let both = sym e ∙ differs in cc) types in
+          let declarations = declarations_pass (λ e. let both = sym e ∙ differs in cc) types globals in
+          (types, globals, declarations, (differs_where rules source target hints v (behind_all types globals declarations)).0 differs),
+      λ other. (differs_where rules source target hints v (behind_all other.0 other.1 other.2)).1 other.3,
+    )
+
+-- modules with equal types and globals have one scope
+scopes_are : (source target : Module) → source.types ≡ target.types → source.globals ≡ target.globals → scope_of source ≡ scope_of target
+scopes_are source target types globals = ap₂ (λ (ts : List NamedTy) (gs : List GlobalVar). record { types = ts; globals = gs }) types globals
 
 -- and of how a check of two modules ends
 module _ (rules : Rules) (source target : Module) (hints : Hints) where
@@ -224,15 +319,28 @@ module _ (rules : Rules) (source target : Module) (hints : Hints) where
   types_ended (Ok v) is = types_differ rules source target hints v is
   types_ended (Err fault) is = tt
 
+  pub globals_ended : (ended : Result ModuleVerdict CheckEnd) → Answers ended (module_answer rules source target hints)
+      → IfOk ended (λ v. v ≡ modules.Differs difference.Globals ↔ (source.types ≡ target.types) × (source.globals ≡ target.globals → ⊥))
+  globals_ended (Ok v) is = globals_differ rules source target hints v is
+  globals_ended (Err fault) is = tt
+
+  pub declarations_ended : (ended : Result ModuleVerdict CheckEnd) → Answers ended (module_answer rules source target hints)
+      → IfOk ended (λ v. v ≡ modules.Differs difference.Declarations
+      ↔ (source.types ≡ target.types) × (source.globals ≡ target.globals) × (AreDeclaredAlike (declarations_of source) (declarations_of target) → ⊥))
+  declarations_ended (Ok v) is = declarations_differ rules source target hints v is
+  declarations_ended (Err fault) is = tt
+
   pub differs_ended : (ended : Result ModuleVerdict CheckEnd) → Answers ended (module_answer rules source target hints)
       → IfOk ended (λ v. v ≡ modules.Differs difference.Functions
-      ↔ (source.types ≡ target.types) × (same_list same_signature (definitions_of source) (definitions_of target) ≡ false))
+      ↔ (source.types ≡ target.types) × (source.globals ≡ target.globals) × AreDeclaredAlike (declarations_of source) (declarations_of target)
+      × (same_list same_signature (definitions_of source) (definitions_of target) ≡ false))
   differs_ended (Ok v) is = functions_differ rules source target hints v is
   differs_ended (Err fault) is = tt
 
   pub refines_ended : AreSound rules → AcceptedModulesRefine → (ended : Result ModuleVerdict CheckEnd) → Answers ended (module_answer rules source target hints)
       → IfOk ended (λ v. AllByRecursion ArePhisApart (definitions_of source) → AllByRecursion ArePhisApart (definitions_of target) → v ≡ modules.Valid → Refines source target)
   refines_ended sound refine (Ok v) is = λ apart others_apart valid.
-      refine rules source target sound apart others_apart
-      (accepted_under_some rules (scope_of source) hints (definitions_of source) (definitions_of target) ((modules_accepted rules source target hints v is).0 valid).functions)
+      let accepted = (modules_accepted rules source target hints v is).0 valid in
+      refine rules source target sound (scopes_are source target accepted.types accepted.globals) apart others_apart
+      (accepted_under_some rules (scope_of source) hints (definitions_of source) (definitions_of target) accepted.functions)
   refines_ended sound refine (Err fault) is = tt

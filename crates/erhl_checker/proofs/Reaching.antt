@@ -4,7 +4,9 @@ use Rattle.std.specs.Prelude.{slice_get, Err}
 use Rattle.ir_types.specs.declared.names.Name.{Name}
 use Rattle.ir_core.specs.declared.functions.Function.{Function}
 use Rattle.ir_core.specs.declared.modules.Module.{Module}
-use Rattle.ir_core.specs.Modules.{Scope, scope_of, definitions_of}
+use Rattle.ir_core.specs.Modules.{definitions_of}
+use Rattle.ir_values.specs.Constants.{Scope}
+use Rattle.ir_machine.specs.State.{scope_of}
 use Rattle.ir_types.specs.Same.{same_list}
 use Rattle.erhl_assert.specs.declared.facts.Fact.{Fact}
 use Rattle.erhl_assert.specs.declared.hints.FunctionHint.{FunctionHint}

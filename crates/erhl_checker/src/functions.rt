@@ -2,7 +2,8 @@
 ghost use Rattle.std.specs.Prelude.{◌≡◌, IfOk, IfErr, None, Some, [], cond, map, true};
 ghost use Rattle.ir_core.specs.declared.limits.Limit.{Limit};
 ghost use Rattle.ir_core.specs.declared.limits.Limit.TheVariants.{Facts};
-ghost use Rattle.ir_core.specs.Modules.{Scope, scope_of};
+ghost use Rattle.ir_values.specs.Constants.{Scope};
+ghost use Rattle.ir_machine.specs.State.{scope_of};
 ghost use Rattle.flow_solver.specs.Near.{reached_nodes};
 ghost use Rattle.definedness.specs.Graph.{flow_of};
 ghost use Rattle.erhl_assert.specs.Alignment.{no_facts};

@@ -4,10 +4,12 @@ ghost use Rattle.std.specs.List.{AllByRecursion};
 ghost use Rattle.ir_core.specs.declared.limits.Limit.{Limit};
 ghost use Rattle.ir_core.specs.declared.limits.Limit.TheVariants.{Facts};
 ghost use Rattle.ir_types.specs.Same as same;
-ghost use Rattle.ir_core.specs.Modules.{definitions_of, scope_of};
+ghost use Rattle.ir_core.specs.Modules.{declarations_of, definitions_of};
+ghost use Rattle.ir_machine.specs.State.{scope_of};
 ghost use Rattle.ir_machine.specs.Refinement.{Refines};
 ghost use Rattle.erhl_assert.specs.Acceptance as acceptance;
 ghost use Rattle.erhl_assert.specs.Alignment.{no_facts};
+ghost use Rattle.erhl_assert.specs.Globals.{AreDeclaredAlike};
 ghost use Rattle.erhl_assert.specs.Steps.{beside};
 ghost use Rattle.rule_base.specs.Book.{meanings_of, rules_of};
 ghost use Rattle.erhl_soundness.specs.Laws.{ArePhisApart};
@@ -16,10 +18,14 @@ ghost use Rattle.erhl_checker.specs.CheckedPair.Progress.{Answers};
 use crate::block_checker::CheckEnd;
 use crate::functions::function_answer;
 use contents::{Exact, Seq};
-use erhl_assert::{Difference, FunctionHint, Hint, Hints, ModuleVerdict, Verdict};
+use erhl_assert::{
+    Difference, FunctionHint, Hint, Hints, ModuleVerdict, Verdict, same_declaration, same_global,
+};
 use erhl_soundness::accepted_modules_refine;
 use fact_sets::{IndexedSet, Sides};
-use ir_core::{Function, Module, NamedTy, Param, Shared, Ty, same_name, same_ty};
+use ir_core::{
+    Declaration, Function, GlobalVar, Module, NamedTy, Param, Shared, Ty, same_name, same_ty,
+};
 use line_align::{ByName, Likeness, all_alike};
 use rule_base::{InferRule, RuleBook, book_is_sound};
 use std::alloc::Global;
@@ -79,6 +85,32 @@ impl Likeness<NamedTy> for OneName {
 
     fn are_alike(&self, source: &NamedTy, target: &NamedTy) -> bool {
         same_name(&source.name, &target.name) && same_fields(&source.fields, &target.fields)
+    }
+}
+
+/// One global: all that is kept of it is equal.
+struct OneGlobal;
+
+impl Likeness<GlobalVar> for OneGlobal {
+    ghost use Rattle.erhl_assert.specs.Globals.{same_global};
+
+    ghost like = { λ _ g h. same_global g h };
+
+    fn are_alike(&self, source: &GlobalVar, target: &GlobalVar) -> bool {
+        same_global(source, target)
+    }
+}
+
+/// One declaration, wherever it stands among the definitions.
+struct OneDeclaration;
+
+impl Likeness<Declaration> for OneDeclaration {
+    ghost use Rattle.erhl_assert.specs.Globals.{same_declaration};
+
+    ghost like = { λ _ d e. same_declaration d e };
+
+    fn are_alike(&self, source: &Declaration, target: &Declaration) -> bool {
+        same_declaration(source, target)
     }
 }
 
@@ -191,6 +223,50 @@ fn definitions_answer(
     }
 }
 
+fn declarations_answer(
+    alloc: Global,
+    book: &RuleBook,
+    hints: &Hints,
+    source: &Module,
+    target: &Module,
+) -> Result<ModuleVerdict, CheckEnd>
+    ensures { Answers result
+        (acceptance.declarations_answer
+        (rules_of called takes book.now)
+        source.now target.now hints.now) }
+{
+    let declarations = source.declarations.as_slice();
+    if all_alike(
+        &OneDeclaration,
+        declarations,
+        target.declarations.as_slice(),
+    ) {
+        definitions_answer(alloc, book, hints, source, target)
+    } else {
+        Ok(ModuleVerdict::Differs(Difference::Declarations))
+    }
+}
+
+fn globals_answer(
+    alloc: Global,
+    book: &RuleBook,
+    hints: &Hints,
+    source: &Module,
+    target: &Module,
+) -> Result<ModuleVerdict, CheckEnd>
+    ensures { Answers result (acceptance.globals_answer (rules_of called takes book.now) source.now target.now hints.now) }
+{
+    if all_alike(
+        &OneGlobal,
+        source.globals.as_slice(),
+        target.globals.as_slice(),
+    ) {
+        declarations_answer(alloc, book, hints, source, target)
+    } else {
+        Ok(ModuleVerdict::Differs(Difference::Globals))
+    }
+}
+
 fn module_answer(
     alloc: Global,
     book: &RuleBook,
@@ -201,19 +277,19 @@ fn module_answer(
     ensures { Answers result (acceptance.module_answer (rules_of called takes book.now) source.now target.now hints.now) }
 {
     if all_alike(&OneName, source.types.as_slice(), target.types.as_slice()) {
-        definitions_answer(alloc, book, hints, source, target)
+        globals_answer(alloc, book, hints, source, target)
     } else {
         Ok(ModuleVerdict::Differs(Difference::Types))
     }
 }
 
-/// Checks one module against another, by a book of rules: `Valid` exactly where they name the same types, and each pair of functions has
-/// one signature and is accepted under its hint, `Differs` exactly where their named types differ, or else their functions' names, return
-/// types or parameter types, else the first function that isn't valid, with its place and reason. Whatever rules the book holds, a target
+/// Checks one module against another, by a book of rules: `Valid` exactly where they name the same types, have the same globals and declare
+/// the same, and each pair of functions has one signature and is accepted under its hint, `Differs` exactly where their named types differ,
+/// or else their globals, their declarations, or their functions' names, return types or parameter types, else the first function that isn't
+/// valid, with its place and reason. Where a declaration stands among the functions plays no part. Whatever rules the book holds, a target
 /// that is `Valid` refines its source, where no two phis of a block set one register.
 ///
-/// It is meant for modules over integers, as long as the machine has no memory: a pointer has no value yet, so a rule that keeps its law can
-/// make `icmp eq i8* null, null` beside `ret i1 false` valid.
+/// It is meant for modules over integers, as long as a run has no globals: an address of a global, and a `getelementptr`, is poison.
 pub fn check_module(
     alloc: Global,
     source: &Module,
@@ -248,9 +324,20 @@ pub fn check_module(
         book.now.rules.items)
         source.now target.now) }
     ensures types { IfOk result (λ v. v ≡ ModuleVerdict.Differs Difference.Types ↔ (source.now.types ≡ target.now.types → ⊥)) }
+    ensures globals { IfOk result
+        (λ v. v ≡ ModuleVerdict.Differs Difference.Globals
+        ↔ (source.now.types ≡ target.now.types)
+        × (source.now.globals ≡ target.now.globals → ⊥)) }
+    ensures declarations { IfOk result
+        (λ v. v ≡ ModuleVerdict.Differs Difference.Declarations
+        ↔ (source.now.types ≡ target.now.types)
+        × (source.now.globals ≡ target.now.globals)
+        × (AreDeclaredAlike (declarations_of source.now) (declarations_of target.now) → ⊥)) }
     ensures differs { IfOk result
         (λ v. v ≡ ModuleVerdict.Differs Difference.Functions
         ↔ (source.now.types ≡ target.now.types)
+        × (source.now.globals ≡ target.now.globals)
+        × AreDeclaredAlike (declarations_of source.now) (declarations_of target.now)
         × (same.same_list acceptance.same_signature (definitions_of source.now) (definitions_of target.now) ≡ false)) }
     // Where no two phis of a block set one register.
     ensures refines { IfOk result

@@ -11,48 +11,52 @@ use Rattle.ir_core.specs.declared.expressions.Reg.{Reg}
 use Rattle.ir_core.specs.declared.expressions.Expr.{Expr}
 use Rattle.ir_core.specs.declared.operands.Operand.{Operand}
 use Rattle.ir_core.specs.declared.expressions.Expr.TheVariants.{Plain, Binary, Icmp, Cast, Select, Element, Load}
+use Rattle.ir_types.specs.declared.ty.Ty.{Ty}
 use Rattle.ir_core.specs.Types.{kind_of}
 use Rattle.ir_core.specs.Expressions.{Expr0, atom_has, expr_has}
 use Rattle.ir_values.specs.Operations.{IsOutcomeLessDefined}
 use Rattle.ir_values.proofs.OperationLaws.{less_defined_refl}
-use Rattle.ir_machine.specs.Registers.{constant_value, atom_value, outcome}
+use Rattle.ir_values.specs.Constants.{Scope}
+use Rattle.block_memory.specs.Memory.{Memory}
+use Rattle.ir_machine.specs.Registers.{constant_value, register_value, atom_value, operand_value, align_or, outcome}
 use Rattle.erhl_assert.specs.Sides.{IsRelated}
 use Rattle.erhl_assert.specs.Steps.{register_in, registers_in}
-use Rattle.erhl_soundness.proofs.Operators.{binary_related, icmp_related, cast_related, select_related, flags_among_themselves}
+use Rattle.erhl_soundness.proofs.Operators.{binary_related, icmp_related, cast_related, select_related, load_related, flags_among_themselves}
 
-module _ {R : Type 0} (source target : Kind → R → Value) (test : R → Bool) (related : (k : Kind) (r : R) → test r ≡ false → IsRelated (source k r) (target k r)) where
-  atom_alike : (k : Option Kind) (a : Atom R) → atom_has test a ≡ false → IsRelated (atom_value source k a) (atom_value target k a)
-  atom_alike None a h = tt
-  atom_alike (Some k) (Constant c) h = less_defined_refl (constant_value k c)
-  atom_alike (Some k) (Register r) h = related k r h
+module _ {R : Type 0} (scope : Scope) (source target : Kind → R → Value) (test : R → Bool) (related : (k : Kind) (r : R) → test r ≡ false → IsRelated (source k r) (target k r)) where
+  register_alike : (k : Option Kind) (r : R) → test r ≡ false → IsRelated (register_value source k r) (register_value target k r)
+  register_alike None r h = tt
+  register_alike (Some k) r h = related k r h
 
-  pub outcome_alike : (e : Expr R) → expr_has test e ≡ false → IsOutcomeLessDefined (outcome source e) (outcome target e)
-  outcome_alike (Plain o) h = atom_alike (kind_of o.ty) o.atom h
-  outcome_alike (Binary b) h =
-      let k = kind_of b.ty in
+  atom_alike : (t : Ty) (a : Atom R) → atom_has test a ≡ false → IsRelated (atom_value scope source t a) (atom_value scope target t a)
+  atom_alike t (Constant c) h = less_defined_refl (constant_value scope t c)
+  atom_alike t (Register r) h = register_alike (kind_of t) r h
+
+  pub outcome_alike : (memory : Memory) (e : Expr R) → expr_has test e ≡ false → IsOutcomeLessDefined (outcome scope source memory e) (outcome scope target memory e)
+  outcome_alike memory (Plain o) h = atom_alike o.ty o.atom h
+  outcome_alike memory (Binary b) h =
       let parts = or_parts (atom_has test b.left) (atom_has test b.right) h in
-      binary_related b.op b.flags b.flags k (atom_value source k b.left) (atom_value source k b.right) (atom_value target k b.left) (atom_value target k b.right)
-      (flags_among_themselves b.flags) (atom_alike k b.left parts.0) (atom_alike k b.right parts.1)
-  outcome_alike (Icmp c) h =
-      let k = kind_of c.ty in
+      binary_related b.op b.flags b.flags (kind_of b.ty) (atom_value scope source b.ty b.left) (atom_value scope source b.ty b.right)
+      (atom_value scope target b.ty b.left) (atom_value scope target b.ty b.right)
+      (flags_among_themselves b.flags) (atom_alike b.ty b.left parts.0) (atom_alike b.ty b.right parts.1)
+  outcome_alike memory (Icmp c) h =
       let parts = or_parts (atom_has test c.left) (atom_has test c.right) h in
-      icmp_related c.pred k (atom_value source k c.left) (atom_value source k c.right) (atom_value target k c.left) (atom_value target k c.right)
-      (atom_alike k c.left parts.0) (atom_alike k c.right parts.1)
-  outcome_alike (Cast c) h =
-      let k = kind_of c.operand.ty in
-      cast_related c.op c.operand.ty c.to (atom_value source k c.operand.atom) (atom_value target k c.operand.atom) (atom_alike k c.operand.atom h)
-  outcome_alike (Select s) h =
-      let i = kind_of s.condition.ty in
-      let j = kind_of s.left.ty in
-      let k = kind_of s.right.ty in
+      icmp_related memory c.pred (kind_of c.ty) (atom_value scope source c.ty c.left) (atom_value scope source c.ty c.right)
+      (atom_value scope target c.ty c.left) (atom_value scope target c.ty c.right)
+      (atom_alike c.ty c.left parts.0) (atom_alike c.ty c.right parts.1)
+  outcome_alike memory (Cast c) h =
+      cast_related c.op c.operand.ty c.to (operand_value scope source c.operand) (operand_value scope target c.operand) (atom_alike c.operand.ty c.operand.atom h)
+  outcome_alike memory (Select s) h =
       let parts = or_parts (atom_has test s.condition.atom || atom_has test s.left.atom) (atom_has test s.right.atom) h in
       let first = or_parts (atom_has test s.condition.atom) (atom_has test s.left.atom) parts.0 in
       select_related s.condition.ty s.left.ty s.right.ty
-      (atom_value source i s.condition.atom) (atom_value source j s.left.atom) (atom_value source k s.right.atom)
-      (atom_value target i s.condition.atom) (atom_value target j s.left.atom) (atom_value target k s.right.atom)
-      (atom_alike i s.condition.atom first.0) (atom_alike j s.left.atom first.1) (atom_alike k s.right.atom parts.1)
-  outcome_alike (Element e) h = tt
-  outcome_alike (Load l) h = tt
+      (operand_value scope source s.condition) (operand_value scope source s.left) (operand_value scope source s.right)
+      (operand_value scope target s.condition) (operand_value scope target s.left) (operand_value scope target s.right)
+      (atom_alike s.condition.ty s.condition.atom first.0) (atom_alike s.left.ty s.left.atom first.1) (atom_alike s.right.ty s.right.atom parts.1)
+  outcome_alike memory (Element e) h = tt
+  outcome_alike memory (Load l) h =
+      load_related memory (kind_of l.of) (operand_value scope source l.pointer) (operand_value scope target l.pointer) (align_or scope.types l.of l.align)
+      (atom_alike l.pointer.ty l.pointer.atom h)
 
 -- where no register is found that passes a test, the expression has none
 module _ (p : Reg → Bool) where

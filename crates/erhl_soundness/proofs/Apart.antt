@@ -6,10 +6,10 @@ use Rattle.ir_core.specs.declared.functions.Function.{Function}
 use Rattle.ir_core.specs.declared.modules.Module.{Module}
 use Rattle.ir_machine.specs.declared.items.Item.{Item}
 use Rattle.ir_machine.specs.declared.items.Item.TheVariants.{Turn, Returned, Wrong}
-use Rattle.ir_machine.specs.declared.items.Shown.TheVariants as shown
+use Rattle.block_memory.specs.declared.items.Shown.TheVariants as shown
 use Rattle.ir_machine.specs.declared.items.Input.{Input}
 use Rattle.ir_machine.specs.Registers.{no_registers}
-use Rattle.ir_machine.specs.State.{no_world, State, Running, Over}
+use Rattle.ir_machine.specs.State.{no_world, scope_of, State, Running, Over}
 use Rattle.ir_machine.specs.Machine.{Made, at_block, with_phis, ShowsFrom}
 use Rattle.ir_machine.specs.Refinement.{Shows, MayShowFrom, MayShow}
 use Rattle.ir_machine.proofs.Runs.{over_shows}
@@ -35,10 +35,10 @@ no_input = record { args = [] }
 -- ---- what the source shows
 
 abbrev at_start : State
-at_start = Running (at_block first (block 10 [] [] (Br (Number 12))) no_registers) [] no_world
+at_start = Running (at_block first (block 10 [] [] (Br (Number 12))) no_registers []) [] no_world
 
 abbrev at_end : State
-at_end = Running (at_block first (block 12 twice [] (returning (held 3))) (with_phis no_registers (Number 10) twice no_registers)) [] no_world
+at_end = Running (at_block first (block 12 twice [] (returning (held 3))) (with_phis (scope_of source) no_registers (Number 10) twice no_registers) []) [] no_world
 
 abbrev result : ℕ → List Item
 result n = Turn ∷ Returned (Some (shown.Num n)) ∷ []
@@ -106,4 +106,4 @@ target_shows = inr (_, result 1, refl, refl, inr (_, [], refl, refl, refl))
 
 pub must_be_apart : PhisMustBeApart
 must_be_apart theorem =
-    not_shown (theorem [] source target (λ name scope schema h. absurd (cc)) (refl, (claiming_one, (_, refl)), tt) (Number 0) no_input 2 wanted target_shows)
+    not_shown (theorem [] source target (λ name scope schema h. absurd (cc)) refl (refl, (claiming_one, (_, refl)), tt) (Number 0) no_input 2 wanted target_shows)

@@ -21,6 +21,7 @@ use Rattle.ir_core.specs.Types.{kind_of}
 use Rattle.ir_types.specs.NameLaws.{left_true, right_true, same_name_true, same_name_refl}
 use Rattle.ir_values.specs.Values.{same_kind}
 use Rattle.ir_values.proofs.KindLaws.{same_kind_true, same_kind_refl}
+use Rattle.ir_values.specs.Constants.{Scope}
 use Rattle.ir_machine.specs.Registers.{Held, Registers, no_registers, held_at, holding, set}
 use Rattle.ir_machine.specs.Machine.{with_phis, phi_value}
 use Rattle.erhl_assert.specs.Facts.{kind_of_expr}
@@ -170,9 +171,9 @@ module _ (f : Function) where
       all_unmapped P (λ (p : Param). (p.name, p.ty)) f.params
       (all_first P (params_of f) (flat_map registers_of f.blocks) all_defined)
 
-  pub phis_defined : (from : Name) (ps : List Phi) (old registers : Registers) → ArePhisDefined f ps → AreDefined f registers
-      → AreDefined f (with_phis old from ps registers)
-  phis_defined from [] old registers h all = all
-  phis_defined from (p ∷ ps) old registers h all =
-      phis_defined from ps old (set registers p.name (kind_of p.ty) (phi_value old from p)) h.1
-      (set_defined f registers p.name (kind_of p.ty) (phi_value old from p) all h.0)
+  pub phis_defined : (scope : Scope) (from : Name) (ps : List Phi) (old registers : Registers) → ArePhisDefined f ps → AreDefined f registers
+      → AreDefined f (with_phis scope old from ps registers)
+  phis_defined scope from [] old registers h all = all
+  phis_defined scope from (p ∷ ps) old registers h all =
+      phis_defined scope from ps old (set registers p.name (kind_of p.ty) (phi_value scope old from p)) h.1
+      (set_defined f registers p.name (kind_of p.ty) (phi_value scope old from p) all h.0)

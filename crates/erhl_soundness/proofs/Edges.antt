@@ -7,8 +7,6 @@ use Rattle.std.proofs.lemmas.List.Elements.{Contains-append_left, Contains-push}
 use Rattle.std.proofs.lemmas.List.Folds.{list_any-append}
 use Rattle.ir_types.specs.declared.names.Name.{Name}
 use Rattle.ir_types.specs.declared.ty.Ty.{Ty}
-use Rattle.ir_core.specs.declared.operands.Atom.{Atom}
-use Rattle.ir_core.specs.declared.values.Value.TheVariants.{Poison}
 use Rattle.ir_core.specs.declared.values.Kind.{Kind}
 use Rattle.ir_core.specs.declared.expressions.Reg.{Reg}
 use Rattle.ir_core.specs.declared.expressions.Reg.TheVariants.{Now, Old, Ghost}
@@ -16,7 +14,6 @@ use Rattle.ir_core.specs.declared.expressions.Expr.TheVariants.{Plain}
 use Rattle.ir_core.specs.declared.functions.Entry.{Entry}
 use Rattle.ir_core.specs.declared.functions.Phi.{Phi}
 use Rattle.ir_core.specs.Expressions.{Expr0, map_atom, map_expr, expr_has}
-use Rattle.ir_core.specs.Modules.{Scope}
 use Rattle.ir_core.specs.Order.{AreNew}
 use Rattle.ir_types.specs.Same.{same_name, same_ty}
 use Rattle.ir_core.specs.Same.{same_reg}
@@ -24,8 +21,10 @@ use Rattle.ir_core.specs.Types.{kind_of}
 use Rattle.ir_types.specs.NameLaws.{left_true, right_true, same_name_true, same_name_refl}
 use Rattle.ir_types.proofs.SameLaws.{same_ty_true}
 use Rattle.ir_values.specs.declared.operations.Outcome.TheVariants.{Gives}
+use Rattle.ir_values.specs.Constants.{Scope}
 use Rattle.ir_values.specs.Operations.{IsOutcomeLessDefined}
 use Rattle.ir_machine.specs.Registers.{Held, Registers, no_registers, read, set, holding, held_at, atom_value}
+use Rattle.ir_machine.specs.State.{World}
 use Rattle.ir_machine.specs.Machine.{with_phis, phi_value, entry_value, entry_from}
 use Rattle.ir_machine.proofs.InKind.{phis_in_kind, no_registers_in_kind}
 use Rattle.erhl_assert.specs.declared.facts.Fact.{Fact}
@@ -36,8 +35,8 @@ use Rattle.erhl_assert.specs.Facts.{Holds, AssertionHolds, with_facts, fact_has,
 use Rattle.erhl_assert.specs.Edges.{Edge, is_old, old_of, as_old, without_old, sets, is_of_phi, register_at, phi_fact, phi_facts, facts_over, phi_setting, entries_match, phis_match, is_alike, phi_registers, old_too, diff_over, after_edge}
 use Rattle.erhl_assert.specs.Steps.{Beside, first_missing}
 use Rattle.erhl_soundness.specs.Laws.{AreApart, crossed, AnEdgeKeepsWhatHolds}
-use Rattle.erhl_soundness.proofs.Readings.{outcome_same, outcome_mapped, renamed, atom_mapped, type_mapped}
-use Rattle.erhl_soundness.proofs.Facts.{premises_hold, both_ways_hold, with_facts_hold, without_holds, without_names_none}
+use Rattle.erhl_soundness.proofs.Readings.{outcome_same, outcome_mapped, renamed, atom_mapped, atom_of_none, type_mapped}
+use Rattle.erhl_soundness.proofs.Facts.{StaysThere, premises_hold, both_ways_hold, with_facts_hold, without_holds, without_names_none}
 use Rattle.erhl_soundness.proofs.Matched.{atoms_matched_related}
 use Rattle.erhl_soundness.proofs.Related.{held_related}
 use Rattle.erhl_soundness.proofs.Outside.{outside_filter}
@@ -47,6 +46,9 @@ use Rattle.erhl_soundness.proofs.Standing.{Files, side, Stand, register_worth}
 -- the state whose old registers are those that it has now
 abbrev renewed : SideState → SideState
 renewed here = record here { old = here.now }
+
+abbrev stays_there : (before : SideState) (now old ghost : Registers) → StaysThere before (record before { now = now; old = old; ghost = ghost })
+stays_there before now old ghost = record { scope = refl; world = refl }
 
 -- ---- facts and their copies
 module _ (here : SideState) where
@@ -58,14 +60,16 @@ module _ (here : SideState) where
   not_old k (Old x) h = absurd (false≢true (sym h))
   not_old k (Ghost x) h = refl
 
-  made_old : (k : Kind) (r : Reg) → is_old r ≡ false → renamed old_of (read_reg there) k r ≡ read_reg here k r
+  made_old : (k : Kind) (r : Reg) → is_old r ≡ false → renamed here.scope old_of (read_reg there) k r ≡ read_reg here k r
   made_old k (Now x) h = refl
   made_old k (Old x) h = absurd (false≢true (sym h))
   made_old k (Ghost x) h = refl
 
   -- what was known of an expression is known of its copy
   copy_worth : (e : Expr0) → expr_has is_old e ≡ false → worth there (map_expr old_of e) ≡ worth here e
-  copy_worth e h = outcome_mapped old_of (read_reg there) e ∙ outcome_same (read_reg here) (renamed old_of (read_reg there)) is_old made_old e h
+  copy_worth e h =
+      outcome_mapped here.scope old_of (read_reg there) here.world.memory e
+      ∙ outcome_same here.scope (read_reg here) (renamed here.scope old_of (read_reg there)) is_old made_old here.world.memory e h
 
   copy_holds : (f : Fact) → fact_has is_old f ≡ false → Holds here f → Holds there (as_old f)
   copy_holds (LessDef d e) h known =
@@ -83,8 +87,8 @@ module _ (here : SideState) where
       → AllByRecursion (Holds there) (with_facts (map as_old (without is_old fs)) (without is_old fs))
   copied_hold fs all =
       with_facts_hold there (map as_old (without is_old fs)) (without is_old fs)
-      (copies_hold (without is_old fs) (without_names_none is_old fs) (without_holds is_old here here (λ k r h. refl) fs all))
-      (without_holds is_old here there not_old fs all)
+      (copies_hold (without is_old fs) (without_names_none is_old fs) (without_holds is_old here here (stays_there here here.now here.old here.ghost) (λ k r h. refl) fs all))
+      (without_holds is_old here there (stays_there here here.now here.now here.ghost) not_old fs all)
 
 -- ---- phis that are apart
 
@@ -109,12 +113,12 @@ pub apart_once : (ps : List Phi) → AreApart ps → NoneAgain ps
 apart_once ps apart = none_again [] ps apart
 
 -- A register that no phi sets is as before; that of a phi, whose name stands once, holds what its entry says of the old registers.
-module _ (from : Name) (old : Registers) where
+module _ (scope : Scope) (from : Name) (old : Registers) where
   abbrev phi_holds : Phi → Option Held
-  phi_holds p = holding (kind_of p.ty) (phi_value old from p)
+  phi_holds p = holding (kind_of p.ty) (phi_value scope old from p)
 
   abbrev phi_sets : Phi → Registers → Registers
-  phi_sets p registers = set registers p.name (kind_of p.ty) (phi_value old from p)
+  phi_sets p registers = set registers p.name (kind_of p.ty) (phi_value scope old from p)
 
   set_at : (p : Phi) (registers : Registers) (x : Name) → same_name p.name x ≡ true → phi_sets p registers x ≡ phi_holds p
   set_at p registers x h = rw h refl
@@ -122,19 +126,19 @@ module _ (from : Name) (old : Registers) where
   set_other : (p : Phi) (registers : Registers) (x : Name) → same_name p.name x ≡ false → phi_sets p registers x ≡ registers x
   set_other p registers x h = rw h refl
 
-  unset_by_phis : (x : Name) (ps : List Phi) (registers : Registers) → list_any (sets x) ps ≡ false → with_phis old from ps registers x ≡ registers x
+  unset_by_phis : (x : Name) (ps : List Phi) (registers : Registers) → list_any (sets x) ps ≡ false → with_phis scope old from ps registers x ≡ registers x
   unset_by_phis x [] registers h = refl
   unset_by_phis x (p ∷ ps) registers h =
       let parts = or_parts (same_name p.name x) (list_any (sets x) ps) h in
       unset_by_phis x ps (phi_sets p registers) parts.1 ∙ set_other p registers x parts.0
 
   set_by_first : (x : Name) (p : Phi) (ps : List Phi) (registers : Registers) → same_name p.name x ≡ true → NoneAgain (p ∷ ps)
-      → with_phis old from (p ∷ ps) registers x ≡ phi_holds p
+      → with_phis scope old from (p ∷ ps) registers x ≡ phi_holds p
   set_by_first x p ps registers named apart =
       let once : list_any (sets x) ps ≡ false = subst (λ y. list_any (sets y) ps ≡ false) (same_name_true p.name x named) apart.0 in
       unset_by_phis x ps (phi_sets p registers) once ∙ set_at p registers x named
 
-  all_set : (ps : List Phi) (registers : Registers) → NoneAgain ps → AllByRecursion (λ (p : Phi). with_phis old from ps registers p.name ≡ phi_holds p) ps
+  all_set : (ps : List Phi) (registers : Registers) → NoneAgain ps → AllByRecursion (λ (p : Phi). with_phis scope old from ps registers p.name ≡ phi_holds p) ps
   all_set [] registers apart = tt
   all_set (p ∷ ps) registers apart = (
     set_by_first p.name p ps registers (same_name_refl p.name) apart,
@@ -142,7 +146,7 @@ module _ (from : Name) (old : Registers) where
   )
 
   set_by_found : (x : Name) (p : Phi) (ps : List Phi) (registers : Registers) → NoneAgain ps → phi_setting x ps ≡ Some p
-      → with_phis old from ps registers x ≡ phi_holds p
+      → with_phis scope old from ps registers x ≡ phi_holds p
   set_by_found x p [] registers apart found = absurd (cc)
   set_by_found x p (q ∷ ps) registers apart found = ⊎_elim
       (λ e.
@@ -161,25 +165,22 @@ all_joined P (x ∷ xs) ys p q = (p.0, all_joined P xs ys p.1 q)
 -- ---- facts of phis, on one side
 module _ (from : Name) (before : SideState) where
   not_of_phi : (ps : List Phi) (k : Kind) (r : Reg) → is_of_phi ps r ≡ false → read_reg (crossed from ps before) k r ≡ read_reg (renewed before) k r
-  not_of_phi ps k (Now x) h = ap (held_at k) (unset_by_phis from before.now x ps before.now h)
+  not_of_phi ps k (Now x) h = ap (held_at k) (unset_by_phis before.scope from before.now x ps before.now h)
   not_of_phi ps k (Old x) h = refl
   not_of_phi ps k (Ghost x) h = refl
 
-  atom_of_none : (o : Option Kind) (x : Atom Name) → o ≡ None → atom_value (read before.now) o x ≡ Poison
-  atom_of_none o x none = ap (λ k. atom_value (read before.now) k x) none
-
   phi_fact_holds : (ps : List Phi) (p : Phi) (o : Option Entry)
-      → with_phis before.now from ps before.now p.name ≡ holding (kind_of p.ty) (entry_value before.now (kind_of p.ty) o)
+      → with_phis before.scope before.now from ps before.now p.name ≡ holding (kind_of p.ty) (entry_value before.scope before.now p.ty o)
       → AllByRecursion (Holds (crossed from ps before)) (phi_fact p o)
   phi_fact_holds ps p None is = tt
   phi_fact_holds ps p (Some e) is =
       let s = crossed from ps before in
-      let v = atom_value (read before.now) (kind_of p.ty) e.value in
+      let v = atom_value before.scope (read before.now) p.ty e.value in
       both_ways_hold s (register_at p.ty (Now p.name)) (Plain (record { ty = p.ty; atom = map_atom Old e.value })) v refl
-      (register_worth (read_reg s) (Now p.name) v p.ty (λ k. ap (held_at k) is) (atom_of_none (kind_of p.ty) e.value))
-      (ap Gives (atom_mapped Old (read_reg s) (kind_of p.ty) e.value))
+      (register_worth (read_reg s) (Now p.name) v s.scope s.world.memory p.ty (λ k. ap (held_at k) is) (atom_of_none before.scope (read before.now) p.ty e.value))
+      (ap Gives (atom_mapped s.scope Old (read_reg s) p.ty e.value))
 
-  phi_facts_hold : (ps qs : List Phi) → AllByRecursion (λ (p : Phi). with_phis before.now from ps before.now p.name ≡ phi_holds from before.now p) qs
+  phi_facts_hold : (ps qs : List Phi) → AllByRecursion (λ (p : Phi). with_phis before.scope before.now from ps before.now p.name ≡ phi_holds before.scope from before.now p) qs
       → AllByRecursion (Holds (crossed from ps before)) (phi_facts from qs)
   phi_facts_hold ps [] set = tt
   phi_facts_hold ps (p ∷ qs) set =
@@ -192,8 +193,8 @@ module _ (from : Name) (before : SideState) where
       let kept = without is_old fs in
       let copied = with_facts (map as_old kept) kept in
       with_facts_hold (crossed from ps before) (phi_facts from ps) (without (is_of_phi ps) copied)
-      (phi_facts_hold ps ps (all_set from before.now ps before.now apart))
-      (without_holds (is_of_phi ps) (renewed before) (crossed from ps before) (not_of_phi ps) copied (copied_hold before fs all))
+      (phi_facts_hold ps ps (all_set before.scope from before.now ps before.now apart))
+      (without_holds (is_of_phi ps) (renewed before) (crossed from ps before) (record { scope = refl; world = refl }) (not_of_phi ps) copied (copied_hold before fs all))
 
 -- ---- registers that may differ
 
@@ -215,7 +216,7 @@ unnamed x (p ∷ ps) h =
     let parts = or_parts (same_name x p.name) (has_reg (Now x) (phi_registers ps)) h in
     or_from (same_name p.name x) (list_any (sets x) ps) (same_name_apart x p.name parts.0) (unnamed x ps parts.1)
 
-module _ (known : Assertion) (e : Edge) (source target : SideState) (holds : AssertionHolds known source target)
+module _ (known : Assertion) (e : Edge) (source target : SideState) (scopes : source.scope ≡ target.scope) (holds : AssertionHolds known source target)
     (source_apart : NoneAgain e.source) (target_apart : NoneAgain e.target) where
   abbrev kept : List Reg
   kept = filter (λ r. not (is_old r)) known.diff
@@ -240,14 +241,14 @@ module _ (known : Assertion) (e : Edge) (source target : SideState) (holds : Ass
   was_outside x h = outside_filter (λ r. not (is_old r)) (Now x) known.diff refl h
 
   entries_related : (t : Ty) (o p : Option Entry) → entries_match known t o p ≡ true
-      → IsRelated (entry_value source.now (kind_of t) o) (entry_value target.now (kind_of t) p)
+      → IsRelated (entry_value source.scope source.now t o) (entry_value target.scope target.now t p)
   entries_related t None p h = absurd (false≢true h)
   entries_related t (Some d) None h = absurd (false≢true h)
-  entries_related t (Some d) (Some f) h = atoms_matched_related known source target holds t d.value t f.value h
+  entries_related t (Some d) (Some f) h = atoms_matched_related known source target scopes holds t d.value t f.value h
 
   phis_related : (k : Kind) (x : Name) (o u : Option Phi) → phi_setting x e.source ≡ o → phi_setting x e.target ≡ u
       → phis_match known e.from o u ≡ true
-      → IsRelated (read (with_phis source.now e.from e.source source.now) k x) (read (with_phis target.now e.from e.target target.now) k x)
+      → IsRelated (read (with_phis source.scope source.now e.from e.source source.now) k x) (read (with_phis target.scope target.now e.from e.target target.now) k x)
   phis_related k x None u is_p is_q h = absurd (false≢true h)
   phis_related k x (Some p) None is_p is_q h = absurd (false≢true h)
   phis_related k x (Some p) (Some q) is_p is_q h =
@@ -255,11 +256,11 @@ module _ (known : Assertion) (e : Edge) (source target : SideState) (holds : Ass
       let of_q = entry_from e.from q.entries in
       let types : p.ty ≡ q.ty = same_ty_true p.ty q.ty (left_true (same_ty p.ty q.ty) (entries_match known p.ty of_p of_q) h) in
       let related = entries_related p.ty of_p of_q (right_true (same_ty p.ty q.ty) (entries_match known p.ty of_p of_q) h) in
-      let both : IsRelated (held_at k (phi_holds e.from source.now p)) (held_at k (phi_holds e.from target.now q)) =
-      subst (λ t. IsRelated (held_at k (phi_holds e.from source.now p)) (held_at k (holding (kind_of t) (entry_value target.now (kind_of t) of_q)))) types
-      (held_related (kind_of p.ty) k (entry_value source.now (kind_of p.ty) of_p) (entry_value target.now (kind_of p.ty) of_q) related) in
-      subst₂ IsRelated (sym (ap (held_at k) (set_by_found e.from source.now x p e.source source.now source_apart is_p)))
-      (sym (ap (held_at k) (set_by_found e.from target.now x q e.target target.now target_apart is_q))) both
+      let both : IsRelated (held_at k (phi_holds source.scope e.from source.now p)) (held_at k (phi_holds target.scope e.from target.now q)) =
+      subst (λ t. IsRelated (held_at k (phi_holds source.scope e.from source.now p)) (held_at k (holding (kind_of t) (entry_value target.scope target.now t of_q)))) types
+      (held_related (kind_of p.ty) k (entry_value source.scope source.now p.ty of_p) (entry_value target.scope target.now p.ty of_q) related) in
+      subst₂ IsRelated (sym (ap (held_at k) (set_by_found source.scope e.from source.now x p e.source source.now source_apart is_p)))
+      (sym (ap (held_at k) (set_by_found target.scope e.from target.now x q e.target target.now target_apart is_q))) both
 
   related_over : AreRelated (diff_over e known) (crossed e.from e.source source) (crossed e.from e.target target)
   related_over = record { outside = outside; ghosts = holds.related.ghosts }
@@ -275,8 +276,8 @@ module _ (known : Assertion) (e : Edge) (source target : SideState) (holds : Ass
           (λ h.
           let parts = parts_of (Now x) (outside_filter (λ r. not (is_alike known e r)) (Now x) all_of (not_from_false (is_alike known e (Now x)) h) out) in
           subst₂ IsRelated
-          (sym (ap (held_at k) (unset_by_phis e.from source.now x e.source source.now (unnamed x e.source parts.2))))
-          (sym (ap (held_at k) (unset_by_phis e.from target.now x e.target target.now (unnamed x e.target parts.3))))
+          (sym (ap (held_at k) (unset_by_phis source.scope e.from source.now x e.source source.now (unnamed x e.source parts.2))))
+          (sym (ap (held_at k) (unset_by_phis target.scope e.from target.now x e.target target.now (unnamed x e.target parts.3))))
           (holds.related.outside (Now x) k (was_outside x parts.0)))
           (cases_Bool (is_alike known e (Now x)))
 
@@ -289,64 +290,65 @@ module _ (known : Assertion) (e : Edge) (source target : SideState) (holds : Ass
 
 -- the law of edges
 pub edge_keeps : AnEdgeKeepsWhatHolds
-edge_keeps known e source target source_apart target_apart holds =
-    edge_holds known e source target holds (apart_once e.source source_apart) (apart_once e.target target_apart)
+edge_keeps known e source target scopes source_apart target_apart holds =
+    edge_holds known e source target scopes holds (apart_once e.source source_apart) (apart_once e.target target_apart)
 
 -- ---- the invariant over an edge
 
 -- the registers of a side behind phis
-abbrev pub jumped : Name → List Phi → Files → Files
-jumped from ps a = record { now = with_phis a.now from ps a.now; old = a.now; ghost = a.ghost }
+abbrev pub jumped : Scope → Name → List Phi → Files → Files
+jumped scope from ps a = record { now = with_phis scope a.now from ps a.now; old = a.now; ghost = a.ghost }
 
-jumped_in_kind : (scope : Scope) (from : Name) (ps : List Phi) (a : Files) → IsSideInKind (side scope a) → IsSideInKind (side scope (jumped from ps a))
-jumped_in_kind scope from ps a h = record { now = phis_in_kind a.now from ps a.now h.now h.now; old = h.now; ghost = h.ghost }
+jumped_in_kind : (scope : Scope) (world : World) (from : Name) (ps : List Phi) (a : Files) → IsSideInKind (side scope world a)
+    → IsSideInKind (side scope world (jumped scope from ps a))
+jumped_in_kind scope world from ps a h = record { now = phis_in_kind scope a.now from ps a.now h.now h.now; old = h.now; ghost = h.ghost; bytes = h.bytes }
 
-pub edge_stands : (w : Beside) (known : Assertion) (e : Edge) (a b : Files) → Stand w known a b → NoneAgain e.source → NoneAgain e.target → ArePhisDefined w.source e.source
-    → Stand w (after_edge known e) (jumped e.from e.source a) (jumped e.from e.target b)
-edge_stands w known e a b stand source_apart target_apart defined = record {
-  source_in_kind = jumped_in_kind w.scope e.from e.source a stand.source_in_kind;
-  target_in_kind = jumped_in_kind w.scope e.from e.target b stand.target_in_kind;
-  now_defined = phis_defined w.source e.from e.source a.now a.now defined stand.now_defined;
+pub edge_stands : (w : Beside) (world : World) (known : Assertion) (e : Edge) (a b : Files) → Stand w world known a b → NoneAgain e.source → NoneAgain e.target → ArePhisDefined w.source e.source
+    → Stand w world (after_edge known e) (jumped w.scope e.from e.source a) (jumped w.scope e.from e.target b)
+edge_stands w world known e a b stand source_apart target_apart defined = record {
+  source_in_kind = jumped_in_kind w.scope world e.from e.source a stand.source_in_kind;
+  target_in_kind = jumped_in_kind w.scope world e.from e.target b stand.target_in_kind;
+  now_defined = phis_defined w.source w.scope e.from e.source a.now a.now defined stand.now_defined;
   old_defined = stand.now_defined;
-  holds = edge_holds known e (side w.scope a) (side w.scope b) stand.holds source_apart target_apart;
+  holds = edge_holds known e (side w.scope world a) (side w.scope world b) refl stand.holds source_apart target_apart;
 }
 
 -- where a block begins old registers are forgotten
 abbrev pub forgotten : Files → Files
 forgotten a = record a { old = no_registers }
 
-module _ (scope : Scope) (a : Files) where
-  forgets : (k : Kind) (r : Reg) → is_old r ≡ false → read_reg (side scope (forgotten a)) k r ≡ read_reg (side scope a) k r
+module _ (scope : Scope) (world : World) (a : Files) where
+  forgets : (k : Kind) (r : Reg) → is_old r ≡ false → read_reg (side scope world (forgotten a)) k r ≡ read_reg (side scope world a) k r
   forgets k (Now x) h = refl
   forgets k (Old x) h = absurd (false≢true (sym h))
   forgets k (Ghost x) h = refl
 
-  forgotten_facts : (fs : List Fact) → AllByRecursion (Holds (side scope a)) fs → AllByRecursion (Holds (side scope (forgotten a))) (without is_old fs)
-  forgotten_facts fs all = without_holds is_old (side scope a) (side scope (forgotten a)) forgets fs all
+  forgotten_facts : (fs : List Fact) → AllByRecursion (Holds (side scope world a)) fs → AllByRecursion (Holds (side scope world (forgotten a))) (without is_old fs)
+  forgotten_facts fs all = without_holds is_old (side scope world a) (side scope world (forgotten a)) (record { scope = refl; world = refl }) forgets fs all
 
-  forgotten_in_kind : IsSideInKind (side scope a) → IsSideInKind (side scope (forgotten a))
-  forgotten_in_kind h = record { now = h.now; old = no_registers_in_kind; ghost = h.ghost }
+  forgotten_in_kind : IsSideInKind (side scope world a) → IsSideInKind (side scope world (forgotten a))
+  forgotten_in_kind h = record { now = h.now; old = no_registers_in_kind; ghost = h.ghost; bytes = h.bytes }
 
 -- What the hint claims at a block's start, where it is known on the edge, and no other registers than it says may differ, but for old ones.
-pub arrives : (w : Beside) (known wanted : Assertion) (a b : Files) → Stand w known a b
+pub arrives : (w : Beside) (world : World) (known wanted : Assertion) (a b : Files) → Stand w world known a b
     → first_missing (without_old known).src wanted.src ≡ None → first_missing (without_old known).tgt wanted.tgt ≡ None
     → ((r : Reg) → is_old r ≡ false → has_reg r wanted.diff ≡ false → has_reg r known.diff ≡ false)
-    → Stand w (each_once wanted) (forgotten a) (forgotten b)
-arrives w known wanted a b stand in_src in_tgt inside = record {
-  source_in_kind = forgotten_in_kind w.scope a stand.source_in_kind;
-  target_in_kind = forgotten_in_kind w.scope b stand.target_in_kind;
+    → Stand w world (each_once wanted) (forgotten a) (forgotten b)
+arrives w world known wanted a b stand in_src in_tgt inside = record {
+  source_in_kind = forgotten_in_kind w.scope world a stand.source_in_kind;
+  target_in_kind = forgotten_in_kind w.scope world b stand.target_in_kind;
   now_defined = stand.now_defined;
   old_defined = none_defined w.source;
   holds = record {
-    source_facts = with_facts_hold (side w.scope (forgotten a)) wanted.src []
-        (premises_hold (side w.scope (forgotten a)) (without is_old known.src) wanted.src (forgotten_facts w.scope a known.src stand.holds.source_facts) in_src) tt;
-    target_facts = with_facts_hold (side w.scope (forgotten b)) wanted.tgt []
-        (premises_hold (side w.scope (forgotten b)) (without is_old known.tgt) wanted.tgt (forgotten_facts w.scope b known.tgt stand.holds.target_facts) in_tgt) tt;
+    source_facts = with_facts_hold (side w.scope world (forgotten a)) wanted.src []
+        (premises_hold (side w.scope world (forgotten a)) (without is_old known.src) wanted.src (forgotten_facts w.scope world a known.src stand.holds.source_facts) in_src) tt;
+    target_facts = with_facts_hold (side w.scope world (forgotten b)) wanted.tgt []
+        (premises_hold (side w.scope world (forgotten b)) (without is_old known.tgt) wanted.tgt (forgotten_facts w.scope world b known.tgt stand.holds.target_facts) in_tgt) tt;
     related = record { outside = outside; ghosts = stand.holds.related.ghosts };
   };
 }
   where
-    outside : (r : Reg) (k : Kind) → has_reg r wanted.diff ≡ false → IsRelated (read_reg (side w.scope (forgotten a)) k r) (read_reg (side w.scope (forgotten b)) k r)
+    outside : (r : Reg) (k : Kind) → has_reg r wanted.diff ≡ false → IsRelated (read_reg (side w.scope world (forgotten a)) k r) (read_reg (side w.scope world (forgotten b)) k r)
     outside (Now x) k out = stand.holds.related.outside (Now x) k (inside (Now x) refl out)
     outside (Old x) k out = tt
     outside (Ghost x) k out = stand.holds.related.ghosts x k

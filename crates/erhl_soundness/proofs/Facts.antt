@@ -1,14 +1,17 @@
 -- Facts of one side: those that a change keeps, and those that are added.
-use Rattle.std.proofs.Common.{◌≡◌, Bool, true, false, not, List, [], ◌∷◌, ◌++◌, None, Some, sym, ◌∙◌, subst, subst₂, ⊎_elim}
+use Rattle.std.proofs.Common.{◌≡◌, Bool, true, false, not, List, [], ◌∷◌, ◌++◌, None, Some, sym, ap₂, ◌∙◌, subst, subst₂, ⊎_elim}
 use Rattle.std.specs.List.{AllByRecursion}
 use Rattle.std.proofs.lemmas.Bool.{cond_both, not-true, or_parts, or_cases, cases_Bool, not_from_true, not_from_false, cond-true, cond-false}
 use Rattle.ir_core.specs.declared.values.Value.{Value}
 use Rattle.ir_core.specs.declared.values.Kind.{Kind}
 use Rattle.ir_core.specs.declared.expressions.Reg.{Reg}
 use Rattle.ir_core.specs.Expressions.{Expr0, expr_has}
+use Rattle.ir_values.specs.Constants.{Scope}
 use Rattle.ir_values.specs.declared.operations.Outcome.TheVariants.{Gives}
 use Rattle.ir_values.specs.Operations.{IsOutcomeLessDefined}
 use Rattle.ir_values.proofs.OperationLaws.{less_defined_refl}
+use Rattle.ir_machine.specs.Registers.{outcome}
+use Rattle.ir_machine.specs.State.{World}
 use Rattle.erhl_assert.specs.declared.facts.Fact.{Fact}
 use Rattle.erhl_assert.specs.declared.facts.Fact.TheVariants.{LessDef}
 use Rattle.erhl_assert.specs.Sides.{SideState, read_reg, worth}
@@ -57,10 +60,18 @@ both_ways_hold side a b v kinds p q = (
   ((sym kinds, subst₂ IsOutcomeLessDefined (sym q) (sym p) (less_defined_refl v)), tt),
 )
 
+-- the side is in the same scope and world as before
+pub record StaysThere (before after : SideState) : Type 0 where
+  pub scope : after.scope ≡ before.scope
+  pub world : after.world ≡ before.world
+
 -- THE lemma of all kills: where only registers that pass the test have changed, the facts that name none of them hold still
-module _ (p : Reg → Bool) (before after : SideState) (same : (k : Kind) (r : Reg) → p r ≡ false → read_reg after k r ≡ read_reg before k r) where
+module _ (p : Reg → Bool) (before after : SideState) (stays : StaysThere before after)
+    (same : (k : Kind) (r : Reg) → p r ≡ false → read_reg after k r ≡ read_reg before k r) where
   pub worth_kept : (e : Expr0) → expr_has p e ≡ false → worth after e ≡ worth before e
-  worth_kept e h = outcome_same (read_reg before) (read_reg after) p same e h
+  worth_kept e h =
+      ap₂ (λ (scope : Scope) (world : World). outcome scope (read_reg after) world.memory e) stays.scope stays.world
+      ∙ outcome_same before.scope (read_reg before) (read_reg after) p same before.world.memory e h
 
   holds_kept : (f : Fact) → fact_has p f ≡ false → Holds before f → Holds after f
   holds_kept (LessDef a b) h known =

@@ -21,7 +21,7 @@ use Rattle.ir_core.proofs.SameLaws.{same_const_true, same_reg_true, same_reg_exp
 use Rattle.ir_values.specs.Values.{IsLessDefined}
 use Rattle.ir_values.proofs.KindLaws.{same_kind_true}
 use Rattle.ir_core.specs.Types.{kind_of}
-use Rattle.ir_machine.specs.Registers.{read, constant_value, atom_at, atom_value, operand_value}
+use Rattle.ir_machine.specs.Registers.{read, constant_value, register_value, atom_value, operand_value}
 use Rattle.erhl_assert.specs.declared.facts.Fact.{Fact}
 use Rattle.erhl_assert.specs.declared.facts.Fact.TheVariants.{LessDef}
 use Rattle.erhl_assert.specs.declared.facts.Assertion.{Assertion}
@@ -32,7 +32,7 @@ use Rattle.ir_values.proofs.OperationLaws.{less_defined_refl, less_defined_trans
 use Rattle.erhl_soundness.proofs.Readings.{atom_mapped}
 
 abbrev pub value_on : SideState → Operand Reg → Value
-value_on side o = operand_value (read_reg side) o
+value_on side o = operand_value side.scope (read_reg side) o
 
 -- some operand that passes the test and is at least as defined on the side
 abbrev pub SomeAbove : SideState → (Operand Reg → Bool) → Operand Reg → Type 0
@@ -78,58 +78,62 @@ pub is_kind_true : (o : Option Kind) (k : Kind) → is_kind o k ≡ true → o �
 is_kind_true None k h = absurd (false≢true h)
 is_kind_true (Some j) k h = ap Some (same_kind_true j k h)
 
-meet_at_related : (diff : List Reg) (source target : SideState) → AreRelated diff source target → (k : Kind) (c d : Operand Reg) (x y : Atom Reg)
-    → meet_at diff c d x y ≡ true → IsRelated (atom_at (read_reg source) k x) (atom_at (read_reg target) k y)
-meet_at_related diff source target related k c d (atom.Constant m) (atom.Constant n) h =
-    let same = same_const_true m n (right_true (same_ty c.ty d.ty) (same_const m n) h) in
-    subst (λ i. IsRelated (constant_value k m) (constant_value k i)) same (less_defined_refl (constant_value k m))
-meet_at_related diff source target related k c d (atom.Register x) (atom.Register y) h =
-    let same = same_reg_true x y (left_true (same_reg x y) (not (has_reg x diff)) h) in
-    let free = not-true (has_reg x diff) (right_true (same_reg x y) (not (has_reg x diff)) h) in
-    subst (λ r. IsRelated (read_reg source k x) (read_reg target k r)) same (related.outside x k free)
-meet_at_related diff source target related k c d (atom.Constant m) (atom.Register y) h = absurd (false≢true h)
-meet_at_related diff source target related k c d (atom.Register x) (atom.Constant n) h = absurd (false≢true h)
+-- where two sides are of modules with the same types and globals
+module _ (diff : List Reg) (source target : SideState) (scopes : source.scope ≡ target.scope) (related : AreRelated diff source target) where
+  meet_at_related : (k : Kind) (c d : Operand Reg) (x y : Atom Reg) → kind_of c.ty ≡ Some k → kind_of d.ty ≡ Some k
+      → meet_at diff c d x y ≡ true → IsRelated (atom_value source.scope (read_reg source) c.ty x) (atom_value target.scope (read_reg target) d.ty y)
+  meet_at_related k c d (atom.Constant m) (atom.Constant n) of_c of_d h =
+      let types = same_ty_true c.ty d.ty (left_true (same_ty c.ty d.ty) (same_const m n) h) in
+      let same = same_const_true m n (right_true (same_ty c.ty d.ty) (same_const m n) h) in
+      let value = constant_value source.scope c.ty m in
+      subst (λ s. IsRelated value (constant_value s d.ty n)) scopes
+      (subst₂ (λ t i. IsRelated value (constant_value source.scope t i)) types same (less_defined_refl value))
+  meet_at_related k c d (atom.Register x) (atom.Register y) of_c of_d h =
+      let same = same_reg_true x y (left_true (same_reg x y) (not (has_reg x diff)) h) in
+      let free = not-true (has_reg x diff) (right_true (same_reg x y) (not (has_reg x diff)) h) in
+      subst₂ (λ i j. IsRelated (register_value (read_reg source) i x) (register_value (read_reg target) j y)) (sym of_c) (sym of_d)
+      (subst (λ r. IsRelated (read_reg source k x) (read_reg target k r)) same (related.outside x k free))
+  meet_at_related k c d (atom.Constant m) (atom.Register y) of_c of_d h = absurd (false≢true h)
+  meet_at_related k c d (atom.Register x) (atom.Constant n) of_c of_d h = absurd (false≢true h)
 
-meet_related : (diff : List Reg) (source target : SideState) → AreRelated diff source target → (k : Kind) (c d : Operand Reg)
-    → meet diff k c d ≡ true → IsRelated (value_on source c) (value_on target d)
-meet_related diff source target related k c d h =
-    let at = meet_at diff c d c.atom d.atom in
-    let kinds = left_true (is_kind (kind_of c.ty) k && is_kind (kind_of d.ty) k) at h in
-    let of_c = is_kind_true (kind_of c.ty) k (left_true (is_kind (kind_of c.ty) k) (is_kind (kind_of d.ty) k) kinds) in
-    let of_d = is_kind_true (kind_of d.ty) k (right_true (is_kind (kind_of c.ty) k) (is_kind (kind_of d.ty) k) kinds) in
-    subst₂ (λ i j. IsRelated (atom_value (read_reg source) i c.atom) (atom_value (read_reg target) j d.atom)) (sym of_c) (sym of_d)
-    (meet_at_related diff source target related k c d c.atom d.atom
-    (right_true (is_kind (kind_of c.ty) k && is_kind (kind_of d.ty) k) at h))
+  meet_related : (k : Kind) (c d : Operand Reg) → meet diff k c d ≡ true → IsRelated (value_on source c) (value_on target d)
+  meet_related k c d h =
+      let at = meet_at diff c d c.atom d.atom in
+      let kinds = left_true (is_kind (kind_of c.ty) k && is_kind (kind_of d.ty) k) at h in
+      let of_c = is_kind_true (kind_of c.ty) k (left_true (is_kind (kind_of c.ty) k) (is_kind (kind_of d.ty) k) kinds) in
+      let of_d = is_kind_true (kind_of d.ty) k (right_true (is_kind (kind_of c.ty) k) (is_kind (kind_of d.ty) k) kinds) in
+      meet_at_related k c d c.atom d.atom of_c of_d (right_true (is_kind (kind_of c.ty) k && is_kind (kind_of d.ty) k) at h)
 
 -- less defined on the source, related, less defined on the target
 between : (a c d b : Value) → IsLessDefined a c → IsRelated c d → IsLessDefined d b → IsRelated a b
 between a c d b first middle last = less_defined_trans a c b first (less_defined_trans c d b middle last)
 
-matched_at_related : (known : Assertion) (source target : SideState) → AssertionHolds known source target → (o : Option Kind) (a b : Operand Reg)
+matched_at_related : (known : Assertion) (source target : SideState) → source.scope ≡ target.scope → AssertionHolds known source target → (o : Option Kind) (a b : Operand Reg)
     → matched_at known o a b ≡ true → IsRelated (value_on source a) (value_on target b)
-matched_at_related known source target holds None a b h = absurd (false≢true h)
-matched_at_related known source target holds (Some k) a b h =
+matched_at_related known source target scopes holds None a b h = absurd (false≢true h)
+matched_at_related known source target scopes holds (Some k) a b h =
     let through = λ (c : Operand Reg). some_into (λ d. meet known.diff k c d) b known.tgt in
     let found : SomeAbove source through a = some_above source through a known.src h holds.source_facts in
     let back : SomeBelow target (λ d. meet known.diff k found.0 d) b =
     some_below target (λ d. meet known.diff k found.0 d) b known.tgt found.1 holds.target_facts in
     between (value_on source a) (value_on source found.0) (value_on target back.0) (value_on target b) found.2
-    (meet_related known.diff source target holds.related k found.0 back.0 back.1) back.2
+    (meet_related known.diff source target scopes holds.related k found.0 back.0 back.1) back.2
 
-pub matched_reg_related : (known : Assertion) (source target : SideState) → AssertionHolds known source target → (a b : Operand Reg)
+pub matched_reg_related : (known : Assertion) (source target : SideState) → source.scope ≡ target.scope → AssertionHolds known source target → (a b : Operand Reg)
     → matched_reg known a b ≡ true → IsRelated (value_on source a) (value_on target b)
-matched_reg_related known source target holds a b h =
-    matched_at_related known source target holds (kind_of a.ty) a b (right_true (same_ty a.ty b.ty) (matched_at known (kind_of a.ty) a b) h)
+matched_reg_related known source target scopes holds a b h =
+    matched_at_related known source target scopes holds (kind_of a.ty) a b (right_true (same_ty a.ty b.ty) (matched_at known (kind_of a.ty) a b) h)
 
 -- the operands of two functions
-module _ (known : Assertion) (source target : SideState) (holds : AssertionHolds known source target) where
-  pub matched_related : (a b : Operand Name) → matched known a b ≡ true → IsRelated (operand_value (read source.now) a) (operand_value (read target.now) b)
+module _ (known : Assertion) (source target : SideState) (scopes : source.scope ≡ target.scope) (holds : AssertionHolds known source target) where
+  pub matched_related : (a b : Operand Name) → matched known a b ≡ true
+      → IsRelated (operand_value source.scope (read source.now) a) (operand_value target.scope (read target.now) b)
   matched_related a b h =
-      subst₂ IsRelated (atom_mapped Now (read_reg source) (kind_of a.ty) a.atom) (atom_mapped Now (read_reg target) (kind_of b.ty) b.atom)
-      (matched_reg_related known source target holds (now_operand a) (now_operand b) h)
+      subst₂ IsRelated (atom_mapped source.scope Now (read_reg source) a.ty a.atom) (atom_mapped target.scope Now (read_reg target) b.ty b.atom)
+      (matched_reg_related known source target scopes holds (now_operand a) (now_operand b) h)
 
   pub atoms_matched_related : (s : Ty) (a : Atom Name) (t : Ty) (b : Atom Name) → atoms_matched known s a t b ≡ true
-      → IsRelated (atom_value (read source.now) (kind_of s) a) (atom_value (read target.now) (kind_of t) b)
+      → IsRelated (atom_value source.scope (read source.now) s a) (atom_value target.scope (read target.now) t b)
   atoms_matched_related s a t b h = matched_related (record { ty = s; atom = a }) (record { ty = t; atom = b }) h
 
 pub matched_type : (known : Assertion) (a b : Operand Name) → matched known a b ≡ true → a.ty ≡ b.ty

@@ -1,16 +1,16 @@
 -- From acceptance of two modules to refinement.
-use Rattle.std.proofs.Common.{◌≡◌, ℕ, true, false, ◌&&◌, List, [], ◌∷◌, Option, None, Some, MatchOption, map, option_and_then, inl, inr, sym, subst, subst₂, ⊎_elim}
+use Rattle.std.proofs.Common.{◌≡◌, ℕ, true, false, ◌&&◌, List, [], ◌∷◌, Option, None, Some, MatchOption, map, option_and_then, inl, inr, refl, sym, subst, subst₂, ⊎_elim}
 use Rattle.std.specs.List.{AllByRecursion}
 use Rattle.std.proofs.lemmas.Bool.{cond-true, cond-false, cases_Bool}
 use Rattle.ir_types.specs.declared.names.Name.{Name}
 use Rattle.ir_core.specs.declared.functions.Function.{Function}
 use Rattle.ir_core.specs.declared.modules.Module.{Module}
-use Rattle.ir_core.specs.Modules.{Scope, scope_of}
+use Rattle.ir_values.specs.Constants.{Scope}
 use Rattle.ir_types.specs.Same.{same_list, same_name, same_ty}
 use Rattle.ir_types.specs.NameLaws.{left_true, same_name_true}
 use Rattle.ir_machine.specs.declared.items.Item.{Item}
 use Rattle.ir_machine.specs.declared.items.Input.{Input}
-use Rattle.ir_machine.specs.State.{State}
+use Rattle.ir_machine.specs.State.{no_world, scope_of, State}
 use Rattle.ir_machine.specs.Machine.{Follows, asks, started, start, function_named, ShowsFrom}
 use Rattle.ir_machine.specs.Refinement.{MayShowFrom}
 use Rattle.erhl_assert.specs.declared.hints.Hint.{Hint}
@@ -30,7 +30,7 @@ signature_name f g h =
     let params = same_list same_ty (map (λ p. p.ty) f.params) (map (λ p. p.ty) g.params) in
     same_name_true f.name g.name (left_true name type (left_true (name && type) params h))
 
-module _ (rules : Rules) (sound : AreSound rules) (scope : Scope) (source target : Module) where
+module _ (rules : Rules) (sound : AreSound rules) (scope : Scope) (source target : Module) (of_source : scope_of source ≡ scope) (of_target : scope_of target ≡ scope) where
   abbrev R : ℕ → State → State → Type 0
   R = AreStatesRelated rules scope
 
@@ -39,8 +39,8 @@ module _ (rules : Rules) (sound : AreSound rules) (scope : Scope) (source target
       let w = beside rules scope r.source r.target r.hint in
       subst (λ n. Moves source target R n s t) (sym r.is_k)
       (subst₂ (Moves source target R (own_lines r.left)) (sym r.is_s) (sym r.is_t)
-      (blocks_move source target w sound r.blocks r.pair_fine r.block r.names r.onward
-      (ends_move source target w sound r.blocks r.pair_fine r.block r.names r.onward)
+      (blocks_move source target w of_source of_target sound r.blocks r.pair_fine r.own r.world r.block r.names r.onward
+      (ends_move source target w of_source of_target sound r.blocks r.pair_fine r.own r.world r.block r.names r.onward)
       r.left r.place r.known r.source_files r.target_files r.stand r.good r.defined))
   moves k s t (inr over) = inr (λ made follows. absurd (subst (λ z. Follows (asks target z) made) over.1 follows))
 
@@ -70,9 +70,9 @@ module _ (rules : Rules) (sound : AreSound rules) (scope : Scope) (source target
       (cases_Bool (same_name f.name x))
 
   starts : (o p : Option Function) (input : Input) → AreOneName o p
-      → AreStartsRelated rules scope (option_and_then (λ f. started f input) o) (option_and_then (λ g. started g input) p)
+      → AreStartsRelated rules scope (option_and_then (λ f. started no_world f input) o) (option_and_then (λ g. started no_world g input) p)
   starts None None input h = tt
-  starts (Some f) (Some g) input h = accepted_start (beside rules scope f g h.0.0) h.0.1 h.1 h.2 input
+  starts (Some f) (Some g) input h = accepted_start (beside rules scope f g h.0.0) no_world tt h.0.1 h.1 h.2 input
   starts None (Some g) input h = absurd h
   starts (Some f) None input h = absurd h
 
@@ -84,7 +84,8 @@ module _ (rules : Rules) (sound : AreSound rules) (scope : Scope) (source target
   may_show (Some s) (Some t) related n items shows = simulates source target R moves n related.0 s t items related.1 shows
 
 pub accepted_modules : AcceptedModulesRefine
-accepted_modules rules source target sound source_apart target_apart accepted x input n items shows =
-    may_show rules sound (scope_of source) source target (start source x input) (start target x input)
-    (starts rules sound (scope_of source) source target (function_named x source.functions) (function_named x target.functions) input
-    (named rules sound (scope_of source) source target x source.functions target.functions source_apart target_apart accepted)) n items shows
+accepted_modules rules source target sound scopes source_apart target_apart accepted x input n items shows =
+    let scope = scope_of source in
+    may_show rules sound scope source target refl (sym scopes) (start source x input) (start target x input)
+    (starts rules sound scope source target refl (sym scopes) (function_named x source.functions) (function_named x target.functions) input
+    (named rules sound scope source target refl (sym scopes) x source.functions target.functions source_apart target_apart accepted)) n items shows

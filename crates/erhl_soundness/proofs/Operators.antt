@@ -1,8 +1,8 @@
 -- Operators on related values have related outcomes.
-use Rattle.std.proofs.Common.{◌≡◌, true, cond, not, ◌||◌, Bool, false, Option, None, Some, refl}
+use Rattle.std.proofs.Common.{◌≡◌, ℕ, true, cond, not, ◌||◌, nat_eq, Bool, false, Option, None, Some, refl, sym, ap, subst}
 use Rattle.ir_types.specs.NameLaws.{all_true}
 use Rattle.ir_core.specs.declared.values.Value.{Value}
-use Rattle.ir_core.specs.declared.values.Value.TheVariants.{Poison}
+use Rattle.ir_core.specs.declared.values.Value.TheVariants.{Num, Ptr, Bare, Undef, Poison}
 use Rattle.ir_core.specs.declared.values.Kind.{Kind}
 use Rattle.ir_core.specs.declared.values.Kind.TheVariants as kind
 use Rattle.ir_core.specs.declared.operands.BinOp.{BinOp}
@@ -15,10 +15,15 @@ use Rattle.ir_values.specs.declared.operations.Outcome.{Outcome}
 use Rattle.ir_values.specs.declared.operations.Outcome.TheVariants.{Gives, Trap}
 use Rattle.ir_values.specs.Laws.{flags_among}
 use Rattle.ir_values.specs.Operations.{IsOutcomeLessDefined, traps, binary_value}
+use Rattle.ir_values.specs.Comparisons.{icmp_outcome}
+use Rattle.ir_values.specs.PointerLaws.{IsOneSize}
 use Rattle.ir_values.specs.Selections.{select_outcome}
-use Rattle.ir_values.proofs.Compared.{icmp_monotone}
+use Rattle.ir_values.proofs.Compared as compared
+use Rattle.ir_values.proofs.OperationLaws.{less_defined_refl}
+use Rattle.ir_values.proofs.RelatedValues.{less_related, one_memory, outcome_less}
 use Rattle.ir_values.proofs.Monotone.{binary_monotone, cast_monotone, select_monotone}
-use Rattle.ir_machine.specs.Registers.{binary_at, icmp_at, cast_at, selects}
+use Rattle.block_memory.specs.Memory.{Memory, loaded, loaded_of}
+use Rattle.ir_machine.specs.Registers.{binary_at, size_at, icmp_at, cast_at, selects}
 use Rattle.erhl_assert.specs.Sides.{IsRelated}
 
 pub binary_related : (op : BinOp) (many few : Flags) (k : Option Kind) (a b c d : Value) → flags_among few many ≡ true → IsRelated a c → IsRelated b d
@@ -27,10 +32,38 @@ binary_related op many few None a b c d h p q = tt
 binary_related op many few (Some (kind.Int width)) a b c d h p q = binary_monotone op many few width h a b c d p q
 binary_related op many few (Some kind.Ptr) a b c d h p q = tt
 
-pub icmp_related : (pred : Pred) (k : Option Kind) (a b c d : Value) → IsRelated a c → IsRelated b d
-    → IsOutcomeLessDefined (icmp_at pred k a b) (icmp_at pred k c d)
-icmp_related pred None a b c d p q = tt
-icmp_related pred (Some k) a b c d p q = icmp_monotone pred k 0 0 a b c d p q
+-- in one memory related addresses are in blocks of one size
+one_size : (memory : Memory) (a c : Value) → IsRelated a c → IsOneSize a (size_at memory a) (size_at memory c)
+one_size memory (Ptr block offset) c p = ap (size_at memory) p
+one_size memory (Num n) c p = tt
+one_size memory (Bare address) c p = tt
+one_size memory Undef c p = tt
+one_size memory Poison c p = tt
+
+pub icmp_related : (memory : Memory) (pred : Pred) (k : Option Kind) (a b c d : Value) → IsRelated a c → IsRelated b d
+    → IsOutcomeLessDefined (icmp_at memory pred k a b) (icmp_at memory pred k c d)
+icmp_related memory pred None a b c d p q = tt
+icmp_related memory pred (Some k) a b c d p q =
+    outcome_less (icmp_outcome pred k a b (size_at memory a) (size_at memory b)) (icmp_outcome pred k c d (size_at memory c) (size_at memory d))
+    (compared.icmp_related nat_eq one_memory pred k a b c d (size_at memory a) (size_at memory b) (size_at memory c) (size_at memory d)
+    (less_related a c p) (less_related b d q) (one_size memory a c p) (one_size memory b d q))
+
+outcome_refl : (o : Outcome) → IsOutcomeLessDefined o o
+outcome_refl Trap = tt
+outcome_refl (Gives v) = less_defined_refl v
+
+-- a load of one memory, at related addresses
+load_at_related : (memory : Memory) (k : Kind) (a c : Value) (align : ℕ) → IsRelated a c → IsOutcomeLessDefined (loaded memory k a align) (loaded memory k c align)
+load_at_related memory k (Ptr block offset) c align p =
+    subst (λ v. IsOutcomeLessDefined (loaded memory k (Ptr block offset) align) (loaded memory k v align)) (sym p) (outcome_refl (loaded memory k (Ptr block offset) align))
+load_at_related memory k (Num n) c align p = tt
+load_at_related memory k (Bare address) c align p = tt
+load_at_related memory k Undef c align p = tt
+load_at_related memory k Poison c align p = tt
+
+pub load_related : (memory : Memory) (k : Option Kind) (a c : Value) (align : ℕ) → IsRelated a c → IsOutcomeLessDefined (loaded_of memory k a align) (loaded_of memory k c align)
+load_related memory None a c align p = tt
+load_related memory (Some k) a c align p = load_at_related memory k a c align p
 
 -- one choice between outcomes that are related
 chosen_related : (b : Bool) (o p : Outcome) → IsOutcomeLessDefined o p → IsOutcomeLessDefined (cond b o (Gives Poison)) (cond b p (Gives Poison))

@@ -15,11 +15,14 @@ use Rattle.ir_types.specs.declared.ty.Ty.TheVariants.{Int}
 use Rattle.ir_types.specs.Same.{same_ty}
 use Rattle.ir_types.specs.NameLaws.{right_true}
 use Rattle.ir_types.proofs.SameLaws.{same_ty_true}
+use Rattle.ir_types.specs.declared.ty.Ty.{Ty}
+use Rattle.ir_values.specs.Constants.{Scope}
 use Rattle.ir_values.specs.Selections.{select_outcome}
+use Rattle.block_memory.specs.Memory.{Memory, loaded_of}
 use Rattle.ir_core.specs.Types.{converts, kind_of}
 use Rattle.ir_core.specs.Expressions.{type_of, map_atom, map_expr, atom_has, expr_has}
 use Rattle.ir_values.specs.declared.operations.Outcome.TheVariants.{Gives}
-use Rattle.ir_machine.specs.Registers.{atom_value, operand_value, binary_at, icmp_at, cast_at, selects, outcome}
+use Rattle.ir_machine.specs.Registers.{constant_of, register_value, atom_value, operand_value, binary_at, icmp_at, cast_at, selects, align_or, outcome}
 
 -- equal values are selected alike
 selected : (typed : Bool) {c d a b x y : Value} → c ≡ d → a ≡ b → x ≡ y
@@ -28,53 +31,61 @@ selected typed {d = d} {b = b} {x = x} p q o =
     ap₂ (λ c a. cond typed (select_outcome c a x) (Gives Poison)) p q ∙ ap (λ y. cond typed (select_outcome d b y) (Gives Poison)) o
 
 -- two readings that agree on each register of an expression give it one outcome
-module _ {R : Type 0} (before after : Kind → R → Value) (test : R → Bool) (same : (k : Kind) (r : R) → test r ≡ false → after k r ≡ before k r) where
-  atom_same : (k : Option Kind) (a : Atom R) → atom_has test a ≡ false → atom_value after k a ≡ atom_value before k a
-  atom_same None a h = refl
-  atom_same (Some k) (Constant c) h = refl
-  atom_same (Some k) (Register r) h = same k r h
+module _ {R : Type 0} (scope : Scope) (before after : Kind → R → Value) (test : R → Bool) (same : (k : Kind) (r : R) → test r ≡ false → after k r ≡ before k r) where
+  register_same : (k : Option Kind) (r : R) → test r ≡ false → register_value after k r ≡ register_value before k r
+  register_same None r h = refl
+  register_same (Some k) r h = same k r h
 
-  pub outcome_same : (e : Expr R) → expr_has test e ≡ false → outcome after e ≡ outcome before e
-  outcome_same (Plain o) h = ap Gives (atom_same (kind_of o.ty) o.atom h)
-  outcome_same (Binary b) h =
+  atom_same : (t : Ty) (a : Atom R) → atom_has test a ≡ false → atom_value scope after t a ≡ atom_value scope before t a
+  atom_same t (Constant c) h = refl
+  atom_same t (Register r) h = register_same (kind_of t) r h
+
+  pub outcome_same : (memory : Memory) (e : Expr R) → expr_has test e ≡ false → outcome scope after memory e ≡ outcome scope before memory e
+  outcome_same memory (Plain o) h = ap Gives (atom_same o.ty o.atom h)
+  outcome_same memory (Binary b) h =
       let parts = or_parts (atom_has test b.left) (atom_has test b.right) h in
-      ap₂ (binary_at b.op b.flags (kind_of b.ty)) (atom_same (kind_of b.ty) b.left parts.0) (atom_same (kind_of b.ty) b.right parts.1)
-  outcome_same (Icmp c) h =
+      ap₂ (binary_at b.op b.flags (kind_of b.ty)) (atom_same b.ty b.left parts.0) (atom_same b.ty b.right parts.1)
+  outcome_same memory (Icmp c) h =
       let parts = or_parts (atom_has test c.left) (atom_has test c.right) h in
-      ap₂ (icmp_at c.pred (kind_of c.ty)) (atom_same (kind_of c.ty) c.left parts.0) (atom_same (kind_of c.ty) c.right parts.1)
-  outcome_same (Cast c) h =
+      ap₂ (icmp_at memory c.pred (kind_of c.ty)) (atom_same c.ty c.left parts.0) (atom_same c.ty c.right parts.1)
+  outcome_same memory (Cast c) h =
       ap (λ v. cond (converts c.op c.operand.ty c.to) (cast_at c.op (kind_of c.operand.ty) (kind_of c.to) v) (Gives Poison))
-      (atom_same (kind_of c.operand.ty) c.operand.atom h)
-  outcome_same (Select s) h =
+      (atom_same c.operand.ty c.operand.atom h)
+  outcome_same memory (Select s) h =
       let parts = or_parts (atom_has test s.condition.atom || atom_has test s.left.atom) (atom_has test s.right.atom) h in
       let first = or_parts (atom_has test s.condition.atom) (atom_has test s.left.atom) parts.0 in
-      selected (selects s.condition.ty s.left.ty s.right.ty) (atom_same (kind_of s.condition.ty) s.condition.atom first.0)
-      (atom_same (kind_of s.left.ty) s.left.atom first.1) (atom_same (kind_of s.right.ty) s.right.atom parts.1)
-  outcome_same (Element e) h = refl
-  outcome_same (Load l) h = refl
+      selected (selects s.condition.ty s.left.ty s.right.ty) (atom_same s.condition.ty s.condition.atom first.0)
+      (atom_same s.left.ty s.left.atom first.1) (atom_same s.right.ty s.right.atom parts.1)
+  outcome_same memory (Element e) h = refl
+  outcome_same memory (Load l) h =
+      ap (λ v. loaded_of memory (kind_of l.of) v (align_or scope.types l.of l.align)) (atom_same l.pointer.ty l.pointer.atom h)
 
 -- under other names an expression has the outcome that it has where its registers read so
-module _ {R S : Type 0} (name : R → S) (reading : Kind → S → Value) where
+module _ {R S : Type 0} (scope : Scope) (name : R → S) (reading : Kind → S → Value) where
   abbrev pub renamed : Kind → R → Value
   renamed k r = reading k (name r)
 
-  pub atom_mapped : (k : Option Kind) (a : Atom R) → atom_value reading k (map_atom name a) ≡ atom_value renamed k a
-  atom_mapped None a = refl
-  atom_mapped (Some k) (Constant c) = refl
-  atom_mapped (Some k) (Register r) = refl
+  register_renamed : (k : Option Kind) (r : R) → register_value reading k (name r) ≡ register_value renamed k r
+  register_renamed None r = refl
+  register_renamed (Some k) r = refl
 
-  pub outcome_mapped : (e : Expr R) → outcome reading (map_expr name e) ≡ outcome renamed e
-  outcome_mapped (Plain o) = ap Gives (atom_mapped (kind_of o.ty) o.atom)
-  outcome_mapped (Binary b) = ap₂ (binary_at b.op b.flags (kind_of b.ty)) (atom_mapped (kind_of b.ty) b.left) (atom_mapped (kind_of b.ty) b.right)
-  outcome_mapped (Icmp c) = ap₂ (icmp_at c.pred (kind_of c.ty)) (atom_mapped (kind_of c.ty) c.left) (atom_mapped (kind_of c.ty) c.right)
-  outcome_mapped (Cast c) =
+  pub atom_mapped : (t : Ty) (a : Atom R) → atom_value scope reading t (map_atom name a) ≡ atom_value scope renamed t a
+  atom_mapped t (Constant c) = refl
+  atom_mapped t (Register r) = register_renamed (kind_of t) r
+
+  pub outcome_mapped : (memory : Memory) (e : Expr R) → outcome scope reading memory (map_expr name e) ≡ outcome scope renamed memory e
+  outcome_mapped memory (Plain o) = ap Gives (atom_mapped o.ty o.atom)
+  outcome_mapped memory (Binary b) = ap₂ (binary_at b.op b.flags (kind_of b.ty)) (atom_mapped b.ty b.left) (atom_mapped b.ty b.right)
+  outcome_mapped memory (Icmp c) = ap₂ (icmp_at memory c.pred (kind_of c.ty)) (atom_mapped c.ty c.left) (atom_mapped c.ty c.right)
+  outcome_mapped memory (Cast c) =
       ap (λ v. cond (converts c.op c.operand.ty c.to) (cast_at c.op (kind_of c.operand.ty) (kind_of c.to) v) (Gives Poison))
-      (atom_mapped (kind_of c.operand.ty) c.operand.atom)
-  outcome_mapped (Select s) =
-      selected (selects s.condition.ty s.left.ty s.right.ty) (atom_mapped (kind_of s.condition.ty) s.condition.atom)
-      (atom_mapped (kind_of s.left.ty) s.left.atom) (atom_mapped (kind_of s.right.ty) s.right.atom)
-  outcome_mapped (Element e) = refl
-  outcome_mapped (Load l) = refl
+      (atom_mapped c.operand.ty c.operand.atom)
+  outcome_mapped memory (Select s) =
+      selected (selects s.condition.ty s.left.ty s.right.ty) (atom_mapped s.condition.ty s.condition.atom)
+      (atom_mapped s.left.ty s.left.atom) (atom_mapped s.right.ty s.right.atom)
+  outcome_mapped memory (Element e) = refl
+  outcome_mapped memory (Load l) =
+      ap (λ v. loaded_of memory (kind_of l.of) v (align_or scope.types l.of l.align)) (atom_mapped l.pointer.ty l.pointer.atom)
 
 -- and the same type
 pub type_mapped : {R S : Type 0} (name : R → S) (e : Expr R) → type_of (map_expr name e) ≡ type_of e
@@ -103,23 +114,28 @@ select_of_none : (typed : Bool) (c a b : Value) → (typed ≡ true → (a ≡ P
 select_of_none true c a b h = let both = h refl in ap₂ (select_outcome c) both.0 both.1 ∙ selects_poison c
 select_of_none false c a b h = refl
 
-module _ {R : Type 0} (reading : Kind → R → Value) where
-  poison_of_none : (o : Operand R) → kind_of o.ty ≡ None → operand_value reading o ≡ Poison
-  poison_of_none o h = ap (λ k. atom_value reading k o.atom) h
+module _ {R : Type 0} (scope : Scope) (reading : Kind → R → Value) where
+  pub atom_of_none : (t : Ty) (a : Atom R) → kind_of t ≡ None → atom_value scope reading t a ≡ Poison
+  atom_of_none t (Constant c) h = ap (λ k. constant_of k c) h
+  atom_of_none t (Register r) h = ap (λ k. register_value reading k r) h
 
-  pub poison_without_kind : (e : Expr R) → kind_of (type_of e) ≡ None → outcome reading e ≡ Gives Poison
-  poison_without_kind (Plain o) h = ap Gives (poison_of_none o h)
-  poison_without_kind (Binary b) h = ap (λ k. binary_at b.op b.flags k (atom_value reading k b.left) (atom_value reading k b.right)) h
-  poison_without_kind (Icmp c) h = absurd (cc)
-  poison_without_kind (Cast c) h =
+  poison_of_none : (o : Operand R) → kind_of o.ty ≡ None → operand_value scope reading o ≡ Poison
+  poison_of_none o h = atom_of_none o.ty o.atom h
+
+  pub poison_without_kind : (memory : Memory) (e : Expr R) → kind_of (type_of e) ≡ None → outcome scope reading memory e ≡ Gives Poison
+  poison_without_kind memory (Plain o) h = ap Gives (poison_of_none o h)
+  poison_without_kind memory (Binary b) h = ap (λ k. binary_at b.op b.flags k (atom_value scope reading b.ty b.left) (atom_value scope reading b.ty b.right)) h
+  poison_without_kind memory (Icmp c) h = absurd (cc)
+  poison_without_kind memory (Cast c) h =
       let typed = converts c.op c.operand.ty c.to in
-      ap (λ k. cond typed (cast_at c.op (kind_of c.operand.ty) k (operand_value reading c.operand)) (Gives Poison)) h
-      ∙ cast_to_none c.op (kind_of c.operand.ty) typed (operand_value reading c.operand)
-  poison_without_kind (Select s) h =
-      select_of_none (selects s.condition.ty s.left.ty s.right.ty) (operand_value reading s.condition) (operand_value reading s.left) (operand_value reading s.right)
+      ap (λ k. cond typed (cast_at c.op (kind_of c.operand.ty) k (operand_value scope reading c.operand)) (Gives Poison)) h
+      ∙ cast_to_none c.op (kind_of c.operand.ty) typed (operand_value scope reading c.operand)
+  poison_without_kind memory (Select s) h =
+      select_of_none (selects s.condition.ty s.left.ty s.right.ty) (operand_value scope reading s.condition) (operand_value scope reading s.left) (operand_value scope reading s.right)
       (λ e.
       let one : s.left.ty ≡ s.right.ty =
       same_ty_true s.left.ty s.right.ty (right_true (same_ty s.condition.ty (Int 1)) (same_ty s.left.ty s.right.ty) e) in
       (poison_of_none s.left h, poison_of_none s.right (ap kind_of (sym one) ∙ h)))
-  poison_without_kind (Element e) h = refl
-  poison_without_kind (Load l) h = refl
+  poison_without_kind memory (Element e) h = refl
+  poison_without_kind memory (Load l) h =
+      ap (λ k. loaded_of memory k (operand_value scope reading l.pointer) (align_or scope.types l.of l.align)) h

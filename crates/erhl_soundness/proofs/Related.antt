@@ -13,6 +13,7 @@ use Rattle.ir_core.specs.declared.expressions.Binary.{Binary}
 use Rattle.ir_core.specs.declared.expressions.Icmp.{Icmp}
 use Rattle.ir_core.specs.declared.expressions.Cast.{Cast}
 use Rattle.ir_core.specs.declared.expressions.Select.{Select}
+use Rattle.ir_core.specs.declared.expressions.Load.{Load}
 use Rattle.ir_core.specs.declared.expressions.Expr.{Expr}
 use Rattle.ir_core.specs.declared.expressions.Expr.TheVariants as expr
 use Rattle.ir_core.specs.declared.expressions.Reg.{Reg}
@@ -32,7 +33,7 @@ use Rattle.ir_core.specs.Expressions.{type_of, operands_in}
 use Rattle.ir_values.specs.declared.operations.Outcome.{Outcome}
 use Rattle.ir_values.specs.declared.operations.Outcome.TheVariants.{Gives, Trap}
 use Rattle.ir_values.specs.Operations.{IsOutcomeLessDefined}
-use Rattle.ir_machine.specs.Registers.{Registers, held_at, holding, read, set, atom_value, operand_value, binary_at, icmp_at, cast_at, selects, outcome}
+use Rattle.ir_machine.specs.Registers.{Registers, held_at, holding, read, set, atom_value, operand_value, binary_at, icmp_at, cast_at, selects}
 use Rattle.ir_machine.specs.State.{Frame, Pending, World}
 use Rattle.ir_machine.specs.Machine.{set_to}
 use Rattle.ir_machine.proofs.Runs.{read_set_at}
@@ -44,11 +45,11 @@ use Rattle.erhl_assert.specs.declared.verdict.Reason.TheVariants.{Unmatched, Tar
 use Rattle.erhl_assert.specs.Matched.{matched, atoms_matched, are_matched}
 use Rattle.erhl_assert.specs.Allowed.{can_trap, same_operator, first_unmatched, right_fault, line_fault_of}
 use Rattle.erhl_assert.specs.Postcondition.{flags_agree, rights_agree, lines_agree, without_reg, with_reg, diff_after, after_line}
-use Rattle.erhl_soundness.specs.Laws.{goes_on, LineLeads, Keeps, ALineKeepsWhatHolds, MatchedOperandsAreRelated}
+use Rattle.erhl_soundness.specs.Laws.{AreInOneWorld, goes_on, LineLeads, Keeps, ALineKeepsWhatHolds, MatchedOperandsAreRelated}
 use Rattle.erhl_soundness.proofs.Trapping.{no_trap}
 use Rattle.erhl_soundness.proofs.Operators.{binary_related, icmp_related, cast_related, select_related, traps_whatever_flags, only_trap, flags_among_themselves}
 use Rattle.erhl_soundness.proofs.Outside.{outside_with, outside_without}
-use Rattle.erhl_soundness.proofs.Lines.{set_now, read_reg_other, side_after, facts_after_hold}
+use Rattle.erhl_soundness.proofs.Lines.{gives_on, set_now, read_reg_other, side_after, facts_after_hold}
 use Rattle.erhl_soundness.proofs.Matched.{matched_related, matched_type, atoms_matched_related}
 
 -- a line of the source alone, and of the target alone
@@ -121,70 +122,82 @@ both_matched true true x y h = (refl, refl)
 both_matched true false x y h = absurd (cc)
 both_matched false q x y h = absurd (cc)
 
+-- a load is of one operator with nothing
+beside_a_load : (s : Expr Name) (t : Load Name) → same_operator s (expr.Load t) ≡ false
+beside_a_load (expr.Plain s) t = refl
+beside_a_load (expr.Binary s) t = refl
+beside_a_load (expr.Icmp s) t = refl
+beside_a_load (expr.Cast s) t = refl
+beside_a_load (expr.Select s) t = refl
+beside_a_load (expr.Element s) t = refl
+beside_a_load (expr.Load s) t = refl
+
 -- right sides that agree have one type, and related outcomes
-module _ (known : Assertion) (source target : SideState) (holds : AssertionHolds known source target) where
+module _ (known : Assertion) (source target : SideState) (one : AreInOneWorld source target) (holds : AssertionHolds known source target) where
   binaries_related : (s t : Binary Name) (many few : Flags) → flags_among few many ≡ true → s.op ≡ t.op → s.ty ≡ t.ty
       → atoms_matched known s.ty s.left t.ty t.left ≡ true → atoms_matched known s.ty s.right t.ty t.right ≡ true
       → IsOutcomeLessDefined
-      (binary_at s.op many (kind_of s.ty) (atom_value (read source.now) (kind_of s.ty) s.left) (atom_value (read source.now) (kind_of s.ty) s.right))
-      (binary_at t.op few (kind_of t.ty) (atom_value (read target.now) (kind_of t.ty) t.left) (atom_value (read target.now) (kind_of t.ty) t.right))
+      (binary_at s.op many (kind_of s.ty) (atom_value source.scope (read source.now) s.ty s.left) (atom_value source.scope (read source.now) s.ty s.right))
+      (binary_at t.op few (kind_of t.ty) (atom_value target.scope (read target.now) t.ty t.left) (atom_value target.scope (read target.now) t.ty t.right))
   binaries_related s t many few flags op type left right =
-      let a = atom_value (read source.now) (kind_of s.ty) s.left in
-      let b = atom_value (read source.now) (kind_of s.ty) s.right in
-      let c = atom_value (read target.now) (kind_of t.ty) t.left in
-      let d = atom_value (read target.now) (kind_of t.ty) t.right in
+      let a = atom_value source.scope (read source.now) s.ty s.left in
+      let b = atom_value source.scope (read source.now) s.ty s.right in
+      let c = atom_value target.scope (read target.now) t.ty t.left in
+      let d = atom_value target.scope (read target.now) t.ty t.right in
       subst₂ (λ o k. IsOutcomeLessDefined (binary_at s.op many (kind_of s.ty) a b) (binary_at o few k c d)) op (ap kind_of type)
       (binary_related s.op many few (kind_of s.ty) a b c d flags
-      (atoms_matched_related known source target holds s.ty s.left t.ty t.left left)
-      (atoms_matched_related known source target holds s.ty s.right t.ty t.right right))
+      (atoms_matched_related known source target one.scope holds s.ty s.left t.ty t.left left)
+      (atoms_matched_related known source target one.scope holds s.ty s.right t.ty t.right right))
 
   comparisons_related : (s t : Icmp Name) → s.pred ≡ t.pred → s.ty ≡ t.ty
       → atoms_matched known s.ty s.left t.ty t.left ≡ true → atoms_matched known s.ty s.right t.ty t.right ≡ true
-      → IsOutcomeLessDefined (outcome (read source.now) (expr.Icmp s)) (outcome (read target.now) (expr.Icmp t))
+      → IsOutcomeLessDefined (gives_on source (expr.Icmp s)) (gives_on target (expr.Icmp t))
   comparisons_related s t pred type left right =
-      let a = atom_value (read source.now) (kind_of s.ty) s.left in
-      let b = atom_value (read source.now) (kind_of s.ty) s.right in
-      let c = atom_value (read target.now) (kind_of t.ty) t.left in
-      let d = atom_value (read target.now) (kind_of t.ty) t.right in
-      subst₂ (λ o k. IsOutcomeLessDefined (icmp_at s.pred (kind_of s.ty) a b) (icmp_at o k c d)) pred (ap kind_of type)
-      (icmp_related s.pred (kind_of s.ty) a b c d
-      (atoms_matched_related known source target holds s.ty s.left t.ty t.left left)
-      (atoms_matched_related known source target holds s.ty s.right t.ty t.right right))
+      let a = atom_value source.scope (read source.now) s.ty s.left in
+      let b = atom_value source.scope (read source.now) s.ty s.right in
+      let c = atom_value target.scope (read target.now) t.ty t.left in
+      let d = atom_value target.scope (read target.now) t.ty t.right in
+      let first = icmp_at source.world.memory s.pred (kind_of s.ty) a b in
+      subst (λ (world : World). IsOutcomeLessDefined first (icmp_at world.memory t.pred (kind_of t.ty) c d)) one.world
+      (subst₂ (λ o k. IsOutcomeLessDefined first (icmp_at source.world.memory o k c d)) pred (ap kind_of type)
+      (icmp_related source.world.memory s.pred (kind_of s.ty) a b c d
+      (atoms_matched_related known source target one.scope holds s.ty s.left t.ty t.left left)
+      (atoms_matched_related known source target one.scope holds s.ty s.right t.ty t.right right)))
 
   conversions_related : (s t : Cast Name) → s.op ≡ t.op → s.operand.ty ≡ t.operand.ty → s.to ≡ t.to → matched known s.operand t.operand ≡ true
-      → IsOutcomeLessDefined (outcome (read source.now) (expr.Cast s)) (outcome (read target.now) (expr.Cast t))
+      → IsOutcomeLessDefined (gives_on source (expr.Cast s)) (gives_on target (expr.Cast t))
   conversions_related s t op from to operand =
-      let a = operand_value (read source.now) s.operand in
-      let b = operand_value (read target.now) t.operand in
+      let a = operand_value source.scope (read source.now) s.operand in
+      let b = operand_value target.scope (read target.now) t.operand in
       let at : CastOp → Ty → Ty → Outcome = λ o j k. cond (converts o j k) (cast_at o (kind_of j) (kind_of k) b) (Gives Poison) in
-      let first = outcome (read source.now) (expr.Cast s) in
+      let first = gives_on source (expr.Cast s) in
       subst (λ k. IsOutcomeLessDefined first (at t.op t.operand.ty k)) to
       (subst₂ (λ o j. IsOutcomeLessDefined first (at o j s.to)) op from
-      (cast_related s.op s.operand.ty s.to a b (matched_related known source target holds s.operand t.operand operand)))
+      (cast_related s.op s.operand.ty s.to a b (matched_related known source target one.scope holds s.operand t.operand operand)))
 
   selections_related : (s t : Select Name) → s.condition.ty ≡ t.condition.ty → s.left.ty ≡ t.left.ty → s.right.ty ≡ t.right.ty
       → matched known s.condition t.condition ≡ true → matched known s.left t.left ≡ true → matched known s.right t.right ≡ true
-      → IsOutcomeLessDefined (outcome (read source.now) (expr.Select s)) (outcome (read target.now) (expr.Select t))
+      → IsOutcomeLessDefined (gives_on source (expr.Select s)) (gives_on target (expr.Select t))
   selections_related s t condition left right of_condition of_left of_right =
-      let d = operand_value (read target.now) t.condition in
-      let e = operand_value (read target.now) t.left in
-      let f = operand_value (read target.now) t.right in
+      let d = operand_value target.scope (read target.now) t.condition in
+      let e = operand_value target.scope (read target.now) t.left in
+      let f = operand_value target.scope (read target.now) t.right in
       let at : Ty → Ty → Ty → Outcome = λ j l r. cond (selects j l r) (select_outcome d e f) (Gives Poison) in
-      let first = outcome (read source.now) (expr.Select s) in
+      let first = gives_on source (expr.Select s) in
       subst (λ r. IsOutcomeLessDefined first (at t.condition.ty t.left.ty r)) right
       (subst₂ (λ j l. IsOutcomeLessDefined first (at j l s.right.ty)) condition left
       (select_related s.condition.ty s.left.ty s.right.ty
-      (operand_value (read source.now) s.condition) (operand_value (read source.now) s.left) (operand_value (read source.now) s.right) d e f
-      (matched_related known source target holds s.condition t.condition of_condition)
-      (matched_related known source target holds s.left t.left of_left)
-      (matched_related known source target holds s.right t.right of_right)))
+      (operand_value source.scope (read source.now) s.condition) (operand_value source.scope (read source.now) s.left) (operand_value source.scope (read source.now) s.right) d e f
+      (matched_related known source target one.scope holds s.condition t.condition of_condition)
+      (matched_related known source target one.scope holds s.left t.left of_left)
+      (matched_related known source target one.scope holds s.right t.right of_right)))
 
   abbrev RightsRelated : Expr Name → Expr Name → Type 0
-  RightsRelated e f = (type_of e ≡ type_of f) × IsOutcomeLessDefined (outcome (read source.now) e) (outcome (read target.now) f)
+  RightsRelated e f = (type_of e ≡ type_of f) × IsOutcomeLessDefined (gives_on source e) (gives_on target f)
 
   rights_related : (e f : Expr Name) → Agree known e f → RightsRelated e f
   rights_related (expr.Plain a) (expr.Plain b) agree =
-      let same = left_true (matched known a b) true agree.operands in (matched_type known a b same, matched_related known source target holds a b same)
+      let same = left_true (matched known a b) true agree.operands in (matched_type known a b same, matched_related known source target one.scope holds a b same)
   rights_related (expr.Binary s) (expr.Binary t) agree =
       let op = same_op s.op t.op in
       let type = same_ty_true s.ty t.ty (right_true op (same_ty s.ty t.ty) agree.operator) in
@@ -232,39 +245,42 @@ module _ (known : Assertion) (source target : SideState) (holds : AssertionHolds
   rights_related e f agree = absurd (false≢true agree.operator)
 
   -- WHERE THE TARGET'S RIGHT SIDE TRAPS beside the source's, and the line is allowed, the source's traps
-  allowed_traps : (s t : Expr Name) → right_fault known s t ≡ None → outcome (read target.now) t ≡ Trap → outcome (read source.now) s ≡ Trap
+  allowed_traps : (s t : Expr Name) → right_fault known s t ≡ None → gives_on target t ≡ Trap → gives_on source s ≡ Trap
   allowed_traps (expr.Binary s) (expr.Binary t) fault traps =
       let left = matched known (record { ty = s.ty; atom = s.left }) (record { ty = t.ty; atom = t.left }) in
       let right = matched known (record { ty = s.ty; atom = s.right }) (record { ty = t.ty; atom = t.right }) in
       let op = same_op s.op t.op in
       ⊎_elim
-      (λ e. absurd (no_trap (read target.now) (expr.Binary t) e traps))
+      (λ e. absurd (no_trap target.scope (read target.now) target.world.memory (expr.Binary t) e traps))
       (λ e.
       let operands = both_matched left right (Unmatched (record { ty = s.ty; atom = s.right }) (record { ty = t.ty; atom = t.right }))
       (Unmatched (record { ty = s.ty; atom = s.left }) (record { ty = t.ty; atom = t.left })) e.1 in
       let less = binaries_related s t s.flags s.flags (flags_among_themselves s.flags) (same_op_true s.op t.op (left_true op (same_ty s.ty t.ty) e.0))
       (same_ty_true s.ty t.ty (right_true op (same_ty s.ty t.ty) e.0)) operands.0 operands.1 in
-      only_trap (outcome (read source.now) (expr.Binary s))
-      (subst (λ o. IsOutcomeLessDefined (outcome (read source.now) (expr.Binary s)) o)
-      (traps_whatever_flags t.op t.flags s.flags (kind_of t.ty) (atom_value (read target.now) (kind_of t.ty) t.left)
-      (atom_value (read target.now) (kind_of t.ty) t.right) traps) less))
+      only_trap (gives_on source (expr.Binary s))
+      (subst (λ o. IsOutcomeLessDefined (gives_on source (expr.Binary s)) o)
+      (traps_whatever_flags t.op t.flags s.flags (kind_of t.ty) (atom_value target.scope (read target.now) t.ty t.left)
+      (atom_value target.scope (read target.now) t.ty t.right) traps) less))
       (no_right_fault (can_trap (expr.Binary t)) (same_operator (expr.Binary s) (expr.Binary t))
       (first_unmatched known (operands_in (expr.Binary s)) (operands_in (expr.Binary t))) TargetMayTrap fault)
   allowed_traps s (expr.Binary t) fault traps =
-      absurd (no_trap (read target.now) (expr.Binary t) (no_target_fault (can_trap (expr.Binary t)) TargetMayTrap fault) traps)
-  allowed_traps s (expr.Plain t) fault traps = absurd (no_trap (read target.now) (expr.Plain t) refl traps)
-  allowed_traps s (expr.Icmp t) fault traps = absurd (no_trap (read target.now) (expr.Icmp t) refl traps)
-  allowed_traps s (expr.Cast t) fault traps = absurd (no_trap (read target.now) (expr.Cast t) refl traps)
-  allowed_traps s (expr.Select t) fault traps = absurd (no_trap (read target.now) (expr.Select t) refl traps)
-  allowed_traps s (expr.Element t) fault traps = absurd (no_trap (read target.now) (expr.Element t) refl traps)
-  allowed_traps s (expr.Load t) fault traps = absurd (cc)
+      absurd (no_trap target.scope (read target.now) target.world.memory (expr.Binary t) (no_target_fault (can_trap (expr.Binary t)) TargetMayTrap fault) traps)
+  allowed_traps s (expr.Plain t) fault traps = absurd (no_trap target.scope (read target.now) target.world.memory (expr.Plain t) refl traps)
+  allowed_traps s (expr.Icmp t) fault traps = absurd (no_trap target.scope (read target.now) target.world.memory (expr.Icmp t) refl traps)
+  allowed_traps s (expr.Cast t) fault traps = absurd (no_trap target.scope (read target.now) target.world.memory (expr.Cast t) refl traps)
+  allowed_traps s (expr.Select t) fault traps = absurd (no_trap target.scope (read target.now) target.world.memory (expr.Select t) refl traps)
+  allowed_traps s (expr.Element t) fault traps = absurd (no_trap target.scope (read target.now) target.world.memory (expr.Element t) refl traps)
+  allowed_traps s (expr.Load t) fault traps = ⊎_elim
+      (λ e. absurd (false≢true (sym e)))
+      (λ e. absurd (false≢true (sym (beside_a_load s t) ∙ e.0)))
+      (no_right_fault true (same_operator s (expr.Load t)) (first_unmatched known (operands_in s) (operands_in (expr.Load t))) TargetMayTrap fault)
 
 -- two lines that gave values
-module _ (known : Assertion) (source target : SideState) (holds : AssertionHolds known source target) (s t : Calm) (v w : Value)
-    (source_gives : outcome (read source.now) s.right ≡ Gives v) (target_gives : outcome (read target.now) t.right ≡ Gives w) where
+module _ (known : Assertion) (source target : SideState) (one : AreInOneWorld source target) (holds : AssertionHolds known source target) (s t : Calm) (v w : Value)
+    (source_gives : gives_on source s.right ≡ Gives v) (target_gives : gives_on target t.right ≡ Gives w) where
   agree_related : lines_agree known s t ≡ true → AreRelated (without_reg (reg.Now s.name) known.diff) (side_after source s v) (side_after target t w)
   agree_related h =
-      let rights = rights_related known source target holds s.right t.right
+      let rights = rights_related known source target one holds s.right t.right
       (agree_parts known s.right t.right (right_true (same_name s.name t.name) (rights_agree known s.right t.right) h)) in
       let name = same_name_true s.name t.name (left_true (same_name s.name t.name) (rights_agree known s.right t.right) h) in
       let related : IsRelated v w = subst₂ IsOutcomeLessDefined source_gives target_gives rights.1 in
@@ -288,26 +304,26 @@ abbrev pub set_by : Option Kind → Name → Outcome → Registers → Option Re
 set_by k x (Gives v) registers = Some (set registers x k v)
 set_by k x Trap registers = None
 
--- the registers after a line, or after a no-op
-abbrev pub registers_after : Option Instr → Registers → Option Registers
-registers_after None registers = Some registers
-registers_after (Some (line.Calm l)) registers = set_by (kind_of (type_of l.right)) l.name (outcome (read registers) l.right) registers
-registers_after (Some i) registers = None
+-- the registers of a side after a line, or after a no-op
+abbrev pub registers_after : Option Instr → SideState → Option Registers
+registers_after None side = Some side.now
+registers_after (Some (line.Calm l)) side = set_by (kind_of (type_of l.right)) l.name (gives_on side l.right) side.now
+registers_after (Some i) side = None
 
 outcome_leads : (k : Option Kind) (x : Name) (o : Outcome) (registers : Registers) (frame : Frame) (rest : List Pending) (world : World)
     → set_to k x o (record frame { registers = registers }) rest world ≡ goes_on (set_by k x o registers) frame rest world
 outcome_leads k x (Gives v) registers frame rest world = refl
 outcome_leads k x Trap registers frame rest world = refl
 
-pub leads_so : (i : Option Instr) (registers : Registers) → LineLeads i registers (registers_after i registers)
-leads_so None registers = refl
-leads_so (Some (line.Calm l)) registers =
-    λ frame rest world. outcome_leads (kind_of (type_of l.right)) l.name (outcome (read registers) l.right) registers frame rest world
-leads_so (Some i) registers = λ frame rest world. refl
+pub leads_so : (i : Option Instr) (side : SideState) → LineLeads side i (registers_after i side)
+leads_so None side = refl
+leads_so (Some (line.Calm l)) side =
+    λ frame rest. outcome_leads (kind_of (type_of l.right)) l.name (gives_on side l.right) side.now frame rest side.world
+leads_so (Some i) side = λ frame rest. refl
 
 -- after an aligned line what its postcondition says holds
-module _ (known : Assertion) (source target : SideState) (holds : AssertionHolds known source target) where
-  source_keeps : (s : Calm) (o : Outcome) → outcome (read source.now) s.right ≡ o
+module _ (known : Assertion) (source target : SideState) (one : AreInOneWorld source target) (holds : AssertionHolds known source target) where
+  source_keeps : (s : Calm) (o : Outcome) → gives_on source s.right ≡ o
       → Keeps (after_line known (record { source = Some (line.Calm s); target = None })) source target (set_by (kind_of (type_of s.right)) s.name o source.now) (Some target.now)
   source_keeps s Trap is = tt
   source_keeps s (Gives v) is = record {
@@ -316,46 +332,46 @@ module _ (known : Assertion) (source target : SideState) (holds : AssertionHolds
     related = related_source known.diff source target holds.related s.name (kind_of (type_of s.right)) v;
   }
 
-  target_keeps : (t : Calm) (o : Outcome) → outcome (read target.now) t.right ≡ o → can_trap t.right ≡ false
+  target_keeps : (t : Calm) (o : Outcome) → gives_on target t.right ≡ o → can_trap t.right ≡ false
       → Keeps (after_line known (record { source = None; target = Some (line.Calm t) })) source target (Some source.now) (set_by (kind_of (type_of t.right)) t.name o target.now)
-  target_keeps t Trap is safe = absurd (no_trap (read target.now) t.right safe is)
+  target_keeps t Trap is safe = absurd (no_trap target.scope (read target.now) target.world.memory t.right safe is)
   target_keeps t (Gives w) is safe = record {
     source_facts = holds.source_facts;
     target_facts = facts_after_hold target t w is known.tgt holds.target_facts;
     related = related_target known.diff source target holds.related t.name (kind_of (type_of t.right)) w;
   }
 
-  both_keep : (s t : Calm) (o p : Outcome) → outcome (read source.now) s.right ≡ o → outcome (read target.now) t.right ≡ p → right_fault known s.right t.right ≡ None
+  both_keep : (s t : Calm) (o p : Outcome) → gives_on source s.right ≡ o → gives_on target t.right ≡ p → right_fault known s.right t.right ≡ None
       → Keeps (after_line known (record { source = Some (line.Calm s); target = Some (line.Calm t) })) source target
       (set_by (kind_of (type_of s.right)) s.name o source.now) (set_by (kind_of (type_of t.right)) t.name p target.now)
   both_keep s t Trap p is_source is_target allowed = tt
   both_keep s t (Gives v) Trap is_source is_target allowed =
-      let traps : Gives v ≡ Trap = sym is_source ∙ allowed_traps known source target holds s.right t.right allowed is_target in absurd (cc)
+      let traps : Gives v ≡ Trap = sym is_source ∙ allowed_traps known source target one holds s.right t.right allowed is_target in absurd (cc)
   both_keep s t (Gives v) (Gives w) is_source is_target allowed = record {
     source_facts = facts_after_hold source s v is_source known.src holds.source_facts;
     target_facts = facts_after_hold target t w is_target known.tgt holds.target_facts;
-    related = both_related known source target holds s t v w is_source is_target;
+    related = both_related known source target one holds s t v w is_source is_target;
   }
 
   pub keeps_so : (i j : Option Instr) → line_fault_of known i j ≡ None
-      → Keeps (after_line known (record { source = i; target = j })) source target (registers_after i source.now) (registers_after j target.now)
+      → Keeps (after_line known (record { source = i; target = j })) source target (registers_after i source) (registers_after j target)
   keeps_so None None allowed = holds
-  keeps_so (Some (line.Calm s)) None allowed = source_keeps s (outcome (read source.now) s.right) refl
+  keeps_so (Some (line.Calm s)) None allowed = source_keeps s (gives_on source s.right) refl
   keeps_so None (Some (line.Calm t)) allowed =
-      target_keeps t (outcome (read target.now) t.right) refl (no_target_fault (can_trap t.right) TargetMayTrap allowed)
+      target_keeps t (gives_on target t.right) refl (no_target_fault (can_trap t.right) TargetMayTrap allowed)
   keeps_so (Some (line.Calm s)) (Some (line.Calm t)) allowed =
-      both_keep s t (outcome (read source.now) s.right) (outcome (read target.now) t.right) refl refl allowed
+      both_keep s t (gives_on source s.right) (gives_on target t.right) refl refl allowed
   keeps_so i j allowed = absurd (cc)
 
 -- the laws of lines and of matched operands
 pub line_keeps : ALineKeepsWhatHolds
-line_keeps known l source target holds allowed = (
-  registers_after l.source source.now,
-  registers_after l.target target.now,
-  leads_so l.source source.now,
-  leads_so l.target target.now,
-  keeps_so known source target holds l.source l.target allowed,
+line_keeps known l source target one holds allowed = (
+  registers_after l.source source,
+  registers_after l.target target,
+  leads_so l.source source,
+  leads_so l.target target,
+  keeps_so known source target one holds l.source l.target allowed,
 )
 
 pub operands_related : MatchedOperandsAreRelated
-operands_related known source target a b holds h = matched_related known source target holds a b h
+operands_related known source target a b scopes holds h = matched_related known source target scopes holds a b h

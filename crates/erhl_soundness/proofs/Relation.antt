@@ -7,11 +7,11 @@ use Rattle.ir_core.specs.declared.functions.Instr.{Instr}
 use Rattle.ir_core.specs.declared.functions.Block.{Block}
 use Rattle.ir_core.specs.declared.functions.Function.{Function}
 use Rattle.ir_core.specs.Functions.{successors_of}
-use Rattle.ir_core.specs.Modules.{Scope}
 use Rattle.ir_types.specs.Same.{same_name}
 use Rattle.ir_types.specs.NameLaws.{same_name_true}
+use Rattle.ir_values.specs.Constants.{Scope}
 use Rattle.ir_machine.specs.Registers.{Registers}
-use Rattle.ir_machine.specs.State.{Frame, no_world, State, Running, Over}
+use Rattle.ir_machine.specs.State.{Frame, World, State, Running, Over}
 use Rattle.ir_machine.specs.Machine.{block_named}
 use Rattle.erhl_assert.specs.declared.facts.Assertion.{Assertion}
 use Rattle.erhl_assert.specs.declared.hints.Hint.{Hint}
@@ -69,13 +69,13 @@ abbrev pub mark_of : Name → List Marked → Bool
 mark_of to [] = true
 mark_of to (z ∷ zs) = cond (same_name z.1.source.name to) z.0 (mark_of to zs)
 
--- an activation in a block, with these lines left
-abbrev pub frame_of : Function → Block → List Instr → Registers → Frame
-frame_of f b lines registers = record { function = f; block = b.name; lines = lines; term = b.term; registers = registers }
+-- an activation in a block that owns these blocks of memory, with these lines left
+abbrev pub frame_of : Function → Block → List ℕ → List Instr → Registers → Frame
+frame_of f b own lines registers = record { function = f; block = b.name; lines = lines; term = b.term; registers = registers; own = own }
 
 -- the only activation of a run
-abbrev pub running : Function → Block → List Instr → Registers → State
-running f b lines registers = Running (frame_of f b lines registers) [] no_world
+abbrev pub running : Function → Block → List ℕ → World → List Instr → Registers → State
+running f b own world lines registers = Running (frame_of f b own lines registers) [] world
 
 module _ (w : Beside) (reached : Name → Bool) where
   abbrev pub LeadsOn : Block → Type 0
@@ -133,8 +133,9 @@ pub record IsPairFine (w : Beside) (blocks : List Marked) : Type 0 where
   pub target_blocks : w.target.blocks ≡ map target_of blocks
 
 module _ (rules : Rules) (scope : Scope) where
-  -- The only activations of two runs stand at one place of two aligned blocks, all that is left is judged good, and the invariant holds of
-  -- their registers. Each pair of functions has its own hint.
+  -- The only activations of two runs stand at one place of two aligned blocks in one world, of which they own the same blocks; all that is
+  -- left is judged good, and the invariant holds of their registers. Each pair of functions has its own hint. No call waits, as no line that
+  -- is allowed calls.
   pub record AreRunning (k : ℕ) (s t : State) : Type 0 where
     pub source : Function
     pub target : Function
@@ -145,16 +146,18 @@ module _ (rules : Rules) (scope : Scope) where
     pub place : ℕ
     pub left : List Line
     pub known : Assertion
+    pub own : List ℕ
+    pub world : World
     pub source_files : Files
     pub target_files : Files
-    pub stand : Stand (beside rules scope source target hint) known source_files target_files
+    pub stand : Stand (beside rules scope source target hint) world known source_files target_files
     pub good : IsGood (lines_judged (beside rules scope source target hint) block place left known)
     pub names : block.target.name ≡ block.source.name
     pub onward : LeadsOn (beside rules scope source target hint) (λ to. mark_of to blocks) block.source
     pub defined : AreLinesDefined source (source_lines left)
     pub is_k : k ≡ own_lines left
-    pub is_s : s ≡ running source block.source (source_lines left) source_files.now
-    pub is_t : t ≡ running target block.target (target_lines left) target_files.now
+    pub is_s : s ≡ running source block.source own world (source_lines left) source_files.now
+    pub is_t : t ≡ running target block.target own world (target_lines left) target_files.now
 
   -- or both runs are over
   abbrev pub AreStatesRelated : ℕ → State → State → Type 0

@@ -2,7 +2,6 @@
 use Rattle.std.proofs.Common.{◌≡◌, false, Option, None, Some, refl, ap, ◌∙◌}
 use Rattle.ir_types.specs.declared.names.Name.{Name}
 use Rattle.ir_types.specs.declared.ty.Ty.{Ty}
-use Rattle.ir_core.specs.declared.operands.Atom.TheVariants.{Register}
 use Rattle.ir_core.specs.declared.values.Value.{Value}
 use Rattle.ir_core.specs.declared.values.Value.TheVariants.{Poison}
 use Rattle.ir_core.specs.declared.values.Kind.{Kind}
@@ -10,14 +9,16 @@ use Rattle.ir_core.specs.declared.expressions.Reg.{Reg}
 use Rattle.ir_core.specs.declared.expressions.Reg.TheVariants.{Now, Old, Ghost}
 use Rattle.ir_core.specs.declared.expressions.Expr.{Expr}
 use Rattle.ir_core.specs.Expressions.{type_of}
-use Rattle.ir_core.specs.Modules.{Scope}
 use Rattle.ir_core.specs.Same.{same_reg}
 use Rattle.ir_core.specs.Types.{kind_of}
 use Rattle.ir_types.specs.NameLaws.{same_name_refl}
 use Rattle.ir_values.specs.declared.operations.Outcome.TheVariants.{Gives}
+use Rattle.ir_values.specs.Constants.{Scope}
 use Rattle.ir_values.specs.Values.{IsInKind}
 use Rattle.ir_values.proofs.KindLaws.{same_kind_refl}
-use Rattle.ir_machine.specs.Registers.{Registers, held_at, holding, set, atom_value, outcome}
+use Rattle.block_memory.specs.Memory.{Memory}
+use Rattle.ir_machine.specs.Registers.{Registers, held_at, holding, set, register_value, outcome}
+use Rattle.ir_machine.specs.State.{World}
 use Rattle.ir_machine.proofs.Runs.{read_set_at, read_set_other}
 use Rattle.erhl_assert.specs.declared.facts.Assertion.{Assertion}
 use Rattle.erhl_assert.specs.Sides.{SideState, IsSideInKind, read_reg}
@@ -33,21 +34,21 @@ pub record Files : Type 0 where
   pub old : Registers
   pub ghost : Registers
 
-abbrev pub side : Scope → Files → SideState
-side scope a = record { scope = scope; now = a.now; old = a.old; ghost = a.ghost }
+abbrev pub side : Scope → World → Files → SideState
+side scope world a = record { scope = scope; now = a.now; old = a.old; ghost = a.ghost; world = world }
 
--- Each value lies in its kind; a register of the source that is set, or was before the edge, holds a kind of one of its definitions; and
+-- Both sides are in one world. Each value lies in its kind; a register of the source that is set, or was before the edge, holds a kind of one of its definitions; and
 -- what is known holds.
-pub record Stand (w : Beside) (known : Assertion) (a b : Files) : Type 0 where
-  pub source_in_kind : IsSideInKind (side w.scope a)
-  pub target_in_kind : IsSideInKind (side w.scope b)
+pub record Stand (w : Beside) (world : World) (known : Assertion) (a b : Files) : Type 0 where
+  pub source_in_kind : IsSideInKind (side w.scope world a)
+  pub target_in_kind : IsSideInKind (side w.scope world b)
   pub now_defined : AreDefined w.source a.now
   pub old_defined : AreDefined w.source a.old
-  pub holds : AssertionHolds known (side w.scope a) (side w.scope b)
+  pub holds : AssertionHolds known (side w.scope world a) (side w.scope world b)
 
 -- of the same registers something else is known
-pub knowing : (w : Beside) (known known' : Assertion) (a b : Files) → Stand w known a b → AssertionHolds known' (side w.scope a) (side w.scope b) → Stand w known' a b
-knowing w known known' a b stand holds = record {
+pub knowing : (w : Beside) (world : World) (known known' : Assertion) (a b : Files) → Stand w world known a b → AssertionHolds known' (side w.scope world a) (side w.scope world b) → Stand w world known' a b
+knowing w world known known' a b stand holds = record {
   source_in_kind = stand.source_in_kind;
   target_in_kind = stand.target_in_kind;
   now_defined = stand.now_defined;
@@ -72,27 +73,29 @@ module _ (reading : Kind → Reg → Value) (r : Reg) (v : Value) where
   read_holding : (k : Kind) → held_at k (holding (Some k) v) ≡ v
   read_holding k = rw (same_kind_refl k) refl
 
-  at_kind : (o : Option Kind) → ((k : Kind) → reading k r ≡ held_at k (holding o v)) → (o ≡ None → v ≡ Poison) → atom_value reading o (Register r) ≡ v
+  at_kind : (o : Option Kind) → ((k : Kind) → reading k r ≡ held_at k (holding o v)) → (o ≡ None → v ≡ Poison) → register_value reading o r ≡ v
   at_kind None reads none = rw (none refl) refl
   at_kind (Some k) reads none = reads k ∙ read_holding k
 
-  pub register_worth : (t : Ty) → ((k : Kind) → reading k r ≡ held_at k (holding (kind_of t) v)) → (kind_of t ≡ None → v ≡ Poison)
-      → outcome reading (register_at t r) ≡ Gives v
-  register_worth t reads none = ap Gives (at_kind (kind_of t) reads none)
+  pub register_worth : (scope : Scope) (memory : Memory) (t : Ty) → ((k : Kind) → reading k r ≡ held_at k (holding (kind_of t) v)) → (kind_of t ≡ None → v ≡ Poison)
+      → outcome scope reading memory (register_at t r) ≡ Gives v
+  register_worth scope memory t reads none = ap Gives (at_kind (kind_of t) reads none)
 
 -- at a type without values all is poison
-pub none_is_poison : {R : Type 0} (reading : Kind → R → Value) (e : Expr R) (v : Value) → outcome reading e ≡ Gives v → kind_of (type_of e) ≡ None → v ≡ Poison
-none_is_poison reading e v h none = let p : outcome reading e ≡ Gives Poison = poison_without_kind reading e none in cc
+pub none_is_poison : {R : Type 0} (scope : Scope) (reading : Kind → R → Value) (memory : Memory) (e : Expr R) (v : Value) → outcome scope reading memory e ≡ Gives v
+    → kind_of (type_of e) ≡ None → v ≡ Poison
+none_is_poison scope reading memory e v h none =
+    let p : outcome scope reading memory e ≡ Gives Poison = poison_without_kind scope reading memory e none in cc
 
 -- what setting a ghost register does to what is read
 abbrev pub set_ghost : Files → Name → Option Kind → Value → Files
 set_ghost a x o v = record a { ghost = set a.ghost x o v }
 
-module _ (scope : Scope) (a : Files) (x : Name) (o : Option Kind) (v : Value) where
-  pub ghost_other : (k : Kind) (r : Reg) → same_reg (Ghost x) r ≡ false → read_reg (side scope (set_ghost a x o v)) k r ≡ read_reg (side scope a) k r
+module _ (scope : Scope) (world : World) (a : Files) (x : Name) (o : Option Kind) (v : Value) where
+  pub ghost_other : (k : Kind) (r : Reg) → same_reg (Ghost x) r ≡ false → read_reg (side scope world (set_ghost a x o v)) k r ≡ read_reg (side scope world a) k r
   ghost_other k (Now y) h = refl
   ghost_other k (Old y) h = refl
   ghost_other k (Ghost y) h = read_set_other a.ghost x y o k v h
 
-  pub ghost_at : (k : Kind) → read_reg (side scope (set_ghost a x o v)) k (Ghost x) ≡ held_at k (holding o v)
+  pub ghost_at : (k : Kind) → read_reg (side scope world (set_ghost a x o v)) k (Ghost x) ≡ held_at k (holding o v)
   ghost_at k = read_set_at a.ghost x x o k v (same_name_refl x)

@@ -16,10 +16,11 @@ use Rattle.ir_types.specs.NameLaws.{left_true, right_true, same_nat_true, same_n
 use Rattle.ir_types.proofs.SameLaws.{same_ty_true}
 use Rattle.ir_values.proofs.OperationLaws.{less_defined_refl}
 use Rattle.ir_machine.specs.declared.items.Input.{Input}
-use Rattle.ir_machine.specs.declared.items.Shown.{Shown}
+use Rattle.block_memory.specs.declared.items.Shown.{Shown}
+use Rattle.block_memory.specs.Laws.{IsOfBytes}
 use Rattle.ir_machine.specs.Registers.{Registers, AreInKind, no_registers, set}
-use Rattle.ir_machine.specs.State.{State}
-use Rattle.ir_machine.specs.Machine.{fits_kind, shown_value, entered, at_entry, started}
+use Rattle.ir_machine.specs.State.{World, State}
+use Rattle.ir_machine.specs.Machine.{fits_kind, resolve, entered, at_entry, started}
 use Rattle.ir_machine.proofs.InKind.{EntersInKind, no_registers_in_kind, entered_in_kind}
 use Rattle.flow_solver.specs.Near.{reached_nodes}
 use Rattle.definedness.specs.Graph.{labels_in, places_in, graph_in, flow_of}
@@ -132,36 +133,40 @@ blocks_back hint (f ∷ fs) (g ∷ gs) bs long h =
 
 -- ---- equal headers take the same input to the same registers
 
-entered_same : (ps qs : List Param) (args : List Shown) (registers : Registers) → same_list same_param ps qs ≡ true → entered ps args registers ≡ entered qs args registers
-entered_same [] [] args registers h = refl
-entered_same [] (q ∷ qs) args registers h = absurd (false≢true h)
-entered_same (p ∷ ps) [] args registers h = absurd (false≢true h)
-entered_same (p ∷ ps) (q ∷ qs) [] registers h = refl
-entered_same (p ∷ ps) (q ∷ qs) (a ∷ args) registers h =
-    let one = left_true (same_param p q) (same_list same_param ps qs) h in
-    let name = same_name_true p.name q.name (left_true (same_name p.name q.name) (same_ty p.ty q.ty) one) in
-    let type = same_ty_true p.ty q.ty (right_true (same_name p.name q.name) (same_ty p.ty q.ty) one) in
-    let parts : ((p.name, p.ty) ≡ (q.name, q.ty)) = cc in
-    ap (λ (x : Name × Ty). cond (fits_kind (kind_of x.1) a) (entered ps args (set registers x.0 (kind_of x.1) (shown_value a))) None) parts
-    ∙ ap (λ o. cond (fits_kind (kind_of q.ty) a) o None)
-    (entered_same ps qs args (set registers q.name (kind_of q.ty) (shown_value a)) (right_true (same_param p q) (same_list same_param ps qs) h))
-
-entered_alike : (f g : Function) (args : List Shown) (registers : Registers) → same_header f g ≡ true → entered f.params args registers ≡ entered g.params args registers
-entered_alike f g args registers h = entered_same f.params g.params args registers (right_true (same_ty f.result g.result) (same_list same_param f.params g.params) h)
-
 abbrev EntersDefined : Function → Option Registers → Type 0
 EntersDefined f None = Unit {0}
 EntersDefined f (Some registers) = AreDefined f registers
 
-entered_defined : (f : Function) (ps : List Param) (args : List Shown) (registers : Registers) → AreParamsDefined f ps → AreDefined f registers → EntersDefined f (entered ps args registers)
-entered_defined f [] [] registers defined h = h
-entered_defined f [] (a ∷ args) registers defined h = tt
-entered_defined f (p ∷ ps) [] registers defined h = tt
-entered_defined f (p ∷ ps) (a ∷ args) registers defined h =
-    cond_both (fits_kind (kind_of p.ty) a) (entered ps args (set registers p.name (kind_of p.ty) (shown_value a))) None (EntersDefined f)
-    (λ e. entered_defined f ps args (set registers p.name (kind_of p.ty) (shown_value a)) defined.1
-    (set_defined f registers p.name (kind_of p.ty) (shown_value a) h defined.0))
-    (λ e. tt)
+module _ (world : World) where
+  entered_same : (ps qs : List Param) (args : List Shown) (registers : Registers) → same_list same_param ps qs ≡ true
+      → entered world ps args registers ≡ entered world qs args registers
+  entered_same [] [] args registers h = refl
+  entered_same [] (q ∷ qs) args registers h = absurd (false≢true h)
+  entered_same (p ∷ ps) [] args registers h = absurd (false≢true h)
+  entered_same (p ∷ ps) (q ∷ qs) [] registers h = refl
+  entered_same (p ∷ ps) (q ∷ qs) (a ∷ args) registers h =
+      let one = left_true (same_param p q) (same_list same_param ps qs) h in
+      let name = same_name_true p.name q.name (left_true (same_name p.name q.name) (same_ty p.ty q.ty) one) in
+      let type = same_ty_true p.ty q.ty (right_true (same_name p.name q.name) (same_ty p.ty q.ty) one) in
+      let parts : ((p.name, p.ty) ≡ (q.name, q.ty)) = cc in
+      ap (λ (x : Name × Ty). cond (fits_kind (kind_of x.1) world a) (entered world ps args (set registers x.0 (kind_of x.1) (resolve world a))) None) parts
+      ∙ ap (λ o. cond (fits_kind (kind_of q.ty) world a) o None)
+      (entered_same ps qs args (set registers q.name (kind_of q.ty) (resolve world a)) (right_true (same_param p q) (same_list same_param ps qs) h))
+
+  entered_alike : (f g : Function) (args : List Shown) (registers : Registers) → same_header f g ≡ true
+      → entered world f.params args registers ≡ entered world g.params args registers
+  entered_alike f g args registers h = entered_same f.params g.params args registers (right_true (same_ty f.result g.result) (same_list same_param f.params g.params) h)
+
+  entered_defined : (f : Function) (ps : List Param) (args : List Shown) (registers : Registers) → AreParamsDefined f ps → AreDefined f registers
+      → EntersDefined f (entered world ps args registers)
+  entered_defined f [] [] registers defined h = h
+  entered_defined f [] (a ∷ args) registers defined h = tt
+  entered_defined f (p ∷ ps) [] registers defined h = tt
+  entered_defined f (p ∷ ps) (a ∷ args) registers defined h =
+      cond_both (fits_kind (kind_of p.ty) world a) (entered world ps args (set registers p.name (kind_of p.ty) (resolve world a))) None (EntersDefined f)
+      (λ e. entered_defined f ps args (set registers p.name (kind_of p.ty) (resolve world a)) defined.1
+      (set_defined f registers p.name (kind_of p.ty) (resolve world a) h defined.0))
+      (λ e. tt)
 
 -- an entry without a fault claims no fact
 claims_nothing : (fs gs : List Fact) → first_missing_of (fs ++ gs) ≡ None → (fs ≡ []) × (gs ≡ [])
@@ -264,69 +269,72 @@ module _ (w : Beside) where
 
   -- ---- the start of a run
 
-  abbrev begun : Registers → Files
-  begun registers = record { now = registers; old = no_registers; ghost = no_registers }
+  module _ (world : World) (bytes : IsOfBytes world.memory) where
+    abbrev begun : Registers → Files
+    begun registers = record { now = registers; old = no_registers; ghost = no_registers }
 
-  facts_none : (registers : Registers) (fs : List Fact) → fs ≡ [] → AllByRecursion (Holds (side w.scope (begun registers))) (with_facts fs [])
-  facts_none registers fs none = subst (λ gs. AllByRecursion (Holds (side w.scope (begun registers))) (with_facts gs [])) (sym none) tt
+    facts_none : (registers : Registers) (fs : List Fact) → fs ≡ [] → AllByRecursion (Holds (side w.scope world (begun registers))) (with_facts fs [])
+    facts_none registers fs none = subst (λ gs. AllByRecursion (Holds (side w.scope world (begun registers))) (with_facts gs [])) (sym none) tt
 
-  begun_stand : (lists : Assertion) (registers : Registers) → AreInKind registers → AreDefined w.source registers → lists.src ≡ [] → lists.tgt ≡ []
-      → Stand w (each_once lists) (begun registers) (begun registers)
-  begun_stand lists registers kind defined no_src no_tgt = record {
-    source_in_kind = record { now = kind; old = no_registers_in_kind; ghost = no_registers_in_kind };
-    target_in_kind = record { now = kind; old = no_registers_in_kind; ghost = no_registers_in_kind };
-    now_defined = defined;
-    old_defined = none_defined w.source;
-    holds = record {
-      source_facts = facts_none registers lists.src no_src;
-      target_facts = facts_none registers lists.tgt no_tgt;
-      related = record { outside = λ r k out. less_defined_refl (read_reg (side w.scope (begun registers)) k r); ghosts = λ g k. tt };
-    };
-  }
+    begun_stand : (lists : Assertion) (registers : Registers) → AreInKind registers → AreDefined w.source registers → lists.src ≡ [] → lists.tgt ≡ []
+        → Stand w world (each_once lists) (begun registers) (begun registers)
+    begun_stand lists registers kind defined no_src no_tgt = record {
+      source_in_kind = record { now = kind; old = no_registers_in_kind; ghost = no_registers_in_kind; bytes = bytes };
+      target_in_kind = record { now = kind; old = no_registers_in_kind; ghost = no_registers_in_kind; bytes = bytes };
+      now_defined = defined;
+      old_defined = none_defined w.source;
+      holds = record {
+        source_facts = facts_none registers lists.src no_src;
+        target_facts = facts_none registers lists.tgt no_tgt;
+        related = record { outside = λ r k out. less_defined_refl (read_reg (side w.scope world (begun registers)) k r); ghosts = λ g k. tt };
+      };
+    }
 
-  abbrev AreStarts : Option State → Option State → Type 0
-  AreStarts = AreStartsRelated w.rules w.scope
+    abbrev AreStarts : Option State → Option State → Type 0
+    AreStarts = AreStartsRelated w.rules w.scope
 
-  entries_start : (blocks : List Marked) → IsPairFine w blocks → (bs : List AlignedBlock) → AllByRecursion (IsBlockFine w (λ to. mark_of to blocks)) (marks_of bs) → ClaimsNothing w bs
-      → (o : Option Registers) → EntersInKind o → EntersDefined w.source o
-      → AreStarts (at_entry w.source (map (λ (b : AlignedBlock). b.source) bs) o) (at_entry w.target (map (λ (b : AlignedBlock). b.target) bs) o)
-  entries_start blocks pair [] fine nothing o kind defined = tt
-  entries_start blocks pair (b ∷ bs) fine nothing None kind defined = tt
-  entries_start blocks pair (b ∷ bs) fine nothing (Some registers) kind defined =
-      let good = fine.0 in
-      let reached = first_reached graph in (
-        own_lines b.lines,
-        inl (record {
-          source = w.source;
-          target = w.target;
-          hint = w.hint;
-          blocks = blocks;
-          pair_fine = pair;
-          block = b;
-          place = 0;
-          left = b.lines;
-          known = each_once (hint_of_block w b).entry;
-          source_files = begun registers;
-          target_files = begun registers;
-          stand = begun_stand (hint_of_block w b).entry registers kind defined nothing.0 nothing.1;
-          good = block_good w b (good.good reached);
-          names = good.aligned.names;
-          onward = good.onward reached;
-          defined = subst (AreLinesDefined w.source) good.aligned.source good.defined.1;
-          is_k = refl;
-          is_s = ap (λ ls. running w.source b.source ls registers) good.aligned.source;
-          is_t = ap (λ ls. running w.target b.target ls registers) good.aligned.target;
-        }),
-      )
+    entries_start : (blocks : List Marked) → IsPairFine w blocks → (bs : List AlignedBlock) → AllByRecursion (IsBlockFine w (λ to. mark_of to blocks)) (marks_of bs) → ClaimsNothing w bs
+        → (o : Option Registers) → EntersInKind o → EntersDefined w.source o
+        → AreStarts (at_entry world w.source (map (λ (b : AlignedBlock). b.source) bs) o) (at_entry world w.target (map (λ (b : AlignedBlock). b.target) bs) o)
+    entries_start blocks pair [] fine nothing o kind defined = tt
+    entries_start blocks pair (b ∷ bs) fine nothing None kind defined = tt
+    entries_start blocks pair (b ∷ bs) fine nothing (Some registers) kind defined =
+        let good = fine.0 in
+        let reached = first_reached graph in (
+          own_lines b.lines,
+          inl (record {
+            source = w.source;
+            target = w.target;
+            hint = w.hint;
+            blocks = blocks;
+            pair_fine = pair;
+            block = b;
+            place = 0;
+            left = b.lines;
+            known = each_once (hint_of_block w b).entry;
+            own = [];
+            world = world;
+            source_files = begun registers;
+            target_files = begun registers;
+            stand = begun_stand (hint_of_block w b).entry registers kind defined nothing.0 nothing.1;
+            good = block_good w b (good.good reached);
+            names = good.aligned.names;
+            onward = good.onward reached;
+            defined = subst (AreLinesDefined w.source) good.aligned.source good.defined.1;
+            is_k = refl;
+            is_s = ap (λ ls. running w.source b.source [] world ls registers) good.aligned.source;
+            is_t = ap (λ ls. running w.target b.target [] world ls registers) good.aligned.target;
+          }),
+        )
 
-  -- functions that are accepted start related, whatever they are entered on
-  pub accepted_start : Accepts w → ArePhisApart w.source → ArePhisApart w.target → (input : Input) → AreStarts (started w.source input) (started w.target input)
-  accepted_start accepted source_apart target_apart input =
-      let parts = parts_of w accepted in
-      let pair = pair_is_fine parts source_apart target_apart in
-      let entering = entered w.source.params input.args no_registers in
-      subst (λ enters. AreStarts (at_entry w.source w.source.blocks entering) (at_entry w.target w.target.blocks enters)) (entered_alike w.source w.target input.args no_registers parts.header)
-      (subst₂ (λ fs gs. AreStarts (at_entry w.source fs entering) (at_entry w.target gs entering)) (sym parts.back.source) (sym parts.back.target)
-      (entries_start (marks_of parts.blocks) pair parts.blocks pair.fine (entry_claims_nothing w parts.blocks parts.good) entering
-      (entered_in_kind w.source.params input.args no_registers no_registers_in_kind)
-      (entered_defined w.source w.source.params input.args no_registers (params_defined w.source) (none_defined w.source))))
+    -- functions that are accepted start related, whatever they are entered on
+    pub accepted_start : Accepts w → ArePhisApart w.source → ArePhisApart w.target → (input : Input) → AreStarts (started world w.source input) (started world w.target input)
+    accepted_start accepted source_apart target_apart input =
+        let parts = parts_of w accepted in
+        let pair = pair_is_fine parts source_apart target_apart in
+        let entering = entered world w.source.params input.args no_registers in
+        subst (λ enters. AreStarts (at_entry world w.source w.source.blocks entering) (at_entry world w.target w.target.blocks enters)) (entered_alike world w.source w.target input.args no_registers parts.header)
+        (subst₂ (λ fs gs. AreStarts (at_entry world w.source fs entering) (at_entry world w.target gs entering)) (sym parts.back.source) (sym parts.back.target)
+        (entries_start (marks_of parts.blocks) pair parts.blocks pair.fine (entry_claims_nothing w parts.blocks parts.good) entering
+        (entered_in_kind world w.source.params input.args no_registers no_registers_in_kind)
+        (entered_defined world w.source w.source.params input.args no_registers (params_defined w.source) (none_defined w.source))))

@@ -7,7 +7,6 @@ use Rattle.std.proofs.lemmas.Bool.{cond_both, cases_Bool, not-true, false≢true
 use Rattle.ir_types.specs.declared.names.Name.{Name}
 use Rattle.ir_types.specs.declared.ty.Ty.{Ty}
 use Rattle.ir_types.specs.declared.ty.Ty.TheVariants as ty
-use Rattle.ir_core.specs.declared.operands.Atom.TheVariants.{Register}
 use Rattle.ir_core.specs.declared.values.Value.{Value}
 use Rattle.ir_core.specs.declared.values.Kind.{Kind}
 use Rattle.ir_core.specs.declared.values.Kind.TheVariants as kind
@@ -17,7 +16,6 @@ use Rattle.ir_core.specs.declared.expressions.Expr.{Expr}
 use Rattle.ir_core.specs.declared.expressions.Expr.TheVariants.{Plain, Binary, Icmp, Cast, Select, Element, Load}
 use Rattle.ir_core.specs.Expressions.{Expr0, type_of, expr_has}
 use Rattle.ir_core.specs.Functions.{typed_of}
-use Rattle.ir_core.specs.Modules.{Scope}
 use Rattle.ir_core.specs.Ranges as ranges
 use Rattle.ir_types.specs.Same.{same_name}
 use Rattle.ir_core.specs.Same.{same_reg}
@@ -26,11 +24,14 @@ use Rattle.ir_types.specs.NameLaws.{left_true, right_true}
 use Rattle.ir_core.proofs.SameLaws.{same_reg_true}
 use Rattle.ir_values.specs.declared.operations.Outcome.{Outcome}
 use Rattle.ir_values.specs.declared.operations.Outcome.TheVariants.{Gives, Trap}
+use Rattle.ir_values.specs.Constants.{Scope}
 use Rattle.ir_values.specs.Operations.{IsOutcomeLessDefined, GivesInKind}
 use Rattle.ir_values.specs.Values.{same_kind}
 use Rattle.ir_values.proofs.KindLaws.{same_kind_true}
 use Rattle.ir_values.proofs.OperationLaws.{less_defined_trans}
-use Rattle.ir_machine.specs.Registers.{Registers, read, set, atom_value, selects, outcome}
+use Rattle.block_memory.specs.Memory.{Memory}
+use Rattle.ir_machine.specs.Registers.{Registers, read, set, register_value, selects, outcome}
+use Rattle.ir_machine.specs.State.{World}
 use Rattle.ir_machine.proofs.InKind.{outcome_in_kind}
 use Rattle.ir_machine.proofs.Runs.{set_in_kind, read_set_at, read_set_other}
 use Rattle.erhl_assert.specs.declared.facts.Fact.{Fact}
@@ -58,7 +59,7 @@ use Rattle.erhl_assert.specs.Steps.{Meaning, Beside, rule_named, rule_takes, Are
 use Rattle.erhl_assert.proofs.Courses.{then_ends}
 use Rattle.erhl_assert.proofs.Edges.{with_all, adds_all_ends}
 use Rattle.erhl_soundness.proofs.Alike.{outcome_alike, none_found}
-use Rattle.erhl_soundness.proofs.Facts.{has_fact_holds, premises_hold, with_fact_holds, with_facts_hold, both_ways_hold, worth_kept, without_holds}
+use Rattle.erhl_soundness.proofs.Facts.{StaysThere, has_fact_holds, premises_hold, with_fact_holds, with_facts_hold, both_ways_hold, worth_kept, without_holds}
 use Rattle.erhl_soundness.proofs.Outside.{outside_without}
 use Rattle.erhl_soundness.proofs.Related.{held_related}
 use Rattle.erhl_soundness.proofs.Trapping.{no_trap}
@@ -66,9 +67,9 @@ use Rattle.erhl_soundness.proofs.Definitions.{AreDefined, reads_poison}
 use Rattle.erhl_soundness.proofs.Standing.{Files, side, Stand, knowing, with_ghost, reads_in_kind, register_worth, none_is_poison, set_ghost, ghost_other, ghost_at}
 
 -- what a course comes to, if it isn't refused, stands, for some ghost registers
-abbrev pub EndsStand : Beside → Files → Files → Ends Assertion → Type 0
-EndsStand w a b (Refuses r) = Unit {0}
-EndsStand w a b (course.Gives known) = (g : Registers) × (h : Registers) × Stand w known (with_ghost a g) (with_ghost b h)
+abbrev pub EndsStand : Beside → World → Files → Files → Ends Assertion → Type 0
+EndsStand w world a b (Refuses r) = Unit {0}
+EndsStand w world a b (course.Gives known) = (g : Registers) × (h : Registers) × Stand w world known (with_ghost a g) (with_ghost b h)
 
 -- ---- tests that find no fault
 
@@ -94,8 +95,9 @@ value_of : (o : Outcome) → (o ≡ Trap → ⊥) → (v : Value) × (o ≡ Give
 value_of (Gives v) h = (v, refl)
 value_of Trap h = absurd (h refl)
 
-pub gives_value : {R : Type 0} (reading : Kind → R → Value) (e : Expr R) → can_trap e ≡ false → (v : Value) × (outcome reading e ≡ Gives v)
-gives_value reading e h = value_of (outcome reading e) (no_trap reading e h)
+pub gives_value : {R : Type 0} (scope : Scope) (reading : Kind → R → Value) (memory : Memory) (e : Expr R) → can_trap e ≡ false
+    → (v : Value) × (outcome scope reading memory e ≡ Gives v)
+gives_value scope reading memory e h = value_of (outcome scope reading memory e) (no_trap scope reading memory e h)
 
 -- ---- what has a type has a kind
 
@@ -121,50 +123,53 @@ outcome_trans (Gives a) (Gives b) Trap h i = absurd i
 outcome_trans (Gives a) Trap q h i = absurd h
 
 -- ---- ghost, on one side: facts that name it go, and it is known to be the expression
-module _ (scope : Scope) (a : Files) (g : Name) (e : Expr0) (v : Value) (gives : worth (side scope a) e ≡ Gives v) (apart : expr_names (Ghost g) e ≡ false) where
+module _ (scope : Scope) (world : World) (a : Files) (g : Name) (e : Expr0) (v : Value) (gives : worth (side scope world a) e ≡ Gives v) (apart : expr_names (Ghost g) e ≡ false) where
   abbrev after_choice : Files
   after_choice = set_ghost a g (kind_of (type_of e)) v
 
-  chosen_facts : (fs : List Fact) → AllByRecursion (Holds (side scope a)) fs
-      → AllByRecursion (Holds (side scope after_choice)) (with_facts (choice (Ghost g) e) (without_naming (Ghost g) fs))
+  chosen_facts : (fs : List Fact) → AllByRecursion (Holds (side scope world a)) fs
+      → AllByRecursion (Holds (side scope world after_choice)) (with_facts (choice (Ghost g) e) (without_naming (Ghost g) fs))
   chosen_facts fs all =
-      let before = side scope a in
-      let after = side scope after_choice in
+      let before = side scope world a in
+      let after = side scope world after_choice in
       let o = kind_of (type_of e) in
-      let same = ghost_other scope a g o v in
+      let same = ghost_other scope world a g o v in
+      let stays : StaysThere before after = record { scope = refl; world = refl } in
       with_facts_hold after (choice (Ghost g) e) (without_naming (Ghost g) fs)
       (both_ways_hold after e (register_at (type_of e) (Ghost g)) v refl
-      (worth_kept (same_reg (Ghost g)) before after same e apart ∙ gives)
-      (register_worth (read_reg after) (Ghost g) v (type_of e) (ghost_at scope a g o v) (none_is_poison (read_reg before) e v gives)))
-      (without_holds (same_reg (Ghost g)) before after same fs all)
+      (worth_kept (same_reg (Ghost g)) before after stays same e apart ∙ gives)
+      (register_worth (read_reg after) (Ghost g) v scope world.memory (type_of e) (ghost_at scope world a g o v)
+      (none_is_poison scope (read_reg before) world.memory e v gives)))
+      (without_holds (same_reg (Ghost g)) before after stays same fs all)
 
-  choice_in_kind : IsSideInKind (side scope a) → IsSideInKind (side scope after_choice)
+  choice_in_kind : IsSideInKind (side scope world a) → IsSideInKind (side scope world after_choice)
   choice_in_kind h = record {
     now = h.now;
     old = h.old;
     ghost = set_in_kind a.ghost g (kind_of (type_of e)) v h.ghost
-        (subst (GivesInKind (kind_of (type_of e))) gives (outcome_in_kind (read_reg (side scope a)) (reads_in_kind (side scope a) h) e));
+        (subst (GivesInKind (kind_of (type_of e))) gives (outcome_in_kind scope (read_reg (side scope world a)) (reads_in_kind (side scope world a) h) world.memory h.bytes e));
+    bytes = h.bytes;
   }
 
-module _ (w : Beside) (sound : AreSound w.rules) (a b : Files) where
+module _ (w : Beside) (sound : AreSound w.rules) (world : World) (a b : Files) where
   abbrev source : SideState
-  source = side w.scope a
+  source = side w.scope world a
 
   abbrev target : SideState
-  target = side w.scope b
+  target = side w.scope world b
 
-  tested_stands : (o : Option Reason) (known : Assertion) (next : Assertion → Course Assertion) → (o ≡ None → EndsStand w a b (next known).ends)
-      → EndsStand w a b (and_then (tested o known) next).ends
+  tested_stands : (o : Option Reason) (known : Assertion) (next : Assertion → Course Assertion) → (o ≡ None → EndsStand w world a b (next known).ends)
+      → EndsStand w world a b (and_then (tested o known) next).ends
   tested_stands None known next h = h refl
   tested_stands (Some r) known next h = tt
 
   -- ---- rules
 
-  conclusion_stands : (at : Side) (from : List Fact) (to : Fact) (known : Assertion) → Stand w known a b → IsSound w.scope (record { from = from; to = to })
-      → first_missing (facts_of at known) from ≡ None → Stand w (with_conclusion at to known) a b
+  conclusion_stands : (at : Side) (from : List Fact) (to : Fact) (known : Assertion) → Stand w world known a b → IsSound w.scope (record { from = from; to = to })
+      → first_missing (facts_of at known) from ≡ None → Stand w world (with_conclusion at to known) a b
   conclusion_stands Src from to known stand rule h =
       let holds = stand.holds in
-      knowing w known (with_conclusion Src to known) a b stand (record {
+      knowing w world known (with_conclusion Src to known) a b stand (record {
         source_facts = with_fact_holds source to known.src holds.source_facts
             (rule source refl stand.source_in_kind (premises_hold source known.src from holds.source_facts h));
         target_facts = holds.target_facts;
@@ -172,31 +177,32 @@ module _ (w : Beside) (sound : AreSound w.rules) (a b : Files) where
       })
   conclusion_stands Tgt from to known stand rule h =
       let holds = stand.holds in
-      knowing w known (with_conclusion Tgt to known) a b stand (record {
+      knowing w world known (with_conclusion Tgt to known) a b stand (record {
         source_facts = holds.source_facts;
         target_facts = with_fact_holds target to known.tgt holds.target_facts
             (rule target refl stand.target_in_kind (premises_hold target known.tgt from holds.target_facts h));
         related = holds.related;
       })
 
-  concluded_stands : (step : RuleStep) (known : Assertion) → Stand w known a b → IsSound w.scope step.schema
-      → (o : Option Fact) → first_missing (facts_of step.side known) step.schema.from ≡ o → EndsStand w a b (concluded o step known).ends
+  concluded_stands : (step : RuleStep) (known : Assertion) → Stand w world known a b → IsSound w.scope step.schema
+      → (o : Option Fact) → first_missing (facts_of step.side known) step.schema.from ≡ o → EndsStand w world a b (concluded o step known).ends
   concluded_stands step known stand rule (Some f) h = tt
   concluded_stands step known stand rule None h = (a.ghost, b.ghost, conclusion_stands step.side step.schema.from step.schema.to known stand rule h)
 
-  rule_stands : (step : RuleStep) (known : Assertion) → Stand w known a b → (o : Option Meaning)
-      → (rule_takes o w.scope step.schema ≡ true → IsSound w.scope step.schema) → EndsStand w a b (after_rule o w.scope step known).ends
+  rule_stands : (step : RuleStep) (known : Assertion) → Stand w world known a b → (o : Option Meaning)
+      → (rule_takes o w.scope step.schema ≡ true → IsSound w.scope step.schema) → EndsStand w world a b (after_rule o w.scope step known).ends
   rule_stands step known stand None rule = tt
   rule_stands step known stand (Some r) rule =
       cond_both (r.takes w.scope step.schema) (concluded (first_missing (facts_of step.side known) step.schema.from) step known) (refuses (RuleUnfit step.rule))
-      (λ (c : Course Assertion). EndsStand w a b c.ends)
+      (λ (c : Course Assertion). EndsStand w world a b c.ends)
       (λ e. concluded_stands step known stand (rule e) (first_missing (facts_of step.side known) step.schema.from) refl)
       (λ e. tt)
 
   -- registers that may not differ are related, so what is made of them is
-  related_worth : (known : Assertion) (e : Expr0) → Stand w known a b → differing_fault known e ≡ None → IsOutcomeLessDefined (worth source e) (worth target e)
+  related_worth : (known : Assertion) (e : Expr0) → Stand w world known a b → differing_fault known e ≡ None → IsOutcomeLessDefined (worth source e) (worth target e)
   related_worth known e stand free =
-      outcome_alike (read_reg source) (read_reg target) (λ r. has_reg r known.diff) (λ k r out. stand.holds.related.outside r k out) e (none_differs known e free)
+      outcome_alike w.scope (read_reg source) (read_reg target) (λ r. has_reg r known.diff) (λ k r out. stand.holds.related.outside r k out) world.memory e
+      (none_differs known e free)
 
   -- ---- same
 
@@ -209,13 +215,13 @@ module _ (w : Beside) (sound : AreSound w.rules) (a b : Files) where
         (λ h. subst (λ v. IsRelated v (read t j x)) (sym (reads_poison e k of_expr w.source x j (s x) none (defined x) h)) tt)
         (cases_Bool (same_kind k j))
 
-    same_reads : (x : Reg) (known : Assertion) → Stand w known a b → has_other_kind w.source x e ≡ false
+    same_reads : (x : Reg) (known : Assertion) → Stand w world known a b → has_other_kind w.source x e ≡ false
         → IsRelated (read_reg source k x) (read_reg target k x) → (j : Kind) → IsRelated (read_reg source j x) (read_reg target j x)
     same_reads (Now x) known stand none related j = same_now x a.now b.now none stand.now_defined related j
     same_reads (Old x) known stand none related j = same_now x a.old b.old none stand.old_defined related j
     same_reads (Ghost g) known stand none related j = stand.holds.related.ghosts g j
 
-    between : (x : Reg) (known : Assertion) → Stand w known a b
+    between : (x : Reg) (known : Assertion) → Stand w world known a b
         → has_fact (LessDef (register_at (type_of e) x) e) known.src ≡ true → has_fact (LessDef e (register_at (type_of e) x)) known.tgt ≡ true
         → differing_fault known e ≡ None → IsRelated (read_reg source k x) (read_reg target k x)
     between x known stand above below free =
@@ -224,13 +230,13 @@ module _ (w : Beside) (sound : AreSound w.rules) (a b : Files) where
         let last = (has_fact_holds target (LessDef e r) known.tgt below stand.holds.target_facts).1 in
         let whole = outcome_trans (worth source r) (worth source e) (worth target r) first
         (outcome_trans (worth source e) (worth target e) (worth target r) (related_worth known e stand free) last) in
-        subst (λ o. IsOutcomeLessDefined (Gives (atom_value (read_reg source) o (Register x))) (Gives (atom_value (read_reg target) o (Register x)))) of_expr whole
+        subst (λ o. IsOutcomeLessDefined (Gives (register_value (read_reg source) o x)) (Gives (register_value (read_reg target) o x))) of_expr whole
 
-  same_related : (x : Reg) (known : Assertion) → Stand w known a b → ((j : Kind) → IsRelated (read_reg source j x) (read_reg target j x))
-      → Stand w (record known { diff = without_reg x known.diff }) a b
+  same_related : (x : Reg) (known : Assertion) → Stand w world known a b → ((j : Kind) → IsRelated (read_reg source j x) (read_reg target j x))
+      → Stand w world (record known { diff = without_reg x known.diff }) a b
   same_related x known stand related =
       let holds = stand.holds in
-      knowing w known (record known { diff = without_reg x known.diff }) a b stand (record {
+      knowing w world known (record known { diff = without_reg x known.diff }) a b stand (record {
         source_facts = holds.source_facts;
         target_facts = holds.target_facts;
         related = record {
@@ -242,13 +248,13 @@ module _ (w : Beside) (sound : AreSound w.rules) (a b : Files) where
         };
       })
 
-  same_stands : (step : SameStep) (known : Assertion) → Stand w known a b → EndsStand w a b (after_same w step known).ends
+  same_stands : (step : SameStep) (known : Assertion) → Stand w world known a b → EndsStand w world a b (after_same w step known).ends
   same_stands step known stand = go (same_fault w known step.register step.by) refl
     where
       after : Assertion
       after = record known { diff = without_reg step.register known.diff }
 
-      go : (o : Option Reason) → same_fault w known step.register step.by ≡ o → EndsStand w a b (tested o after).ends
+      go : (o : Option Reason) → same_fault w known step.register step.by ≡ o → EndsStand w world a b (tested o after).ends
       go (Some r) h = tt
       go None h =
           let e = step.by in
@@ -276,7 +282,7 @@ module _ (w : Beside) (sound : AreSound w.rules) (a b : Files) where
   -- ---- ghost
 
   choice_related : (g : Name) (o : Option Kind) (v u : Value) (known : Assertion) → AreRelated known.diff source target → IsRelated v u
-      → AreRelated (without_reg (Ghost g) known.diff) (side w.scope (set_ghost a g o v)) (side w.scope (set_ghost b g o u))
+      → AreRelated (without_reg (Ghost g) known.diff) (side w.scope world (set_ghost a g o v)) (side w.scope world (set_ghost b g o u))
   choice_related g o v u known related less = record { outside = outside; ghosts = ghosts }
     where
       ghosts : (x : Name) (k : Kind) → IsRelated (read (set a.ghost g o v) k x) (read (set b.ghost g o u) k x)
@@ -286,7 +292,7 @@ module _ (w : Beside) (sound : AreSound w.rules) (a b : Files) where
           (cases_Bool (same_name g x))
 
       outside : (r : Reg) (k : Kind) → has_reg r (without_reg (Ghost g) known.diff) ≡ false
-          → IsRelated (read_reg (side w.scope (set_ghost a g o v)) k r) (read_reg (side w.scope (set_ghost b g o u)) k r)
+          → IsRelated (read_reg (side w.scope world (set_ghost a g o v)) k r) (read_reg (side w.scope world (set_ghost b g o u)) k r)
       outside (Now x) k out = related.outside (Now x) k (outside_without (Now x) (Ghost g) known.diff refl out)
       outside (Old x) k out = related.outside (Old x) k (outside_without (Old x) (Ghost g) known.diff refl out)
       outside (Ghost x) k out = ghosts x k
@@ -299,30 +305,30 @@ module _ (w : Beside) (sound : AreSound w.rules) (a b : Files) where
       (adds_all_ends Src (choice g e) (as_new g known))
       ∙ adds_all_ends Tgt (choice g e) (with_all Src (choice g e) (as_new g known))
 
-  choice_stands : (g : Name) (e : Expr0) (known : Assertion) → Stand w known a b → can_trap e ≡ false → expr_names (Ghost g) e ≡ false → differing_fault known e ≡ None
-      → EndsStand w a b (chosen (Ghost g) e known).ends
+  choice_stands : (g : Name) (e : Expr0) (known : Assertion) → Stand w world known a b → can_trap e ≡ false → expr_names (Ghost g) e ≡ false → differing_fault known e ≡ None
+      → EndsStand w world a b (chosen (Ghost g) e known).ends
   choice_stands g e known stand calm apart free =
-      let v = gives_value (read_reg source) e calm in
-      let u = gives_value (read_reg target) e calm in
+      let v = gives_value w.scope (read_reg source) world.memory e calm in
+      let u = gives_value w.scope (read_reg target) world.memory e calm in
       let less : IsRelated v.0 u.0 = subst₂ IsOutcomeLessDefined v.1 u.1 (related_worth known e stand free) in
-      subst (EndsStand w a b) (sym (chosen_ends (Ghost g) e known)) (
+      subst (EndsStand w world a b) (sym (chosen_ends (Ghost g) e known)) (
         set a.ghost g (kind_of (type_of e)) v.0,
         set b.ghost g (kind_of (type_of e)) u.0,
         record {
-          source_in_kind = choice_in_kind w.scope a g e v.0 v.1 apart stand.source_in_kind;
-          target_in_kind = choice_in_kind w.scope b g e u.0 u.1 apart stand.target_in_kind;
+          source_in_kind = choice_in_kind w.scope world a g e v.0 v.1 apart stand.source_in_kind;
+          target_in_kind = choice_in_kind w.scope world b g e u.0 u.1 apart stand.target_in_kind;
           now_defined = stand.now_defined;
           old_defined = stand.old_defined;
           holds = record {
-            source_facts = chosen_facts w.scope a g e v.0 v.1 apart known.src stand.holds.source_facts;
-            target_facts = chosen_facts w.scope b g e u.0 u.1 apart known.tgt stand.holds.target_facts;
+            source_facts = chosen_facts w.scope world a g e v.0 v.1 apart known.src stand.holds.source_facts;
+            target_facts = chosen_facts w.scope world b g e u.0 u.1 apart known.tgt stand.holds.target_facts;
             related = choice_related g (kind_of (type_of e)) v.0 u.0 known stand.holds.related less;
           };
         },
       )
 
-  may_be_stands : (r : Reg) (e : Expr0) (known : Assertion) → Stand w known a b → may_be r e ≡ true → differing_fault known e ≡ None
-      → EndsStand w a b (chosen r e known).ends
+  may_be_stands : (r : Reg) (e : Expr0) (known : Assertion) → Stand w world known a b → may_be r e ≡ true → differing_fault known e ≡ None
+      → EndsStand w world a b (chosen r e known).ends
   may_be_stands (Now x) e known stand may free = absurd (false≢true may)
   may_be_stands (Old x) e known stand may free = absurd (false≢true may)
   may_be_stands (Ghost g) e known stand may free =
@@ -331,7 +337,7 @@ module _ (w : Beside) (sound : AreSound w.rules) (a b : Files) where
       let calm = not-true (can_trap e) (right_true (has_type e) (not (can_trap e)) (left_true two (not (expr_names (Ghost g) e)) may)) in
       choice_stands g e known stand calm apart free
 
-  ghost_stands : (step : GhostStep) (known : Assertion) → Stand w known a b → EndsStand w a b (after_ghost step known).ends
+  ghost_stands : (step : GhostStep) (known : Assertion) → Stand w world known a b → EndsStand w world a b (after_ghost step known).ends
   ghost_stands step known stand =
       tested_stands (ghost_fault known step.register step.value) known (chosen step.register step.value) (λ h.
       let g = step.register in
@@ -339,28 +345,28 @@ module _ (w : Beside) (sound : AreSound w.rules) (a b : Files) where
       let may = no_first (cond (may_be g e) None (Some (RuleUnfit ghost_word))) (first_fault (differing_fault known e ∷ [])) h in
       may_be_stands g e known stand (passed (may_be g e) (RuleUnfit ghost_word) may.0) (no_first (differing_fault known e) None may.1).0)
 
-  step_stands : (s : HintStep) (known : Assertion) → Stand w known a b → EndsStand w a b (after_step w s known).ends
+  step_stands : (s : HintStep) (known : Assertion) → Stand w world known a b → EndsStand w world a b (after_step w s known).ends
   step_stands (Rule step) known stand = rule_stands step known stand (rule_named w.rules step.rule) (sound step.rule w.scope step.schema)
   step_stands (GhostOf step) known stand = ghost_stands step known stand
   step_stands (SameAs step) known stand = same_stands step known stand
 
-module _ (w : Beside) (sound : AreSound w.rules) where
-  joined : (a b : Files) (sizes : List ℕ) (ends : Ends Assertion) (next : Assertion → Course Assertion) → EndsStand w a b ends
-      → ((c d : Files) (known : Assertion) → Stand w known c d → EndsStand w c d (next known).ends) → EndsStand w a b (after_ends sizes ends next).ends
+module _ (w : Beside) (sound : AreSound w.rules) (world : World) where
+  joined : (a b : Files) (sizes : List ℕ) (ends : Ends Assertion) (next : Assertion → Course Assertion) → EndsStand w world a b ends
+      → ((c d : Files) (known : Assertion) → Stand w world known c d → EndsStand w world c d (next known).ends) → EndsStand w world a b (after_ends sizes ends next).ends
   joined a b sizes (Refuses r) next h on = tt
   joined a b sizes (course.Gives known) next h on = again (next known).ends (on (with_ghost a h.0) (with_ghost b h.1) known h.2)
     where
-      again : (ends : Ends Assertion) → EndsStand w (with_ghost a h.0) (with_ghost b h.1) ends → EndsStand w a b ends
+      again : (ends : Ends Assertion) → EndsStand w world (with_ghost a h.0) (with_ghost b h.1) ends → EndsStand w world a b ends
       again (Refuses r) k = tt
       again (course.Gives known) k = k
 
-  steps_stand : (steps : List HintStep) (a b : Files) (known : Assertion) → Stand w known a b → EndsStand w a b (after_steps w steps known).ends
+  steps_stand : (steps : List HintStep) (a b : Files) (known : Assertion) → Stand w world known a b → EndsStand w world a b (after_steps w steps known).ends
   steps_stand [] a b known stand = (a.ghost, b.ghost, stand)
   steps_stand (s ∷ ss) a b known stand =
-      joined a b (after_step w s known).sizes (after_step w s known).ends (after_steps w ss) (step_stands w sound a b s known stand)
+      joined a b (after_step w s known).sizes (after_step w s known).ends (after_steps w ss) (step_stands w sound world a b s known stand)
       (λ c d known' stand'. steps_stand ss c d known' stand')
 
   -- where the steps of a hint come to something, it stands
-  pub steps_lead : (steps : List HintStep) (a b : Files) (known after : Assertion) → Stand w known a b → (after_steps w steps known).ends ≡ course.Gives after
-      → (g : Registers) × (h : Registers) × Stand w after (with_ghost a g) (with_ghost b h)
-  steps_lead steps a b known after stand ends = subst (EndsStand w a b) ends (steps_stand steps a b known stand)
+  pub steps_lead : (steps : List HintStep) (a b : Files) (known after : Assertion) → Stand w world known a b → (after_steps w steps known).ends ≡ course.Gives after
+      → (g : Registers) × (h : Registers) × Stand w world after (with_ghost a g) (with_ghost b h)
+  steps_lead steps a b known after stand ends = subst (EndsStand w world a b) ends (steps_stand steps a b known stand)

@@ -23,16 +23,18 @@ use Rattle.ir_types.specs.NameLaws.{left_true, right_true}
 use Rattle.ir_values.specs.declared.operations.Outcome.{Outcome}
 use Rattle.ir_values.specs.declared.operations.Outcome.TheVariants.{Gives, Trap}
 use Rattle.ir_values.specs.Results.{is_division, is_signed_division}
+use Rattle.ir_values.specs.Constants.{Scope}
 use Rattle.ir_values.specs.Operations.{may_be, traps, binary_value}
-use Rattle.ir_machine.specs.Registers.{atom_value, operand_value, binary_at, icmp_at, cast_at, selects, outcome}
+use Rattle.block_memory.specs.Memory.{Memory}
+use Rattle.ir_machine.specs.Registers.{constant_of, atom_value, operand_value, binary_at, icmp_at, cast_at, selects, outcome}
 use Rattle.erhl_assert.specs.Allowed.{divides_all, can_trap}
 
 -- ---- operators that give a value
 
-icmp_no_trap : (pred : Pred) (k : Option Kind) (a b : Value) → icmp_at pred k a b ≡ Trap → ⊥
-icmp_no_trap pred None a b h = cc
-icmp_no_trap pred (Some (kind.Int width)) a b h = cc
-icmp_no_trap pred (Some kind.Ptr) a b h = cc
+icmp_no_trap : (memory : Memory) (pred : Pred) (k : Option Kind) (a b : Value) → icmp_at memory pred k a b ≡ Trap → ⊥
+icmp_no_trap memory pred None a b h = cc
+icmp_no_trap memory pred (Some (kind.Int width)) a b h = cc
+icmp_no_trap memory pred (Some kind.Ptr) a b h = cc
 
 if_typed : (typed : Bool) (o : Outcome) → (o ≡ Trap → ⊥) → cond typed o (Gives Poison) ≡ Trap → ⊥
 if_typed true o none h = none h
@@ -87,10 +89,10 @@ gives_value : (b : Bool) (v : Value) → b ≡ false → cond b Trap (Gives v) �
 gives_value true v h e = cc
 gives_value false v h e = cc
 
-module _ {R : Type 0} (reading : Kind → R → Value) where
+module _ {R : Type 0} (scope : Scope) (reading : Kind → R → Value) where
   number_no_trap : (op : BinOp) (flags : Flags) (width n : ℕ) (k : Bool) (a : Value)
       → (fits n width && not (nat_eq n 0) && not (is_signed_division op && nat_eq n (2 ^ width - 1))) ≡ true
-      → binary_at op flags (cond k (Some (kind.Int width)) None) a (atom_value reading (cond k (Some (kind.Int width)) None) (atom.Constant (constant.Number n))) ≡ Trap → ⊥
+      → binary_at op flags (cond k (Some (kind.Int width)) None) a (constant_of (cond k (Some (kind.Int width)) None) (constant.Number n)) ≡ Trap → ⊥
   number_no_trap op flags width n false a h e = cc
   number_no_trap op flags width n true a h e =
       let few = fits n width && not (nat_eq n 0) in
@@ -100,7 +102,7 @@ module _ {R : Type 0} (reading : Kind → R → Value) where
       (ap (binary_at op flags (Some (kind.Int width)) a) (sym at) ∙ e)
 
   divisor_no_trap : (op : BinOp) (flags : Flags) (t : Ty) (a : Value) (b : Atom R) → divides_all op t b ≡ true
-      → binary_at op flags (kind_of t) a (atom_value reading (kind_of t) b) ≡ Trap → ⊥
+      → binary_at op flags (kind_of t) a (atom_value scope reading t b) ≡ Trap → ⊥
   divisor_no_trap op flags (ty.Int width) a (atom.Constant (constant.Number n)) h e = number_no_trap op flags width n (is_width width) a h e
   divisor_no_trap op flags (ty.Int width) a (atom.Constant c) h e = cc
   divisor_no_trap op flags (ty.Int width) a (atom.Register r) h e = cc
@@ -113,24 +115,24 @@ module _ {R : Type 0} (reading : Kind → R → Value) where
   other_no_trap op flags (Some kind.Ptr) a b h e = cc
 
   binary_no_trap : (op : BinOp) (flags : Flags) (t : Ty) (a : Value) (b : Atom R) (division safe : Bool) → division ≡ is_division op → safe ≡ divides_all op t b
-      → (division && not safe) ≡ false → binary_at op flags (kind_of t) a (atom_value reading (kind_of t) b) ≡ Trap → ⊥
+      → (division && not safe) ≡ false → binary_at op flags (kind_of t) a (atom_value scope reading t b) ≡ Trap → ⊥
   binary_no_trap op flags t a b true true p q h e = divisor_no_trap op flags t a b (sym q) e
   binary_no_trap op flags t a b true false p q h e = cc
-  binary_no_trap op flags t a b false safe p q h e = other_no_trap op flags (kind_of t) a (atom_value reading (kind_of t) b) (sym p) e
+  binary_no_trap op flags t a b false safe p q h e = other_no_trap op flags (kind_of t) a (atom_value scope reading t b) (sym p) e
 
   -- WHAT CAN'T TRAP doesn't
-  pub no_trap : (e : Expr R) → can_trap e ≡ false → outcome reading e ≡ Trap → ⊥
-  no_trap (Plain o) h e = cc
-  no_trap (Binary b) h e =
-      binary_no_trap b.op b.flags b.ty (atom_value reading (kind_of b.ty) b.left) b.right (is_division b.op) (divides_all b.op b.ty b.right) refl refl h e
-  no_trap (Icmp c) h e = icmp_no_trap c.pred (kind_of c.ty) (atom_value reading (kind_of c.ty) c.left) (atom_value reading (kind_of c.ty) c.right) e
-  no_trap (Cast c) h e =
-      if_typed (converts c.op c.operand.ty c.to) (cast_at c.op (kind_of c.operand.ty) (kind_of c.to) (operand_value reading c.operand))
-      (cast_no_trap c.op (kind_of c.operand.ty) (kind_of c.to) (operand_value reading c.operand)) e
-  no_trap (Select s) h e =
-      let c = operand_value reading s.condition in
-      let a = operand_value reading s.left in
-      let b = operand_value reading s.right in
+  pub no_trap : (memory : Memory) (e : Expr R) → can_trap e ≡ false → outcome scope reading memory e ≡ Trap → ⊥
+  no_trap memory (Plain o) h e = cc
+  no_trap memory (Binary b) h e =
+      binary_no_trap b.op b.flags b.ty (atom_value scope reading b.ty b.left) b.right (is_division b.op) (divides_all b.op b.ty b.right) refl refl h e
+  no_trap memory (Icmp c) h e = icmp_no_trap memory c.pred (kind_of c.ty) (atom_value scope reading c.ty c.left) (atom_value scope reading c.ty c.right) e
+  no_trap memory (Cast c) h e =
+      if_typed (converts c.op c.operand.ty c.to) (cast_at c.op (kind_of c.operand.ty) (kind_of c.to) (operand_value scope reading c.operand))
+      (cast_no_trap c.op (kind_of c.operand.ty) (kind_of c.to) (operand_value scope reading c.operand)) e
+  no_trap memory (Select s) h e =
+      let c = operand_value scope reading s.condition in
+      let a = operand_value scope reading s.left in
+      let b = operand_value scope reading s.right in
       if_typed (selects s.condition.ty s.left.ty s.right.ty) (select_outcome c a b) (select_no_trap c a b) e
-  no_trap (Element x) h e = cc
-  no_trap (Load l) h e = cc
+  no_trap memory (Element x) h e = cc
+  no_trap memory (Load l) h e = cc

@@ -14,7 +14,8 @@ use Rattle.ir_core.specs.declared.functions.Instr.{Instr}
 use Rattle.ir_core.specs.declared.functions.Instr.TheVariants as line
 use Rattle.ir_core.specs.declared.functions.Term.TheVariants.{Ret}
 use Rattle.ir_core.specs.declared.functions.Function.{Function}
-use Rattle.ir_core.specs.Modules.{no_scope, plain_function, plain_param}
+use Rattle.ir_core.specs.Modules.{plain_function, plain_param}
+use Rattle.ir_machine.specs.State.{no_scope}
 use Rattle.erhl_assert.specs.declared.facts.Side.{Side}
 use Rattle.erhl_assert.specs.declared.facts.Fact.{Fact}
 use Rattle.erhl_assert.specs.declared.facts.Fact.TheVariants.{LessDef}

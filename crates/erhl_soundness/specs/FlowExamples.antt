@@ -25,8 +25,9 @@ use Rattle.ir_core.specs.declared.functions.Block.{Block}
 use Rattle.ir_core.specs.declared.functions.Function.{Function}
 use Rattle.ir_core.specs.declared.modules.Module.{Module}
 use Rattle.ir_core.specs.Expressions.{Expr0}
-use Rattle.ir_core.specs.Modules.{no_scope, plain_function, plain_module, plain_param}
+use Rattle.ir_core.specs.Modules.{plain_function, plain_module, plain_param}
 use Rattle.ir_machine.specs.Registers.{no_registers, set}
+use Rattle.ir_machine.specs.State.{no_scope, no_world}
 use Rattle.erhl_assert.specs.declared.facts.Fact.TheVariants.{LessDef}
 use Rattle.erhl_assert.specs.declared.facts.Assertion.{Assertion}
 use Rattle.erhl_assert.specs.declared.facts.Side.{Side}
@@ -191,7 +192,7 @@ before_swap = record { src = LessDef (now 3) (numeral 1) ∷ []; tgt = []; diff 
 abbrev pub one_and_two : SideState
 one_and_two =
     let i32s = Some (kind.Int 32) in
-    side_of no_scope (set (set no_registers (Number 3) i32s (value.Num 1)) (Number 4) i32s (value.Num 2))
+    side_of no_scope (set (set no_registers (Number 3) i32s (value.Num 1)) (Number 4) i32s (value.Num 2)) no_world
 
 -- ---- two phis of one register
 

@@ -3,7 +3,8 @@ use Rattle.std.specs.Prelude.{◌≡◌, [], ◌∷◌}
 use Rattle.ir_types.specs.declared.names.Name.TheVariants.{Number}
 use Rattle.ir_core.specs.declared.expressions.Reg.TheVariants.{Now, Old, Ghost}
 use Rattle.ir_core.specs.declared.modules.Module.{Module}
-use Rattle.ir_core.specs.Modules.{scope_of, definitions_of}
+use Rattle.ir_core.specs.Modules.{definitions_of}
+use Rattle.ir_machine.specs.State.{scope_of}
 use Rattle.ir_machine.specs.Refinement.{Refines}
 use Rattle.erhl_assert.specs.declared.facts.Fact.TheVariants.{LessDef}
 use Rattle.erhl_assert.specs.declared.verdict.Reason.TheVariants.{DiffLeft}
@@ -49,5 +50,5 @@ pub record ControlFlowIsJudged : Type 0 where
 -- it holds 2, and both are known of it.
 abbrev pub PhisMustBeApart : Type 0
 PhisMustBeApart =
-    ((rules : Rules) (source target : Module) → AreSound rules
+    ((rules : Rules) (source target : Module) → AreSound rules → scope_of source ≡ scope_of target
     → AreAccepted rules (scope_of source) (definitions_of source) (definitions_of target) → Refines source target) → ⊥

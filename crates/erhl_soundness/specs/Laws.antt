@@ -14,12 +14,12 @@ use Rattle.ir_core.specs.declared.functions.Phi.{Phi}
 use Rattle.ir_core.specs.declared.functions.Block.{Block}
 use Rattle.ir_core.specs.declared.functions.Function.{Function}
 use Rattle.ir_core.specs.declared.modules.Module.{Module}
-use Rattle.ir_core.specs.Modules.{scope_of, definitions_of}
+use Rattle.ir_core.specs.Modules.{definitions_of}
 use Rattle.ir_core.specs.Order.{AreNew}
 use Rattle.ir_core.specs.WellFormed.{HasShape}
 use Rattle.ir_machine.specs.declared.items.Item.TheVariants.{Wrong}
 use Rattle.ir_machine.specs.Registers.{Registers, read, operand_value}
-use Rattle.ir_machine.specs.State.{Frame, Pending, World, Running, Over}
+use Rattle.ir_machine.specs.State.{scope_of, Frame, Pending, World, Running, Over}
 use Rattle.ir_machine.specs.Machine.{Asks, Does, line_step, with_phis}
 use Rattle.ir_machine.specs.Refinement.{Refines}
 use Rattle.erhl_assert.specs.declared.facts.Assertion.{Assertion}
@@ -48,11 +48,16 @@ abbrev pub goes_on : Option Registers → Frame → List Pending → World → A
 goes_on (Some registers) frame rest world = Does [] (Running (record frame { registers = registers }) rest world)
 goes_on None frame rest world = Does (Wrong ∷ []) Over
 
--- the line, or a no-op, leads every frame with the first registers so
-abbrev pub LineLeads : Option Instr → Registers → Option Registers → Type 0
-LineLeads None before after = after ≡ Some before
-LineLeads (Some i) before after = (frame : Frame) (rest : List Pending) (world : World)
-    → line_step i (record frame { registers = before }) rest world ≡ goes_on after frame rest world
+-- two sides of modules with the same types and globals, in one world
+pub record AreInOneWorld (source target : SideState) : Type 0 where
+  pub scope : source.scope ≡ target.scope
+  pub world : source.world ≡ target.world
+
+-- the line, or a no-op, leads every frame with the side's registers so, in the side's world, which stays
+abbrev pub LineLeads : SideState → Option Instr → Option Registers → Type 0
+LineLeads side None after = after ≡ Some side.now
+LineLeads side (Some i) after = (frame : Frame) (rest : List Pending)
+    → line_step side.scope i (record frame { registers = side.now }) rest side.world ≡ goes_on after frame rest side.world
 
 -- The source has undefined behaviour; or neither side has, and the assertion holds of the sides with their new registers.
 abbrev pub Keeps : Assertion → SideState → SideState → Option Registers → Option Registers → Type 0
@@ -110,11 +115,12 @@ pub record FactsAreCounted : Type 0 where
   -- Over an edge with phis: one copy beside its original, which goes, as a phi sets its register; then four facts of two phis, of either side.
   pub over_phis : (over_edge swap before_swap).sizes ≡ 2 ∷ 2 ∷ 3 ∷ 4 ∷ 5 ∷ 6 ∷ 7 ∷ 8 ∷ 9 ∷ []
 
--- Where an assertion holds of two sides and an aligned line is allowed, the two lines lead them to sides of which holds what `after_line`
--- gives, unless the source's line is undefined behaviour. So where the target's line is, the source's is.
+-- Where an assertion holds of two sides in one world and an aligned line is allowed, the two lines lead them to sides in that world of which
+-- holds what `after_line` gives, unless the source's line is undefined behaviour. So where the target's line is, the source's is.
 abbrev pub ALineKeepsWhatHolds : Type 0
-ALineKeepsWhatHolds = (known : Assertion) (l : Line) (source target : SideState) → AssertionHolds known source target → line_fault known l ≡ None
-    → (source_after target_after : Option Registers) × LineLeads l.source source.now source_after × LineLeads l.target target.now target_after
+ALineKeepsWhatHolds = (known : Assertion) (l : Line) (source target : SideState) → AreInOneWorld source target → AssertionHolds known source target
+    → line_fault known l ≡ None
+    → (source_after target_after : Option Registers) × LineLeads source l.source source_after × LineLeads target l.target target_after
     × Keeps (after_line known l) source target source_after target_after
 
 -- which lines are allowed, where nothing is known and no register may differ: lines written out
@@ -142,11 +148,12 @@ pub record LinesAreJudged : Type 0 where
   pub fewer_flags : lines_agree no_facts (adding true) (adding false) ≡ true
   pub more_flags : lines_agree no_facts (adding false) (adding true) ≡ false
 
--- Where an assertion holds of two sides, and a and b are matched, a's value on the source and b's on the target are related.
+-- Where an assertion holds of two sides of modules with the same types and globals, and a and b are matched, a's value on the source and b's
+-- on the target are related.
 abbrev pub MatchedOperandsAreRelated : Type 0
 MatchedOperandsAreRelated = (known : Assertion) (source target : SideState) (a b : Operand Name)
-    → AssertionHolds known source target → matched known a b ≡ true
-    → IsRelated (operand_value (read source.now) a) (operand_value (read target.now) b)
+    → source.scope ≡ target.scope → AssertionHolds known source target → matched known a b ≡ true
+    → IsRelated (operand_value source.scope (read source.now) a) (operand_value target.scope (read target.now) b)
 
 -- no two phis of a block set one register, as in every well-formed function
 abbrev pub AreApart : List Phi → Type 0
@@ -161,16 +168,16 @@ ShapesKeepPhisApart = (m : Module) → HasShape m → AllByRecursion ArePhisApar
 
 -- a side behind the phis of a block that it enters from that one: its old registers are those before the edge
 abbrev pub crossed : Name → List Phi → SideState → SideState
-crossed from phis side = record side { now = with_phis side.now from phis side.now; old = side.now }
+crossed from phis side = record side { now = with_phis side.scope side.now from phis side.now; old = side.now }
 
--- Where an assertion holds of two sides, and each crosses the edge with its phis, what `after_edge` gives holds of the two behind them.
+-- Where an assertion holds of two sides of modules with the same types and globals, and each crosses the edge with its phis, what `after_edge` gives holds of the two behind them.
 abbrev pub AnEdgeKeepsWhatHolds : Type 0
-AnEdgeKeepsWhatHolds = (known : Assertion) (e : Edge) (source target : SideState) → AreApart e.source → AreApart e.target
+AnEdgeKeepsWhatHolds = (known : Assertion) (e : Edge) (source target : SideState) → source.scope ≡ target.scope → AreApart e.source → AreApart e.target
     → AssertionHolds known source target → AssertionHolds (after_edge known e) (crossed e.from e.source source) (crossed e.from e.target target)
 
--- Where the rules are sound, no two phis of a block set one register, and each pair of functions of two modules has one signature and is
--- accepted under some hint, the target refines the source.
+-- Where the rules are sound, two modules have the same types and globals, no two phis of a block set one register, and each pair of functions
+-- has one signature and is accepted under some hint, the target refines the source.
 abbrev pub AcceptedModulesRefine : Type 0
-AcceptedModulesRefine = (rules : Rules) (source target : Module) → AreSound rules
+AcceptedModulesRefine = (rules : Rules) (source target : Module) → AreSound rules → scope_of source ≡ scope_of target
     → AllByRecursion ArePhisApart (definitions_of source) → AllByRecursion ArePhisApart (definitions_of target)
     → AreAccepted rules (scope_of source) (definitions_of source) (definitions_of target) → Refines source target

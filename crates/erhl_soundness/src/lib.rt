@@ -63,24 +63,25 @@ pub fn lines_are_judged()
 
 /// Empty on purpose: its contract is the law.
 ///
-/// Two sides of which an assertion holds come, by an aligned line that is allowed, to two sides of which holds what the postcondition
-/// gives, unless the source's line is undefined behaviour; whatever their old and ghost registers are. So the target's line is undefined
-/// behaviour only where the source's is.
+/// Two sides in one world of which an assertion holds come, by an aligned line that is allowed, to two sides in that world of which holds what
+/// the postcondition gives, unless the source's line is undefined behaviour; whatever their old and ghost registers are. So the target's line
+/// is undefined behaviour only where the source's is.
 pub fn a_line_keeps_what_holds()
     ensures { ALineKeepsWhatHolds }
 {}
 
 /// Empty on purpose: its contract is the law.
 ///
-/// Two sides of which an assertion holds come, behind the phis of an edge that are apart, to two sides of which holds what the
-/// postcondition gives; their old registers are those before the edge, and their ghost registers stay.
+/// Two sides of which an assertion holds, of modules with the same types and globals, come, behind the phis of an edge that are apart, to two
+/// sides of which holds what the postcondition gives; their old registers are those before the edge, and their ghost registers stay.
 pub fn an_edge_keeps_what_holds()
     ensures { AnEdgeKeepsWhatHolds }
 {}
 
 /// Empty on purpose: its contract is the law.
 ///
-/// Where an assertion holds of two sides and two operands are matched, the source's value and the target's are related.
+/// Where an assertion holds of two sides, of modules with the same types and globals, and two operands are matched, the source's value and the
+/// target's are related.
 pub fn matched_operands_are_related()
     ensures { MatchedOperandsAreRelated }
 {}
@@ -94,9 +95,9 @@ pub fn shapes_keep_phis_apart()
 
 /// Empty on purpose: its contract is the law.
 ///
-/// Where every step that the rules take is sound, no two phis of a block set one register, and each pair of functions of two modules
-/// is accepted under some hint, the target refines the source: whichever function is entered, on whatever input, what the target can show the source can show
-/// too, or it has undefined behaviour after a first part of it.
+/// Where every step that the rules take is sound, two modules have the same types and globals, no two phis of a block set one register, and each
+/// pair of functions is accepted under some hint, the target refines the source: whichever function is entered, on whatever input, what the
+/// target can show the source can show too, or it has undefined behaviour after a first part of it.
 pub fn accepted_modules_refine()
     ensures { AcceptedModulesRefine }
 {}

@@ -1,6 +1,6 @@
 ghost use Rattle.std.specs.Prelude.{◌≡◌, true, List};
 ghost use Rattle.ir_core.specs.declared.expressions.Reg.{Reg};
-ghost use Rattle.ir_core.specs.Modules.{Scope};
+ghost use Rattle.ir_values.specs.Constants.{Scope};
 ghost use Rattle.erhl_assert.specs.declared.facts.Fact.{Fact};
 ghost use Rattle.erhl_assert.specs.declared.facts.Schema.{Schema};
 ghost use Rattle.erhl_assert.specs.Facts.{IsSound};

@@ -2,7 +2,7 @@
 use Rattle.std.proofs.Common.{◌≡◌, ◌⊎◌, inl, inr, ℕ, suc, List, [], ◌∷◌, ◌++◌, Option, None, Some, MatchOption, cond, refl, sym, ap, ◌∙◌, subst}
 use Rattle.std.proofs.lemmas.List.{append-nil}
 use Rattle.ir_types.specs.declared.names.Name.{Name}
-use Rattle.ir_core.specs.declared.operands.Atom.TheVariants.{Constant, Register}
+use Rattle.ir_core.specs.declared.operands.Atom.TheVariants.{Register}
 use Rattle.ir_core.specs.declared.operands.Const.TheVariants.{Number}
 use Rattle.ir_core.specs.declared.operands.Pred.TheVariants.{Slt}
 use Rattle.ir_core.specs.declared.values.Kind.{Kind}
@@ -21,7 +21,7 @@ use Rattle.ir_machine.specs.State.{no_world, State, Over, Running}
 use Rattle.ir_machine.specs.Machine.{Asks, Does, Follows, Made, asks, at_block, start, ShowsFrom}
 use Rattle.ir_machine.specs.Examples.{dividing, dividing_line, returning_nothing}
 use Rattle.ir_machine.specs.Laws.{AreShownAtOnce, LinesGiveThese, TrapsAreWrong, VoidReturnsAreShown}
-use Rattle.ir_machine.specs.Registers.{atom_value, icmp_at, no_registers}
+use Rattle.ir_machine.specs.Registers.{constant_of, icmp_at, no_registers}
 use Rattle.ir_core.specs.Types.{is_pointer_at_level}
 use Rattle.ir_machine.proofs.Refining.{alone, entering}
 use Rattle.ir_machine.proofs.Runs.{over_shows, shows_nothing}
@@ -63,7 +63,7 @@ abbrev empty_block : Name → Block
 empty_block b = record { name = b; phis = []; body = []; term = RetVoid }
 
 abbrev nothing_left : Name → Name → State
-nothing_left f b = Running (at_block (plain_function Void f [] (empty_block b ∷ [])) (empty_block b) no_registers) [] no_world
+nothing_left f b = Running (at_block (plain_function Void f [] (empty_block b ∷ [])) (empty_block b) no_registers []) [] no_world
 
 pub void_returns_are_shown : VoidReturnsAreShown
 void_returns_are_shown f b = at_once (returning_nothing f b) f (nothing_left f b) (Turn ∷ Returned None ∷ []) (rw (same_name_refl f) refl) refl
@@ -72,11 +72,11 @@ abbrev kind_at_level : Ty-F Ty → Option Kind
 kind_at_level level = cond (is_pointer_at_level level) (Some kind.Ptr) None
 
 pub lines_give_these : LinesGiveThese
-lines_give_these reading = record {
+lines_give_these scope reading memory = record {
   add = refl;
   add_no_i8 = refl;
   icmp = refl;
-  icmp_void = ap (λ (level : Ty-F Ty). icmp_at Slt (kind_at_level level) (atom_value reading (kind_at_level level) (Constant (Number 128))) (atom_value reading (kind_at_level level) (Constant (Number 0)))) outs-Void;
+  icmp_void = ap (λ (level : Ty-F Ty). icmp_at memory Slt (kind_at_level level) (constant_of (kind_at_level level) (Number 128)) (constant_of (kind_at_level level) (Number 0))) outs-Void;
   sext = refl;
   zext_same = refl;
   trunc_wider = refl;

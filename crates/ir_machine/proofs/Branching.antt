@@ -10,7 +10,8 @@ use Rattle.ir_types.specs.declared.names.Name.{Name}
 use Rattle.ir_core.specs.declared.values.Value.{Value}
 use Rattle.ir_core.specs.declared.values.Value.TheVariants as value
 use Rattle.ir_core.specs.Functions.{successors_of}
-use Rattle.ir_machine.specs.declared.items.Choice.{Choice}
+use Rattle.ir_values.specs.Constants.{Scope}
+use Rattle.block_memory.specs.declared.items.Choice.{Choice}
 use Rattle.ir_machine.specs.declared.items.Item.{Item}
 use Rattle.ir_machine.specs.declared.items.Item.TheVariants.{Turn, Wrong}
 use Rattle.ir_machine.specs.declared.machine.StepEnd.{StepEnd}
@@ -20,7 +21,7 @@ use Rattle.ir_machine.specs.Choices.{Did, Lacks, answer, TakesAsked}
 use Rattle.ir_machine.specs.Machine.{Asks, Does, Ask, at_block, block_named, branch, case_of, entering, gone, is_label, jump, side_of, term_step, with_phis}
 use Rattle.ir_machine.specs.Places.{progress_of}
 use Rattle.ir_machine.specs.Registers.{operand_value, read}
-use Rattle.ir_machine.specs.State.{Frame, no_world, State, Running, Over}
+use Rattle.ir_machine.specs.State.{Frame, World, State, Running, Over}
 use Rattle.ir_machine.specs.Stepping.{Answers}
 use Rattle.ir_machine.proofs.Telling.{did_takes_asked, lacks_takes_asked}
 
@@ -29,27 +30,28 @@ use Rattle.ir_machine.proofs.Telling.{did_takes_asked, lacks_takes_asked}
 abbrev pub JustDoes : Asks → Type 0
 JustDoes tree = (items : List Item) × (after : State) × (tree ≡ Does items after)
 
-entering_does : (frame : Frame) (o : Option Block) → JustDoes (entering frame [] no_world o)
-entering_does frame (Some b) = (Turn ∷ [], Running (at_block frame.function b (with_phis frame.registers frame.block b.phis frame.registers)) [] no_world, refl)
-entering_does frame None = (Wrong ∷ [], Over, refl)
+entering_does : (scope : Scope) (frame : Frame) (world : World) (o : Option Block) → JustDoes (entering scope frame [] world o)
+entering_does scope frame world (Some b) =
+    (Turn ∷ [], Running (at_block frame.function b (with_phis scope frame.registers frame.block b.phis frame.registers) frame.own) [] world, refl)
+entering_does scope frame world None = (Wrong ∷ [], Over, refl)
 
-jump_does : (frame : Frame) (to : Name) → JustDoes (jump frame [] no_world to)
-jump_does frame to = entering_does frame (block_named to frame.function.blocks)
+jump_does : (scope : Scope) (frame : Frame) (world : World) (to : Name) → JustDoes (jump scope frame [] world to)
+jump_does scope frame world to = entering_does scope frame world (block_named to frame.function.blocks)
 
 -- ---- a label is told, or none
 
-module _ (frame : Frame) (labels : List Name) (before after : List Choice) where
+module _ (scope : Scope) (frame : Frame) (world : World) (labels : List Name) (before after : List Choice) where
   abbrev asking : Asks
-  asking = Ask (is_label labels) (λ c. gone c (jump frame [] no_world))
+  asking = Ask (is_label labels) (λ c. gone c (jump scope frame [] world))
 
-  told_takes : (x : Name) → answer asking before ≡ answer (jump frame [] no_world x) after → TakesAsked asking before after
+  told_takes : (x : Name) → answer asking before ≡ answer (jump scope frame [] world x) after → TakesAsked asking before after
   told_takes x told =
-      let does : JustDoes (jump frame [] no_world x) = jump_does frame x in
+      let does : JustDoes (jump scope frame [] world x) = jump_does scope frame world x in
       let did : answer asking before ≡ Did does.0 does.1 after = told ∙ ap (λ (tree : Asks). answer tree after) does.2 in
       did_takes_asked asking before after does.0 does.1 did
 
-  pub told_made : (x : Name) (stepped : Stepped) (state : State) → answer asking before ≡ answer (jump frame [] no_world x) after
-      → jump frame [] no_world x ≡ Does stepped.items state → stepped.progress ≡ progress_of stepped.items state → Answers asking before after state (Ok stepped)
+  pub told_made : (x : Name) (stepped : Stepped) (state : State) → answer asking before ≡ answer (jump scope frame [] world x) after
+      → jump scope frame [] world x ≡ Does stepped.items state → stepped.progress ≡ progress_of stepped.items state → Answers asking before after state (Ok stepped)
   told_made x stepped state told made progress = record {
     made = told ∙ ap (λ (tree : Asks). answer tree after) made;
     progress = progress;
@@ -57,7 +59,7 @@ module _ (frame : Frame) (labels : List Name) (before after : List Choice) where
     told = told_takes x told;
   }
 
-  pub told_fails : (x : Name) (r : Result Stepped StepEnd) (state : State) → answer asking before ≡ answer (jump frame [] no_world x) after → r ≡ Err end.Memory → Answers asking before after state r
+  pub told_fails : (x : Name) (r : Result Stepped StepEnd) (state : State) → answer asking before ≡ answer (jump scope frame [] world x) after → r ≡ Err end.Memory → Answers asking before after state r
   told_fails x r state told fails = subst (λ (r : Result Stepped StepEnd). Answers asking before after state r) (sym fails) (record {
     made = tt;
     progress = tt;
@@ -84,21 +86,21 @@ module _ (v : Value) (label : ℕ → Name) (labels : List Name) (next : Name �
 
 -- ---- the terminators
 
-pub condition_answers : (t : Term) (c : CondBrLine) (frame : Frame) (v : Value) (before after : List Choice) (state : State) (r : Result Stepped StepEnd)
-    → t ≡ CondBr c → v ≡ operand_value (read frame.registers) c.condition
-    → Answers (branch v (side_of c.on_true c.on_false) (successors_of t) (jump frame [] no_world)) before after state r → Answers (term_step t frame [] no_world) before after state r
-condition_answers t c frame v before after state r is worth h =
-    subst (λ (t : Term). Answers (term_step t frame [] no_world) before after state r) (sym is)
-    (subst (λ (v : Value). Answers (branch v (side_of c.on_true c.on_false) (successors_of (CondBr c)) (jump frame [] no_world)) before after state r) worth
-    (subst (λ (t : Term). Answers (branch v (side_of c.on_true c.on_false) (successors_of t) (jump frame [] no_world)) before after state r) is h))
+pub condition_answers : (t : Term) (c : CondBrLine) (scope : Scope) (frame : Frame) (world : World) (v : Value) (before after : List Choice) (state : State) (r : Result Stepped StepEnd)
+    → t ≡ CondBr c → v ≡ operand_value scope (read frame.registers) c.condition
+    → Answers (branch v (side_of c.on_true c.on_false) (successors_of t) (jump scope frame [] world)) before after state r → Answers (term_step scope t frame [] world) before after state r
+condition_answers t c scope frame world v before after state r is worth h =
+    subst (λ (t : Term). Answers (term_step scope t frame [] world) before after state r) (sym is)
+    (subst (λ (v : Value). Answers (branch v (side_of c.on_true c.on_false) (successors_of (CondBr c)) (jump scope frame [] world)) before after state r) worth
+    (subst (λ (t : Term). Answers (branch v (side_of c.on_true c.on_false) (successors_of t) (jump scope frame [] world)) before after state r) is h))
 
-pub switch_answers : (t : Term) (s : SwitchLine) (frame : Frame) (v : Value) (before after : List Choice) (state : State) (r : Result Stepped StepEnd)
-    → t ≡ Switch s → v ≡ operand_value (read frame.registers) s.value
-    → Answers (branch v (case_of s.value.ty s.default s.cases) (successors_of t) (jump frame [] no_world)) before after state r → Answers (term_step t frame [] no_world) before after state r
-switch_answers t s frame v before after state r is worth h =
-    subst (λ (t : Term). Answers (term_step t frame [] no_world) before after state r) (sym is)
-    (subst (λ (v : Value). Answers (branch v (case_of s.value.ty s.default s.cases) (successors_of (Switch s)) (jump frame [] no_world)) before after state r) worth
-    (subst (λ (t : Term). Answers (branch v (case_of s.value.ty s.default s.cases) (successors_of t) (jump frame [] no_world)) before after state r) is h))
+pub switch_answers : (t : Term) (s : SwitchLine) (scope : Scope) (frame : Frame) (world : World) (v : Value) (before after : List Choice) (state : State) (r : Result Stepped StepEnd)
+    → t ≡ Switch s → v ≡ operand_value scope (read frame.registers) s.value
+    → Answers (branch v (case_of s.value.ty s.default s.cases) (successors_of t) (jump scope frame [] world)) before after state r → Answers (term_step scope t frame [] world) before after state r
+switch_answers t s scope frame world v before after state r is worth h =
+    subst (λ (t : Term). Answers (term_step scope t frame [] world) before after state r) (sym is)
+    (subst (λ (v : Value). Answers (branch v (case_of s.value.ty s.default s.cases) (successors_of (Switch s)) (jump scope frame [] world)) before after state r) worth
+    (subst (λ (t : Term). Answers (branch v (case_of s.value.ty s.default s.cases) (successors_of t) (jump scope frame [] world)) before after state r) is h))
 
 pub no_memory : (r : Result Stepped StepEnd) → IsErr r → IsErrAnd r (λ e. e ≡ end.Memory) → r ≡ Err end.Memory
 no_memory (Ok x) h is = absurd (cc)

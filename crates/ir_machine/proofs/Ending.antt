@@ -14,14 +14,15 @@ use Rattle.ir_core.specs.declared.functions.Function.{Function}
 use Rattle.ir_core.specs.declared.modules.Module.{Module}
 use Rattle.ir_values.specs.declared.operations.Outcome.{Outcome}
 use Rattle.ir_values.specs.declared.operations.Outcome.TheVariants.{Gives, Trap}
+use Rattle.ir_values.specs.Constants.{Scope}
+use Rattle.block_memory.specs.declared.items.Shown.{Shown}
 use Rattle.ir_machine.specs.declared.items.Item.{Item}
 use Rattle.ir_machine.specs.declared.items.Item.TheVariants.{Wrong}
-use Rattle.ir_machine.specs.declared.items.Shown.{Shown}
 use Rattle.ir_core.specs.Types.{kind_of}
 use Rattle.ir_core.specs.Expressions.{type_of}
 use Rattle.ir_machine.specs.Registers.{Registers, no_registers, set, read, operand_value, outcome}
-use Rattle.ir_machine.specs.State.{Frame, no_world, State, Running, Over}
-use Rattle.ir_machine.specs.Machine.{Made, Follows, asks, at_block, at_entry, entered, return_step, shown_value, start, started, term_step, ShowsFrom}
+use Rattle.ir_machine.specs.State.{Frame, World, no_world, scope_of, State, Running, Over}
+use Rattle.ir_machine.specs.Machine.{Made, Follows, asks, at_block, at_entry, entered, resolve, return_step, start, started, term_step, without_own, ShowsFrom}
 use Rattle.ir_machine.specs.Refinement.{MayShowFrom, EndTheRun}
 use Rattle.ir_machine.specs.Laws.{EndsByReturn, Leads, RunsAreSteps, Fit, OneBlockRunsEnd, FirstsAreShown, StartsAreKept, RefinedRunsAreShown}
 use Rattle.ir_machine.proofs.Trees.{AllDo, all_do_made, all_do_show}
@@ -68,16 +69,16 @@ later m s t f h = (suc h.0, h.1, step_on m h.0 s (record { told = []; items = []
 abbrev IsOver : List Item → State → Type 0
 IsOver items after = after ≡ Over
 
-return_is_over : (k : Option Kind) (v : Value) → AllDo IsOver (return_step k v [] no_world)
-return_is_over k v = all_do_show IsOver k v no_world _ _ refl (λ s after. refl)
+return_is_over : (k : Option Kind) (v : Value) (world : World) → AllDo IsOver (return_step k v [] world)
+return_is_over k v world = all_do_show IsOver k v world _ _ refl (λ s after. refl)
 
-returns_over : (t : Term) (frame : Frame) → EndsByReturn t → AllDo IsOver (term_step t frame [] no_world)
-returns_over (Ret o) frame returns = return_is_over (kind_of o.ty) (operand_value (read frame.registers) o)
-returns_over RetVoid frame returns = refl
-returns_over (Br label) frame returns = absurd returns
-returns_over (CondBr c) frame returns = absurd returns
-returns_over (Switch s) frame returns = absurd returns
-returns_over Unreachable frame returns = absurd returns
+returns_over : (scope : Scope) (t : Term) (frame : Frame) → EndsByReturn t → AllDo IsOver (term_step scope t frame [] no_world)
+returns_over scope (Ret o) frame returns = return_is_over (kind_of o.ty) (operand_value scope (read frame.registers) o) (without_own frame.own no_world)
+returns_over scope RetVoid frame returns = refl
+returns_over scope (Br label) frame returns = absurd returns
+returns_over scope (CondBr c) frame returns = absurd returns
+returns_over scope (Switch s) frame returns = absurd returns
+returns_over scope Unreachable frame returns = absurd returns
 
 abbrev left_in : Frame → List Instr → State
 left_in frame lines = Running (record frame { lines = lines }) [] no_world
@@ -85,21 +86,22 @@ left_in frame lines = Running (record frame { lines = lines }) [] no_world
 ends_from : (m : Module) (lines : List Instr) (frame : Frame) → EndsByReturn frame.term → EndsFrom m (left_in frame lines)
 ends_from m [] frame returns =
     let made : (made : Made) × Follows (asks m (left_in frame [])) made = none_is_stuck m (left_in frame []) (λ e. cc) in
-    last_step m (left_in frame []) made.0 made.1 (all_do_made IsOver (asks m (left_in frame [])) made.0 (returns_over frame.term (record frame { lines = [] }) returns) made.1)
-ends_from m (line.Calm b ∷ lines) frame returns = by_outcome (outcome (read frame.registers) b.right) refl
+    last_step m (left_in frame []) made.0 made.1
+    (all_do_made IsOver (asks m (left_in frame [])) made.0 (returns_over (scope_of m) frame.term (record frame { lines = [] }) returns) made.1)
+ends_from m (line.Calm b ∷ lines) frame returns = by_outcome (outcome (scope_of m) (read frame.registers) [] b.right) refl
     (λ registers. ends_from m lines (record frame { registers = registers }) returns)
   where
-    by_outcome : (o : Outcome) → outcome (read frame.registers) b.right ≡ o → ((registers : Registers) → EndsFrom m (left_in (record frame { registers = registers }) lines)) → EndsFrom m (left_in frame (line.Calm b ∷ lines))
+    by_outcome : (o : Outcome) → outcome (scope_of m) (read frame.registers) [] b.right ≡ o → ((registers : Registers) → EndsFrom m (left_in (record frame { registers = registers }) lines)) → EndsFrom m (left_in frame (line.Calm b ∷ lines))
     by_outcome (Gives v) e rest =
         later m (left_in frame (line.Calm b ∷ lines)) (left_in (record frame { registers = set frame.registers b.name (kind_of (type_of b.right)) v }) lines)
         (rw e refl) (rest (set frame.registers b.name (kind_of (type_of b.right)) v))
     by_outcome Trap e rest = last_step m (left_in frame (line.Calm b ∷ lines)) (record { told = []; items = Wrong ∷ []; after = Over }) (rw e refl) refl
 ends_from m (i ∷ lines) frame returns = last_step m (left_in frame (i ∷ lines)) (record { told = []; items = Wrong ∷ []; after = Over }) refl refl
 
-fit_enters : (ps : List Param) (args : List Shown) (registers : Registers) → Fit ps args → (after : Registers) × (entered ps args registers ≡ Some after)
+fit_enters : (ps : List Param) (args : List Shown) (registers : Registers) → Fit ps args → (after : Registers) × (entered no_world ps args registers ≡ Some after)
 fit_enters [] [] registers fit = (registers, refl)
 fit_enters (p ∷ ps) (a ∷ args) registers fit =
-    let rest = fit_enters ps args (set registers p.name (kind_of p.ty) (shown_value a)) fit.1 in
+    let rest = fit_enters ps args (set registers p.name (kind_of p.ty) (resolve no_world a)) fit.1 in
     (rest.0, rw (fit.0) rest.1)
 fit_enters [] (a ∷ args) registers fit = absurd fit
 fit_enters (p ∷ ps) [] registers fit = absurd fit
@@ -107,10 +109,10 @@ fit_enters (p ∷ ps) [] registers fit = absurd fit
 pub one_block_runs_end : OneBlockRunsEnd
 one_block_runs_end m x f b input named blocks phis term fit =
     let registers = fit_enters f.params input.args no_registers fit in
-    let starts : start m x input ≡ Some (Running (at_block f b registers.0) [] no_world) =
-    ap (λ (o : Option Function). option_and_then (λ g. started g input) o) named ∙ ap (λ (bs : List Block). at_entry f bs (entered f.params input.args no_registers)) blocks
-    ∙ ap (λ (o : Option Registers). at_entry f (b ∷ []) o) registers.1 in
-    let ends : EndsFrom m (Running (at_block f b registers.0) [] no_world) = ends_from m b.body (at_block f b registers.0) term in
+    let starts : start m x input ≡ Some (Running (at_block f b registers.0 []) [] no_world) =
+    ap (λ (o : Option Function). option_and_then (λ g. started no_world g input) o) named ∙ ap (λ (bs : List Block). at_entry no_world f bs (entered no_world f.params input.args no_registers)) blocks
+    ∙ ap (λ (o : Option Registers). at_entry no_world f (b ∷ []) o) registers.1 in
+    let ends : EndsFrom m (Running (at_block f b registers.0 []) [] no_world) = ends_from m b.body (at_block f b registers.0 []) term in
     (ends.0, ends.1, subst (λ (o : Option State). MatchOption o ⊥ (λ s. ShowsFrom m ends.0 s ends.1)) (sym starts) ends.2, ends.3)
 
 pub firsts_are_shown : FirstsAreShown

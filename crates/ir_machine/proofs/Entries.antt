@@ -11,7 +11,7 @@ use Rattle.ir_types.specs.Same.{same_name}
 use Rattle.ir_types.specs.NameLaws.{same_name_true, same_name_refl}
 use Rattle.ir_values.specs.Values.{IsInKindOf}
 use Rattle.ir_machine.specs.declared.registers.Assigned.{Assigned}
-use Rattle.ir_machine.specs.Registers.{Held, Registers, no_registers, holding, AreInKind}
+use Rattle.ir_machine.specs.Registers.{Held, Registers, holding, AreInKind}
 use Rattle.ir_machine.specs.Registers as meaning
 use Rattle.ir_machine.specs.Kept.{held_of, kept_registers, put}
 use Rattle.ir_machine.proofs.Runs.{set_in_kind}

@@ -16,6 +16,7 @@ use Rattle.ir_core.specs.declared.functions.Term.TheVariants.{Ret, RetVoid, Br, 
 use Rattle.ir_types.specs.declared.names.Name.{Name}
 use Rattle.ir_core.specs.declared.values.Kind.{Kind}
 use Rattle.ir_core.specs.declared.values.Value.{Value}
+use Rattle.ir_values.specs.Constants.{Scope}
 use Rattle.ir_core.specs.Expressions.{type_of}
 use Rattle.ir_core.specs.Functions.{edges_into, successors_of}
 use Rattle.ir_types.specs.Same.{same_name}
@@ -25,11 +26,11 @@ use Rattle.ir_types.specs.NameLaws.{same_name_refl, same_name_true}
 use Rattle.ir_machine.specs.declared.items.Input.{Input}
 use Rattle.ir_machine.specs.declared.items.Item.{Item}
 use Rattle.ir_machine.specs.Laws.{Leads}
-use Rattle.ir_machine.specs.Machine.{asks, at_block, at_entry, entered, entry_from, frame_step, function_named, jump, return_step, return_void, started, term_step}
+use Rattle.ir_machine.specs.Machine.{asks, at_block, at_entry, entered, entry_from, frame_step, function_named, jump, return_step, return_void, started, term_step, without_own}
 use Rattle.ir_machine.specs.Reached.{FindsItsLabels, IsFound, NothingIsLost}
 use Rattle.ir_machine.specs.Registers.{Registers, no_registers, operand_value, outcome, read}
-use Rattle.ir_machine.specs.State.{Frame, Pending, World, State, Running, Over}
-use Rattle.ir_machine.proofs.Trees.{AllDo, all_do_branch, all_do_jump, all_do_made, all_do_set_to, all_do_show}
+use Rattle.ir_machine.specs.State.{Frame, Pending, World, no_world, scope_of, State, Running, Waiting, Over}
+use Rattle.ir_machine.proofs.Trees.{AllDo, all_do_act, all_do_branch, all_do_jump, all_do_made, all_do_set_to, all_do_show}
 
 -- ---- lists
 
@@ -128,6 +129,7 @@ AllStand m (p ∷ ps) = FrameStands m p.frame × AllStand m ps
 
 abbrev Stands : Module → State → Type 0
 Stands m (Running frame rest world) = FrameStands m frame × AllStand m rest
+Stands m (Waiting p rest world) = FrameStands m p.frame × AllStand m rest
 Stands m Over = Unit {0}
 
 abbrev LeadsThere : Module → List Item → State → Type 0
@@ -141,29 +143,34 @@ void_stands : (m : Module) (rest : List Pending) (world : World) → AllStand m 
 void_stands m [] world h = tt
 void_stands m (p ∷ ps) world h = h
 
-jump_stands : (m : Module) (frame : Frame) (rest : List Pending) (world : World) → FrameStands m frame → AllStand m rest → (to : Name) → AllDo (LeadsThere m) (jump frame rest world to)
-jump_stands m frame rest world h w to = all_do_jump (LeadsThere m) frame rest world to tt
-    (λ b named. (
-      record { function = h.function; block = b; inside = found_inside (λ (b : Block). same_name b.name to) frame.function.blocks b named; name_is = refl; term_is = refl },
-      w,
-    ))
+module _ (m : Module) (scope : Scope) where
+  jump_stands : (frame : Frame) (rest : List Pending) (world : World) → FrameStands m frame → AllStand m rest → (to : Name) → AllDo (LeadsThere m) (jump scope frame rest world to)
+  jump_stands frame rest world h w to = all_do_jump (LeadsThere m) scope frame rest world to tt
+      (λ b named. (
+        record { function = h.function; block = b; inside = found_inside (λ (b : Block). same_name b.name to) frame.function.blocks b named; name_is = refl; term_is = refl },
+        w,
+      ))
 
-term_stands : (m : Module) (t : Term) (frame : Frame) (rest : List Pending) (world : World) → FrameStands m frame → AllStand m rest → AllDo (LeadsThere m) (term_step t frame rest world)
-term_stands m (Ret o) frame rest world h w = return_stands m (kind_of o.ty) (operand_value (read frame.registers) o) rest world w
-term_stands m RetVoid frame rest world h w = void_stands m rest world w
-term_stands m (Br label) frame rest world h w = jump_stands m frame rest world h w label
-term_stands m (CondBr c) frame rest world h w = all_do_branch (LeadsThere m) (operand_value (read frame.registers) c.condition) _ _ (jump frame rest world) tt (jump_stands m frame rest world h w)
-term_stands m (Switch s) frame rest world h w = all_do_branch (LeadsThere m) (operand_value (read frame.registers) s.value) _ _ (jump frame rest world) tt (jump_stands m frame rest world h w)
-term_stands m Unreachable frame rest world h w = tt
+  term_stands : (t : Term) (frame : Frame) (rest : List Pending) (world : World) → FrameStands m frame → AllStand m rest → AllDo (LeadsThere m) (term_step scope t frame rest world)
+  term_stands (Ret o) frame rest world h w = return_stands m (kind_of o.ty) (operand_value scope (read frame.registers) o) rest (without_own frame.own world) w
+  term_stands RetVoid frame rest world h w = void_stands m rest (without_own frame.own world) w
+  term_stands (Br label) frame rest world h w = jump_stands frame rest world h w label
+  term_stands (CondBr c) frame rest world h w =
+      all_do_branch (LeadsThere m) (operand_value scope (read frame.registers) c.condition) _ _ (jump scope frame rest world) tt (jump_stands frame rest world h w)
+  term_stands (Switch s) frame rest world h w =
+      all_do_branch (LeadsThere m) (operand_value scope (read frame.registers) s.value) _ _ (jump scope frame rest world) tt (jump_stands frame rest world h w)
+  term_stands Unreachable frame rest world h w = tt
 
-frame_stands : (m : Module) (lines : List Instr) (frame : Frame) (rest : List Pending) (world : World) → FrameStands m frame → AllStand m rest → AllDo (LeadsThere m) (frame_step lines frame rest world)
-frame_stands m (line.Calm l ∷ left) frame rest world h w =
-    all_do_set_to (LeadsThere m) (kind_of (type_of l.right)) l.name (outcome (read frame.registers) l.right) (record frame { lines = left }) rest world (λ v e. (h, w)) tt
-frame_stands m (i ∷ left) frame rest world h w = tt
-frame_stands m [] frame rest world h w = term_stands m frame.term frame rest world h w
+  frame_stands : (lines : List Instr) (frame : Frame) (rest : List Pending) (world : World) → FrameStands m frame → AllStand m rest → AllDo (LeadsThere m) (frame_step scope lines frame rest world)
+  frame_stands (line.Calm l ∷ left) frame rest world h w =
+      all_do_set_to (LeadsThere m) (kind_of (type_of l.right)) l.name (outcome scope (read frame.registers) world.memory l.right) (record frame { lines = left }) rest world (λ v e. (h, w)) tt
+  frame_stands (i ∷ left) frame rest world h w = tt
+  frame_stands [] frame rest world h w = term_stands frame.term frame rest world h w
 
 step_stands : (m : Module) (s : State) → Stands m s → AllDo (LeadsThere m) (asks m s)
-step_stands m (Running frame rest world) h = frame_stands m frame.lines frame rest world h.0 h.1
+step_stands m (Running frame rest world) h = frame_stands m (scope_of m) frame.lines frame rest world h.0 h.1
+step_stands m (Waiting p rest world) h = λ c fits.
+    all_do_act (LeadsThere m) p rest world tt (λ s k v. h) (λ x offset s after. h) (λ x offset s after. h) (λ align bytes after. h) c
 step_stands m Over h = tt
 
 run_stands : (m : Module) (n : ℕ) (s : State) (items : List Item) (t : State) → Stands m s → Leads m n s items t → Stands m t
@@ -173,10 +180,11 @@ run_stands m (suc n) s items t h leads =
 
 -- ---- the start
 
-entry_stands : (m : Module) (f : Function) (blocks : List Block) (entering : Option Registers) (s : State) → Contains m.functions f → f.blocks ≡ blocks → at_entry f blocks entering ≡ Some s → Stands m s
-entry_stands m f [] entering s inside are is = absurd (cc)
-entry_stands m f (b ∷ bs) None s inside are is = absurd (cc)
-entry_stands m f (b ∷ bs) (Some registers) s inside are is = stands_so (Running (at_block f b registers) [] _) s (cc) (
+entry_stands : (m : Module) (world : World) (f : Function) (blocks : List Block) (entering : Option Registers) (s : State) → Contains m.functions f → f.blocks ≡ blocks
+    → at_entry world f blocks entering ≡ Some s → Stands m s
+entry_stands m world f [] entering s inside are is = absurd (cc)
+entry_stands m world f (b ∷ bs) None s inside are is = absurd (cc)
+entry_stands m world f (b ∷ bs) (Some registers) s inside are is = stands_so (Running (at_block f b registers []) [] world) s (cc) (
   record { function = inside; block = b; inside = subst (λ (l : List Block). Contains l b) (sym are) (zero, omega arith, refl); name_is = refl; term_is = refl },
   tt,
 )
@@ -184,10 +192,11 @@ entry_stands m f (b ∷ bs) (Some registers) s inside are is = stands_so (Runnin
     stands_so : (r s : State) → r ≡ s → Stands m r → Stands m s
     stands_so r s e h = subst (Stands m) e h
 
-start_stands : (m : Module) (x : Name) (input : Input) (s : State) (o : Option Function) → function_named x m.functions ≡ o → option_and_then (λ f. started f input) o ≡ Some s → Stands m s
-start_stands m x input s None named is = absurd (cc)
-start_stands m x input s (Some f) named is =
-    entry_stands m f f.blocks (entered f.params input.args no_registers) s (found_inside (λ (f : Function). same_name f.name x) m.functions f named) refl is
+start_stands : (m : Module) (world : World) (x : Name) (input : Input) (s : State) (o : Option Function) → function_named x m.functions ≡ o
+    → option_and_then (λ f. started world f input) o ≡ Some s → Stands m s
+start_stands m world x input s None named is = absurd (cc)
+start_stands m world x input s (Some f) named is =
+    entry_stands m world f f.blocks (entered world f.params input.args no_registers) s (found_inside (λ (f : Function). same_name f.name x) m.functions f named) refl is
 
 -- ---- what is found there
 
@@ -225,10 +234,11 @@ frame_finds m frame shape stands =
 
 state_finds : (m : Module) (s : State) → HasShape m → Stands m s → FindsItsLabels s
 state_finds m (Running frame rest world) shape stands = frame_finds m frame shape stands.0
+state_finds m (Waiting p rest world) shape stands = frame_finds m p.frame shape stands.0
 state_finds m Over shape stands = tt
 
 pub nothing_is_lost : NothingIsLost
 nothing_is_lost m s shape reached =
     state_finds m s shape
     (run_stands m reached.steps reached.first reached.items s
-    (start_stands m reached.entry reached.input reached.first (function_named reached.entry m.functions) refl reached.starts) reached.leads)
+    (start_stands m no_world reached.entry reached.input reached.first (function_named reached.entry m.functions) refl reached.starts) reached.leads)

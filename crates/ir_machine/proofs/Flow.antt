@@ -5,7 +5,7 @@ use Rattle.ir_core.specs.declared.functions.Term.TheVariants.{Br, Unreachable}
 use Rattle.ir_types.specs.declared.names.Name.TheVariants.{Number}
 use Rattle.ir_types.specs.declared.ty.Ty.TheVariants.{Void}
 use Rattle.ir_machine.specs.declared.items.Item.TheVariants.{Turn, Returned, Wrong}
-use Rattle.ir_machine.specs.declared.items.Shown.TheVariants as shown
+use Rattle.block_memory.specs.declared.items.Shown.TheVariants as shown
 use Rattle.ir_machine.specs.Examples.{number}
 use Rattle.ir_machine.specs.FlowExamples.{block, branching, ending, function, switching}
 use Rattle.ir_machine.specs.FlowLaws.{BranchesGo, EndsAreWrong, FirstEntriesAreTaken, JumpsAreTurns, PhisAreTakenAtOnce, PhisWithoutEntriesArePoison, SwitchesGo}
@@ -25,38 +25,38 @@ jumps_are_turns =
     )
 
 pub phis_are_taken_at_once : PhisAreTakenAtOnce
-phis_are_taken_at_once old = (_, refl, refl, refl)
+phis_are_taken_at_once old own rest world = (_, refl, refl, refl)
 
 pub first_entries_are_taken : FirstEntriesAreTaken
-first_entries_are_taken old = refl
+first_entries_are_taken scope old = refl
 
 pub phis_without_entries_are_poison : PhisWithoutEntriesArePoison
-phis_without_entries_are_poison old = refl
+phis_without_entries_are_poison scope old = refl
 
 pub branches_go : BranchesGo
 branches_go = record {
-  on_true = λ frame rest world. refl;
-  on_false = λ frame rest world. refl;
-  undef_true = λ frame rest world. refl;
-  undef_false = λ frame rest world. refl;
-  undef_other = λ frame rest world. refl;
-  undef_picked = λ frame rest world. refl;
+  on_true = λ scope frame rest world. refl;
+  on_false = λ scope frame rest world. refl;
+  undef_true = λ scope frame rest world. refl;
+  undef_false = λ scope frame rest world. refl;
+  undef_other = λ scope frame rest world. refl;
+  undef_picked = λ scope frame rest world. refl;
 }
 
 pub switches_go : SwitchesGo
 switches_go = record {
-  default_too = λ frame rest world. refl;
-  first = λ frame rest world. refl;
-  modulo = λ frame rest world. refl;
-  default = λ frame rest world. refl;
-  undef_default = λ frame rest world. refl;
-  undef_case = λ frame rest world. refl;
-  undef_other = λ frame rest world. refl;
+  default_too = λ scope frame rest world. refl;
+  first = λ scope frame rest world. refl;
+  modulo = λ scope frame rest world. refl;
+  default = λ scope frame rest world. refl;
+  undef_default = λ scope frame rest world. refl;
+  undef_case = λ scope frame rest world. refl;
+  undef_other = λ scope frame rest world. refl;
 }
 
 -- where a run of the only block starts
 abbrev starting : Term → State
-starting term = Running (at_block (function Void (block 1 [] term ∷ [])) (block 1 [] term) no_registers) [] no_world
+starting term = Running (at_block (function Void (block 1 [] term ∷ [])) (block 1 [] term) no_registers []) [] no_world
 
 pub ends_are_wrong : EndsAreWrong
 ends_are_wrong = record {

@@ -16,6 +16,7 @@ use Rattle.ir_core.specs.declared.values.Value.{Value}
 use Rattle.ir_core.specs.declared.values.Value.TheVariants.{Poison}
 use Rattle.ir_types.specs.Same.{same_name}
 use Rattle.ir_core.specs.Types.{kind_of, number_at}
+use Rattle.ir_values.specs.Constants.{Scope}
 use Rattle.ir_values.specs.Values.{IsInKindOf}
 use Rattle.ir_values.proofs.KindLaws.{poison_in_kind}
 use Rattle.ir_machine.specs.Machine.{block_named, case_of, entry_from, phi_value, with_phis}
@@ -50,21 +51,23 @@ entry_later x es i e within is other = found_later (λ (e : Entry). same_name e.
 
 -- ---- phis
 
-pub phi_here : (old : Registers) (from : Name) (p : Phi) (e : Entry) → entry_from from p.entries ≡ Some e → phi_value old from p ≡ atom_value (read old) (kind_of p.ty) e.value
-phi_here old from p e is = rw is refl
+pub phi_here : (scope : Scope) (old : Registers) (from : Name) (p : Phi) (e : Entry) → entry_from from p.entries ≡ Some e
+    → phi_value scope old from p ≡ atom_value scope (read old) p.ty e.value
+phi_here scope old from p e is = rw is refl
 
-pub phi_nowhere : (old : Registers) (from : Name) (p : Phi) → entry_from from p.entries ≡ None → phi_value old from p ≡ Poison
-phi_nowhere old from p is = rw is refl
+pub phi_nowhere : (scope : Scope) (old : Registers) (from : Name) (p : Phi) → entry_from from p.entries ≡ None → phi_value scope old from p ≡ Poison
+phi_nowhere scope old from p is = rw is refl
 
 -- poison is of every kind
 pub poison_in_kind_of : (k : Option Kind) → IsInKindOf k Poison
 poison_in_kind_of None = tt
 poison_in_kind_of (Some k) = poison_in_kind k
 
-pub next_phi : (old : Registers) (from : Name) (ps : List Phi) (i : ℕ) (p : Phi) (registers : Registers) (v : Value) → i < length ps → p ≡ get_or ps i p → v ≡ phi_value old from p
-    → with_phis old from (drop i ps) registers ≡ with_phis old from (drop (i + 1) ps) (set registers p.name (kind_of p.ty) v)
-next_phi old from ps i p registers v within is gives = ap (λ (l : List Phi). with_phis old from l registers) (drop_at ps i p within is)
-    ∙ ap (λ (v : Value). with_phis old from (drop (i + 1) ps) (set registers p.name (kind_of p.ty) v)) (sym gives)
+pub next_phi : (scope : Scope) (old : Registers) (from : Name) (ps : List Phi) (i : ℕ) (p : Phi) (registers : Registers) (v : Value) → i < length ps → p ≡ get_or ps i p
+    → v ≡ phi_value scope old from p
+    → with_phis scope old from (drop i ps) registers ≡ with_phis scope old from (drop (i + 1) ps) (set registers p.name (kind_of p.ty) v)
+next_phi scope old from ps i p registers v within is gives = ap (λ (l : List Phi). with_phis scope old from l registers) (drop_at ps i p within is)
+    ∙ ap (λ (v : Value). with_phis scope old from (drop (i + 1) ps) (set registers p.name (kind_of p.ty) v)) (sym gives)
 
 -- ---- cases
 

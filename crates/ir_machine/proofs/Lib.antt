@@ -3,6 +3,7 @@ pub mod Runs
 pub mod WrongLast
 pub mod NeverStuck
 pub mod Order
+pub mod Outside
 pub mod InKind
 pub mod Entries
 pub mod Telling

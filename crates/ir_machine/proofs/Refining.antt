@@ -15,12 +15,12 @@ use Rattle.ir_core.specs.declared.functions.Function.{Function}
 use Rattle.ir_core.specs.declared.modules.Module.{Module}
 use Rattle.ir_types.specs.NameLaws.{same_name_refl}
 use Rattle.ir_types.specs.Same.{same_name}
+use Rattle.block_memory.specs.declared.items.Shown.TheVariants as shown
 use Rattle.ir_machine.specs.declared.items.Item.{Item}
 use Rattle.ir_machine.specs.declared.items.Item.TheVariants.{Turn, Wrong}
-use Rattle.ir_machine.specs.declared.items.Shown.TheVariants as shown
 use Rattle.ir_machine.specs.declared.items.Input.{Input}
-use Rattle.ir_machine.specs.Registers.{Registers, no_registers, set, read, constant_value, atom_at}
-use Rattle.ir_machine.specs.State.{no_world, State, Running}
+use Rattle.ir_machine.specs.Registers.{Registers, no_registers, set, read, constant_at, atom_value}
+use Rattle.ir_machine.specs.State.{no_world, scope_of, State, Running}
 use Rattle.ir_machine.specs.Machine.{at_block, at_entry, entered, start, started, ShowsFrom}
 use Rattle.ir_machine.specs.Refinement.{MayShowFrom, Refines}
 use Rattle.ir_machine.specs.Examples.{block, defining, returning, taking, wrapping, wrapping_line, number}
@@ -35,7 +35,7 @@ alone f params b lines result = plain_function (ty.Int 32) f params (block b lin
 
 -- in the function, at a block's start
 abbrev pub entering : Function → Name → List Instr → Atom Name → Registers → State
-entering f b lines result registers = Running (at_block f (block b lines result) registers) [] no_world
+entering f b lines result registers = Running (at_block f (block b lines result) registers []) [] no_world
 
 -- the functions of the examples
 abbrev returner : Name → Name → Atom Name → Function
@@ -64,14 +64,14 @@ pub refines_by : (f : Name) (params : List Param) (b c : Name) (ls ks : List Ins
     → Refines (defining f params b ls u) (defining f params c ks v)
 refines_by f params b c ls ks u v h x input n items = by_name (same_name f x)
   where
-    by_registers : (o : Option Registers) → MatchOption (at_entry (alone f params c ks v) (block c ks v ∷ []) o) ⊥ (λ s. ShowsFrom (defining f params c ks v) n s items)
-        → MatchOption (at_entry (alone f params b ls u) (block b ls u ∷ []) o) ⊥ (λ s. MayShowFrom (defining f params b ls u) s items)
+    by_registers : (o : Option Registers) → MatchOption (at_entry no_world (alone f params c ks v) (block c ks v ∷ []) o) ⊥ (λ s. ShowsFrom (defining f params c ks v) n s items)
+        → MatchOption (at_entry no_world (alone f params b ls u) (block b ls u ∷ []) o) ⊥ (λ s. MayShowFrom (defining f params b ls u) s items)
     by_registers None shows = absurd shows
     by_registers (Some registers) shows = h registers n items shows
 
-    by_name : (same : Bool) → MatchOption (option_and_then (λ g. started g input) (cond same (Some (alone f params c ks v)) None)) ⊥ (λ s. ShowsFrom (defining f params c ks v) n s items)
-        → MatchOption (option_and_then (λ g. started g input) (cond same (Some (alone f params b ls u)) None)) ⊥ (λ s. MayShowFrom (defining f params b ls u) s items)
-    by_name true shows = by_registers (entered params input.args no_registers) shows
+    by_name : (same : Bool) → MatchOption (option_and_then (λ g. started no_world g input) (cond same (Some (alone f params c ks v)) None)) ⊥ (λ s. ShowsFrom (defining f params c ks v) n s items)
+        → MatchOption (option_and_then (λ g. started no_world g input) (cond same (Some (alone f params b ls u)) None)) ⊥ (λ s. MayShowFrom (defining f params b ls u) s items)
+    by_name true shows = by_registers (entered no_world params input.args no_registers) shows
     by_name false shows = absurd shows
 
 starts : (f b : Name) (lines : List Instr) (result : Atom Name) → start (defining f [] b lines result) f (record { args = [] }) ≡ Some (entering (alone f [] b lines result) b lines result no_registers)
@@ -79,11 +79,11 @@ starts f b lines result = rw (same_name_refl f) refl
 
 pub constants_refine : ConstantsRefineByValue
 constants_refine f b c d = (
-  λ h. less_defined (returning f b (Constant c)) (returning f b (Constant d)) (entering (returner f b (Constant c)) b [] (Constant c) no_registers) (entering (returner f b (Constant d)) b [] (Constant d) no_registers) (constant_value (Int 32) c) (constant_value (Int 32) d) refl refl
+  λ h. less_defined (returning f b (Constant c)) (returning f b (Constant d)) (entering (returner f b (Constant c)) b [] (Constant c) no_registers) (entering (returner f b (Constant d)) b [] (Constant d) no_registers) (constant_at (Int 32) c) (constant_at (Int 32) d) refl refl
       (constant_in_kind (Int 32) c) (constant_in_kind (Int 32) d)
       (refines_from (returning f b (Constant c)) (returning f b (Constant d)) f (record { args = [] }) (entering (returner f b (Constant c)) b [] (Constant c) no_registers) (entering (returner f b (Constant d)) b [] (Constant d) no_registers) (starts f b [] (Constant c)) (starts f b [] (Constant d)) h),
   λ less. refines_by f [] b b [] [] (Constant c) (Constant d) (λ registers.
-      simulates (returning f b (Constant c)) (returning f b (Constant d)) (entering (returner f b (Constant c)) b [] (Constant c) registers) (entering (returner f b (Constant d)) b [] (Constant d) registers) (constant_value (Int 32) c) (constant_value (Int 32) d) refl refl
+      simulates (returning f b (Constant c)) (returning f b (Constant d)) (entering (returner f b (Constant c)) b [] (Constant c) registers) (entering (returner f b (Constant d)) b [] (Constant d) registers) (constant_at (Int 32) c) (constant_at (Int 32) d) refl refl
       (constant_in_kind (Int 32) d) less),
 )
 
@@ -141,14 +141,14 @@ poison_is_no_number f b y h = never_seven (may_return (returning f b (number 7))
 
 pub wrong_is_refined : WrongIsRefined
 wrong_is_refined f b y result = refines_by f [] b b (wrapping_line y ∷ []) [] (Register y) result (λ registers n items shows.
-    turned registers items (returns_only (returning f b result) (entering (returner f b result) b [] result registers) (atom_at (read registers) (Int 32) result) refl n items shows))
+    turned registers items (returns_only (returning f b result) (entering (returner f b result) b [] result registers) (atom_value (scope_of (returning f b result)) (read registers) (ty.Int 32) result) refl n items shows))
   where
-    turned : (registers : Registers) (items : List Item) → (items ≡ []) ⊎ IsReturn (atom_at (read registers) (Int 32) result) items
+    turned : (registers : Registers) (items : List Item) → (items ≡ []) ⊎ IsReturn (atom_value (scope_of (returning f b result)) (read registers) (ty.Int 32) result) items
         → MayShowFrom (wrapping f b y) (entering (wrapper f b y) b (wrapping_line y ∷ []) (Register y) registers) items
     turned registers items (inl e) = subst (λ (l : List Item). MayShowFrom (wrapping f b y) (entering (wrapper f b y) b (wrapping_line y ∷ []) (Register y) registers) l) (sym e)
         (may_show_nothing (wrapping f b y) (entering (wrapper f b y) b (wrapping_line y ∷ []) (Register y) registers))
     turned registers items (inr r) =
-        let turns = return_turns (atom_at (read registers) (Int 32) result) items r in
+        let turns = return_turns (atom_value (scope_of (returning f b result)) (read registers) (ty.Int 32) result) items r in
         subst (λ (l : List Item). MayShowFrom (wrapping f b y) (entering (wrapper f b y) b (wrapping_line y ∷ []) (Register y) registers) l) (sym turns.1)
         (wrapping_turns f b y registers turns.0)
 
@@ -162,15 +162,15 @@ returns_argument m f x b n = rw (same_name_refl x) refl
 argument_kept : (f x b : Name) (c : Const) (n : ℕ) → n < 2 ^ 32 → Refines (taking f x b (Register x)) (taking f x b (Constant c))
     → start (taking f x b (Register x)) f (record { args = shown.Num n ∷ [] }) ≡ Some (entering (taker f x b (Register x)) b [] (Register x) (taken x n))
     → start (taking f x b (Constant c)) f (record { args = shown.Num n ∷ [] }) ≡ Some (entering (taker f x b (Constant c)) b [] (Constant c) (taken x n))
-    → constant_value (Int 32) c ≡ value.Num n
+    → constant_at (Int 32) c ≡ value.Num n
 argument_kept f x b c n fits h p q =
     less_defined (taking f x b (Register x)) (taking f x b (Constant c)) (entering (taker f x b (Register x)) b [] (Register x) (taken x n)) (entering (taker f x b (Constant c)) b [] (Constant c) (taken x n))
-    (value.Num n) (constant_value (Int 32) c) (returns_argument (taking f x b (Register x)) f x b n) refl fits (constant_in_kind (Int 32) c)
+    (value.Num n) (constant_at (Int 32) c) (returns_argument (taking f x b (Register x)) f x b n) refl fits (constant_in_kind (Int 32) c)
     (refines_from (taking f x b (Register x)) (taking f x b (Constant c)) f (record { args = shown.Num n ∷ [] }) (entering (taker f x b (Register x)) b [] (Register x) (taken x n)) (entering (taker f x b (Constant c)) b [] (Constant c) (taken x n)) p q h)
 
 pub arguments_are_seen : ArgumentsAreSeen
 arguments_are_seen f x b c h =
-    let none : constant_value (Int 32) c ≡ value.Num 0 = argument_kept f x b c 0 (lit< tt) h (rw (same_name_refl f) refl) (rw (same_name_refl f) refl) in
-    let one : constant_value (Int 32) c ≡ value.Num 1 = argument_kept f x b c 1 (lit< tt) h (rw (same_name_refl f) refl) (rw (same_name_refl f) refl) in
+    let none : constant_at (Int 32) c ≡ value.Num 0 = argument_kept f x b c 0 (lit< tt) h (rw (same_name_refl f) refl) (rw (same_name_refl f) refl) in
+    let one : constant_at (Int 32) c ≡ value.Num 1 = argument_kept f x b c 1 (lit< tt) h (rw (same_name_refl f) refl) (rw (same_name_refl f) refl) in
     let differ = one_number 0 1 (sym none ∙ one) in
     omega arith

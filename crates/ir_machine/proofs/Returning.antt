@@ -1,20 +1,22 @@
 -- Runs that stand at the return of a value, and when one refines another.
-use Rattle.std.proofs.Common.{◌≡◌, ◌⊎◌, inl, inr, ℕ, zero, suc, ◌<◌, ◌^◌, true, List, [], ◌∷◌, ◌++◌, Option, Some, refl, sym, ap, ◌∙◌, subst, lit<, arith}
+use Rattle.std.proofs.Common.{◌≡◌, ◌⊎◌, inl, inr, ℕ, zero, suc, ◌<◌, ◌^◌, Bool, true, false, cond, List, [], ◌∷◌, ◌++◌, Option, None, Some, refl, sym, ap, ◌∙◌, subst, lit<, arith}
+use Rattle.std.specs.Option.{is_some}
 use Rattle.std.proofs.lemmas.Bool.{ltb-true, lt-ltb}
 use Rattle.std.proofs.lemmas.List.{append-nil}
 use Rattle.ir_core.specs.declared.values.Value.{Value}
 use Rattle.ir_core.specs.declared.values.Value.TheVariants as value
 use Rattle.ir_core.specs.declared.values.Kind.TheVariants.{Int}
 use Rattle.ir_core.specs.declared.modules.Module.{Module}
+use Rattle.ir_core.specs.Types.{fits}
 use Rattle.ir_values.specs.Values.{IsInKind, IsLessDefined}
+use Rattle.block_memory.specs.declared.items.Choice.TheVariants.{Pick}
+use Rattle.block_memory.specs.declared.items.Shown.{Shown}
+use Rattle.block_memory.specs.declared.items.Shown.TheVariants as shown
+use Rattle.block_memory.specs.Names.{Showing}
 use Rattle.ir_machine.specs.declared.items.Item.{Item}
 use Rattle.ir_machine.specs.declared.items.Item.TheVariants.{Turn, Returned, Wrong}
-use Rattle.ir_machine.specs.declared.items.Shown.{Shown}
-use Rattle.ir_machine.specs.declared.items.Shown.TheVariants as shown
-use Rattle.ir_machine.specs.declared.items.Choice.{Choice}
-use Rattle.ir_machine.specs.declared.items.Choice.TheVariants.{Go, Pick}
-use Rattle.ir_machine.specs.State.{no_world, State, Over}
-use Rattle.ir_machine.specs.Machine.{Asks, Does, Ask, Made, Follows, asks, is_pick, picked, return_step, ShowsFrom}
+use Rattle.ir_machine.specs.State.{World, no_world, State, Over}
+use Rattle.ir_machine.specs.Machine.{Asks, Does, Chosen, Told, FreshByte, Made, Follows, asks, chosen_by, return_step, shown_as, ShowsFrom}
 use Rattle.ir_machine.specs.Refinement.{MayShowFrom}
 use Rattle.ir_machine.proofs.Trees.{AllDo, all_do_made}
 use Rattle.ir_machine.proofs.Runs.{over_shows, may_show_nothing}
@@ -27,27 +29,35 @@ Returns m s v = asks m s ≡ return_step (Some (Int 32)) v [] no_world
 abbrev pub IsPicked : List Item → Type 0
 IsPicked items = (k : ℕ) × (k < 2 ^ 32) × (items ≡ Turn ∷ Returned (Some (shown.Num k)) ∷ [])
 
--- what the return of the value shows; an address counts as undef
+-- what the return of the value shows: of an address in a block, its first name
 abbrev pub IsReturn : Value → List Item → Type 0
 IsReturn (value.Num n) items = items ≡ Turn ∷ Returned (Some (shown.Num n)) ∷ []
 IsReturn value.Undef items = IsPicked items
-IsReturn (value.Ptr block offset) items = IsPicked items
-IsReturn (value.Bare address) items = IsPicked items
+IsReturn (value.Ptr block offset) items = items ≡ Turn ∷ Returned (Some (shown.Name 0 offset)) ∷ []
+IsReturn (value.Bare address) items = items ≡ Turn ∷ Returned (Some (shown.Bare address)) ∷ []
 IsReturn value.Poison items = items ≡ Turn ∷ Wrong ∷ []
 
 abbrev EndsReturned : Value → List Item → State → Type 0
 EndsReturned v items after = (after ≡ Over) × IsReturn v items
 
-picks_end : (v : Value) → ((items : List Item) → IsPicked items → IsReturn v items) → (c : Choice) → is_pick (Int 32) c ≡ true
-    → AllDo (EndsReturned v) (picked c (λ s. Does (Turn ∷ Returned (Some s) ∷ []) Over))
-picks_end v returns (Pick (shown.Num k)) fits = (refl, returns (Turn ∷ Returned (Some (shown.Num k)) ∷ []) (k, ltb-true k (2 ^ 32) fits, refl))
-picks_end v returns (Go x) fits = tt
+abbrev returned : Shown → World → Asks
+returned s after = Does (Turn ∷ Returned (Some s) ∷ []) Over
+
+picks_end : (c : Chosen) → AllDo (EndsReturned value.Undef) (shown_as (chosen_by (Int 32) no_world c) no_world returned)
+picks_end (Told (Pick (shown.Num k))) = by_fit (fits k 32) refl
+  where
+    by_fit : (fit : Bool) → fits k 32 ≡ fit → AllDo (EndsReturned value.Undef) (shown_as (cond fit (Some (shown.Num k, [])) None) no_world returned)
+    by_fit true e = (refl, (k, ltb-true k (2 ^ 32) e, refl))
+    by_fit false e = tt
+picks_end (Told (Pick s)) = tt
+picks_end (Told c) = tt
+picks_end (FreshByte bound offset place) = tt
 
 return_ends : (v : Value) → AllDo (EndsReturned v) (return_step (Some (Int 32)) v [] no_world)
 return_ends (value.Num n) = (refl, refl)
-return_ends value.Undef = picks_end value.Undef (λ items h. h)
-return_ends (value.Ptr block offset) = picks_end (value.Ptr block offset) (λ items h. h)
-return_ends (value.Bare address) = picks_end (value.Bare address) (λ items h. h)
+return_ends value.Undef = λ c fits. picks_end c
+return_ends (value.Ptr block offset) = (refl, refl)
+return_ends (value.Bare address) = (refl, refl)
 return_ends value.Poison = (refl, refl)
 
 -- nothing is shown, or the return
@@ -64,21 +74,28 @@ returns_only m s v is (suc n) items (inr h) =
 shown_by : (m : Module) (s : State) (tree : Asks) (made : Made) → asks m s ≡ tree → Follows tree made → made.after ≡ Over → ShowsFrom m (suc zero) s (made.items ++ [])
 shown_by m s tree made is f over = inr (made, [], subst (λ (asked : Asks). Follows asked made) (sym is) f, refl, refl)
 
--- what undef of i32 is shown as
-abbrev picking : Asks
-picking = Ask (is_pick (Int 32)) (λ c. picked c (λ s. Does (Turn ∷ Returned (Some s) ∷ []) Over))
+number_chosen : (k : ℕ) → k < 2 ^ 32 → chosen_by (Int 32) no_world (Told (Pick (shown.Num k))) ≡ Some (shown.Num k, [])
+number_chosen k fits = rw (lt-ltb k (2 ^ 32) fits) refl
 
-picks_shown : (m : Module) (s : State) → asks m s ≡ picking → (items : List Item) → IsPicked items → ShowsFrom m (suc zero) s items
-picks_shown m s is items (k, fits, e) = subst (λ (l : List Item). ShowsFrom m (suc zero) s l) (sym e)
-    (shown_by m s picking (record { told = Pick (shown.Num k) ∷ []; items = Turn ∷ Returned (Some (shown.Num k)) ∷ []; after = Over })
-    is (Pick (shown.Num k), record { told = []; items = Turn ∷ Returned (Some (shown.Num k)) ∷ []; after = Over }, lt-ltb k (2 ^ 32) fits, refl, refl) refl)
+picks_shown : (m : Module) (s : State) → Returns m s value.Undef → (items : List Item) → IsPicked items → ShowsFrom m (suc zero) s items
+picks_shown m s is items (k, fits, e) =
+    let chosen : chosen_by (Int 32) no_world (Told (Pick (shown.Num k))) ≡ Some (shown.Num k, []) = number_chosen k fits in
+    let made : Made = record { told = []; items = Turn ∷ Returned (Some (shown.Num k)) ∷ []; after = Over } in
+    let follows : Follows (shown_as (chosen_by (Int 32) no_world (Told (Pick (shown.Num k)))) no_world returned) made =
+    subst (λ (o : Option Showing). Follows (shown_as o no_world returned) made) (sym chosen) refl in
+    subst (λ (l : List Item). ShowsFrom m (suc zero) s l) (sym e)
+    (shown_by m s (return_step (Some (Int 32)) value.Undef [] no_world)
+    (record { told = Told (Pick (shown.Num k)) ∷ []; items = Turn ∷ Returned (Some (shown.Num k)) ∷ []; after = Over })
+    is (Told (Pick (shown.Num k)), made, ap is_some chosen, follows, refl) refl)
 
 pub returns_shown : (m : Module) (s : State) (v : Value) → Returns m s v → (items : List Item) → IsReturn v items → ShowsFrom m (suc zero) s items
 returns_shown m s (value.Num n) is items e = subst (λ (l : List Item). ShowsFrom m (suc zero) s l) (sym e)
     (shown_by m s (return_step (Some (Int 32)) (value.Num n) [] no_world) (record { told = []; items = Turn ∷ Returned (Some (shown.Num n)) ∷ []; after = Over }) is refl refl)
 returns_shown m s value.Undef is items picked = picks_shown m s is items picked
-returns_shown m s (value.Ptr block offset) is items picked = picks_shown m s is items picked
-returns_shown m s (value.Bare address) is items picked = picks_shown m s is items picked
+returns_shown m s (value.Ptr block offset) is items e = subst (λ (l : List Item). ShowsFrom m (suc zero) s l) (sym e)
+    (shown_by m s (return_step (Some (Int 32)) (value.Ptr block offset) [] no_world) (record { told = []; items = Turn ∷ Returned (Some (shown.Name 0 offset)) ∷ []; after = Over }) is refl refl)
+returns_shown m s (value.Bare address) is items e = subst (λ (l : List Item). ShowsFrom m (suc zero) s l) (sym e)
+    (shown_by m s (return_step (Some (Int 32)) (value.Bare address) [] no_world) (record { told = []; items = Turn ∷ Returned (Some (shown.Bare address)) ∷ []; after = Over }) is refl refl)
 returns_shown m s value.Poison is items e = subst (λ (l : List Item). ShowsFrom m (suc zero) s l) (sym e)
     (shown_by m s (return_step (Some (Int 32)) value.Poison [] no_world) (record { told = []; items = Turn ∷ Wrong ∷ []; after = Over }) is refl refl)
 
@@ -95,8 +112,8 @@ something (a ∷ seen) x e = cc
 return_not_wrong : (v : Value) → (v ≡ value.Poison → ⊥) → (seen : List Item) → IsReturn v (seen ++ Wrong ∷ []) → ⊥
 return_not_wrong (value.Num n) other seen e = not_wrong (Some (shown.Num n)) seen e
 return_not_wrong value.Undef other seen (k, fits, e) = not_wrong (Some (shown.Num k)) seen e
-return_not_wrong (value.Ptr block offset) other seen (k, fits, e) = not_wrong (Some (shown.Num k)) seen e
-return_not_wrong (value.Bare address) other seen (k, fits, e) = not_wrong (Some (shown.Num k)) seen e
+return_not_wrong (value.Ptr block offset) other seen e = not_wrong (Some (shown.Name 0 offset)) seen e
+return_not_wrong (value.Bare address) other seen e = not_wrong (Some (shown.Bare address)) seen e
 return_not_wrong value.Poison other seen e = other refl
 
 -- what may be shown where no poison is returned
@@ -116,8 +133,8 @@ may_show_turn m s rest is = inr (suc zero, Turn ∷ [], rest, refl, returns_show
 pub return_turns : (v : Value) (items : List Item) → IsReturn v items → (rest : List Item) × (items ≡ Turn ∷ rest)
 return_turns (value.Num n) items e = (Returned (Some (shown.Num n)) ∷ [], e)
 return_turns value.Undef items (k, fits, e) = (Returned (Some (shown.Num k)) ∷ [], e)
-return_turns (value.Ptr block offset) items (k, fits, e) = (Returned (Some (shown.Num k)) ∷ [], e)
-return_turns (value.Bare address) items (k, fits, e) = (Returned (Some (shown.Num k)) ∷ [], e)
+return_turns (value.Ptr block offset) items e = (Returned (Some (shown.Name 0 offset)) ∷ [], e)
+return_turns (value.Bare address) items e = (Returned (Some (shown.Bare address)) ∷ [], e)
 return_turns value.Poison items e = (Wrong ∷ [], e)
 
 module _ (source target : Module) (s t : State) (u v : Value) (first : Returns source s u) (second : Returns target t v) where

@@ -35,17 +35,16 @@ use Rattle.ir_core.specs.Types.{kind_of, number_at}
 use Rattle.ir_core.specs.Integers.{IsOverIntegers}
 use Rattle.ir_core.specs.WellFormed.{AllUseDefined, FitsEdges, HasBlockShape, HasFunctionShape, IsFunctionDefined, IsPath, IsWellFormed, LinesUseDefined, PathUsesDefined, UsesDefined}
 use Rattle.ir_types.specs.NameLaws.{same_name_refl, same_name_true}
-use Rattle.ir_machine.specs.declared.items.Choice.{Choice}
-use Rattle.ir_machine.specs.declared.items.Choice.TheVariants.{Go, Pick}
 use Rattle.ir_machine.specs.declared.items.Input.{Input}
 use Rattle.ir_machine.specs.declared.items.Item.{Item}
 use Rattle.ir_machine.specs.declared.items.Item.TheVariants.{Wrong}
-use Rattle.ir_machine.specs.declared.items.Shown.{Shown}
+use Rattle.ir_values.specs.Constants.{Scope}
+use Rattle.block_memory.specs.declared.items.Shown.{Shown}
 use Rattle.ir_machine.specs.Laws.{Leads}
-use Rattle.ir_machine.specs.Machine.{Asks, asks, at_block, at_entry, block_named, branch, case_of, entered, entry_from, fits_kind, frame_step, function_named, gone, is_label, jump, phi_value, shown_value, side_of, started, term_step, with_phis}
+use Rattle.ir_machine.specs.Machine.{Asks, Chosen, asks, at_block, at_entry, block_named, branch, case_of, entered, entry_from, fits_kind, frame_step, function_named, gone, gone_to, is_among, is_label, jump, label_told, phi_value, resolve, side_of, started, term_step, with_phis, without_own}
 use Rattle.ir_machine.specs.Reads.{AreSet, IsSet, NextReadsSet, PhisReadSet, ReadsAreSet, ReadsSet}
 use Rattle.ir_machine.specs.Registers.{Held, Registers, no_registers, operand_value, outcome, read, set}
-use Rattle.ir_machine.specs.State.{Frame, Pending, World, no_world, State, Running, Over}
+use Rattle.ir_machine.specs.State.{Frame, Pending, World, no_world, scope_of, State, Running, Waiting, Over}
 use Rattle.ir_machine.proofs.Finding.{all_at, found_inside}
 use Rattle.ir_machine.proofs.Trees.{AllDo, all_do_jump, all_do_made, all_do_set_to, all_do_show}
 
@@ -118,13 +117,13 @@ pub sets_more : (registers : Registers) (names : List Name) (x : Name) (t : Ty) 
 sets_more registers names x t v kind sets =
     subst (λ (k : Option Kind). Sets (set registers x k v) (names ++ x ∷ [])) (sym kind.1) (sets_one registers names x kind.0 v sets)
 
-pub phis_set : (old : Registers) (from : Name) (ps : List Phi) (registers : Registers) (names : List Name) → AllByRecursion HasKind (phi_registers ps) → Sets registers names
-    → Sets (with_phis old from ps registers) (names ++ names_in (phi_registers ps))
-phis_set old from [] registers names kinds sets = subst (Sets registers) (sym (append-nil names)) sets
-phis_set old from (p ∷ ps) registers names kinds sets =
-    subst (Sets (with_phis old from (p ∷ ps) registers)) (append_assoc names (p.name ∷ []) (names_in (phi_registers ps)))
-    (phis_set old from ps (set registers p.name (kind_of p.ty) (phi_value old from p)) (names ++ p.name ∷ []) kinds.1
-    (sets_more registers names p.name p.ty (phi_value old from p) kinds.0 sets))
+pub phis_set : (scope : Scope) (old : Registers) (from : Name) (ps : List Phi) (registers : Registers) (names : List Name) → AllByRecursion HasKind (phi_registers ps) → Sets registers names
+    → Sets (with_phis scope old from ps registers) (names ++ names_in (phi_registers ps))
+phis_set scope old from [] registers names kinds sets = subst (Sets registers) (sym (append-nil names)) sets
+phis_set scope old from (p ∷ ps) registers names kinds sets =
+    subst (Sets (with_phis scope old from (p ∷ ps) registers)) (append_assoc names (p.name ∷ []) (names_in (phi_registers ps)))
+    (phis_set scope old from ps (set registers p.name (kind_of p.ty) (phi_value scope old from p)) (names ++ p.name ∷ []) kinds.1
+    (sets_more registers names p.name p.ty (phi_value scope old from p) kinds.0 sets))
 
 -- ---- kinds
 
@@ -157,17 +156,19 @@ pub record Ready (m : Module) (lines : List Instr) (frame : Frame) : Type 0 wher
   pub kinds : AllByRecursion HasKind (set_by lines)
   pub in_all : known ++ names_in (set_by lines) ≡ taken ++ names_in (registers_of block)
 
+-- a call is undefined behaviour until it is there, so no frame waits
 abbrev StateReady : Module → State → Type 0
 StateReady m (Running frame rest world) = Ready m frame.lines frame × (rest ≡ [])
+StateReady m (Waiting p rest world) = ⊥
 StateReady m Over = Unit {0}
 
 abbrev LeadsReady : Module → List Item → State → Type 0
 LeadsReady m items after = StateReady m after
 
 -- at the start of a block that is entered
-block_ready : (m : Module) → CanRun m → (f : Function) (b : Block) (taken : List Name) (registers : Registers) → Contains m.functions f → Contains f.blocks b
-    → ((path : List Block) → IsPath f b path → PathUsesDefined taken b path) → Sets registers (taken ++ names_in (phi_registers b.phis)) → Ready m b.body (at_block f b registers)
-block_ready m well f b taken registers function inside ahead sets =
+block_ready : (m : Module) → CanRun m → (f : Function) (b : Block) (taken : List Name) (registers : Registers) (own : List ℕ) → Contains m.functions f → Contains f.blocks b
+    → ((path : List Block) → IsPath f b path → PathUsesDefined taken b path) → Sets registers (taken ++ names_in (phi_registers b.phis)) → Ready m b.body (at_block f b registers own)
+block_ready m well f b taken registers own function inside ahead sets =
     let range : IsNarrowFunction f = all_at IsNarrowFunction m.functions f (narrow m well.0.range well.1).functions function in
     record {
       function = function;
@@ -208,13 +209,17 @@ among_by : (x y : Name) (ys : List Name) (b : Bool) → same_name x y ≡ b → 
 among_by x y ys true same any more = (zero, omega arith, sym (same_name_true x y same))
 among_by x y ys false same any more = further y ys x (more any)
 
-is_among : (labels : List Name) (x : Name) → list_any (same_name x) labels ≡ true → Contains labels x
-is_among [] x is = absurd (cc)
-is_among (y ∷ ys) x is = among_by x y ys (same_name x y) refl is (is_among ys x)
+any_among : (labels : List Name) (x : Name) → list_any (same_name x) labels ≡ true → Contains labels x
+any_among [] x is = absurd (cc)
+any_among (y ∷ ys) x is = among_by x y ys (same_name x y) refl is (any_among ys x)
 
-all_do_told : (P : List Item → State → Type 0) (labels : List Name) (c : Choice) (next : Name → Asks) → is_label labels c ≡ true → ((x : Name) → Contains labels x → AllDo P (next x)) → AllDo P (gone c next)
-all_do_told P labels (Go x) next is h = h x (is_among labels x is)
-all_do_told P labels (Pick s) next is h = tt
+all_do_gone_to : (P : List Item → State → Type 0) (labels : List Name) (o : Option Name) (next : Name → Asks) → is_among labels o ≡ true → ((x : Name) → Contains labels x → AllDo P (next x))
+    → AllDo P (gone_to o next)
+all_do_gone_to P labels None next is h = tt
+all_do_gone_to P labels (Some x) next is h = h x (any_among labels x is)
+
+all_do_told : (P : List Item → State → Type 0) (labels : List Name) (c : Chosen) (next : Name → Asks) → is_label labels c ≡ true → ((x : Name) → Contains labels x → AllDo P (next x)) → AllDo P (gone c next)
+all_do_told P labels c next is h = all_do_gone_to P labels (label_told c) next is h
 
 all_do_among : (P : List Item → State → Type 0) (v : Value) (label : ℕ → Name) (labels : List Name) (next : Name → Asks) → P (Wrong ∷ []) Over → ((n : ℕ) → Contains labels (label n))
     → ((x : Name) → Contains labels x → AllDo P (next x)) → AllDo P (branch v label labels next)
@@ -259,41 +264,44 @@ edge_to m frame ready c x leads named =
       subst (λ (t : Term). Contains (successors_of t) c.name) ready.term_is (subst (Contains (successors_of frame.term)) (sym name) leads),
     )
 
-jump_ready : (m : Module) → CanRun m → (frame : Frame) (world : World) → Ready m [] frame → (to : Name) → Contains (successors_of frame.term) to → AllDo (LeadsReady m) (jump frame [] world to)
-jump_ready m well frame world ready to leads = all_do_jump (LeadsReady m) frame [] world to tt
+jump_ready : (m : Module) → CanRun m → (frame : Frame) (world : World) → Ready m [] frame → (to : Name) → Contains (successors_of frame.term) to → AllDo (LeadsReady m) (jump (scope_of m) frame [] world to)
+jump_ready m well frame world ready to leads = all_do_jump (LeadsReady m) (scope_of m) frame [] world to tt
     (λ b named.
     let edge = edge_to m frame ready b to leads named in
     let taken = ready.taken ++ names_in (registers_of ready.block) in
     let range : IsNarrowFunction frame.function = all_at IsNarrowFunction m.functions frame.function (narrow m well.0.range well.1).functions ready.function in
     let kinds = kinds_of frame.function b range edge.0 in
     let before : Sets frame.registers taken = subst (Sets frame.registers) (at_its_end m frame ready) ready.sets in
-    let registers = with_phis frame.registers frame.block b.phis frame.registers in
+    let registers = with_phis (scope_of m) frame.registers frame.block b.phis frame.registers in
     let after : Sets registers (taken ++ names_in (phi_registers b.phis)) =
-    phis_set frame.registers frame.block b.phis frame.registers taken (all_left HasKind (phi_registers b.phis) (set_by b.body) kinds) before in
-    (block_ready m well frame.function b taken registers ready.function edge.0 (λ path goes. (ready.ahead (b ∷ path) (edge.0, edge.1, goes)).2) after, refl))
+    phis_set (scope_of m) frame.registers frame.block b.phis frame.registers taken (all_left HasKind (phi_registers b.phis) (set_by b.body) kinds) before in
+    (block_ready m well frame.function b taken registers frame.own ready.function edge.0 (λ path goes. (ready.ahead (b ∷ path) (edge.0, edge.1, goes)).2) after, refl))
 
-term_ready : (m : Module) → CanRun m → (t : Term) (frame : Frame) (world : World) → frame.term ≡ t → Ready m [] frame → AllDo (LeadsReady m) (term_step t frame [] world)
-term_ready m well (Ret o) frame world is ready = all_do_show (LeadsReady m) (kind_of o.ty) (operand_value (read frame.registers) o) world _ _ tt (λ s after. tt)
+term_ready : (m : Module) → CanRun m → (t : Term) (frame : Frame) (world : World) → frame.term ≡ t → Ready m [] frame → AllDo (LeadsReady m) (term_step (scope_of m) t frame [] world)
+term_ready m well (Ret o) frame world is ready =
+    all_do_show (LeadsReady m) (kind_of o.ty) (operand_value (scope_of m) (read frame.registers) o) (without_own frame.own world) _ _ tt (λ s after. tt)
 term_ready m well RetVoid frame world is ready = tt
 term_ready m well (Br label) frame world is ready =
     jump_ready m well frame world ready label (subst (λ (t : Term). Contains (successors_of t) label) (sym is) (here label []))
 term_ready m well (CondBr c) frame world is ready =
-    all_do_among (LeadsReady m) (operand_value (read frame.registers) c.condition) (side_of c.on_true c.on_false) (successors_of (CondBr c)) (jump frame [] world) tt (side_among c.on_true c.on_false)
-    (λ x there. jump_ready m well frame world ready x (subst (λ (t : Term). Contains (successors_of t) x) (sym is) there))
+    all_do_among (LeadsReady m) (operand_value (scope_of m) (read frame.registers) c.condition) (side_of c.on_true c.on_false) (successors_of (CondBr c)) (jump (scope_of m) frame [] world) tt
+    (side_among c.on_true c.on_false) (λ x there. jump_ready m well frame world ready x (subst (λ (t : Term). Contains (successors_of t) x) (sym is) there))
 term_ready m well (Switch s) frame world is ready =
-    all_do_among (LeadsReady m) (operand_value (read frame.registers) s.value) (case_of s.value.ty s.default s.cases) (successors_of (Switch s)) (jump frame [] world) tt (case_among s.value.ty s.default s.cases)
-    (λ x there. jump_ready m well frame world ready x (subst (λ (t : Term). Contains (successors_of t) x) (sym is) there))
+    all_do_among (LeadsReady m) (operand_value (scope_of m) (read frame.registers) s.value) (case_of s.value.ty s.default s.cases) (successors_of (Switch s)) (jump (scope_of m) frame [] world) tt
+    (case_among s.value.ty s.default s.cases) (λ x there. jump_ready m well frame world ready x (subst (λ (t : Term). Contains (successors_of t) x) (sym is) there))
 term_ready m well Unreachable frame world is ready = tt
 
-frame_ready : (m : Module) → CanRun m → (lines : List Instr) (frame : Frame) (world : World) → Ready m lines frame → AllDo (LeadsReady m) (frame_step lines frame [] world)
+frame_ready : (m : Module) → CanRun m → (lines : List Instr) (frame : Frame) (world : World) → Ready m lines frame → AllDo (LeadsReady m) (frame_step (scope_of m) lines frame [] world)
 frame_ready m well (line.Calm l ∷ left) frame world ready =
-    all_do_set_to (LeadsReady m) (kind_of (type_of l.right)) l.name (outcome (read frame.registers) l.right) (record frame { lines = left }) [] world (λ v e. (line_ready m l left frame v ready, refl)) tt
+    all_do_set_to (LeadsReady m) (kind_of (type_of l.right)) l.name (outcome (scope_of m) (read frame.registers) world.memory l.right) (record frame { lines = left }) [] world
+    (λ v e. (line_ready m l left frame v ready, refl)) tt
 frame_ready m well (i ∷ left) frame world ready = tt
 frame_ready m well [] frame world ready = term_ready m well frame.term frame world refl ready
 
 step_ready : (m : Module) → CanRun m → (s : State) → StateReady m s → AllDo (LeadsReady m) (asks m s)
 step_ready m well (Running frame rest world) ready =
-    subst (λ (ps : List Pending). AllDo (LeadsReady m) (frame_step frame.lines frame ps world)) (sym ready.1) (frame_ready m well frame.lines frame world ready.0)
+    subst (λ (ps : List Pending). AllDo (LeadsReady m) (frame_step (scope_of m) frame.lines frame ps world)) (sym ready.1) (frame_ready m well frame.lines frame world ready.0)
+step_ready m well (Waiting p rest world) ready = absurd ready
 step_ready m well Over ready = tt
 
 run_ready : (m : Module) → CanRun m → (n : ℕ) (s : State) (items : List Item) (t : State) → StateReady m s → Leads m n s items t → StateReady m t
@@ -303,29 +311,31 @@ run_ready m well (suc n) s items t ready leads =
 
 -- ---- the start
 
-param_kind : (k : Option Kind) (a : Shown) → fits_kind k a ≡ true → (own : Kind) × (k ≡ Some own)
-param_kind (Some own) a fits = (own, refl)
-param_kind None a fits = absurd (cc)
-
 abbrev param_names : List Param → List Name
 param_names ps = names_in (map (λ (p : Param). (p.name, p.ty)) ps)
 
-enter_first : (p : Param) (ps : List Param) (a : Shown) (args : List Shown) (registers after : Registers) (names : List Name) (b : Bool) → fits_kind (kind_of p.ty) a ≡ b → Sets registers names
-    → ((next : Registers) → entered ps args next ≡ Some after → Sets next (names ++ p.name ∷ []) → Sets after ((names ++ p.name ∷ []) ++ param_names ps))
-    → cond b (entered ps args (set registers p.name (kind_of p.ty) (shown_value a))) None ≡ Some after → Sets after (names ++ p.name ∷ param_names ps)
-enter_first p ps a args registers after names true fits sets more is =
-    subst (Sets after) (append_assoc names (p.name ∷ []) (param_names ps))
-    (more (set registers p.name (kind_of p.ty) (shown_value a)) is (sets_more registers names p.name p.ty (shown_value a) (param_kind (kind_of p.ty) a fits) sets))
-enter_first p ps a args registers after names false fits sets more is = absurd (cc)
+module _ (world : World) where
+  param_kind : (k : Option Kind) (a : Shown) → fits_kind k world a ≡ true → (own : Kind) × (k ≡ Some own)
+  param_kind (Some own) a fits = (own, refl)
+  param_kind None a fits = absurd (cc)
 
-entered_sets : (ps : List Param) (args : List Shown) (registers after : Registers) (names : List Name) → entered ps args registers ≡ Some after → Sets registers names → Sets after (names ++ param_names ps)
-entered_sets [] [] registers after names is sets =
-    let same : registers ≡ after = cc in
-    subst (Sets after) (sym (append-nil names)) (subst (λ (r : Registers). Sets r names) same sets)
-entered_sets [] (a ∷ args) registers after names is sets = absurd (cc)
-entered_sets (p ∷ ps) [] registers after names is sets = absurd (cc)
-entered_sets (p ∷ ps) (a ∷ args) registers after names is sets =
-    enter_first p ps a args registers after names (fits_kind (kind_of p.ty) a) refl sets (λ next left known. entered_sets ps args next after (names ++ p.name ∷ []) left known) is
+  enter_first : (p : Param) (ps : List Param) (a : Shown) (args : List Shown) (registers after : Registers) (names : List Name) (b : Bool) → fits_kind (kind_of p.ty) world a ≡ b → Sets registers names
+      → ((next : Registers) → entered world ps args next ≡ Some after → Sets next (names ++ p.name ∷ []) → Sets after ((names ++ p.name ∷ []) ++ param_names ps))
+      → cond b (entered world ps args (set registers p.name (kind_of p.ty) (resolve world a))) None ≡ Some after → Sets after (names ++ p.name ∷ param_names ps)
+  enter_first p ps a args registers after names true fits sets more is =
+      subst (Sets after) (append_assoc names (p.name ∷ []) (param_names ps))
+      (more (set registers p.name (kind_of p.ty) (resolve world a)) is (sets_more registers names p.name p.ty (resolve world a) (param_kind (kind_of p.ty) a fits) sets))
+  enter_first p ps a args registers after names false fits sets more is = absurd (cc)
+
+  entered_sets : (ps : List Param) (args : List Shown) (registers after : Registers) (names : List Name) → entered world ps args registers ≡ Some after → Sets registers names
+      → Sets after (names ++ param_names ps)
+  entered_sets [] [] registers after names is sets =
+      let same : registers ≡ after = cc in
+      subst (Sets after) (sym (append-nil names)) (subst (λ (r : Registers). Sets r names) same sets)
+  entered_sets [] (a ∷ args) registers after names is sets = absurd (cc)
+  entered_sets (p ∷ ps) [] registers after names is sets = absurd (cc)
+  entered_sets (p ∷ ps) (a ∷ args) registers after names is sets =
+      enter_first p ps a args registers after names (fits_kind (kind_of p.ty) world a) refl sets (λ next left known. entered_sets ps args next after (names ++ p.name ∷ []) left known) is
 
 no_names : (x : Name) → Contains [] x → IsSome (no_registers x)
 no_names x there = absurd (omega (arith, there.1))
@@ -342,9 +352,9 @@ no_phis f b (p ∷ ps) none fit =
     lost [] some e = absurd (omega (arith, some))
     lost (x ∷ es) some e = absurd (omega (arith, e))
 
-first_ready : (m : Module) → CanRun m → (f : Function) (b : Block) (bs : List Block) (args : List Shown) (registers : Registers) → Contains m.functions f → f.blocks ≡ b ∷ bs
-    → entered f.params args no_registers ≡ Some registers → StateReady m (Running (at_block f b registers) [] no_world)
-first_ready m well f b bs args registers inside are enters =
+first_ready : (m : Module) → CanRun m → (world : World) (f : Function) (b : Block) (bs : List Block) (args : List Shown) (registers : Registers) → Contains m.functions f → f.blocks ≡ b ∷ bs
+    → entered world f.params args no_registers ≡ Some registers → StateReady m (Running (at_block f b registers []) [] world)
+first_ready m well world f b bs args registers inside are enters =
     let shape : HasFunctionShape m f = all_at (HasFunctionShape m) m.functions f well.0.shape.functions inside in
     let defined : IsFunctionDefined f = all_at IsFunctionDefined m.functions f well.0.defined inside in
     let is_first : b ≡ shape.first = let both : b ∷ bs ≡ shape.first ∷ shape.further = sym are ∙ shape.blocks in cc in
@@ -352,24 +362,26 @@ first_ready m well f b bs args registers inside are enters =
     let none : edges_into f b.name ≡ [] = subst (λ (c : Block). edges_into f c.name ≡ []) (sym is_first) shape.not_entered in
     let fits : HasBlockShape m f b = all_at (HasBlockShape m f) f.blocks b shape.each there in
     let phis : b.phis ≡ [] = no_phis f b b.phis none fits.phis in
-    let params : Sets registers (names_in (params_of f)) = entered_sets f.params args no_registers registers [] enters no_names in
+    let params : Sets registers (names_in (params_of f)) = entered_sets world f.params args no_registers registers [] enters no_names in
     let sets : Sets registers (names_in (params_of f) ++ names_in (phi_registers b.phis)) =
     subst (λ (ps : List Phi). Sets registers (names_in (params_of f) ++ names_in (phi_registers ps))) (sym phis) (subst (Sets registers) (sym (append-nil (names_in (params_of f)))) params) in
-    (block_ready m well f b (names_in (params_of f)) registers inside there (λ path goes. defined b bs path are goes) sets, refl)
+    (block_ready m well f b (names_in (params_of f)) registers [] inside there (λ path goes. defined b bs path are goes) sets, refl)
 
-entry_ready : (m : Module) → CanRun m → (f : Function) (blocks : List Block) (args : List Shown) (entering : Option Registers) (s : State) → Contains m.functions f → f.blocks ≡ blocks
-    → entered f.params args no_registers ≡ entering → at_entry f blocks entering ≡ Some s → StateReady m s
-entry_ready m well f [] args entering s inside are enters is = absurd (cc)
-entry_ready m well f (b ∷ bs) args None s inside are enters is = absurd (cc)
-entry_ready m well f (b ∷ bs) args (Some registers) s inside are enters is = ready_so (Running (at_block f b registers) [] no_world) s (cc) (first_ready m well f b bs args registers inside are enters)
+entry_ready : (m : Module) → CanRun m → (world : World) (f : Function) (blocks : List Block) (args : List Shown) (entering : Option Registers) (s : State) → Contains m.functions f → f.blocks ≡ blocks
+    → entered world f.params args no_registers ≡ entering → at_entry world f blocks entering ≡ Some s → StateReady m s
+entry_ready m well world f [] args entering s inside are enters is = absurd (cc)
+entry_ready m well world f (b ∷ bs) args None s inside are enters is = absurd (cc)
+entry_ready m well world f (b ∷ bs) args (Some registers) s inside are enters is =
+    ready_so (Running (at_block f b registers []) [] world) s (cc) (first_ready m well world f b bs args registers inside are enters)
   where
     ready_so : (r s : State) → r ≡ s → StateReady m r → StateReady m s
     ready_so r s e h = subst (StateReady m) e h
 
-start_ready : (m : Module) → CanRun m → (x : Name) (input : Input) (s : State) (o : Option Function) → function_named x m.functions ≡ o → option_and_then (λ f. started f input) o ≡ Some s → StateReady m s
-start_ready m well x input s None named is = absurd (cc)
-start_ready m well x input s (Some f) named is =
-    entry_ready m well f f.blocks input.args (entered f.params input.args no_registers) s (found_inside (λ (f : Function). same_name f.name x) m.functions f named) refl refl is
+start_ready : (m : Module) → CanRun m → (world : World) (x : Name) (input : Input) (s : State) (o : Option Function) → function_named x m.functions ≡ o
+    → option_and_then (λ f. started world f input) o ≡ Some s → StateReady m s
+start_ready m well world x input s None named is = absurd (cc)
+start_ready m well world x input s (Some f) named is =
+    entry_ready m well world f f.blocks input.args (entered world f.params input.args no_registers) s (found_inside (λ (f : Function). same_name f.name x) m.functions f named) refl refl is
 
 -- ---- what is read there
 
@@ -409,10 +421,11 @@ frame_reads m [] frame ready =
 
 state_reads : (m : Module) (s : State) → StateReady m s → ReadsSet s
 state_reads m (Running frame rest world) ready = frame_reads m frame.lines frame ready.0
+state_reads m (Waiting p rest world) ready = tt
 state_reads m Over ready = tt
 
 pub reads_are_set : ReadsAreSet
 reads_are_set m s well integers reached =
     state_reads m s
     (run_ready m (well, integers) reached.steps reached.first reached.items s
-    (start_ready m (well, integers) reached.entry reached.input reached.first (function_named reached.entry m.functions) refl reached.starts) reached.leads)
+    (start_ready m (well, integers) no_world reached.entry reached.input reached.first (function_named reached.entry m.functions) refl reached.starts) reached.leads)

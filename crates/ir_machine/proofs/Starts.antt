@@ -8,12 +8,12 @@ use Rattle.ir_core.specs.declared.functions.Block.{Block}
 use Rattle.ir_core.specs.declared.functions.Function.{Function}
 use Rattle.ir_core.specs.declared.modules.Module.{Module}
 use Rattle.ir_types.specs.Same.{same_name}
-use Rattle.ir_machine.specs.declared.items.Shown.{Shown}
+use Rattle.block_memory.specs.declared.items.Shown.{Shown}
 use Rattle.ir_machine.specs.declared.items.Input.{Input}
 use Rattle.ir_core.specs.Types.{kind_of}
 use Rattle.ir_machine.specs.Registers.{Registers, no_registers, set}
-use Rattle.ir_machine.specs.State.{Over}
-use Rattle.ir_machine.specs.Machine.{function_named, fits_kind, shown_value, entered, at_entry, started, start}
+use Rattle.ir_machine.specs.State.{World, no_world, Over}
+use Rattle.ir_machine.specs.Machine.{function_named, fits_kind, resolve, entered, at_entry, started, start}
 use Rattle.ir_machine.specs.Places.{state_at, in_function, in_block}
 use Rattle.ir_machine.proofs.Standing.{drop_at}
 
@@ -36,59 +36,60 @@ nothing_either_way : {A : Type 0} (b : Bool) (o : Option A) → o ≡ None → c
 nothing_either_way true o e = e
 nothing_either_way false o e = refl
 
-pub entered_not : (ps : List Param) (args : List Shown) (registers : Registers) → length ps ≢ length args → entered ps args registers ≡ None
-entered_not [] [] registers h = absurd (h refl)
-entered_not [] (a ∷ args) registers h = refl
-entered_not (p ∷ ps) [] registers h = refl
-entered_not (p ∷ ps) (a ∷ args) registers h = nothing_either_way (fits_kind (kind_of p.ty) a) (entered ps args (set registers p.name (kind_of p.ty) (shown_value a)))
-    (entered_not ps args (set registers p.name (kind_of p.ty) (shown_value a)) (λ e. h (ap (λ (n : ℕ). suc n) e)))
+pub entered_not : (world : World) (ps : List Param) (args : List Shown) (registers : Registers) → length ps ≢ length args → entered world ps args registers ≡ None
+entered_not world [] [] registers h = absurd (h refl)
+entered_not world [] (a ∷ args) registers h = refl
+entered_not world (p ∷ ps) [] registers h = refl
+entered_not world (p ∷ ps) (a ∷ args) registers h =
+    nothing_either_way (fits_kind (kind_of p.ty) world a) (entered world ps args (set registers p.name (kind_of p.ty) (resolve world a)))
+    (entered_not world ps args (set registers p.name (kind_of p.ty) (resolve world a)) (λ e. h (ap (λ (n : ℕ). suc n) e)))
 
-pub entered_next : (ps : List Param) (args : List Shown) (i : ℕ) (p : Param) (a : Shown) (registers : Registers) → i < length ps → p ≡ get_or ps i p
-    → i < length args → a ≡ get_or args i a → fits_kind (kind_of p.ty) a ≡ true
-    → entered (drop i ps) (drop i args) registers ≡ entered (drop (i + 1) ps) (drop (i + 1) args) (set registers p.name (kind_of p.ty) (shown_value a))
-entered_next ps args i p a registers wp ip wa ia fits = rw (drop_at ps i p wp ip, drop_at args i a wa ia, fits) refl
+pub entered_next : (world : World) (ps : List Param) (args : List Shown) (i : ℕ) (p : Param) (a : Shown) (registers : Registers) → i < length ps → p ≡ get_or ps i p
+    → i < length args → a ≡ get_or args i a → fits_kind (kind_of p.ty) world a ≡ true
+    → entered world (drop i ps) (drop i args) registers ≡ entered world (drop (i + 1) ps) (drop (i + 1) args) (set registers p.name (kind_of p.ty) (resolve world a))
+entered_next world ps args i p a registers wp ip wa ia fits = rw (drop_at ps i p wp ip, drop_at args i a wa ia, fits) refl
 
-pub entered_misfit : (ps : List Param) (args : List Shown) (i : ℕ) (p : Param) (a : Shown) (registers : Registers) → i < length ps → p ≡ get_or ps i p
-    → i < length args → a ≡ get_or args i a → fits_kind (kind_of p.ty) a ≡ false
-    → entered (drop i ps) (drop i args) registers ≡ None
-entered_misfit ps args i p a registers wp ip wa ia misfit = rw (drop_at ps i p wp ip, drop_at args i a wa ia, misfit) refl
+pub entered_misfit : (world : World) (ps : List Param) (args : List Shown) (i : ℕ) (p : Param) (a : Shown) (registers : Registers) → i < length ps → p ≡ get_or ps i p
+    → i < length args → a ≡ get_or args i a → fits_kind (kind_of p.ty) world a ≡ false
+    → entered world (drop i ps) (drop i args) registers ≡ None
+entered_misfit world ps args i p a registers wp ip wa ia misfit = rw (drop_at ps i p wp ip, drop_at args i a wa ia, misfit) refl
 
 -- a run starts at the first line of the first block
 pub starts_at : (m : Module) (x : Name) (input : Input) (f : Function) (i : ℕ) (registers : Registers) → function_named x m.functions ≡ Some f → slice_get m.functions i ≡ Some f
-    → f.blocks ≢ [] → entered f.params input.args no_registers ≡ Some registers
-    → start m x input ≡ Some (state_at m (Some (record { function = i; block = 0; line = 0 })) registers)
+    → f.blocks ≢ [] → entered no_world f.params input.args no_registers ≡ Some registers
+    → start m x input ≡ Some (state_at m (Some (record { function = i; block = 0; line = 0 })) registers no_world)
 starts_at m x input f i registers named at blocks fits =
-    ap (λ (o : Option Function). option_and_then (λ g. started g input) o) named ∙ ap (λ (o : Option Registers). at_entry f f.blocks o) fits
-    ∙ first_block f.blocks blocks refl ∙ ap (λ (o : Option Function). Some (in_function o 0 0 registers)) (sym at)
+    ap (λ (o : Option Function). option_and_then (λ g. started no_world g input) o) named ∙ ap (λ (o : Option Registers). at_entry no_world f f.blocks o) fits
+    ∙ first_block f.blocks blocks refl ∙ ap (λ (o : Option Function). Some (in_function o 0 0 registers no_world)) (sym at)
   where
-    first_block : (bs : List Block) → bs ≢ [] → f.blocks ≡ bs → at_entry f f.blocks (Some registers) ≡ Some (in_block f (slice_get f.blocks 0) 0 registers)
+    first_block : (bs : List Block) → bs ≢ [] → f.blocks ≡ bs → at_entry no_world f f.blocks (Some registers) ≡ Some (in_block f (slice_get f.blocks 0) 0 registers no_world)
     first_block [] some e = absurd (some refl)
     first_block (b ∷ bs) some e = rw e refl
 
-pub starts_not : (m : Module) (x : Name) (input : Input) (f : Function) → function_named x m.functions ≡ Some f → f.blocks ≢ [] → entered f.params input.args no_registers ≡ None
+pub starts_not : (m : Module) (x : Name) (input : Input) (f : Function) → function_named x m.functions ≡ Some f → f.blocks ≢ [] → entered no_world f.params input.args no_registers ≡ None
     → start m x input ≡ None
 starts_not m x input f named blocks misfit =
-    ap (λ (o : Option Function). option_and_then (λ g. started g input) o) named ∙ ap (λ (o : Option Registers). at_entry f f.blocks o) misfit ∙ no_entry f.blocks
+    ap (λ (o : Option Function). option_and_then (λ g. started no_world g input) o) named ∙ ap (λ (o : Option Registers). at_entry no_world f f.blocks o) misfit ∙ no_entry f.blocks
   where
-    no_entry : (bs : List Block) → at_entry f bs None ≡ None
+    no_entry : (bs : List Block) → at_entry no_world f bs None ≡ None
     no_entry [] = refl
     no_entry (b ∷ bs) = refl
 
-running_in : (f : Function) (bs : List Block) (registers : Registers) → f.blocks ≡ bs → bs ≢ [] → in_block f (slice_get bs 0) 0 registers ≢ Over
-running_in f [] registers same some e = some refl
-running_in f (b ∷ bs) registers same some e = cc
+running_in : (f : Function) (bs : List Block) (registers : Registers) (world : World) → f.blocks ≡ bs → bs ≢ [] → in_block f (slice_get bs 0) 0 registers world ≢ Over
+running_in f [] registers world same some e = some refl
+running_in f (b ∷ bs) registers world same some e = cc
 
-running_from : (o : Option Function) (f : Function) (registers : Registers) → o ≡ Some f → IfSome o (λ g. g.blocks ≢ []) → in_function o 0 0 registers ≢ Over
-running_from None f registers is some e = cc
-running_from (Some g) f registers is some e = running_in g g.blocks registers refl some e
+running_from : (o : Option Function) (f : Function) (registers : Registers) (world : World) → o ≡ Some f → IfSome o (λ g. g.blocks ≢ []) → in_function o 0 0 registers world ≢ Over
+running_from None f registers world is some e = cc
+running_from (Some g) f registers world is some e = running_in g g.blocks registers world refl some e
 
-running_at : (fs : List Function) (x : Name) (i : ℕ) (registers : Registers) → i < length fs → function_named x fs ≡ slice_get fs i
-    → IfSome (function_named x fs) (λ f. f.blocks ≢ []) → in_function (slice_get fs i) 0 0 registers ≢ Over
-running_at [] x i registers within named some e = absurd (omega arith)
-running_at (f ∷ fs) x i registers within named some e =
-    running_from (slice_get (f ∷ fs) i) (get_or (f ∷ fs) i f) registers (slice_get-get_or (f ∷ fs) i f within) (subst (λ (o : Option Function). IfSome o (λ g. g.blocks ≢ [])) named some) e
+running_at : (fs : List Function) (x : Name) (i : ℕ) (registers : Registers) (world : World) → i < length fs → function_named x fs ≡ slice_get fs i
+    → IfSome (function_named x fs) (λ f. f.blocks ≢ []) → in_function (slice_get fs i) 0 0 registers world ≢ Over
+running_at [] x i registers world within named some e = absurd (omega arith)
+running_at (f ∷ fs) x i registers world within named some e =
+    running_from (slice_get (f ∷ fs) i) (get_or (f ∷ fs) i f) registers world (slice_get-get_or (f ∷ fs) i f within) (subst (λ (o : Option Function). IfSome o (λ g. g.blocks ≢ [])) named some) e
 
 -- a run that starts isn't over
-pub starts_running : (m : Module) (x : Name) (i : ℕ) (registers : Registers) → (i < length m.functions) × (function_named x m.functions ≡ slice_get m.functions i)
-    → IfSome (function_named x m.functions) (λ f. f.blocks ≢ []) → state_at m (Some (record { function = i; block = 0; line = 0 })) registers ≢ Over
-starts_running m x i registers h some e = running_at m.functions x i registers h.0 h.1 some e
+pub starts_running : (m : Module) (x : Name) (i : ℕ) (registers : Registers) (world : World) → (i < length m.functions) × (function_named x m.functions ≡ slice_get m.functions i)
+    → IfSome (function_named x m.functions) (λ f. f.blocks ≢ []) → state_at m (Some (record { function = i; block = 0; line = 0 })) registers world ≢ Over
+starts_running m x i registers world h some e = running_at m.functions x i registers world h.0 h.1 some e

@@ -11,14 +11,15 @@ use Rattle.ir_core.specs.declared.functions.Term.{Term}
 use Rattle.ir_core.specs.declared.functions.Term.TheVariants.{Ret, RetVoid, Br, CondBr, Switch, Unreachable}
 use Rattle.ir_core.specs.declared.modules.Module.{Module}
 use Rattle.ir_machine.specs.declared.items.Item.{Item}
-use Rattle.ir_machine.specs.declared.items.Item.TheVariants.{Turn, Returned, Wrong}
+use Rattle.ir_machine.specs.declared.items.Item.TheVariants.{Turn, EnvRead, EnvWrite, EnvNew, Replied, Returned, Wrong}
 use Rattle.ir_core.specs.Types.{kind_of}
 use Rattle.ir_core.specs.Expressions.{type_of}
+use Rattle.ir_values.specs.Constants.{Scope}
 use Rattle.ir_machine.specs.Registers.{read, operand_value, outcome}
-use Rattle.ir_machine.specs.State.{Frame, Pending, World, State, Running, Over}
-use Rattle.ir_machine.specs.Machine.{Made, asks, start, ShowsFrom, frame_step, jump, term_step, return_step, return_void}
+use Rattle.ir_machine.specs.State.{Frame, Pending, World, scope_of, State, Running, Waiting, Over}
+use Rattle.ir_machine.specs.Machine.{Made, asks, start, ShowsFrom, frame_step, jump, term_step, return_step, return_void, without_own}
 use Rattle.ir_machine.specs.Refinement.{WrongIsLast}
-use Rattle.ir_machine.proofs.Trees.{AllDo, all_do_branch, all_do_jump, all_do_made, all_do_show, all_do_set_to}
+use Rattle.ir_machine.proofs.Trees.{AllDo, all_do_act, all_do_branch, all_do_jump, all_do_made, all_do_show, all_do_set_to}
 use Rattle.ir_machine.proofs.Runs.{over_shows}
 
 -- undefined behaviour isn't among the items
@@ -77,25 +78,32 @@ void_ends (p ∷ ps) world = inl (calm_more Turn [] turn_other calm_none)
 at_once : WrongOnlyLast (Wrong ∷ []) Over
 at_once = inr (refl, ends_here)
 
-jump_ends : (frame : Frame) (rest : List Pending) (world : World) (to : Name) → AllDo WrongOnlyLast (jump frame rest world to)
-jump_ends frame rest world to = all_do_jump WrongOnlyLast frame rest world to at_once (λ b named. inl (calm_more Turn [] turn_other calm_none))
+jump_ends : (scope : Scope) (frame : Frame) (rest : List Pending) (world : World) (to : Name) → AllDo WrongOnlyLast (jump scope frame rest world to)
+jump_ends scope frame rest world to = all_do_jump WrongOnlyLast scope frame rest world to at_once (λ b named. inl (calm_more Turn [] turn_other calm_none))
 
-term_ends : (t : Term) (frame : Frame) (rest : List Pending) (world : World) → AllDo WrongOnlyLast (term_step t frame rest world)
-term_ends (Ret o) frame rest world = return_ends (kind_of o.ty) (operand_value (read frame.registers) o) rest world
-term_ends RetVoid frame rest world = void_ends rest world
-term_ends (Br label) frame rest world = jump_ends frame rest world label
-term_ends (CondBr c) frame rest world = all_do_branch WrongOnlyLast (operand_value (read frame.registers) c.condition) _ _ (jump frame rest world) at_once (jump_ends frame rest world)
-term_ends (Switch s) frame rest world = all_do_branch WrongOnlyLast (operand_value (read frame.registers) s.value) _ _ (jump frame rest world) at_once (jump_ends frame rest world)
-term_ends Unreachable frame rest world = at_once
+term_ends : (scope : Scope) (t : Term) (frame : Frame) (rest : List Pending) (world : World) → AllDo WrongOnlyLast (term_step scope t frame rest world)
+term_ends scope (Ret o) frame rest world = return_ends (kind_of o.ty) (operand_value scope (read frame.registers) o) rest (without_own frame.own world)
+term_ends scope RetVoid frame rest world = void_ends rest (without_own frame.own world)
+term_ends scope (Br label) frame rest world = jump_ends scope frame rest world label
+term_ends scope (CondBr c) frame rest world = all_do_branch WrongOnlyLast (operand_value scope (read frame.registers) c.condition) _ _ (jump scope frame rest world) at_once (jump_ends scope frame rest world)
+term_ends scope (Switch s) frame rest world = all_do_branch WrongOnlyLast (operand_value scope (read frame.registers) s.value) _ _ (jump scope frame rest world) at_once (jump_ends scope frame rest world)
+term_ends scope Unreachable frame rest world = at_once
 
-frame_ends : (lines : List Instr) (frame : Frame) (rest : List Pending) (world : World) → AllDo WrongOnlyLast (frame_step lines frame rest world)
-frame_ends (line.Calm b ∷ left) frame rest world = all_do_set_to WrongOnlyLast (kind_of (type_of b.right)) b.name (outcome (read frame.registers) b.right) (record frame { lines = left }) rest world
+frame_ends : (scope : Scope) (lines : List Instr) (frame : Frame) (rest : List Pending) (world : World) → AllDo WrongOnlyLast (frame_step scope lines frame rest world)
+frame_ends scope (line.Calm b ∷ left) frame rest world =
+    all_do_set_to WrongOnlyLast (kind_of (type_of b.right)) b.name (outcome scope (read frame.registers) world.memory b.right) (record frame { lines = left }) rest world
     (λ v e. inl calm_none) (inr (refl, ends_here))
-frame_ends (i ∷ left) frame rest world = at_once
-frame_ends [] frame rest world = term_ends frame.term frame rest world
+frame_ends scope (i ∷ left) frame rest world = at_once
+frame_ends scope [] frame rest world = term_ends scope frame.term frame rest world
 
 pub step_ends : (m : Module) (s : State) → AllDo WrongOnlyLast (asks m s)
-step_ends m (Running frame rest world) = frame_ends frame.lines frame rest world
+step_ends m (Running frame rest world) = frame_ends (scope_of m) frame.lines frame rest world
+step_ends m (Waiting p rest world) = λ c fits. all_do_act WrongOnlyLast p rest world at_once
+    (λ s k v. inl (calm_more (Replied s) [] (λ e. cc) calm_none))
+    (λ x offset s after. inl (calm_more (EnvRead x offset s) [] (λ e. cc) calm_none))
+    (λ x offset s after. inl (calm_more (EnvWrite x offset s) [] (λ e. cc) calm_none))
+    (λ align bytes after. inl (calm_more (EnvNew align bytes) [] (λ e. cc) calm_none))
+    c
 step_ends m Over = tt
 
 run_ends_in : (m : Module) (n : ℕ) (made : Made) (rest before after : List Item) → ((left : List Item) → ShowsFrom m n made.after (left ++ Wrong ∷ after) → after ≡ [])

@@ -1,10 +1,10 @@
 -- How a step is answered by choices that are told one after the other.
-use Rattle.std.specs.Prelude.{◌≡◌, ◌≢◌, ◌↔◌, cond, List, [], ◌∷◌, ◌++◌, Option, None, Some}
+use Rattle.std.specs.Prelude.{◌≡◌, ◌≢◌, ◌↔◌, cond, List, [], ◌∷◌, ◌++◌, map, Option, None, Some}
 use Rattle.ir_core.specs.declared.modules.Module.{Module}
 use Rattle.ir_machine.specs.declared.items.Item.{Item}
-use Rattle.ir_machine.specs.declared.items.Choice.{Choice}
+use Rattle.block_memory.specs.declared.items.Choice.{Choice}
 use Rattle.ir_machine.specs.State.{State, Over}
-use Rattle.ir_machine.specs.Machine.{Asks, Does, Ask, Never, Made, Follows, asks}
+use Rattle.ir_machine.specs.Machine.{Asks, Does, Ask, Never, Told, Follows, asks}
 
 -- the first of the choices is told, where there is one
 abbrev pub TakesNext : Option Choice → List Choice → List Choice → Type 0
@@ -21,7 +21,7 @@ pub data Answer : Type 0 where
 abbrev pub answer : Asks → List Choice → Answer
 answer (Does items after) told = Did items after told
 answer (Ask fits next) [] = Lacks []
-answer (Ask fits next) (c ∷ told) = cond (fits c) (answer (next c) told) (Lacks told)
+answer (Ask fits next) (c ∷ told) = cond (fits (Told c)) (answer (next (Told c)) told) (Lacks told)
 answer Never told = NoStep
 
 -- the choices that are left
@@ -35,11 +35,10 @@ Leaves NoStep left = ⊥
 abbrev pub TakesAsked : Asks → List Choice → List Choice → Type 0
 TakesAsked tree before after = (taken : List Choice) × (before ≡ taken ++ after) × Leaves (answer tree taken) []
 
--- The tree allows a step exactly where that step is its answer to the choices that the step was told, whatever choices come
--- after them.
+-- The tree allows a step to which these choices are told exactly where that step is its answer to them, whatever choices come after.
 abbrev pub AnswersAreSteps : Type 0
-AnswersAreSteps = (tree : Asks) (made : Made) (left : List Choice)
-    → Follows tree made ↔ (answer tree (made.told ++ left) ≡ Did made.items made.after left)
+AnswersAreSteps = (tree : Asks) (told : List Choice) (items : List Item) (after : State) (left : List Choice)
+    → Follows tree (record { told = map Told told; items = items; after = after }) ↔ (answer tree (told ++ left) ≡ Did items after left)
 
 -- what an answer leaves is what is left once choices that the tree asks for are taken
 abbrev pub AnswersTakeAsked : Type 0

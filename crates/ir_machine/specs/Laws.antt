@@ -20,11 +20,13 @@ use Rattle.ir_values.specs.Values.{IsLessDefined}
 use Rattle.ir_values.specs.declared.operations.Outcome.TheVariants.{Gives}
 use Rattle.ir_machine.specs.declared.items.Item.{Item}
 use Rattle.ir_machine.specs.declared.items.Item.TheVariants.{Turn, Returned, Wrong}
-use Rattle.ir_machine.specs.declared.items.Shown.{Shown}
+use Rattle.ir_values.specs.Constants.{Scope}
+use Rattle.block_memory.specs.Memory.{Memory}
+use Rattle.block_memory.specs.declared.items.Shown.{Shown}
 use Rattle.ir_machine.specs.declared.items.Input.{Input}
 use Rattle.ir_core.specs.Types.{kind_of}
-use Rattle.ir_machine.specs.Registers.{constant_value, outcome}
-use Rattle.ir_machine.specs.State.{State}
+use Rattle.ir_machine.specs.Registers.{constant_at, outcome}
+use Rattle.ir_machine.specs.State.{State, no_world}
 use Rattle.ir_machine.specs.Machine.{Made, Follows, asks, ShowsFrom, function_named, fits_kind, start}
 use Rattle.ir_machine.specs.Refinement.{Shows, MayShowFrom, Refines, EndTheRun}
 use Rattle.ir_machine.specs.Examples.{adding, comparing, converting, dividing, number, undef, returning, returning_nothing, selecting, taking, wrapping}
@@ -32,7 +34,7 @@ use Rattle.ir_machine.specs.Examples.{adding, comparing, converting, dividing, n
 -- A module that returns a constant is refined by one that returns another exactly where the first's value is less defined.
 abbrev pub ConstantsRefineByValue : Type 0
 ConstantsRefineByValue = (f b : Name) (c d : Const)
-    → Refines (returning f b (Constant c)) (returning f b (Constant d)) ↔ IsLessDefined (constant_value (Int 32) c) (constant_value (Int 32) d)
+    → Refines (returning f b (Constant c)) (returning f b (Constant d)) ↔ IsLessDefined (constant_at (Int 32) c) (constant_at (Int 32) d)
 
 -- 7 isn't refined by 8
 abbrev pub NumbersAreKept : Type 0
@@ -71,22 +73,22 @@ TrapsAreWrong = (f b y : Name) → AreShownAtOnce (dividing f b y) f (Wrong ∷ 
 abbrev pub VoidReturnsAreShown : Type 0
 VoidReturnsAreShown = (f b : Name) → AreShownAtOnce (returning_nothing f b) f (Turn ∷ Returned None ∷ [])
 
--- What lines of constants give, whatever registers hold. Those whose types no operator takes give poison.
-pub record OutcomesAreThese (reading : Kind → Name → Value) : Type 0 where
-  pub add : outcome reading (adding 255) ≡ Gives (value.Num 0)
-  pub add_no_i8 : outcome reading (adding 256) ≡ Gives value.Poison
-  pub icmp : outcome reading (comparing (ty.Int 8)) ≡ Gives (value.Num 1)
-  pub icmp_void : outcome reading (comparing ty.Void) ≡ Gives value.Poison
-  pub sext : outcome reading (converting SExt (ty.Int 1) (ty.Int 8)) ≡ Gives (value.Num 255)
-  pub zext_same : outcome reading (converting ZExt (ty.Int 8) (ty.Int 8)) ≡ Gives value.Poison
-  pub trunc_wider : outcome reading (converting Trunc (ty.Int 8) (ty.Int 16)) ≡ Gives value.Poison
-  pub bitcast : outcome reading (converting BitCast (ty.Int 8) (ty.Int 8)) ≡ Gives (value.Num 1)
-  pub select : outcome reading (selecting (ty.Int 1) (ty.Int 8)) ≡ Gives (value.Num 7)
-  pub select_by_i8 : outcome reading (selecting (ty.Int 8) (ty.Int 8)) ≡ Gives value.Poison
-  pub select_of_two : outcome reading (selecting (ty.Int 1) (ty.Int 16)) ≡ Gives value.Poison
+-- What lines of constants give, whatever registers and memory hold. Those whose types no operator takes give poison.
+pub record OutcomesAreThese (scope : Scope) (reading : Kind → Name → Value) (memory : Memory) : Type 0 where
+  pub add : outcome scope reading memory (adding 255) ≡ Gives (value.Num 0)
+  pub add_no_i8 : outcome scope reading memory (adding 256) ≡ Gives value.Poison
+  pub icmp : outcome scope reading memory (comparing (ty.Int 8)) ≡ Gives (value.Num 1)
+  pub icmp_void : outcome scope reading memory (comparing ty.Void) ≡ Gives value.Poison
+  pub sext : outcome scope reading memory (converting SExt (ty.Int 1) (ty.Int 8)) ≡ Gives (value.Num 255)
+  pub zext_same : outcome scope reading memory (converting ZExt (ty.Int 8) (ty.Int 8)) ≡ Gives value.Poison
+  pub trunc_wider : outcome scope reading memory (converting Trunc (ty.Int 8) (ty.Int 16)) ≡ Gives value.Poison
+  pub bitcast : outcome scope reading memory (converting BitCast (ty.Int 8) (ty.Int 8)) ≡ Gives (value.Num 1)
+  pub select : outcome scope reading memory (selecting (ty.Int 1) (ty.Int 8)) ≡ Gives (value.Num 7)
+  pub select_by_i8 : outcome scope reading memory (selecting (ty.Int 8) (ty.Int 8)) ≡ Gives value.Poison
+  pub select_of_two : outcome scope reading memory (selecting (ty.Int 1) (ty.Int 16)) ≡ Gives value.Poison
 
 abbrev pub LinesGiveThese : Type 0
-LinesGiveThese = (reading : Kind → Name → Value) → OutcomesAreThese reading
+LinesGiveThese = (scope : Scope) (reading : Kind → Name → Value) (memory : Memory) → OutcomesAreThese scope reading memory
 
 -- a step, and a run from where it leads, make a run
 abbrev pub StepsMakeRuns : Type 0
@@ -106,7 +108,7 @@ RunsAreSteps = (m : Module) (f : Name) (input : Input) (n : ℕ) (items : List I
 -- one number of its kind for each parameter
 abbrev pub Fit : List Param → List Shown → Type 0
 Fit [] [] = Unit {0}
-Fit (p ∷ ps) (a ∷ args) = (fits_kind (kind_of p.ty) a ≡ true) × Fit ps args
+Fit (p ∷ ps) (a ∷ args) = (fits_kind (kind_of p.ty) no_world a ≡ true) × Fit ps args
 Fit [] (a ∷ args) = ⊥
 Fit (p ∷ ps) [] = ⊥
 

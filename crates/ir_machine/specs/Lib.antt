@@ -8,6 +8,7 @@ pub mod Kept
 pub mod Places
 pub mod Examples
 pub mod Laws
+pub mod OutsideLaws
 pub mod Stepping
 pub mod FlowExamples
 pub mod FlowLaws

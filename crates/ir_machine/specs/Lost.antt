@@ -20,7 +20,7 @@ use Rattle.ir_machine.specs.State.{State, Running, no_world}
 
 -- define void @0() { FIRST  OTHERS }, where a run stands at the start of the first block
 abbrev pub standing : Registers → Block → List Block → State
-standing registers first others = Running (at_block (function Void (first ∷ others)) first registers) [] no_world
+standing registers first others = Running (at_block (function Void (first ∷ others)) first registers []) [] no_world
 
 -- i32 %9
 abbrev pub nine : Operand Name

@@ -1,13 +1,15 @@
 -- The machine. A step is one body line, or one terminator with all phis of the block that it enters. It is told as a tree of
 -- choices: from it are read which steps a run may make, and what a step needs to be chosen.
-use Rattle.std.specs.Prelude.{◌≡◌, ◌⊎◌, ℕ, zero, suc, Bool, true, false, cond, nat_eq, List, [], ◌∷◌, ◌++◌, Option, None, Some, find, option_and_then}
-use Rattle.std.specs.List.{list_any}
+use Rattle.std.specs.Prelude.{◌≡◌, ◌⊎◌, ◌-◌, ◌^◌, ℕ, zero, suc, ℤ, pos, negsuc, int_le, int_lt, Bool, true, false, ◌&&◌, not, cond, nat_eq, nat_lt, List, [], ◌∷◌, ◌++◌, length, map, slice_get, Option, None, Some, find}
+use Rattle.std.specs.List.{list_all, list_any}
+use Rattle.std.specs.Option.{is_some, option_and_then}
 use Rattle.ir_types.specs.declared.names.Name.{Name}
 use Rattle.ir_types.specs.declared.ty.Ty.{Ty}
 use Rattle.ir_core.specs.declared.values.Value.{Value}
 use Rattle.ir_core.specs.declared.values.Value.TheVariants as value
+use Rattle.ir_core.specs.declared.values.Byte.{Byte}
+use Rattle.ir_core.specs.declared.values.Byte.TheVariants as byte
 use Rattle.ir_core.specs.declared.values.Kind.{Kind}
-use Rattle.ir_core.specs.declared.values.Kind.TheVariants.{Int, Ptr}
 use Rattle.ir_core.specs.declared.functions.Instr.{Instr}
 use Rattle.ir_core.specs.declared.functions.Instr.TheVariants as line
 use Rattle.ir_core.specs.declared.functions.Term.{Term}
@@ -23,21 +25,28 @@ use Rattle.ir_types.specs.Same.{same_name}
 use Rattle.ir_core.specs.Expressions.{type_of}
 use Rattle.ir_values.specs.declared.operations.Outcome.{Outcome}
 use Rattle.ir_values.specs.declared.operations.Outcome.TheVariants.{Gives, Trap}
+use Rattle.ir_values.specs.Constants.{Scope}
+use Rattle.block_memory.specs.declared.items.Choice.{Choice}
+use Rattle.block_memory.specs.declared.items.Choice.TheVariants as choice
+use Rattle.block_memory.specs.declared.items.Shown.{Shown}
+use Rattle.block_memory.specs.declared.items.Shown.TheVariants as shown
+use Rattle.block_memory.specs.declared.items.ShownByte.{ShownByte}
+use Rattle.block_memory.specs.declared.items.ShownByte.TheVariants as part
+use Rattle.block_memory.specs.Memory.{Cell, Memory, cell_at, ended, updated, with_bytes}
+use Rattle.block_memory.specs.Names.{Names, Showing, chosen, is_unnamed, name_of, picked, resolved, shown_of}
 use Rattle.ir_machine.specs.declared.items.Item.{Item}
-use Rattle.ir_machine.specs.declared.items.Item.TheVariants.{Turn, Returned, Wrong}
-use Rattle.ir_machine.specs.declared.items.Shown.{Shown}
-use Rattle.ir_machine.specs.declared.items.Shown.TheVariants as shown
-use Rattle.ir_machine.specs.declared.items.Choice.{Choice}
-use Rattle.ir_machine.specs.declared.items.Choice.TheVariants.{Go, Pick}
+use Rattle.ir_machine.specs.declared.items.Item.TheVariants.{Turn, EnvRead, EnvWrite, EnvNew, Replied, Returned, Wrong}
 use Rattle.ir_machine.specs.declared.items.Input.{Input}
 use Rattle.ir_core.specs.Functions.{successors_of}
-use Rattle.ir_core.specs.Types.{fits, kind_of, number_at}
+use Rattle.ir_core.specs.Types.{kind_of, number_at}
 use Rattle.ir_machine.specs.Registers.{Registers, no_registers, held_at, holding, read, set, atom_value, operand_value, outcome}
-use Rattle.ir_machine.specs.State.{Frame, Pending, World, no_world, State, Running, Over}
+use Rattle.ir_machine.specs.State.{Frame, Pending, World, no_world, scope_of, State, Running, Waiting, Over}
 
--- what a tree is told where it asks: a choice
-abbrev pub Chosen : Type 0
-Chosen = Choice
+-- What a tree is told where it asks: a choice; or, of an undef byte that the outside reads, that it is this part of a pointer to the next
+-- name, which is bound to this block or to nothing. No choice says that.
+pub data Chosen : Type 0 where
+  Told : Choice → Chosen
+  FreshByte : Option ℕ → ℤ → ℕ → Chosen
 
 -- What a step does: it shows items and leads to a state; or it asks for a choice that fits, and goes on with it; or there is
 -- no step.
@@ -46,49 +55,51 @@ pub data Asks : Type 0 where
   Ask : (Chosen → Bool) → (Chosen → Asks) → Asks
   Never : Asks
 
--- a value of that kind, as the outside sees it; the outside sees no address
-abbrev pub is_shown_of : Kind → Shown → Bool
-is_shown_of (Int width) (shown.Num n) = fits n width
-is_shown_of Ptr (shown.Num n) = false
-
 -- undefined behaviour: it is shown, and the run is over
 abbrev pub wrong : Asks
 wrong = Does (Wrong ∷ []) Over
 
--- undef may be taken for any number of its kind
-abbrev pub is_pick : Kind → Chosen → Bool
-is_pick k (Pick s) = is_shown_of k s
-is_pick k (Go x) = false
+-- ---- showing
 
-abbrev pub picked : Chosen → (Shown → Asks) → Asks
-picked (Pick s) next = next s
-picked (Go x) next = Never
+-- what follows takes what is shown, and the world after it, in which more names may be bound
+abbrev pub shown_as : Option Showing → World → (Shown → World → Asks) → Asks
+shown_as None world next = Never
+shown_as (Some showing) world next = next showing.0 (record world { names = showing.1 })
 
--- undef is shown as what is picked; undef of no kind as poison is, and undef of the kind of addresses too, which the outside doesn't see
+-- what undef of a kind is shown as by what is chosen, if it fits
+abbrev pub chosen_by : Kind → World → Chosen → Option Showing
+chosen_by k world (Told c) = chosen k world.memory world.names c
+chosen_by k world (FreshByte bound offset place) = None
+
+-- undef is shown as whatever of its kind is chosen
 abbrev pub show_undef : Option Kind → World → Asks → (Shown → World → Asks) → Asks
 show_undef None world poison next = poison
-show_undef (Some (Int width)) world poison next = Ask (is_pick (Int width)) (λ c. picked c (λ s. next s world))
-show_undef (Some Ptr) world poison next = poison
+show_undef (Some k) world poison next = Ask (λ c. is_some (chosen_by k world c)) (λ c. shown_as (chosen_by k world c) world next)
 
--- A value is shown to the outside: a number as itself, and what is no number as undef. Showing poison is undefined behaviour. What
--- follows takes what is shown, and the world after it.
+-- A value is shown to the outside: a number and an address of no block as what they are, an address in a block by a name. Showing poison is
+-- undefined behaviour.
 abbrev pub show : Option Kind → Value → World → Asks → (Shown → World → Asks) → Asks
 show k value.Poison world poison next = poison
-show k (value.Num n) world poison next = next (shown.Num n) world
 show k value.Undef world poison next = show_undef k world poison next
-show k (value.Ptr block offset) world poison next = show_undef k world poison next
-show k (value.Bare address) world poison next = show_undef k world poison next
+show k (value.Num n) world poison next = shown_as (shown_of world.names (value.Num n)) world next
+show k (value.Ptr block offset) world poison next = shown_as (shown_of world.names (value.Ptr block offset)) world next
+show k (value.Bare address) world poison next = shown_as (shown_of world.names (value.Bare address)) world next
+
+-- ---- lines
 
 -- a line sets its register to its outcome; a trap is undefined behaviour
 abbrev pub set_to : Option Kind → Name → Outcome → Frame → List Pending → World → Asks
 set_to k x (Gives v) frame rest world = Does [] (Running (record frame { registers = set frame.registers x k v }) rest world)
 set_to k x Trap frame rest world = wrong
 
--- The frame stands after the line. An alloca, a store and a call are undefined behaviour until memory and calls are there; no module that
--- `check` reads has one.
-abbrev pub line_step : Instr → Frame → List Pending → World → Asks
-line_step (line.Calm l) frame rest world = set_to (kind_of (type_of l.right)) l.name (outcome (read frame.registers) l.right) frame rest world
-line_step i frame rest world = wrong
+-- The frame stands after the line. An alloca, a store and a call are undefined behaviour until they are there; no module that `check` reads
+-- has one.
+abbrev pub line_step : Scope → Instr → Frame → List Pending → World → Asks
+line_step scope (line.Calm l) frame rest world =
+    set_to (kind_of (type_of l.right)) l.name (outcome scope (read frame.registers) world.memory l.right) frame rest world
+line_step scope i frame rest world = wrong
+
+-- ---- returns
 
 -- a value of a kind as it is read at another: poison where the two differ, or there is none to read it at
 abbrev pub at_kind : Option Kind → Option Kind → Value → Value
@@ -96,13 +107,21 @@ at_kind None k v = value.Poison
 at_kind (Some j) k v = held_at j (holding k v)
 
 -- the register that is named is set, at the call's kind; after a call of no kind it isn't set
-abbrev pub set_into : Registers → Option (Name × Option Kind) → Option Kind → Value → Registers
-set_into registers None k v = registers
-set_into registers (Some x) k v = set registers x.0 x.1 (at_kind x.1 k v)
+abbrev pub set_into : Registers → Option Name → Option Kind → Option Kind → Value → Registers
+set_into registers None own k v = registers
+set_into registers (Some x) own k v = set registers x own (at_kind own k v)
 
 -- a call that waits gets its result
 abbrev pub resumed : Pending → Option Kind → Value → Frame
-resumed p k v = record p.frame { registers = set_into p.frame.registers p.into k v }
+resumed p k v = record p.frame { registers = set_into p.frame.registers p.into p.kind k v }
+
+-- these blocks have ended
+abbrev pub all_ended : List ℕ → Memory → Memory
+all_ended [] memory = memory
+all_ended (b ∷ bs) memory = all_ended bs (updated ended memory b)
+
+abbrev pub without_own : List ℕ → World → World
+without_own own world = record world { memory = all_ended own world.memory }
 
 -- The last frame's value is the result of the run: the turn and then the value, or undefined behaviour for poison.
 abbrev pub return_step : Option Kind → Value → List Pending → World → Asks
@@ -117,8 +136,8 @@ return_void (p ∷ ps) world = Does (Turn ∷ []) (Running (resumed p None value
 -- ---- jumps
 
 -- the start of a block
-abbrev pub at_block : Function → Block → Registers → Frame
-at_block f b registers = record { function = f; block = b.name; lines = b.body; term = b.term; registers = registers }
+abbrev pub at_block : Function → Block → Registers → List ℕ → Frame
+at_block f b registers own = record { function = f; block = b.name; lines = b.body; term = b.term; registers = registers; own = own }
 
 -- the first block of that name
 abbrev pub block_named : Name → List Block → Option Block
@@ -128,38 +147,49 @@ block_named x bs = find (λ b. same_name b.name x) bs
 abbrev pub entry_from : Name → List Entry → Option Entry
 entry_from x es = find (λ e. same_name e.from x) es
 
-abbrev pub entry_value : Registers → Option Kind → Option Entry → Value
-entry_value old k None = value.Poison
-entry_value old k (Some e) = atom_value (read old) k e.value
+abbrev pub entry_value : Scope → Registers → Ty → Option Entry → Value
+entry_value scope old t None = value.Poison
+entry_value scope old t (Some e) = atom_value scope (read old) t e.value
 
 -- What a phi gives on the edge from that block, over the registers before it: poison, where it has no entry for the block. In a
 -- well-formed module it has one.
-abbrev pub phi_value : Registers → Name → Phi → Value
-phi_value old from p = entry_value old (kind_of p.ty) (entry_from from p.entries)
+abbrev pub phi_value : Scope → Registers → Name → Phi → Value
+phi_value scope old from p = entry_value scope old p.ty (entry_from from p.entries)
 
 -- all phis at once: each reads the registers before the edge
-abbrev pub with_phis : Registers → Name → List Phi → Registers → Registers
-with_phis old from [] registers = registers
-with_phis old from (p ∷ ps) registers = with_phis old from ps (set registers p.name (kind_of p.ty) (phi_value old from p))
+abbrev pub with_phis : Scope → Registers → Name → List Phi → Registers → Registers
+with_phis scope old from [] registers = registers
+with_phis scope old from (p ∷ ps) registers = with_phis scope old from ps (set registers p.name (kind_of p.ty) (phi_value scope old from p))
 
 -- The turn is shown, and the run stands at the start of the block, behind its phis. Where there is no block, it is undefined behaviour.
-abbrev pub entering : Frame → List Pending → World → Option Block → Asks
-entering frame rest world (Some b) =
-    Does (Turn ∷ []) (Running (at_block frame.function b (with_phis frame.registers frame.block b.phis frame.registers)) rest world)
-entering frame rest world None = wrong
+abbrev pub entering : Scope → Frame → List Pending → World → Option Block → Asks
+entering scope frame rest world (Some b) =
+    Does (Turn ∷ []) (Running (at_block frame.function b (with_phis scope frame.registers frame.block b.phis frame.registers) frame.own) rest world)
+entering scope frame rest world None = wrong
 
 -- The frame goes on in the block of that name, with its phis set. Where there is no such block, it is undefined behaviour.
-abbrev pub jump : Frame → List Pending → World → Name → Asks
-jump frame rest world to = entering frame rest world (block_named to frame.function.blocks)
+abbrev pub jump : Scope → Frame → List Pending → World → Name → Asks
+jump scope frame rest world to = entering scope frame rest world (block_named to frame.function.blocks)
+
+-- the label that is told
+abbrev pub label_told : Chosen → Option Name
+label_told (Told (choice.Go x)) = Some x
+label_told c = None
 
 -- one of the labels is told
+abbrev pub is_among : List Name → Option Name → Bool
+is_among labels None = false
+is_among labels (Some x) = list_any (same_name x) labels
+
 abbrev pub is_label : List Name → Chosen → Bool
-is_label labels (Go x) = list_any (same_name x) labels
-is_label labels (Pick s) = false
+is_label labels c = is_among labels (label_told c)
+
+abbrev pub gone_to : Option Name → (Name → Asks) → Asks
+gone_to None next = Never
+gone_to (Some x) next = next x
 
 abbrev pub gone : Chosen → (Name → Asks) → Asks
-gone (Go x) next = next x
-gone (Pick s) next = Never
+gone c next = gone_to (label_told c) next
 
 -- A number leads to its label, and undef to whichever of the labels is told; an address counts as undef. A branch on poison is undefined
 -- behaviour.
@@ -179,25 +209,160 @@ abbrev pub case_of : Ty → Name → List Case → ℕ → Name
 case_of t default [] n = default
 case_of t default (c ∷ cs) n = cond (nat_eq (number_at t c.number) n) c.label (case_of t default cs n)
 
-abbrev pub term_step : Term → Frame → List Pending → World → Asks
-term_step (Ret o) frame rest world = return_step (kind_of o.ty) (operand_value (read frame.registers) o) rest world
-term_step RetVoid frame rest world = return_void rest world
-term_step (Br label) frame rest world = jump frame rest world label
-term_step (CondBr c) frame rest world =
-    branch (operand_value (read frame.registers) c.condition) (side_of c.on_true c.on_false) (successors_of (CondBr c)) (jump frame rest world)
-term_step (Switch s) frame rest world =
-    branch (operand_value (read frame.registers) s.value) (case_of s.value.ty s.default s.cases) (successors_of (Switch s)) (jump frame rest world)
-term_step Unreachable frame rest world = wrong
+abbrev pub term_step : Scope → Term → Frame → List Pending → World → Asks
+term_step scope (Ret o) frame rest world =
+    return_step (kind_of o.ty) (operand_value scope (read frame.registers) o) rest (without_own frame.own world)
+term_step scope RetVoid frame rest world = return_void rest (without_own frame.own world)
+term_step scope (Br label) frame rest world = jump scope frame rest world label
+term_step scope (CondBr c) frame rest world =
+    branch (operand_value scope (read frame.registers) c.condition) (side_of c.on_true c.on_false) (successors_of (CondBr c))
+    (jump scope frame rest world)
+term_step scope (Switch s) frame rest world =
+    branch (operand_value scope (read frame.registers) s.value) (case_of s.value.ty s.default s.cases) (successors_of (Switch s))
+    (jump scope frame rest world)
+term_step scope Unreachable frame rest world = wrong
+
+-- ---- the outside, while a call waits
+
+-- a signed number of 64 bits
+abbrev pub is_offset : ℤ → Bool
+is_offset z = int_le (negsuc (2 ^ 63 - 1)) z && int_lt z (pos (2 ^ 63))
+
+-- the offset of an address that the outside gives is one of 64 bits, and so is its address of no block
+abbrev pub is_ranged : Shown → Bool
+is_ranged (shown.Num n) = true
+is_ranged (shown.Name x offset) = is_offset offset
+is_ranged (shown.Bare address) = nat_lt address (2 ^ 64)
+
+-- a value of that kind that the outside may give: a number, an address of no block, or a name that there is
+abbrev pub is_value_of : Kind → World → Shown → Bool
+is_value_of k world s = is_ranged s && is_some (picked k world.names s)
+
+-- the value that it gives: a name bound to nothing is undef
+abbrev pub resolve : World → Shown → Value
+resolve world (shown.Num n) = value.Num n
+resolve world (shown.Name x offset) = resolved world.names x offset
+resolve world (shown.Bare address) = value.Bare address
+
+-- a call is answered by a value of its kind, and by nothing where it has none
+abbrev pub is_reply : Option Kind → World → Option Shown → Bool
+is_reply None world None = true
+is_reply None world (Some s) = false
+is_reply (Some k) world None = false
+is_reply (Some k) world (Some s) = is_value_of k world s
+
+abbrev pub is_byte_of : World → ShownByte → Bool
+is_byte_of world (part.Num n) = nat_lt n 256
+is_byte_of world (part.Frag x offset place) = is_offset offset && nat_lt x (length world.names)
+
+-- the byte that is given: a part of a pointer to a name that is bound to nothing is undef
+abbrev pub part_given : Value → ℕ → Byte
+part_given (value.Ptr block offset) place = byte.Frag block offset place
+part_given v place = byte.Undef
+
+abbrev pub given_byte : World → ShownByte → Byte
+given_byte world (part.Num n) = byte.Num n
+given_byte world (part.Frag x offset place) = part_given (resolved world.names x offset) place
+
+-- a part of a pointer is shown by its block's name, or by the next where it has none
+abbrev pub show_part : Option ℕ → ℕ → ℤ → ℕ → World → (ShownByte → World → Asks) → Asks
+show_part (Some x) block offset place world next = next (part.Frag x offset place) world
+show_part None block offset place world next =
+    next (part.Frag (length world.names) offset place) (record world { names = world.names ++ Some block ∷ [] })
+
+-- the next name may be bound to a block that has none, or to nothing
+abbrev pub may_bind : World → Option ℕ → Bool
+may_bind world None = true
+may_bind world (Some b) = is_unnamed world.memory world.names b
+
+-- what an undef byte may be shown as: any byte, or a part of a pointer to the next name
+abbrev pub is_byte_pick : World → Chosen → Bool
+is_byte_pick world (Told (choice.PickByte s)) = is_byte_of world s
+is_byte_pick world (FreshByte bound offset place) = may_bind world bound
+is_byte_pick world (Told c) = false
+
+abbrev pub picked_byte : Chosen → World → (ShownByte → World → Asks) → Asks
+picked_byte (Told (choice.PickByte s)) world next = next s world
+picked_byte (FreshByte bound offset place) world next =
+    next (part.Frag (length world.names) offset place) (record world { names = world.names ++ bound ∷ [] })
+picked_byte (Told c) world next = Never
+
+-- a byte that the outside reads; reading poison is undefined behaviour
+abbrev pub show_byte : Byte → World → (ShownByte → World → Asks) → Asks
+show_byte byte.Poison world next = wrong
+show_byte (byte.Num n) world next = next (part.Num n) world
+show_byte (byte.Frag block offset place) world next = show_part (name_of world.names block) block offset place world next
+show_byte byte.Undef world next = Ask (is_byte_pick world) (λ c. picked_byte c world next)
+
+abbrev pub block_of : Option (Option ℕ) → Option ℕ
+block_of None = None
+block_of (Some bound) = bound
+
+-- the byte of a live block at an offset
+abbrev pub byte_in : Option Cell → ℤ → Option Byte
+byte_in None offset = None
+byte_in (Some c) (pos o) = cond c.live (slice_get c.bytes o) None
+byte_in (Some c) (negsuc o) = None
+
+-- the byte that the outside reaches by a name and an offset
+abbrev pub byte_reached : World → ℕ → ℤ → Option Byte
+byte_reached world x offset = byte_in (option_and_then (cell_at world.memory) (block_of (slice_get world.names x))) offset
+
+abbrev pub written : Option ℕ → ℤ → Byte → Memory → Memory
+written (Some b) (pos o) new memory = updated (with_bytes o (new ∷ [])) memory b
+written None offset new memory = memory
+written (Some b) (negsuc o) new memory = memory
+
+-- a block that the outside makes, under the next name
+abbrev pub with_named : ℕ → List ShownByte → World → World
+with_named align bytes world = record {
+  memory = world.memory ++ record { align = align; live = true; bytes = map (given_byte world) bytes } ∷ [];
+  names = world.names ++ Some (length world.memory) ∷ [];
+}
+
+-- some name is bound to nothing
+abbrev pub is_loose : Names → Bool
+is_loose names = list_any (λ bound. not (is_some bound)) names
+
+-- What the outside may do: answer the call, read or write a byte of a block that it has a name for, make a block; or, where it was shown an
+-- address that undef was taken for and that leads nowhere, what is undefined behaviour.
+abbrev pub is_act : Pending → World → Chosen → Bool
+is_act p world (Told choice.Wrong) = is_loose world.names
+is_act p world (Told (choice.Reply s)) = is_reply p.kind world s
+is_act p world (Told (choice.Read x offset)) = is_some (byte_reached world x offset)
+is_act p world (Told (choice.Write x offset new)) = is_some (byte_reached world x offset) && is_byte_of world new
+is_act p world (Told (choice.New align bytes)) = list_all (is_byte_of world) bytes
+is_act p world c = false
+
+abbrev pub reply : Option Shown → Pending → List Pending → World → Asks
+reply None p ps world = Does (Replied None ∷ []) (Running (resumed p None value.Poison) ps world)
+reply (Some s) p ps world = Does (Replied (Some s) ∷ []) (Running (resumed p p.kind (resolve world s)) ps world)
+
+abbrev pub read_byte : Option Byte → (Byte → Asks) → Asks
+read_byte None next = Never
+read_byte (Some b) next = next b
+
+abbrev pub act : Chosen → Pending → List Pending → World → Asks
+act (Told (choice.Reply s)) p ps world = reply s p ps world
+act (Told choice.Wrong) p ps world = wrong
+act (Told (choice.Read x offset)) p ps world =
+    read_byte (byte_reached world x offset) (λ b. show_byte b world (λ s after. Does (EnvRead x offset s ∷ []) (Waiting p ps after)))
+act (Told (choice.Write x offset new)) p ps world =
+    Does (EnvWrite x offset new ∷ [])
+    (Waiting p ps (record world { memory = written (block_of (slice_get world.names x)) offset (given_byte world new) world.memory }))
+act (Told (choice.New align bytes)) p ps world = Does (EnvNew align bytes ∷ []) (Waiting p ps (with_named align bytes world))
+act c p ps world = Never
 
 -- ---- steps
 
-abbrev pub frame_step : List Instr → Frame → List Pending → World → Asks
-frame_step (i ∷ left) frame rest world = line_step i (record frame { lines = left }) rest world
-frame_step [] frame rest world = term_step frame.term frame rest world
+abbrev pub frame_step : Scope → List Instr → Frame → List Pending → World → Asks
+frame_step scope (i ∷ left) frame rest world = line_step scope i (record frame { lines = left }) rest world
+frame_step scope [] frame rest world = term_step scope frame.term frame rest world
 
 -- THE step
 abbrev pub asks : Module → State → Asks
-asks m (Running frame rest world) = frame_step frame.lines frame rest world
+asks m (Running frame rest world) = frame_step (scope_of m) frame.lines frame rest world
+asks m (Waiting p ps world) = Ask (is_act p world) (λ c. act c p ps world)
 asks m Over = Never
 
 -- a step that was made: the choices told, the items shown, and the state after it
@@ -223,29 +388,27 @@ ShowsFrom m (suc n) s items = (items ≡ []) ⊎ ((made : Made) × (rest : List 
 abbrev pub function_named : Name → List Function → Option Function
 function_named x fs = find (λ f. same_name f.name x) fs
 
-abbrev pub shown_value : Shown → Value
-shown_value (shown.Num n) = value.Num n
-
-abbrev pub fits_kind : Option Kind → Shown → Bool
-fits_kind None s = false
-fits_kind (Some k) s = is_shown_of k s
-
 -- The registers on entry: each parameter holds its argument. None where the arguments aren't one of its kind for each.
-abbrev pub entered : List Param → List Shown → Registers → Option Registers
-entered [] [] registers = Some registers
-entered (p ∷ ps) (a ∷ args) registers =
-    cond (fits_kind (kind_of p.ty) a) (entered ps args (set registers p.name (kind_of p.ty) (shown_value a))) None
-entered [] (a ∷ args) registers = None
-entered (p ∷ ps) [] registers = None
+abbrev pub fits_kind : Option Kind → World → Shown → Bool
+fits_kind None world s = false
+fits_kind (Some k) world s = is_value_of k world s
 
-abbrev pub at_entry : Function → List Block → Option Registers → Option State
-at_entry f (b ∷ bs) (Some registers) = Some (Running (at_block f b registers) [] no_world)
-at_entry f [] registers = None
-at_entry f (b ∷ bs) None = None
+abbrev pub entered : World → List Param → List Shown → Registers → Option Registers
+entered world [] [] registers = Some registers
+entered world (p ∷ ps) (a ∷ args) registers =
+    cond (fits_kind (kind_of p.ty) world a) (entered world ps args (set registers p.name (kind_of p.ty) (resolve world a))) None
+entered world [] (a ∷ args) registers = None
+entered world (p ∷ ps) [] registers = None
 
-abbrev pub started : Function → Input → Option State
-started f input = at_entry f f.blocks (entered f.params input.args no_registers)
+abbrev pub at_entry : World → Function → List Block → Option Registers → Option State
+at_entry world f (b ∷ bs) (Some registers) = Some (Running (at_block f b registers []) [] world)
+at_entry world f [] registers = None
+at_entry world f (b ∷ bs) None = None
 
--- where a run of that function on that input starts: nowhere without the function, or where the input doesn't fit it
+abbrev pub started : World → Function → Input → Option State
+started world f input = at_entry world f f.blocks (entered world f.params input.args no_registers)
+
+-- Where a run of that function on that input starts: nowhere without the function, or where the input doesn't fit it. There is no memory,
+-- until a run has globals.
 abbrev pub start : Module → Name → Input → Option State
-start m x input = option_and_then (λ f. started f input) (function_named x m.functions)
+start m x input = option_and_then (λ f. started no_world f input) (function_named x m.functions)

@@ -6,31 +6,35 @@ use Rattle.ir_core.specs.declared.modules.Module.{Module}
 use Rattle.ir_machine.specs.declared.items.Item.{Item}
 use Rattle.ir_machine.specs.declared.items.Item.TheVariants as item
 use Rattle.ir_machine.specs.declared.machine.Place.{Place}
+use Rattle.ir_machine.specs.declared.machine.KeptWorld.{KeptWorld}
 use Rattle.ir_machine.specs.declared.machine.RunState.{RunState}
 use Rattle.ir_machine.specs.declared.machine.Progress.{Progress}
 use Rattle.ir_machine.specs.declared.machine.Progress.TheVariants as progress
 use Rattle.ir_machine.specs.declared.registers.RegisterFile.{RegisterFile}
 use Rattle.ir_machine.specs.Registers.{Registers}
-use Rattle.ir_machine.specs.State.{Frame, no_world, State, Running, Over}
+use Rattle.ir_machine.specs.State.{Frame, World, State, Running, Waiting, Over}
 use Rattle.ir_machine.specs.Kept.{kept_registers}
 
-abbrev pub in_block : Function → Option Block → ℕ → Registers → State
-in_block f (Some b) line registers =
-    Running (record { function = f; block = b.name; lines = drop line b.body; term = b.term; registers = registers }) [] no_world
-in_block f None line registers = Over
+-- the frame at that line of the block
+abbrev pub at_line : Function → Block → ℕ → Registers → Frame
+at_line f b line registers = record { function = f; block = b.name; lines = drop line b.body; term = b.term; registers = registers; own = [] }
 
-abbrev pub placed : Function → Option Place → Registers → State
-placed f None registers = Over
-placed f (Some p) registers = in_block f (slice_get f.blocks p.block) p.line registers
+abbrev pub in_block : Function → Option Block → ℕ → Registers → World → State
+in_block f (Some b) line registers world = Running (at_line f b line registers) [] world
+in_block f None line registers world = Over
 
-abbrev pub in_function : Option Function → ℕ → ℕ → Registers → State
-in_function (Some f) block line registers = in_block f (slice_get f.blocks block) line registers
-in_function None block line registers = Over
+abbrev pub placed : Function → Option Place → Registers → World → State
+placed f None registers world = Over
+placed f (Some p) registers world = in_block f (slice_get f.blocks p.block) p.line registers world
+
+abbrev pub in_function : Option Function → ℕ → ℕ → Registers → World → State
+in_function (Some f) block line registers world = in_block f (slice_get f.blocks block) line registers world
+in_function None block line registers world = Over
 
 -- a run that stands nowhere in the module is over
-abbrev pub state_at : Module → Option Place → Registers → State
-state_at m None registers = Over
-state_at m (Some p) registers = in_function (slice_get m.functions p.function) p.block p.line registers
+abbrev pub state_at : Module → Option Place → Registers → World → State
+state_at m None registers world = Over
+state_at m (Some p) registers world = in_function (slice_get m.functions p.function) p.block p.line registers world
 
 abbrev pub next_line : Place → Place
 next_line p = record { function = p.function; block = p.block; line = p.line + 1 }
@@ -38,22 +42,31 @@ next_line p = record { function = p.function; block = p.block; line = p.line + 1
 abbrev pub registers_in : RegisterFile → Registers
 registers_in file = kept_registers file.entries.items
 
+abbrev pub world_in : KeptWorld → World
+world_in kept = record { memory = kept.blocks; names = kept.names }
+
 -- THE state that the code keeps
 abbrev pub state_of : Module → RunState → State
-state_of m kept = state_at m kept.place (registers_in kept.registers)
+state_of m kept = state_at m kept.place (registers_in kept.registers) (world_in kept.world)
 
 -- the same of a run that stands in that function
 abbrev pub state_in : Function → RunState → State
-state_in f kept = placed f kept.place (registers_in kept.registers)
+state_in f kept = placed f kept.place (registers_in kept.registers) (world_in kept.world)
 
 -- the frame before the block's terminator
 abbrev pub at_end : Function → Block → Registers → Frame
-at_end f b registers = record { function = f; block = b.name; lines = []; term = b.term; registers = registers }
+at_end f b registers = record { function = f; block = b.name; lines = []; term = b.term; registers = registers; own = [] }
 
 -- how a run stands that showed these items last and is in this state
 abbrev pub progress_of : List Item → State → Progress
 progress_of items (Running frame rest world) = progress.Goes
+progress_of items (Waiting p rest world) = progress.Goes
 progress_of [] Over = progress.Ended
 progress_of (item.Wrong ∷ items) Over = progress.IsWrong
 progress_of (item.Turn ∷ items) Over = progress_of items Over
 progress_of (item.Returned s ∷ items) Over = progress_of items Over
+progress_of (item.Called x args ∷ items) Over = progress_of items Over
+progress_of (item.EnvRead x offset s ∷ items) Over = progress_of items Over
+progress_of (item.EnvWrite x offset s ∷ items) Over = progress_of items Over
+progress_of (item.EnvNew align bytes ∷ items) Over = progress_of items Over
+progress_of (item.Replied s ∷ items) Over = progress_of items Over

@@ -11,7 +11,7 @@ use Rattle.ir_machine.specs.declared.items.Input.{Input}
 use Rattle.ir_machine.specs.declared.items.Item.{Item}
 use Rattle.ir_machine.specs.Laws.{Leads}
 use Rattle.ir_machine.specs.Machine.{Follows, Made, asks, block_named, entry_from, start}
-use Rattle.ir_machine.specs.State.{Frame, State, Running, Over}
+use Rattle.ir_machine.specs.State.{Frame, State, Running, Waiting, Over}
 
 -- some run of the module comes to the state
 pub record IsReached (m : Module) (s : State) : Type 0 where
@@ -40,6 +40,7 @@ pub record IsFound (frame : Frame) (to : Name) : Type 0 where
 -- wherever the terminator leads
 abbrev pub FindsItsLabels : State → Type 0
 FindsItsLabels (Running frame rest world) = AllByRecursion (IsFound frame) (successors_of frame.term)
+FindsItsLabels (Waiting p rest world) = AllByRecursion (IsFound p.frame) (successors_of p.frame.term)
 FindsItsLabels Over = Unit {0}
 
 -- In each state that a run of a module with shape comes to, labels and the entries of phis are found.

@@ -16,7 +16,7 @@ use Rattle.ir_core.specs.WellFormed.{IsWellFormed}
 use Rattle.ir_machine.specs.Machine.{block_named, entry_from}
 use Rattle.ir_machine.specs.Reached.{IsReached}
 use Rattle.ir_machine.specs.Registers.{Registers}
-use Rattle.ir_machine.specs.State.{Frame, State, Running, Over}
+use Rattle.ir_machine.specs.State.{Frame, State, Running, Waiting, Over}
 
 -- a register is set; a constant needs none
 abbrev pub IsSet : Registers → Atom Name → Type 0
@@ -38,6 +38,7 @@ NextReadsSet [] frame = AreSet frame.registers (operands_at_end frame.term) × A
 
 abbrev pub ReadsSet : State → Type 0
 ReadsSet (Running frame rest world) = NextReadsSet frame.lines frame
+ReadsSet (Waiting p rest world) = Unit {0}
 ReadsSet Over = Unit {0}
 
 -- In each state that a run of a well-formed module over integers alone comes to, the registers are set that its next step reads.

@@ -3,7 +3,7 @@ use Rattle.std.specs.Prelude.{◌≡◌, ◌≢◌, ◌↔◌, ◌⊎◌, ℕ, L
 use Rattle.ir_types.specs.declared.names.Name.{Name}
 use Rattle.ir_core.specs.declared.modules.Module.{Module}
 use Rattle.ir_machine.specs.declared.items.Item.{Item}
-use Rattle.ir_machine.specs.declared.items.Item.TheVariants.{Turn, Returned, Wrong}
+use Rattle.ir_machine.specs.declared.items.Item.TheVariants.{Turn, Called, EnvRead, EnvWrite, EnvNew, Replied, Returned, Wrong}
 use Rattle.ir_machine.specs.declared.items.Input.{Input}
 use Rattle.ir_machine.specs.State.{State, Over}
 use Rattle.ir_machine.specs.Machine.{Made, Follows, asks, start, ShowsFrom}
@@ -44,6 +44,11 @@ NoneIsStuck = (m : Module) (s : State) → s ≢ Over → (made : Made) × Follo
 -- the item is the last of a run that has ended
 abbrev pub IsEnd : Item → Type 0
 IsEnd Turn = ⊥
+IsEnd (Called x args) = ⊥
+IsEnd (EnvRead x offset s) = ⊥
+IsEnd (EnvWrite x offset s) = ⊥
+IsEnd (EnvNew align bytes) = ⊥
+IsEnd (Replied s) = ⊥
 IsEnd (Returned s) = Unit {0}
 IsEnd Wrong = Unit {0}
 

@@ -1,8 +1,8 @@
 -- Registers, and what operands are worth over them.
-use Rattle.std.specs.Prelude.{Bool, ◌&&◌, cond, Option, None, Some}
+use Rattle.std.specs.Prelude.{ℕ, Bool, ◌&&◌, cond, List, length, Option, None, Some}
 use Rattle.ir_types.specs.declared.names.Name.{Name}
 use Rattle.ir_core.specs.declared.values.Value.{Value}
-use Rattle.ir_core.specs.declared.values.Value.TheVariants.{Num, Undef, Poison}
+use Rattle.ir_core.specs.declared.values.Value.TheVariants.{Num, Ptr, Bare, Undef, Poison}
 use Rattle.ir_core.specs.declared.values.Kind.{Kind}
 use Rattle.ir_core.specs.declared.values.Kind.TheVariants as kind
 use Rattle.ir_core.specs.declared.operands.Const.{Const}
@@ -20,13 +20,17 @@ use Rattle.ir_types.specs.Same.{same_name, same_ty}
 use Rattle.ir_core.specs.declared.expressions.Expr.{Expr}
 use Rattle.ir_core.specs.declared.expressions.Expr.TheVariants.{Plain, Binary, Icmp, Cast, Select, Element, Load}
 use Rattle.ir_core.specs.Types.{converts, fits, kind_of}
+use Rattle.ir_types.specs.declared.named.NamedTy.{NamedTy}
+use Rattle.ir_types.specs.Named.{align_of}
 use Rattle.ir_values.specs.declared.operations.Outcome.{Outcome}
 use Rattle.ir_values.specs.declared.operations.Outcome.TheVariants.{Gives}
 use Rattle.ir_values.specs.Values.{IsInKind, same_kind}
 use Rattle.ir_values.specs.Comparisons.{icmp_outcome}
+use Rattle.ir_values.specs.Constants.{Scope}
 use Rattle.ir_values.specs.Conversions.{cast_outcome}
 use Rattle.ir_values.specs.Operations.{binary_outcome}
 use Rattle.ir_values.specs.Selections.{select_outcome}
+use Rattle.block_memory.specs.Memory.{Cell, Memory, cell_at, loaded_of}
 
 -- what a register that is set holds: the kind of the line or parameter that set it, and a value
 pub record Held : Type 0 where
@@ -60,25 +64,42 @@ set registers x k v = λ y. cond (same_name x y) (holding k v) (registers y)
 abbrev pub AreInKind : Registers → Type 0
 AreInKind registers = (x : Name) (k : Kind) → IsInKind k (read registers k x)
 
--- a number that isn't of its type is worth poison, and so is a constant that is none of integers, and each at the kind of addresses
-abbrev pub constant_value : Kind → Const → Value
-constant_value (kind.Int width) (constant.Number n) = cond (fits n width) (Num n) Poison
-constant_value (kind.Int width) constant.Undef = Undef
-constant_value (kind.Int width) c = Poison
-constant_value kind.Ptr c = Poison
+-- ---- constants
 
--- what an atom is worth at a kind, where registers are read by the function given
-abbrev pub atom_at : {R : Type 0} → (Kind → R → Value) → Kind → Atom R → Value
-atom_at reading k (atom.Constant c) = constant_value k c
-atom_at reading k (atom.Register r) = reading k r
+-- What a constant is worth at a kind: a number that isn't of the kind is worth poison, and so is an address of a global, until a run has
+-- globals.
+abbrev pub constant_at : Kind → Const → Value
+constant_at (kind.Int width) (constant.Number n) = cond (fits n width) (Num n) Poison
+constant_at (kind.Int width) constant.Undef = Undef
+constant_at (kind.Int width) c = Poison
+constant_at kind.Ptr constant.Undef = Undef
+constant_at kind.Ptr constant.Null = Bare 0
+constant_at kind.Ptr c = Poison
 
--- what it is worth at a type: poison at a type without values
-abbrev pub atom_value : {R : Type 0} → (Kind → R → Value) → Option Kind → Atom R → Value
-atom_value reading None a = Poison
-atom_value reading (Some k) a = atom_at reading k a
+abbrev pub constant_of : Option Kind → Const → Value
+constant_of None c = Poison
+constant_of (Some k) c = constant_at k c
 
-abbrev pub operand_value : {R : Type 0} → (Kind → R → Value) → Operand R → Value
-operand_value reading o = atom_value reading (kind_of o.ty) o.atom
+-- what it is worth at its stated type, beside the types and globals of the module: poison at a type without values
+abbrev pub constant_value : Scope → Ty → Const → Value
+constant_value scope t c = constant_of (kind_of t) c
+
+-- ---- operands
+
+-- what a register is worth at a kind, where registers are read by the function given: poison without a kind
+abbrev pub register_value : {R : Type 0} → (Kind → R → Value) → Option Kind → R → Value
+register_value reading None r = Poison
+register_value reading (Some k) r = reading k r
+
+-- what an atom is worth at a type
+abbrev pub atom_value : {R : Type 0} → Scope → (Kind → R → Value) → Ty → Atom R → Value
+atom_value scope reading t (atom.Constant c) = constant_value scope t c
+atom_value scope reading t (atom.Register r) = register_value reading (kind_of t) r
+
+abbrev pub operand_value : {R : Type 0} → Scope → (Kind → R → Value) → Operand R → Value
+operand_value scope reading o = atom_value scope reading o.ty o.atom
+
+-- ---- operators
 
 -- the outcome of a binary operator on values of a kind: poison at a type without values
 abbrev pub binary_at : BinOp → Flags → Option Kind → Value → Value → Outcome
@@ -86,10 +107,22 @@ binary_at op flags None a b = Gives Poison
 binary_at op flags (Some (kind.Int width)) a b = binary_outcome op flags width a b
 binary_at op flags (Some kind.Ptr) a b = Gives Poison
 
--- the outcome of a comparison of values of a kind; no register holds an address, so there are no sizes
-abbrev pub icmp_at : Pred → Option Kind → Value → Value → Outcome
-icmp_at pred None a b = Gives Poison
-icmp_at pred (Some k) a b = icmp_outcome pred k a b 0 0
+-- the size of the block that an address is in
+abbrev pub size_in : Option Cell → ℕ
+size_in None = 0
+size_in (Some c) = length c.bytes
+
+abbrev pub size_at : Memory → Value → ℕ
+size_at memory (Ptr block offset) = size_in (cell_at memory block)
+size_at memory (Num n) = 0
+size_at memory (Bare address) = 0
+size_at memory Undef = 0
+size_at memory Poison = 0
+
+-- the outcome of a comparison of values of a kind
+abbrev pub icmp_at : Memory → Pred → Option Kind → Value → Value → Outcome
+icmp_at memory pred None a b = Gives Poison
+icmp_at memory pred (Some k) a b = icmp_outcome pred k a b (size_at memory a) (size_at memory b)
 
 -- the outcome of a conversion from a kind to a kind
 abbrev pub cast_at : CastOp → Option Kind → Option Kind → Value → Outcome
@@ -101,20 +134,24 @@ cast_at op (Some from) (Some to) v = cast_outcome op from to v
 abbrev pub selects : Ty → Ty → Ty → Bool
 selects condition left right = same_ty condition (ty.Int 1) && same_ty left right
 
--- The outcome of an expression: an operand is worth its value, and an operator works on the values of its operands. Where its types are
--- none that the operator takes it gives poison, as do a load and an address until memory is there; no module that `check` reads has such a line.
-abbrev pub outcome : {R : Type 0} → (Kind → R → Value) → Expr R → Outcome
-outcome reading (Plain o) = Gives (operand_value reading o)
-outcome reading (Binary b) =
-    let k = kind_of b.ty in
-    binary_at b.op b.flags k (atom_value reading k b.left) (atom_value reading k b.right)
-outcome reading (Icmp c) =
-    let k = kind_of c.ty in
-    icmp_at c.pred k (atom_value reading k c.left) (atom_value reading k c.right)
-outcome reading (Cast c) =
-    cond (converts c.op c.operand.ty c.to) (cast_at c.op (kind_of c.operand.ty) (kind_of c.to) (operand_value reading c.operand)) (Gives Poison)
-outcome reading (Select s) =
+-- the alignment of an access that states none is its type's
+abbrev pub align_or : List NamedTy → Ty → Option ℕ → ℕ
+align_or types t None = align_of types t
+align_or types t (Some align) = align
+
+-- The outcome of an expression beside the types and globals of a module, in a memory: an operand is worth its value, and an operator works
+-- on the values of its operands. Where its types are none that the operator takes it gives poison, as an address does until a run has
+-- globals; no module that `check` reads has such a line.
+abbrev pub outcome : {R : Type 0} → Scope → (Kind → R → Value) → Memory → Expr R → Outcome
+outcome scope reading memory (Plain o) = Gives (operand_value scope reading o)
+outcome scope reading memory (Binary b) =
+    binary_at b.op b.flags (kind_of b.ty) (atom_value scope reading b.ty b.left) (atom_value scope reading b.ty b.right)
+outcome scope reading memory (Icmp c) =
+    icmp_at memory c.pred (kind_of c.ty) (atom_value scope reading c.ty c.left) (atom_value scope reading c.ty c.right)
+outcome scope reading memory (Cast c) =
+    cond (converts c.op c.operand.ty c.to) (cast_at c.op (kind_of c.operand.ty) (kind_of c.to) (operand_value scope reading c.operand)) (Gives Poison)
+outcome scope reading memory (Select s) =
     cond (selects s.condition.ty s.left.ty s.right.ty)
-    (select_outcome (operand_value reading s.condition) (operand_value reading s.left) (operand_value reading s.right)) (Gives Poison)
-outcome reading (Element e) = Gives Poison
-outcome reading (Load l) = Gives Poison
+    (select_outcome (operand_value scope reading s.condition) (operand_value scope reading s.left) (operand_value scope reading s.right)) (Gives Poison)
+outcome scope reading memory (Element e) = Gives Poison
+outcome scope reading memory (Load l) = loaded_of memory (kind_of l.of) (operand_value scope reading l.pointer) (align_or scope.types l.of l.align)

@@ -9,7 +9,9 @@ use Rattle.ir_core.specs.Expressions.{type_of}
 use Rattle.ir_core.specs.Types.{kind_of}
 use Rattle.ir_values.specs.declared.operations.Outcome.{Outcome}
 use Rattle.ir_values.specs.declared.operations.Outcome.TheVariants.{Trap}
-use Rattle.ir_machine.specs.declared.items.Choice.{Choice}
+use Rattle.ir_values.specs.Constants.{Scope}
+use Rattle.block_memory.specs.Memory.{Memory}
+use Rattle.block_memory.specs.declared.items.Choice.{Choice}
 use Rattle.ir_machine.specs.declared.items.Item.TheVariants.{Turn}
 use Rattle.ir_machine.specs.declared.jumping.Landing.{Landing}
 use Rattle.ir_machine.specs.declared.machine.Place.{Place}
@@ -20,12 +22,12 @@ use Rattle.ir_machine.specs.Choices.{Did, Lacks, answer, TakesAsked}
 use Rattle.ir_machine.specs.Machine.{Asks, Does, wrong}
 use Rattle.ir_machine.specs.Places.{in_block, progress_of, registers_in}
 use Rattle.ir_machine.specs.Registers.{Registers, outcome, read, set}
-use Rattle.ir_machine.specs.State.{State}
+use Rattle.ir_machine.specs.State.{State, World}
 
--- what a line leads to, over the registers before it
-abbrev pub line_outcome : Registers → Instr → Outcome
-line_outcome registers (line.Calm l) = outcome (read registers) l.right
-line_outcome registers i = Trap
+-- what a line leads to, over the registers and in the memory before it
+abbrev pub line_outcome : Scope → Registers → Memory → Instr → Outcome
+line_outcome scope registers memory (line.Calm l) = outcome scope (read registers) memory l.right
+line_outcome scope registers memory i = Trap
 
 -- the registers behind a line that gives this value
 abbrev pub line_set : Registers → Instr → Value → Registers
@@ -45,9 +47,9 @@ TellsLabel (Some x) tree before next after = answer tree before ≡ answer (next
 TellsLabel None tree before next after = answer tree before ≡ Lacks after
 
 -- what a jump does that lands so in the function
-abbrev pub lands : Function → Option Landing → Asks
-lands f (Some l) = Does (Turn ∷ []) (in_block f (slice_get f.blocks l.block) 0 (registers_in l.registers))
-lands f None = wrong
+abbrev pub lands : Function → World → Option Landing → Asks
+lands f world (Some l) = Does (Turn ∷ []) (in_block f (slice_get f.blocks l.block) 0 (registers_in l.registers) world)
+lands f world None = wrong
 
 -- the place, if there is one, is in that function
 abbrev pub StaysIn : Place → Option Place → Type 0

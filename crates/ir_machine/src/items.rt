@@ -1,26 +1,22 @@
+use block_memory::{Shown, ShownByte};
 use contents::Seq;
 use ir_core::Name;
-
-/// A value as the outside sees it: a number.
-#[derive(Drop, Clone, Copy)]
-pub enum Shown {
-    Num(u64),
-}
-
-/// What is chosen at a step that leaves a choice.
-#[derive(Drop)]
-pub enum Choice {
-    /// The block to which a branch or a switch on undef goes.
-    Go(Name),
-    /// What an undef that is shown is taken for.
-    Pick(Shown),
-}
 
 /// What a run shows.
 #[derive(Drop)]
 pub enum Item {
     /// A terminator was executed, a jump or a return. One that is undefined behaviour shows none.
     Turn,
+    /// A function of the outside was called, with these arguments.
+    Called(Name, Seq<Shown>),
+    /// The outside read this byte, of the block of that name at the offset.
+    EnvRead(u64, i64, ShownByte),
+    /// The outside wrote it.
+    EnvWrite(u64, i64, ShownByte),
+    /// The outside made a block of that alignment and these bytes, which has the next name.
+    EnvNew(u64, Seq<ShownByte>),
+    /// The outside answered a call, by a value or by nothing.
+    Replied(Option<Shown>),
     /// The entry function returned this, or nothing where its result is `void`.
     Returned(Option<Shown>),
     /// Undefined behaviour. It is the last item of a run.

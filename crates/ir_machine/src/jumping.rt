@@ -9,15 +9,16 @@ ghost use Rattle.ir_core.specs.declared.values.Value.TheVariants.{Num};
 ghost use Rattle.ir_values.specs.Values.{IsInKindOf};
 ghost use Rattle.ir_machine.specs.Machine as machine;
 ghost use Rattle.ir_machine.specs.Machine.{Asks, Ask};
-ghost use Rattle.ir_machine.specs.State.{no_world};
+ghost use Rattle.ir_machine.specs.State.{World, scope_of};
 ghost use Rattle.ir_machine.specs.Places.{at_end, registers_in};
 ghost use Rattle.ir_machine.specs.Stepping.{TellsLabel, lands};
 
+use crate::Chooser;
 use crate::operands::atom_value;
 use crate::registers::RegisterFile;
-use crate::{Choice, Chooser};
+use block_memory::Choice;
 use ir_core::{
-    Block, Case, CondBr, Function, Name, Phi, Switch, Term, Ty, Value, kind_of, same_name,
+    Block, Case, CondBr, Function, Module, Name, Phi, Switch, Term, Ty, Value, kind_of, same_name,
 };
 use std::alloc::{AllocError, Global};
 
@@ -45,14 +46,14 @@ fn block_at(blocks: &[Block], name: &Name) -> Option<usize>
 
 /// What a phi gives on the edge from that block: poison, where it has no entry for it.
 #[tactic(auto, using(crate::proofs::Landing::entry_here, crate::proofs::Landing::entry_later, crate::proofs::Landing::phi_here, crate::proofs::Landing::phi_nowhere, crate::proofs::Landing::poison_in_kind_of))]
-fn phi_value(old: &RegisterFile, from: &Name, phi: &Phi) -> Value
-    ensures value { result ≡ machine.phi_value (registers_in old.now) from.now phi.now }
+fn phi_value(module: &Module, old: &RegisterFile, from: &Name, phi: &Phi) -> Value
+    ensures value { result ≡ machine.phi_value (scope_of «module».now) (registers_in old.now) from.now phi.now }
     ensures in_kind { IsInKindOf (types.kind_of phi.now.ty) result }
 {
     let entries = phi.entries.as_slice();
     for i in 0..entries.len() {
         if same_name(&entries[i].from, from) {
-            return atom_value(old, kind_of(&phi.ty), &entries[i].value);
+            return atom_value(module, old, &phi.ty, &entries[i].value);
         }
     }
     Value::Poison
@@ -62,16 +63,17 @@ fn phi_value(old: &RegisterFile, from: &Name, phi: &Phi) -> Value
 #[tactic(auto, using(crate::proofs::Landing::next_phi))]
 fn with_phis(
     alloc: Global,
+    module: &Module,
     old: &RegisterFile,
     from: &Name,
     phis: &[Phi],
 ) -> Result<RegisterFile, AllocError>
     ensures { IfOk result (λ after. registers_in after
-        ≡ machine.with_phis (registers_in old.now) from.now phis.now (registers_in old.now)) }
+        ≡ machine.with_phis (scope_of «module».now) (registers_in old.now) from.now phis.now (registers_in old.now)) }
 {
     let mut after = old.copied(alloc)?;
     for i in 0..phis.len() {
-        let value = phi_value(old, from, &phis[i]);
+        let value = phi_value(module, old, from, &phis[i]);
         after.set(alloc, &phis[i].name, kind_of(&phis[i].ty), value)?;
     }
     Ok(after)
@@ -80,21 +82,28 @@ fn with_phis(
 /// Where a jump from the block to that label lands, if there is such a block.
 pub(crate) fn jump(
     alloc: Global,
+    module: &Module,
     function: &Function,
     block: &Block,
     to: &Name,
     registers: &RegisterFile,
 ) -> Result<Option<Landing>, AllocError>
-    ensures lands { IfOk result (λ landing.
-        machine.jump (at_end function.now block.now (registers_in registers.now)) [] no_world to.now
-        ≡ lands function.now landing) }
+    ensures lands { (world : World) → IfOk result (λ landing.
+        machine.jump (scope_of «module».now) (at_end function.now block.now (registers_in registers.now)) [] world to.now
+        ≡ lands function.now world landing) }
     ensures within { IfOk result (λ landing. IfSome landing (λ l. l.block < length function.now.blocks)) }
 {
     let blocks = function.blocks.as_slice();
     let Some(at) = block_at(blocks, to) else {
         return Ok(None);
     };
-    let after = with_phis(alloc, registers, &block.name, blocks[at].phis.as_slice())?;
+    let after = with_phis(
+        alloc,
+        module,
+        registers,
+        &block.name,
+        blocks[at].phis.as_slice(),
+    )?;
     Ok(Some(Landing {
         block: at,
         registers: after,
@@ -190,7 +199,6 @@ pub(crate) fn told_label<C: Chooser>(term: &Term, chooser: &mut C) -> Option<Nam
                 None
             }
         }
-        Some(Choice::Pick(_)) => None,
-        None => None,
+        _ => None,
     }
 }

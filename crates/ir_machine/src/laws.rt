@@ -1,4 +1,5 @@
 ghost use Rattle.ir_machine.specs.Laws.{ConstantsRefineByValue, NumbersAreKept, NumbersStayDefined, UndefIsAnyNumber, PoisonIsNoNumber, WrongIsRefined, ArgumentsAreSeen, TrapsAreWrong, VoidReturnsAreShown, LinesGiveThese, StepsMakeRuns, RunsAreSteps, OneBlockRunsEnd, FirstsAreShown, StartsAreKept, RefinedRunsAreShown};
+ghost use Rattle.ir_machine.specs.OutsideLaws.{ActsAreThese, ReturnsEndTheirBlocks, UndefBytesAreParts};
 ghost use Rattle.ir_machine.specs.Reached.{NothingIsLost, StartsAreReached, StepsAreReached};
 ghost use Rattle.ir_machine.specs.Reads.{ReadsAreSet};
 ghost use Rattle.ir_machine.specs.Lost.{LostJumpsAreTold, UnsetIsTold};
@@ -38,6 +39,16 @@ pub fn ends_are_shown_at_once()
 #[tactic(auto, using(crate::proofs::AtOnce::lines_give_these))]
 pub fn examples_of_outcomes()
     ensures { LinesGiveThese }
+{}
+
+/// Empty on purpose: its contract is the law.
+///
+/// What the outside may do while a call waits, and what it may not, by each choice; and that a return ends the blocks that its frame made.
+#[tactic(auto, using(crate::proofs::Outside::acts_are_these, crate::proofs::Outside::undef_bytes_are_parts, crate::proofs::Outside::returns_end_their_blocks))]
+pub fn examples_of_the_outside()
+    ensures acts { ActsAreThese }
+    ensures parts { UndefBytesAreParts }
+    ensures returns { ReturnsEndTheirBlocks }
 {}
 
 /// Empty on purpose: its contract is the law.

@@ -1,5 +1,6 @@
 use crate::Item;
 use crate::registers::RegisterFile;
+use block_memory::{Blocks, Names};
 use contents::Seq;
 
 /// Where a run stands: function and block of the module, and the line of the block's body, or its terminator
@@ -11,11 +12,19 @@ pub struct Place {
     pub(crate) line: usize,
 }
 
-/// The state of a run of a module: its place, none once it is over, and the registers.
+/// What all frames of a run share: memory, and the names that the outside knows its blocks by.
+#[derive(Drop)]
+pub struct KeptWorld {
+    pub(crate) blocks: Blocks,
+    pub(crate) names: Names,
+}
+
+/// The state of a run of a module: its place, none once it is over, the registers, and the world.
 #[derive(Drop)]
 pub struct RunState {
     pub(crate) place: Option<Place>,
     pub(crate) registers: RegisterFile,
+    pub(crate) world: KeptWorld,
 }
 
 /// How a run stands after a step.

@@ -4,36 +4,26 @@ ghost use Rattle.ir_core.specs.declared.values.Kind.TheVariants.{Int};
 ghost use Rattle.ir_core.specs.Types as types;
 ghost use Rattle.ir_core.specs.Expressions.{type_of};
 ghost use Rattle.ir_machine.specs.Registers as meaning;
-ghost use Rattle.ir_machine.specs.Machine as machine;
+ghost use Rattle.ir_machine.specs.State.{scope_of};
 ghost use Rattle.ir_values.specs.Values.{IsInKindOf};
 ghost use Rattle.ir_values.specs.Operations.{GivesInKind};
 ghost use Rattle.ir_machine.specs.Places.{registers_in};
 
-use crate::Shown;
+use crate::KeptWorld;
 use crate::registers::RegisterFile;
+use block_memory::Blocks;
 use ir_core::{
-    Atom, Binary, Cast, Const, Expr, Icmp, Kind, Name, Operand, Select, Ty, Value, converts, fits,
-    kind_of, same_ty,
+    Atom, Binary, Cast, Const, Expr, Icmp, Kind, Load, Module, Name, Operand, Select, Ty, Value,
+    converts, fits, kind_of, same_ty,
 };
+use ir_types::align_of;
 use ir_values::{Outcome, eval_binary, eval_cast, eval_icmp, eval_select};
 
-pub(crate) fn is_shown_of(kind: &Kind, shown: &Shown) -> bool
-    ensures { result ≡ machine.is_shown_of kind.now shown.now }
+fn constant_at(kind: &Kind, constant: &Const) -> Value
+    ensures { result ≡ meaning.constant_at kind.now constant.now }
 {
-    match (kind, shown) {
-        (Kind::Int(width), Shown::Num(n)) => fits(*n, *width),
-        (Kind::Ptr, Shown::Num(_)) => false,
-    }
-}
-
-fn constant_value(kind: &Kind, constant: &Const) -> Value
-    ensures { result ≡ meaning.constant_value kind.now constant.now }
-{
-    let Kind::Int(width) = kind else {
-        return Value::Poison;
-    };
-    match constant {
-        Const::Number(bits) => {
+    match (kind, constant) {
+        (Kind::Int(width), Const::Number(bits)) => {
             let n = bits.get();
             if fits(n, *width) {
                 Value::Num(n)
@@ -41,28 +31,49 @@ fn constant_value(kind: &Kind, constant: &Const) -> Value
                 Value::Poison
             }
         }
-        Const::Undef => Value::Undef,
-        Const::Null | Const::Global(_) | Const::Element(_) | Const::Cast(_) => Value::Poison,
+        (_, Const::Undef) => Value::Undef,
+        (Kind::Ptr, Const::Null) => Value::Bare(0),
+        _ => Value::Poison,
     }
 }
 
+/// What an atom is worth at the type, beside the module.
 #[tactic(auto, using(crate::proofs::InKind::file_atom_in_kind))]
-pub(crate) fn atom_value(registers: &RegisterFile, kind: Option<Kind>, atom: &Atom<Name>) -> Value
-    ensures value { result ≡ meaning.atom_value (meaning.read (registers_in registers.now)) kind atom.now }
-    ensures in_kind { IsInKindOf kind result }
+pub(crate) fn atom_value(
+    module: &Module,
+    registers: &RegisterFile,
+    ty: &Ty,
+    atom: &Atom<Name>,
+) -> Value
+    ensures value { result ≡ meaning.atom_value (scope_of «module».now) (meaning.read (registers_in registers.now)) ty.now atom.now }
+    ensures in_kind { IsInKindOf (types.kind_of ty.now) result }
 {
-    match (kind, atom) {
+    match (kind_of(ty), atom) {
         (None, _) => Value::Poison,
-        (Some(own), Atom::Constant(constant)) => constant_value(&own, constant),
+        (Some(own), Atom::Constant(constant)) => constant_at(&own, constant),
         (Some(own), Atom::Register(name)) => registers.read(&own, name),
     }
 }
 
-pub(crate) fn operand_value(registers: &RegisterFile, operand: &Operand<Name>) -> Value
-    ensures value { result ≡ meaning.operand_value (meaning.read (registers_in registers.now)) operand.now }
+pub(crate) fn operand_value(
+    module: &Module,
+    registers: &RegisterFile,
+    operand: &Operand<Name>,
+) -> Value
+    ensures value { result ≡ meaning.operand_value (scope_of «module».now) (meaning.read (registers_in registers.now)) operand.now }
     ensures in_kind { IsInKindOf (types.kind_of operand.now.ty) result }
 {
-    atom_value(registers, kind_of(&operand.ty), &operand.atom)
+    atom_value(module, registers, &operand.ty, &operand.atom)
+}
+
+/// The size of the block that an address is in.
+fn size_at(blocks: &Blocks, value: &Value) -> u64
+    ensures { result ≡ meaning.size_at blocks.now value.now }
+{
+    match value {
+        Value::Ptr(block, _) => blocks.size(*block).unwrap_or(0),
+        _ => 0,
+    }
 }
 
 /// What a binary operator leads to on values of a kind.
@@ -80,39 +91,62 @@ fn binary_at(binary: &Binary<Name>, kind: Option<Kind>, left: &Value, right: &Va
 }
 
 #[tactic(auto, using(crate::proofs::InKind::binary_in_kind))]
-fn binary_outcome(registers: &RegisterFile, binary: &Binary<Name>) -> Outcome
-    ensures value { result ≡ meaning.outcome (meaning.read (registers_in registers.now)) (expr.Binary binary.now) }
+fn binary_outcome(
+    module: &Module,
+    registers: &RegisterFile,
+    world: &KeptWorld,
+    binary: &Binary<Name>,
+) -> Outcome
+    ensures value { result ≡ meaning.outcome (scope_of «module».now) (meaning.read (registers_in registers.now)) world.now.blocks (expr.Binary binary.now) }
     ensures in_kind { GivesInKind (types.kind_of binary.now.ty) result }
 {
     let kind = kind_of(&binary.ty);
-    let left = atom_value(registers, kind, &binary.left);
-    let right = atom_value(registers, kind, &binary.right);
+    let left = atom_value(module, registers, &binary.ty, &binary.left);
+    let right = atom_value(module, registers, &binary.ty, &binary.right);
     binary_at(binary, kind, &left, &right)
 }
 
 /// What a comparison leads to on values of a kind.
 #[tactic(auto, using(ir_values::proofs::KindLaws::kind_has_width))]
-fn icmp_at(icmp: &Icmp<Name>, kind: Option<Kind>, left: &Value, right: &Value) -> Outcome
+fn icmp_at(
+    blocks: &Blocks,
+    icmp: &Icmp<Name>,
+    kind: Option<Kind>,
+    left: &Value,
+    right: &Value,
+) -> Outcome
     requires kind { kind ≡ types.kind_of icmp.now.ty }
     requires left { IsInKindOf kind left.now }
     requires right { IsInKindOf kind right.now }
-    ensures { result ≡ meaning.icmp_at icmp.now.pred kind left.now right.now }
+    ensures { result ≡ meaning.icmp_at blocks.now icmp.now.pred kind left.now right.now }
 {
     match kind {
-        Some(own) => eval_icmp(icmp.pred, own, left, right, 0, 0),
+        Some(own) => eval_icmp(
+            icmp.pred,
+            own,
+            left,
+            right,
+            size_at(blocks, left),
+            size_at(blocks, right),
+        ),
         None => Outcome::Gives(Value::Poison),
     }
 }
 
 #[tactic(auto, using(crate::proofs::InKind::icmp_in_kind))]
-fn icmp_outcome(registers: &RegisterFile, icmp: &Icmp<Name>) -> Outcome
-    ensures value { result ≡ meaning.outcome (meaning.read (registers_in registers.now)) (expr.Icmp icmp.now) }
+fn icmp_outcome(
+    module: &Module,
+    registers: &RegisterFile,
+    world: &KeptWorld,
+    icmp: &Icmp<Name>,
+) -> Outcome
+    ensures value { result ≡ meaning.outcome (scope_of «module».now) (meaning.read (registers_in registers.now)) world.now.blocks (expr.Icmp icmp.now) }
     ensures in_kind { GivesInKind (Some (Int 1)) result }
 {
     let kind = kind_of(&icmp.ty);
-    let left = atom_value(registers, kind, &icmp.left);
-    let right = atom_value(registers, kind, &icmp.right);
-    icmp_at(icmp, kind, &left, &right)
+    let left = atom_value(module, registers, &icmp.ty, &icmp.left);
+    let right = atom_value(module, registers, &icmp.ty, &icmp.right);
+    icmp_at(&world.blocks, icmp, kind, &left, &right)
 }
 
 /// What a conversion leads to from a kind to a kind.
@@ -130,11 +164,16 @@ fn cast_at(cast: &Cast<Name>, from: Option<Kind>, to: Option<Kind>, value: &Valu
 }
 
 #[tactic(auto, using(crate::proofs::InKind::cast_in_kind))]
-fn cast_outcome(registers: &RegisterFile, cast: &Cast<Name>) -> Outcome
-    ensures value { result ≡ meaning.outcome (meaning.read (registers_in registers.now)) (expr.Cast cast.now) }
+fn cast_outcome(
+    module: &Module,
+    registers: &RegisterFile,
+    world: &KeptWorld,
+    cast: &Cast<Name>,
+) -> Outcome
+    ensures value { result ≡ meaning.outcome (scope_of «module».now) (meaning.read (registers_in registers.now)) world.now.blocks (expr.Cast cast.now) }
     ensures in_kind { GivesInKind (types.kind_of cast.now.to) result }
 {
-    let value = operand_value(registers, &cast.operand);
+    let value = operand_value(module, registers, &cast.operand);
     let outcome = cast_at(cast, kind_of(&cast.operand.ty), kind_of(&cast.to), &value);
     if converts(cast.op, &cast.operand.ty, &cast.to) {
         outcome
@@ -151,13 +190,18 @@ fn selects(select: &Select<Name>) -> bool
 }
 
 #[tactic(auto, using(crate::proofs::InKind::select_in_kind))]
-fn select_outcome(registers: &RegisterFile, select: &Select<Name>) -> Outcome
-    ensures value { result ≡ meaning.outcome (meaning.read (registers_in registers.now)) (expr.Select select.now) }
+fn select_outcome(
+    module: &Module,
+    registers: &RegisterFile,
+    world: &KeptWorld,
+    select: &Select<Name>,
+) -> Outcome
+    ensures value { result ≡ meaning.outcome (scope_of «module».now) (meaning.read (registers_in registers.now)) world.now.blocks (expr.Select select.now) }
     ensures in_kind { GivesInKind (types.kind_of select.now.left.ty) result }
 {
-    let condition = operand_value(registers, &select.condition);
-    let left = operand_value(registers, &select.left);
-    let right = operand_value(registers, &select.right);
+    let condition = operand_value(module, registers, &select.condition);
+    let left = operand_value(module, registers, &select.left);
+    let right = operand_value(module, registers, &select.right);
     if selects(select) {
         eval_select(&condition, &left, &right)
     } else {
@@ -165,18 +209,46 @@ fn select_outcome(registers: &RegisterFile, select: &Select<Name>) -> Outcome
     }
 }
 
+/// What a load leads to: without an alignment of its own it has its type's.
+#[tactic(auto, using(crate::proofs::InKind::load_in_kind))]
+fn load_outcome(
+    module: &Module,
+    registers: &RegisterFile,
+    world: &KeptWorld,
+    load: &Load<Name>,
+) -> Outcome
+    ensures value { result ≡ meaning.outcome (scope_of «module».now) (meaning.read (registers_in registers.now)) world.now.blocks (expr.Load load.now) }
+    ensures in_kind { GivesInKind (types.kind_of load.now.of) result }
+{
+    if kind_of(&load.of).is_none() {
+        return Outcome::Gives(Value::Poison);
+    }
+    let align = match load.align {
+        Some(align) => u64::from(align),
+        None => align_of(&module.types, &load.of),
+    };
+    let pointer = operand_value(module, registers, &load.pointer);
+    world.blocks.load(&load.of, &pointer, align)
+}
+
 /// What an expression of a line leads to.
 #[tactic(auto, using(crate::proofs::InKind::poison_of))]
-pub(crate) fn outcome(registers: &RegisterFile, right: &Expr<Name>) -> Outcome
-    ensures value { result ≡ meaning.outcome (meaning.read (registers_in registers.now)) right.now }
+pub(crate) fn outcome(
+    module: &Module,
+    registers: &RegisterFile,
+    world: &KeptWorld,
+    right: &Expr<Name>,
+) -> Outcome
+    ensures value { result ≡ meaning.outcome (scope_of «module».now) (meaning.read (registers_in registers.now)) world.now.blocks right.now }
     ensures in_kind { GivesInKind (types.kind_of (type_of right.now)) result }
 {
     match right {
-        Expr::Plain(operand) => Outcome::Gives(operand_value(registers, operand)),
-        Expr::Binary(binary) => binary_outcome(registers, binary),
-        Expr::Icmp(icmp) => icmp_outcome(registers, icmp),
-        Expr::Cast(cast) => cast_outcome(registers, cast),
-        Expr::Select(select) => select_outcome(registers, select.get()),
-        Expr::Element(_) | Expr::Load(_) => Outcome::Gives(Value::Poison),
+        Expr::Plain(operand) => Outcome::Gives(operand_value(module, registers, operand)),
+        Expr::Binary(binary) => binary_outcome(module, registers, world, binary),
+        Expr::Icmp(icmp) => icmp_outcome(module, registers, world, icmp),
+        Expr::Cast(cast) => cast_outcome(module, registers, world, cast),
+        Expr::Select(select) => select_outcome(module, registers, world, select.get()),
+        Expr::Element(_) => Outcome::Gives(Value::Poison),
+        Expr::Load(load) => load_outcome(module, registers, world, load),
     }
 }

@@ -2,12 +2,12 @@ ghost use Rattle.std.specs.Prelude.{◌≡◌, ◌≢◌, ◌↔◌, ◌<◌, []
 ghost use Rattle.ir_machine.specs.Registers as registers;
 ghost use Rattle.ir_machine.specs.State.{Over};
 ghost use Rattle.ir_machine.specs.Machine as machine;
-ghost use Rattle.ir_machine.specs.Places.{registers_in, state_of};
+ghost use Rattle.ir_machine.specs.Places.{registers_in, state_of, world_in};
 
-use crate::operands::is_shown_of;
 use crate::registers::RegisterFile;
-use crate::{Input, Place, RunState, Shown, StartEnd};
-use ir_core::{Function, Kind, Module, Name, Param, Value, kind_of, same_name};
+use crate::{Input, KeptWorld, Place, RunState, StartEnd};
+use block_memory::{Blocks, Names, Shown};
+use ir_core::{Function, Kind, Module, Name, Param, Value, fits, kind_of, same_name};
 use std::alloc::Global;
 
 /// Where the first definition of that name stands.
@@ -25,29 +25,41 @@ fn place_of(functions: &[Function], name: &Name) -> Option<usize>
     None
 }
 
-fn fits_kind(kind: Option<Kind>, argument: Shown) -> bool
-    ensures { result ≡ machine.fits_kind kind argument }
+/// Whether the outside may give that as a value of the kind.
+fn fits_kind(kind: Option<Kind>, world: &KeptWorld, argument: Shown) -> bool
+    ensures { result ≡ machine.fits_kind kind (world_in world.now) argument }
 {
-    match kind {
-        Some(own) => is_shown_of(&own, &argument),
-        None => false,
+    match (kind, argument) {
+        (Some(Kind::Int(width)), Shown::Num(n)) => fits(n, width),
+        (Some(Kind::Ptr), Shown::Name(name, _)) => name < world.names.count(),
+        (Some(Kind::Ptr), Shown::Bare(_)) => true,
+        _ => false,
     }
 }
 
-fn shown_value(shown: Shown) -> Value
-    ensures { result ≡ machine.shown_value shown }
+/// The value that it is.
+fn resolve(world: &KeptWorld, shown: Shown) -> Value
+    ensures { result ≡ machine.resolve (world_in world.now) shown }
 {
-    let Shown::Num(n) = shown;
-    Value::Num(n)
+    match shown {
+        Shown::Num(n) => Value::Num(n),
+        Shown::Name(name, offset) => world.names.resolve(name, offset),
+        Shown::Bare(address) => Value::Bare(address),
+    }
 }
 
 /// The registers on entry.
 #[tactic(auto, using(crate::proofs::Starts::entered_not, crate::proofs::Starts::entered_next, crate::proofs::Starts::entered_misfit, crate::proofs::InKind::argument_in_kind))]
-fn enter(alloc: Global, params: &[Param], arguments: &[Shown]) -> Result<RegisterFile, StartEnd>
+fn enter(
+    alloc: Global,
+    world: &KeptWorld,
+    params: &[Param],
+    arguments: &[Shown],
+) -> Result<RegisterFile, StartEnd>
     ensures entered { IfOk result
-        (λ file. machine.entered params.now arguments.now registers.no_registers ≡ Some (registers_in file)) }
+        (λ file. machine.entered (world_in world.now) params.now arguments.now registers.no_registers ≡ Some (registers_in file)) }
     ensures unfit { IsErrOf result StartEnd.InputUnfit
-        → machine.entered params.now arguments.now registers.no_registers ≡ None }
+        → machine.entered (world_in world.now) params.now arguments.now registers.no_registers ≡ None }
     ensures found { ¬ IsErrOf result StartEnd.NoFunction }
 {
     if params.len() != arguments.len() {
@@ -55,14 +67,14 @@ fn enter(alloc: Global, params: &[Param], arguments: &[Shown]) -> Result<Registe
     }
     let mut file = RegisterFile::empty(alloc);
     for i in 0..params.len() {
-        if !fits_kind(kind_of(&params[i].ty), arguments[i]) {
+        if !fits_kind(kind_of(&params[i].ty), world, arguments[i]) {
             return Err(StartEnd::InputUnfit);
         }
         file.set(
             alloc,
             &params[i].name,
             kind_of(&params[i].ty),
-            shown_value(arguments[i]),
+            resolve(world, arguments[i]),
         )?;
     }
     Ok(file)
@@ -70,8 +82,8 @@ fn enter(alloc: Global, params: &[Param], arguments: &[Shown]) -> Result<Registe
 
 /// The state in which a run of that function on that input starts.
 ///
-/// It is meant for modules over integers, as long as the machine has no memory: no argument fits a pointer, a `getelementptr` or
-/// `load` gives poison, and an `alloca`, `store` or `call` is undefined behaviour.
+/// It is meant for modules over integers, as long as a run has no globals: a `getelementptr` gives poison, and an `alloca`, `store` or `call`
+/// is undefined behaviour.
 #[tactic(auto, using(crate::proofs::Starts::starts_at, crate::proofs::Starts::starts_not))]
 pub fn start(
     alloc: Global,
@@ -92,7 +104,16 @@ pub fn start(
         return Err(StartEnd::NoFunction);
     };
     let function = &module.functions.as_slice()[at];
-    let registers = enter(alloc, function.params.as_slice(), input.args.as_slice())?;
+    let world = KeptWorld {
+        blocks: Blocks::new(alloc),
+        names: Names::new(alloc),
+    };
+    let registers = enter(
+        alloc,
+        &world,
+        function.params.as_slice(),
+        input.args.as_slice(),
+    )?;
     Ok(RunState {
         place: Some(Place {
             function: at,
@@ -100,5 +121,6 @@ pub fn start(
             line: 0,
         }),
         registers,
+        world,
     })
 }

@@ -1,24 +1,25 @@
 ghost use Rattle.std.specs.Prelude.{◌≡◌, ◌≢◌, ◌+◌, ◌<◌, List, [], ◌∷◌, ◌++◌, Some, None, IfOk, OnErr, IsErr, IsErrOf};
 ghost use Rattle.ir_values.specs.declared.operations.Outcome.TheVariants as outcome;
 ghost use Rattle.ir_machine.specs.declared.items.Item.TheVariants as item;
-ghost use Rattle.ir_machine.specs.declared.items.Choice.{Choice};
+ghost use Rattle.block_memory.specs.declared.items.Choice.{Choice};
 ghost use Rattle.ir_machine.specs.declared.machine.Progress.TheVariants as progress;
 ghost use Rattle.ir_core.specs.Types.{kind_of};
 ghost use Rattle.ir_core.specs.Expressions.{type_of};
 ghost use Rattle.ir_machine.specs.Registers as registers;
-ghost use Rattle.ir_machine.specs.State.{no_world, Over};
+ghost use Rattle.ir_machine.specs.State.{scope_of, Over};
 ghost use Rattle.ir_machine.specs.Machine as machine;
 ghost use Rattle.ir_machine.specs.Choices.{Did, Lacks, answer, TakesAsked};
 ghost use Rattle.ir_machine.specs.Machine.{Ask, Does};
-ghost use Rattle.ir_machine.specs.Places.{at_end, registers_in, state_in, state_of, progress_of, next_line};
+ghost use Rattle.ir_machine.specs.Places.{at_end, registers_in, world_in, state_in, state_of, progress_of, next_line};
 ghost use Rattle.ir_machine.specs.Stepping.{Answers, StaysIn, line_outcome, line_set};
 ghost use Rattle.ir_core.specs.Functions.{successors_of};
 ghost use Rattle.ir_core.specs.declared.values.Value.TheVariants.{Num};
 
-use crate::choosing::{Showing, show};
+use crate::choosing::show;
 use crate::jumping::{case_of, jump, side_of, told_label};
 use crate::operands::{operand_value, outcome};
-use crate::{Chooser, Item, Place, Progress, RunState, StepEnd, Stepped};
+use crate::{Chooser, Item, KeptWorld, Place, Progress, RunState, StepEnd, Stepped};
+use block_memory::ShowEnd;
 use contents::Seq;
 use ir_core::{
     BitType, Block, Calm, Function, Instr, Kind, Module, Name, Operand, Term, Value, kind_of,
@@ -47,25 +48,32 @@ fn last_return<C: Chooser>(
     alloc: Global,
     kind: Option<Kind>,
     value: Value,
+    world: &mut KeptWorld,
     chooser: &mut C,
 ) -> Result<Stepped, StepEnd>
-    ensures made { IfOk result (λ stepped. answer (machine.return_step kind value [] no_world) (C.script chooser.old)
+    ensures made { IfOk result (λ stepped. answer (machine.return_step kind value [] (world_in world.old)) (C.script chooser.old)
         ≡ Did stepped.items Over (C.script chooser.new)) }
     ensures progress { IfOk result (λ stepped. stepped.progress ≡ progress_of stepped.items Over) }
     ensures no_choice { IsErrOf result StepEnd.NoChoice
-        → answer (machine.return_step kind value [] no_world) (C.script chooser.old) ≡ Lacks (C.script chooser.new) }
-    ensures told { TakesAsked (machine.return_step kind value [] no_world) (C.script chooser.old) (C.script chooser.new) }
+        → answer (machine.return_step kind value [] (world_in world.old)) (C.script chooser.old) ≡ Lacks (C.script chooser.new) }
+    ensures told { TakesAsked (machine.return_step kind value [] (world_in world.old)) (C.script chooser.old) (C.script chooser.new) }
+    ensures same { OnErr result (world.new ≡ world.old) }
 {
-    match show(kind, value, chooser) {
-        Showing::LacksChoice => Err(StepEnd::NoChoice),
-        Showing::IsPoison => Ok(Stepped {
-            items: two_items(alloc, Item::Turn, Item::Wrong)?,
+    let mut items = two_items(alloc, Item::Turn, Item::Wrong)?.into_vec();
+    match show(kind, value, world, chooser) {
+        Ok(shown) => {
+            items[1] = Item::Returned(Some(shown));
+            Ok(Stepped {
+                items: Seq::from_vec(items),
+                progress: Progress::Ended,
+            })
+        }
+        Err(ShowEnd::Wrong) => Ok(Stepped {
+            items: Seq::from_vec(items),
             progress: Progress::IsWrong,
         }),
-        Showing::Shows(shown) => Ok(Stepped {
-            items: two_items(alloc, Item::Turn, Item::Returned(Some(shown)))?,
-            progress: Progress::Ended,
-        }),
+        Err(ShowEnd::NoChoice) => Err(StepEnd::NoChoice),
+        Err(ShowEnd::Memory) => Err(StepEnd::Memory),
     }
 }
 
@@ -80,8 +88,9 @@ fn void_return(alloc: Global) -> Result<Stepped, AllocError>
     })
 }
 
-/// Where a run stands: a block of a function, and its place in the module.
+/// Where a run stands: the module, a block of a function of it, and its place there.
 pub(crate) struct Here<'a> {
+    pub(crate) whole: &'a Module,
     pub(crate) function: &'a Function,
     pub(crate) block: &'a Block,
     pub(crate) place: Place,
@@ -90,6 +99,7 @@ pub(crate) struct Here<'a> {
 impl<'a> Drop for Here<'a> {
     fn drop(self) {
         let Here {
+            whole: _,
             function: _,
             block: _,
             place: _,
@@ -120,14 +130,22 @@ fn go_to(
     state: &mut RunState,
 ) -> Result<Stepped, AllocError>
     ensures made { IfOk result (λ stepped.
-        machine.jump (at_end here.now.function.now here.now.block.now (registers_in state.old.registers)) [] no_world label.now
+        machine.jump (scope_of here.now.whole.now) (at_end here.now.function.now here.now.block.now (registers_in state.old.registers)) [] (world_in state.old.world) label.now
         ≡ Does stepped.items (state_in here.now.function.now state.new)) }
     ensures progress { IfOk result
         (λ stepped. stepped.progress ≡ progress_of stepped.items (state_in here.now.function.now state.new)) }
     ensures place { IfOk result (λ stepped. StaysIn here.now.place state.new.place) }
     ensures same { OnErr result (state.new ≡ state.old) }
 {
-    let Some(landing) = jump(alloc, here.function, here.block, label, &state.registers)? else {
+    let Some(landing) = jump(
+        alloc,
+        here.whole,
+        here.function,
+        here.block,
+        label,
+        &state.registers,
+    )?
+    else {
         return go_wrong(alloc, state);
     };
     let items = one_item(alloc, Item::Turn)?;
@@ -151,7 +169,7 @@ fn do_told<C: Chooser>(
     chooser: &mut C,
 ) -> Result<Stepped, StepEnd>
     ensures answers { Answers (Ask (machine.is_label (successors_of here.now.block.now.term))
-        (λ c. machine.gone c (machine.jump (at_end here.now.function.now here.now.block.now (registers_in state.old.registers)) [] no_world)))
+        (λ c. machine.gone c (machine.jump (scope_of here.now.whole.now) (at_end here.now.function.now here.now.block.now (registers_in state.old.registers)) [] (world_in state.old.world))))
         (C.script chooser.old) (C.script chooser.new) (state_in here.now.function.now state.new) result }
     ensures place { IfOk result (λ stepped. StaysIn here.now.place state.new.place) }
     ensures same { OnErr result (state.new ≡ state.old) }
@@ -174,7 +192,7 @@ fn do_branch<C: Chooser>(
 ) -> Result<Stepped, StepEnd>
     ensures answers { (label : _ → _) → ((n : _) → value ≡ Num n → numbered.now ≡ label n)
         → Answers (machine.branch value label (successors_of here.now.block.now.term)
-        (machine.jump (at_end here.now.function.now here.now.block.now (registers_in state.old.registers)) [] no_world))
+        (machine.jump (scope_of here.now.whole.now) (at_end here.now.function.now here.now.block.now (registers_in state.old.registers)) [] (world_in state.old.world)))
         (C.script chooser.old) (C.script chooser.new) (state_in here.now.function.now state.new) result }
     ensures place { IfOk result (λ stepped. StaysIn here.now.place state.new.place) }
     ensures same { OnErr result (state.new ≡ state.old) }
@@ -189,18 +207,25 @@ fn do_branch<C: Chooser>(
 /// The last return of a run, of that operand.
 fn do_return<C: Chooser>(
     alloc: Global,
+    module: &Module,
     operand: &Operand<Name>,
     state: &mut RunState,
     chooser: &mut C,
 ) -> Result<Stepped, StepEnd>
     ensures answers { Answers (machine.return_step (kind_of operand.now.ty)
-        (registers.operand_value (registers.read (registers_in state.old.registers)) operand.now) [] no_world)
+        (registers.operand_value (scope_of «module».now) (registers.read (registers_in state.old.registers)) operand.now) [] (world_in state.old.world))
         (C.script chooser.old) (C.script chooser.new) Over result }
     ensures over { IfOk result (λ stepped. state.new.place ≡ None) }
     ensures same { OnErr result (state.new ≡ state.old) }
 {
-    let value = operand_value(&state.registers, operand);
-    let stepped = last_return(alloc, kind_of(&operand.ty), value, chooser)?;
+    let value = operand_value(module, &state.registers, operand);
+    let stepped = last_return(
+        alloc,
+        kind_of(&operand.ty),
+        value,
+        &mut state.world,
+        chooser,
+    )?;
     state.place = None;
     Ok(stepped)
 }
@@ -212,14 +237,14 @@ fn do_terminator<C: Chooser>(
     state: &mut RunState,
     chooser: &mut C,
 ) -> Result<Stepped, StepEnd>
-    ensures answers { Answers (machine.term_step here.now.block.now.term
-        (at_end here.now.function.now here.now.block.now (registers_in state.old.registers)) [] no_world)
+    ensures answers { Answers (machine.term_step (scope_of here.now.whole.now) here.now.block.now.term
+        (at_end here.now.function.now here.now.block.now (registers_in state.old.registers)) [] (world_in state.old.world))
         (C.script chooser.old) (C.script chooser.new) (state_in here.now.function.now state.new) result }
     ensures place { IfOk result (λ stepped. StaysIn here.now.place state.new.place) }
     ensures same { OnErr result (state.new ≡ state.old) }
 {
     match &here.block.term {
-        Term::Ret(operand) => do_return(alloc, operand, state, chooser),
+        Term::Ret(operand) => do_return(alloc, here.whole, operand, state, chooser),
         Term::RetVoid => {
             let stepped = void_return(alloc)?;
             state.place = None;
@@ -227,11 +252,11 @@ fn do_terminator<C: Chooser>(
         }
         Term::Br(label) => Ok(go_to(alloc, here, label, state)?),
         Term::CondBr(branch) => {
-            let value = operand_value(&state.registers, &branch.condition);
+            let value = operand_value(here.whole, &state.registers, &branch.condition);
             do_branch(alloc, here, value, side_of(branch, &value), state, chooser)
         }
         Term::Switch(switch) => {
-            let value = operand_value(&state.registers, &switch.value);
+            let value = operand_value(here.whole, &state.registers, &switch.value);
             do_branch(alloc, here, value, case_of(switch, &value), state, chooser)
         }
         Term::Unreachable => Ok(go_wrong(alloc, state)?),
@@ -241,26 +266,29 @@ fn do_terminator<C: Chooser>(
 /// A line that does nothing but set its register is done: the run stands after it, or is wrong.
 fn do_calm(
     alloc: Global,
+    module: &Module,
     line: &Calm,
     place: Place,
     state: &mut RunState,
 ) -> Result<Stepped, StepEnd>
     requires room { place.line < usize.MAX }
-    ensures gives { (v : _) → registers.outcome (registers.read (registers_in state.old.registers)) line.now.right ≡ outcome.Gives v
+    ensures gives { (v : _) → registers.outcome (scope_of «module».now) (registers.read (registers_in state.old.registers)) state.old.world.blocks line.now.right ≡ outcome.Gives v
         → IfOk result (λ stepped. (stepped.items ≡ []) × (stepped.progress ≡ progress.Goes)
         × (state.new.place ≡ Some (next_line place))
         × (registers_in state.new.registers
-        ≡ registers.set (registers_in state.old.registers) line.now.name (kind_of (type_of line.now.right)) v)) }
-    ensures traps { registers.outcome (registers.read (registers_in state.old.registers)) line.now.right ≡ outcome.Trap
+        ≡ registers.set (registers_in state.old.registers) line.now.name (kind_of (type_of line.now.right)) v)
+        × (state.new.world ≡ state.old.world)) }
+    ensures traps { registers.outcome (scope_of «module».now) (registers.read (registers_in state.old.registers)) state.old.world.blocks line.now.right ≡ outcome.Trap
         → IfOk result (λ stepped. (stepped.items ≡ item.Wrong ∷ []) × (stepped.progress ≡ progress.IsWrong)
         × (state.new.place ≡ None)) }
     ensures same_place { OnErr result (state.new.place ≡ state.old.place) }
     ensures same_registers { OnErr result
         (registers_in state.new.registers ≡ registers_in state.old.registers) }
+    ensures same_world { OnErr result (state.new.world ≡ state.old.world) }
     ensures memory { IsErr result → IsErrOf result StepEnd.Memory }
 {
     let bit = BitType::new();
-    match outcome(&state.registers, &line.right) {
+    match outcome(module, &state.registers, &state.world, &line.right) {
         Outcome::Gives(value) => {
             state
                 .registers
@@ -282,25 +310,28 @@ fn do_calm(
 /// A line is done, and the run stands after it; or the run is wrong.
 fn do_line(
     alloc: Global,
+    module: &Module,
     line: &Instr,
     place: Place,
     state: &mut RunState,
 ) -> Result<Stepped, StepEnd>
     requires room { place.line < usize.MAX }
-    ensures gives { (v : _) → line_outcome (registers_in state.old.registers) line.now ≡ outcome.Gives v
+    ensures gives { (v : _) → line_outcome (scope_of «module».now) (registers_in state.old.registers) state.old.world.blocks line.now ≡ outcome.Gives v
         → IfOk result (λ stepped. (stepped.items ≡ []) × (stepped.progress ≡ progress.Goes)
         × (state.new.place ≡ Some (next_line place))
-        × (registers_in state.new.registers ≡ line_set (registers_in state.old.registers) line.now v)) }
-    ensures traps { line_outcome (registers_in state.old.registers) line.now ≡ outcome.Trap
+        × (registers_in state.new.registers ≡ line_set (registers_in state.old.registers) line.now v)
+        × (state.new.world ≡ state.old.world)) }
+    ensures traps { line_outcome (scope_of «module».now) (registers_in state.old.registers) state.old.world.blocks line.now ≡ outcome.Trap
         → IfOk result (λ stepped. (stepped.items ≡ item.Wrong ∷ []) × (stepped.progress ≡ progress.IsWrong)
         × (state.new.place ≡ None)) }
     ensures same_place { OnErr result (state.new.place ≡ state.old.place) }
     ensures same_registers { OnErr result
         (registers_in state.new.registers ≡ registers_in state.old.registers) }
+    ensures same_world { OnErr result (state.new.world ≡ state.old.world) }
     ensures memory { IsErr result → IsErrOf result StepEnd.Memory }
 {
     match line {
-        Instr::Calm(calm) => do_calm(alloc, calm, place, state),
+        Instr::Calm(calm) => do_calm(alloc, module, calm, place, state),
         Instr::Alloca(_) | Instr::Store(_) | Instr::Call(_) => Ok(go_wrong(alloc, state)?),
     }
 }
@@ -342,9 +373,10 @@ pub fn step<C: Chooser>(
     };
     let lines = block.body.as_slice();
     if place.line < lines.len() {
-        return do_line(alloc, &lines[place.line], place, state);
+        return do_line(alloc, module, &lines[place.line], place, state);
     }
     let here = Here {
+        whole: module,
         function,
         block,
         place,

@@ -37,8 +37,10 @@ pub record AddressesCompareSo : Type 0 where
   pub eq_null : compared pred.Eq (Ptr 0 (pos 0)) (Bare 0) ≡ gives 0
   pub null_ne : compared pred.Ne (Bare 0) (Ptr 0 (pos 7)) ≡ gives 1
   pub null_outside : compared pred.Eq (Ptr 0 (pos 8)) (Bare 0) ≡ Gives Undef
+  pub null_beside_outside : compared pred.Ne (Bare 0) (Ptr 0 (pos 8)) ≡ Gives Undef
   pub null_order : compared pred.Ugt (Ptr 0 (pos 0)) (Bare 0) ≡ Gives Undef
   pub eq_bare : compared pred.Eq (Ptr 0 (pos 0)) (Bare 16) ≡ Gives Undef
+  pub bare_ne : compared pred.Ne (Bare 16) (Ptr 0 (pos 0)) ≡ Gives Undef
   pub two_bare : compared pred.Ult (Bare 8) (Bare 16) ≡ gives 1
   pub signed_bare : compared pred.Slt (Bare 18446744073709551615) (Bare 0) ≡ gives 1
   pub undef : compared pred.Eq Undef (Ptr 0 (pos 0)) ≡ Gives Undef

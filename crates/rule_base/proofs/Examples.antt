@@ -1,6 +1,6 @@
 -- The examples of specs/Examples compute.
 use Rattle.std.proofs.Common.{refl}
-use Rattle.rule_base.specs.Examples.{DropFlagsTakesThese, FoldTakesThese, ReflTakesThese, SubstTakesThese, TheseStandApart}
+use Rattle.rule_base.specs.Examples.{DropFlagsTakesThese, FoldTakesThese, ReflTakesThese, SubstTakesThese, TheseStandApart, UndefConstTakesThese}
 
 pub refl_takes_these : ReflTakesThese
 refl_takes_these = record {
@@ -9,6 +9,21 @@ refl_takes_these = record {
   without_its_flag = refl;
   exact_sum_has_no_type = refl;
   number_past_its_type = refl;
+}
+
+pub undef_const_takes_these : UndefConstTakesThese
+undef_const_takes_these = record {
+  number_itself = refl;
+  undef_itself = refl;
+  number_past_its_type = refl;
+  number_of_another_type = refl;
+  no_register = refl;
+  of_undef_alone = refl;
+  no_integer_is_null = refl;
+  null_is_simple = refl;
+  global_is_not = refl;
+  element_is_not = refl;
+  conversion_is_not = refl;
 }
 
 pub subst_takes_these : SubstTakesThese

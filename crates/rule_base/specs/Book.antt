@@ -1,6 +1,6 @@
 -- A book of boxed rules, as definitions see it: the meanings of its rules in their order.
 use Rattle.std.specs.Prelude.{ℕ, Bool, cond, List, map, Option, None, Some}
-use Rattle.ir_core.specs.Modules.{Scope}
+use Rattle.ir_values.specs.Constants.{Scope}
 use Rattle.erhl_assert.specs.declared.facts.Schema.{Schema}
 use Rattle.erhl_assert.specs.Steps.{Meaning, Rules}
 use Rattle.rule_base.specs.declared.rule_book.RuleBook.{RuleBook}

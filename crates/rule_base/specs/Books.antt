@@ -2,7 +2,7 @@
 use Rattle.std.proofs.Common.{◌≡◌, ℕ, Bool, true, false, cond, List, [], ◌∷◌, nat_eq}
 use Rattle.std.specs.Prelude.{Some}
 use Rattle.ir_types.specs.Same.{same_list}
-use Rattle.ir_core.specs.Modules.{Scope}
+use Rattle.ir_values.specs.Constants.{Scope}
 use Rattle.erhl_assert.specs.declared.facts.Schema.{Schema}
 use Rattle.erhl_assert.specs.Facts.{IsSound}
 use Rattle.erhl_assert.specs.Steps.{AreSound, rule_named, rule_takes}

@@ -17,7 +17,7 @@ use Rattle.ir_core.specs.declared.expressions.Reg.TheVariants.{Now, Old}
 use Rattle.ir_core.specs.declared.expressions.Expr.TheVariants as expr
 use Rattle.ir_core.specs.Expressions.{Expr0}
 use Rattle.erhl_assert.specs.declared.facts.Fact.TheVariants.{LessDef}
-use Rattle.rule_base.specs.Rows.{is_refl, is_subst, is_drop_flags, is_fold, stand_apart}
+use Rattle.rule_base.specs.Rows.{is_refl, is_simple, is_undef_const, is_subst, is_drop_flags, is_fold, stand_apart}
 
 -- ---- what the examples are written with
 
@@ -63,9 +63,12 @@ nuw_nsw = record { nuw = true; nsw = true; exact = false }
 abbrev pub exactly : Flags
 exactly = record { nuw = false; nsw = false; exact = true }
 
--- whether `refl` takes nothing to `e >= f`, and so of `drop_flags` and `fold`
+-- whether `refl` takes nothing to `e >= f`, and so of `undef_const`, `drop_flags` and `fold`
 abbrev pub refl : Expr0 → Expr0 → Bool
 refl e f = is_refl [] (LessDef e f)
+
+abbrev pub undef_const : Expr0 → Expr0 → Bool
+undef_const e f = is_undef_const [] (LessDef e f)
 
 abbrev pub drop_flags : Expr0 → Expr0 → Bool
 drop_flags e f = is_drop_flags [] (LessDef e f)
@@ -85,6 +88,20 @@ pub record ReflTakesThese : Type 0 where
   pub without_its_flag : refl (binary op.Add nuw 8 x (number 1)) (binary op.Add no_flags 8 x (number 1)) ≡ false
   pub exact_sum_has_no_type : refl (binary op.Add exactly 8 x (number 1)) (binary op.Add exactly 8 x (number 1)) ≡ false
   pub number_past_its_type : refl (binary op.Add no_flags 8 x (number 300)) (binary op.Add no_flags 8 x (number 300)) ≡ false
+
+-- An address that is worked out may be poison, and that of a global is, at another type than its own.
+pub record UndefConstTakesThese : Type 0 where
+  pub number_itself : undef_const (plain 8 undef) (plain 8 (number 7)) ≡ true
+  pub undef_itself : undef_const (plain 8 undef) (plain 8 undef) ≡ true
+  pub number_past_its_type : undef_const (plain 8 undef) (plain 8 (number 300)) ≡ false
+  pub number_of_another_type : undef_const (plain 8 undef) (plain 16 (number 7)) ≡ false
+  pub no_register : undef_const (plain 8 undef) (plain 8 x) ≡ false
+  pub of_undef_alone : undef_const (plain 8 (number 7)) (plain 8 (number 7)) ≡ false
+  pub no_integer_is_null : undef_const (plain 8 undef) (plain 8 (Constant constant.Null)) ≡ false
+  pub null_is_simple : is_simple (Constant constant.Null) ≡ true
+  pub global_is_not : is_simple (Constant (constant.Global (Text (codes "g")))) ≡ false
+  pub element_is_not : is_simple (Constant (constant.Element (true, Int 8, []))) ≡ false
+  pub conversion_is_not : is_simple (Constant (constant.Cast (Int 8, []))) ≡ false
 
 -- %x is made 5 at one position
 pub record SubstTakesThese : Type 0 where

@@ -1,8 +1,8 @@
 -- More defined operands and fewer flags make an expression more defined.
-use Rattle.std.proofs.Common.{◌≡◌, ◌||◌, Bool, true, false, not, ◌&&◌, cond, List, [], ◌∷◌, Option, None, Some, refl, ap}
+use Rattle.std.proofs.Common.{◌≡◌, ◌||◌, nat_eq, Bool, true, false, not, ◌&&◌, cond, List, [], ◌∷◌, Option, None, Some, refl, ap}
 use Rattle.std.specs.List.{AllByRecursion}
 use Rattle.ir_core.specs.declared.values.Value.{Value}
-use Rattle.ir_core.specs.declared.values.Value.TheVariants.{Poison}
+use Rattle.ir_core.specs.declared.values.Value.TheVariants.{Num, Ptr, Bare, Undef, Poison}
 use Rattle.ir_core.specs.declared.values.Kind.{Kind}
 use Rattle.ir_core.specs.declared.values.Kind.TheVariants as kind
 use Rattle.ir_types.specs.declared.ty.Ty.{Ty}
@@ -22,14 +22,18 @@ use Rattle.ir_types.proofs.SameLaws.{same_ty_true}
 use Rattle.ir_core.proofs.SameLaws.{same_cast_true, same_flags_true, same_op_true, same_pred_true, same_reg_atom_true, same_reg_operand_true}
 use Rattle.ir_values.specs.declared.operations.Outcome.{Outcome}
 use Rattle.ir_values.specs.declared.operations.Outcome.TheVariants.{Gives}
+use Rattle.ir_values.specs.Comparisons.{icmp_outcome}
 use Rattle.ir_values.specs.Laws.{flags_among}
 use Rattle.ir_values.specs.Operations.{IsOutcomeLessDefined}
+use Rattle.ir_values.specs.PointerLaws.{IsOneSize}
 use Rattle.ir_values.specs.Selections.{select_outcome}
 use Rattle.ir_values.specs.Values.{IsLessDefined}
 use Rattle.ir_values.proofs.OperationLaws.{less_defined_refl}
-use Rattle.ir_values.proofs.Compared.{icmp_monotone}
+use Rattle.ir_values.proofs.Compared.{icmp_related}
 use Rattle.ir_values.proofs.Monotone.{binary_monotone, cast_monotone, select_monotone}
-use Rattle.ir_machine.specs.Registers.{atom_value, binary_at, cast_at, icmp_at, operand_value, selects}
+use Rattle.ir_values.proofs.RelatedValues.{less_related, one_memory, outcome_less}
+use Rattle.block_memory.specs.Memory.{Memory}
+use Rattle.ir_machine.specs.Registers.{atom_value, binary_at, cast_at, icmp_at, operand_value, selects, size_at}
 use Rattle.erhl_assert.specs.declared.facts.Fact.{Fact}
 use Rattle.erhl_assert.specs.declared.facts.Fact.TheVariants.{LessDef}
 use Rattle.erhl_assert.specs.Sides.{SideState, read_reg, worth}
@@ -45,10 +49,21 @@ binary_less f g many few None k a b c d p h q u v = rw (← q) tt
 binary_less f g many few (Some (kind.Int width)) k a b c d p h q u v = rw (p, ← q) (binary_monotone g many few width h a b c d u v)
 binary_less f g many few (Some kind.Ptr) k a b c d p h q u v = rw (← q) tt
 
-icmp_less : (f g : Pred) (j k : Option Kind) (a b c d : Value) → f ≡ g → j ≡ k → IsLessDefined a c → IsLessDefined b d
-    → IsOutcomeLessDefined (icmp_at f j a b) (icmp_at g k c d)
-icmp_less f g None k a b c d p q u v = rw (← q) tt
-icmp_less f g (Some j) k a b c d p q u v = rw (p, ← q) (icmp_monotone g j 0 0 a b c d u v)
+-- a block that an address is in has one size
+one_size : (m : Memory) (a b : Value) → IsLessDefined a b → IsOneSize a (size_at m a) (size_at m b)
+one_size m (Ptr block offset) b h = ap (size_at m) h
+one_size m (Num n) b h = tt
+one_size m (Bare address) b h = tt
+one_size m Undef b h = tt
+one_size m Poison b h = tt
+
+icmp_less : (m : Memory) (f g : Pred) (j k : Option Kind) (a b c d : Value) → f ≡ g → j ≡ k → IsLessDefined a c → IsLessDefined b d
+    → IsOutcomeLessDefined (icmp_at m f j a b) (icmp_at m g k c d)
+icmp_less m f g None k a b c d p q u v = rw (← q) tt
+icmp_less m f g (Some j) k a b c d p q u v =
+    rw (p, ← q) (outcome_less (icmp_outcome g j a b (size_at m a) (size_at m b)) (icmp_outcome g j c d (size_at m c) (size_at m d))
+    (icmp_related nat_eq one_memory g j a b c d (size_at m a) (size_at m b) (size_at m c) (size_at m d) (less_related a c u) (less_related b d v)
+    (one_size m a c u) (one_size m b d v)))
 
 -- one choice between outcomes
 chosen_less : (b : Bool) (o p : Outcome) → IsOutcomeLessDefined o p → IsOutcomeLessDefined (cond b o (Gives Poison)) (cond b p (Gives Poison))
@@ -87,7 +102,7 @@ module _ (side : SideState) where
   -- the first of two operands of one type is less defined
   record IsBelow (x y : Operand Reg) : Type 0 where
     type : x.ty ≡ y.ty
-    less : IsLessDefined (operand_value (read_reg side) x) (operand_value (read_reg side) y)
+    less : IsLessDefined (operand_value side.scope (read_reg side) x) (operand_value side.scope (read_reg side) y)
 
   abbrev AreBelow : List (Operand Reg) → List (Operand Reg) → Type 0
   AreBelow [] [] = Unit {0}
@@ -97,7 +112,7 @@ module _ (side : SideState) where
   below_itself : (x y : Operand Reg) → same_operand same_reg x y ≡ true → IsBelow x y
   below_itself x y h =
       let e : x ≡ y = same_reg_operand_true x y h in
-      rw (← e) (record { type = refl; less = less_defined_refl (operand_value (read_reg side) x) })
+      rw (← e) (record { type = refl; less = less_defined_refl (operand_value side.scope (read_reg side) x) })
 
   all_below_themselves : (xs ys : List (Operand Reg)) → same_list (same_operand same_reg) xs ys ≡ true → AreBelow xs ys
   all_below_themselves [] [] h = tt
@@ -136,7 +151,7 @@ module _ (side : SideState) where
       binary_less x.op y.op x.flags y.flags (kind_of x.ty) (kind_of y.ty) _ _ _ _ (same_op_true x.op y.op (left_true o g h)) (rw same (own_flags y.flags))
       (ap kind_of all.0.type) all.0.less all.1.0.less
   worth_less (Icmp x) (Icmp y) h all =
-      icmp_less x.pred y.pred (kind_of x.ty) (kind_of y.ty) _ _ _ _ (same_pred_true x.pred y.pred h) (ap kind_of all.0.type) all.0.less all.1.0.less
+      icmp_less side.world.memory x.pred y.pred (kind_of x.ty) (kind_of y.ty) _ _ _ _ (same_pred_true x.pred y.pred h) (ap kind_of all.0.type) all.0.less all.1.0.less
   worth_less (Cast x) (Cast y) h all =
       let o = same_cast x.op y.op in
       let t = same_ty x.to y.to in
@@ -177,7 +192,7 @@ module _ (side : SideState) where
         ap kind_of t,
         binary_less x.op y.op x.flags y.flags (kind_of x.ty) (kind_of y.ty) _ _ _ _ (same_op_true x.op y.op (left_true o l h3))
             (right_true (o && l && r) among h1) (ap kind_of t)
-            (rw (t, left) (less_defined_refl (atom_value (read_reg side) (kind_of y.ty) y.left)))
-            (rw (t, right) (less_defined_refl (atom_value (read_reg side) (kind_of y.ty) y.right))),
+            (rw (t, left) (less_defined_refl (atom_value side.scope (read_reg side) y.ty y.left)))
+            (rw (t, right) (less_defined_refl (atom_value side.scope (read_reg side) y.ty y.right))),
       )
   drop_flags_is_sound from to h = absurd (cc)

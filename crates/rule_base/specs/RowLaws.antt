@@ -10,7 +10,7 @@ use Rattle.ir_core.specs.declared.expressions.Reg.{Reg}
 use Rattle.ir_core.specs.declared.expressions.Expr.TheVariants.{Plain}
 use Rattle.ir_core.specs.Types.{kind_of}
 use Rattle.ir_core.specs.Expressions.{Expr0}
-use Rattle.ir_core.specs.Modules.{Scope}
+use Rattle.ir_values.specs.Constants.{Scope}
 use Rattle.ir_core.specs.Same.{same_reg, same_expr}
 use Rattle.ir_types.specs.NameLaws.{left_true, right_true}
 use Rattle.ir_core.proofs.SameLaws.{same_reg_expr_true}
@@ -28,7 +28,7 @@ use Rattle.erhl_assert.specs.Facts.{IsSound, Holds, kind_of_expr}
 use Rattle.erhl_assert.specs.Typed.{has_values, atom_fits}
 use Rattle.rule_base.specs.declared.shipped.Rule.{Rule}
 use Rattle.rule_base.specs.declared.shipped.Rule.TheVariants.{Refl, Trans, UndefConst, Subst, DropFlags, Fold}
-use Rattle.rule_base.specs.Rows.{takes_row, have_one_type, is_refl, is_trans, is_undef, is_constant, is_undef_const}
+use Rattle.rule_base.specs.Rows.{takes_row, have_one_type, is_refl, is_trans, is_undef, is_simple, is_undef_const}
 use Rattle.rule_base.specs.OneType.{one_type}
 use Rattle.rule_base.specs.OperandLaws.{subst_is_sound, drop_flags_is_sound}
 use Rattle.rule_base.specs.FoldLaws.{fold_is_sound}
@@ -65,8 +65,8 @@ module _ (side : SideState) (fine : IsSideInKind side) where
       all.0 all.1.0
 
   -- undef is less defined than a number of its type, and than undef
-  undef_less : (t : Ty) (x y : Atom Reg) → is_undef x ≡ true → is_constant y ≡ true → has_values t ≡ true → atom_fits t y ≡ true
-      → IsLessDefined (atom_value (read_reg side) (kind_of t) x) (atom_value (read_reg side) (kind_of t) y)
+  undef_less : (t : Ty) (x y : Atom Reg) → is_undef x ≡ true → is_simple y ≡ true → has_values t ≡ true → atom_fits t y ≡ true
+      → IsLessDefined (atom_value side.scope (read_reg side) t x) (atom_value side.scope (read_reg side) t y)
   undef_less (ty.Int w) (atom.Constant constant.Undef) (atom.Constant (constant.Number n)) p q v r = rw (v, r) tt
   undef_less (ty.Int w) (atom.Constant constant.Undef) (atom.Constant constant.Undef) p q v r = rw v tt
   undef_less (ty.Int w) (atom.Constant constant.Undef) (atom.Constant c) p q v r = cc
@@ -77,13 +77,13 @@ module _ (side : SideState) (fine : IsSideInKind side) where
 
   undef_const_is_sound : (from : List Fact) (to : Fact) → is_undef_const from to ≡ true → Holds side to
   undef_const_is_sound [] (LessDef (Plain a) (Plain b)) h =
-      let h1 : (have_one_type (Plain a) (Plain b) && is_undef a.atom) ≡ true = left_true _ (is_constant b.atom) h in
+      let h1 : (have_one_type (Plain a) (Plain b) && is_undef a.atom) ≡ true = left_true _ (is_simple b.atom) h in
       let typed = one_type (Plain a) (Plain b) (left_true _ (is_undef a.atom) h1) in
       let t : a.ty ≡ b.ty = typed.type in
       let values : has_values b.ty ≡ true = subst (λ (x : Ty). has_values x ≡ true) t typed.values in (
         ap kind_of t,
         rw t (undef_less b.ty a.atom b.atom (right_true (have_one_type (Plain a) (Plain b)) (is_undef a.atom) h1)
-            (right_true (have_one_type (Plain a) (Plain b) && is_undef a.atom) (is_constant b.atom) h) values typed.right),
+            (right_true (have_one_type (Plain a) (Plain b) && is_undef a.atom) (is_simple b.atom) h) values typed.right),
       )
   undef_const_is_sound from to h = absurd (cc)
 

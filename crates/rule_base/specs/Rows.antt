@@ -10,13 +10,14 @@ use Rattle.ir_core.specs.declared.expressions.Reg.{Reg}
 use Rattle.ir_core.specs.declared.expressions.Binary.{Binary}
 use Rattle.ir_core.specs.declared.expressions.Expr.TheVariants as expr
 use Rattle.ir_core.specs.Expressions.{Expr0, type_of, operands_in}
-use Rattle.ir_core.specs.Modules.{Scope}
 use Rattle.ir_types.specs.Same.{same_list, same_ty}
 use Rattle.ir_core.specs.Same.{same_atom, same_operand, same_op, same_flags, same_cast, same_pred, same_reg, same_expr}
 use Rattle.ir_values.specs.declared.operations.Outcome.{Outcome}
 use Rattle.ir_values.specs.declared.operations.Outcome.TheVariants.{Gives, Trap}
+use Rattle.ir_values.specs.Constants.{Scope}
 use Rattle.ir_values.specs.Laws.{flags_among}
 use Rattle.ir_machine.specs.Registers.{outcome}
+use Rattle.ir_machine.specs.State.{no_scope}
 use Rattle.erhl_assert.specs.declared.facts.Fact.{Fact}
 use Rattle.erhl_assert.specs.declared.facts.Fact.TheVariants.{LessDef}
 use Rattle.erhl_assert.specs.declared.facts.Schema.{Schema}
@@ -50,13 +51,17 @@ is_undef (atom.Constant constant.Undef) = true
 is_undef (atom.Constant c) = false
 is_undef (atom.Register r) = false
 
-abbrev pub is_constant : Atom Reg → Bool
-is_constant (atom.Constant c) = true
-is_constant (atom.Register r) = false
+-- a constant that isn't poison where it is one of its type: a number, null or undef, and no address that is worked out
+abbrev pub is_simple : Atom Reg → Bool
+is_simple (atom.Constant (constant.Number n)) = true
+is_simple (atom.Constant constant.Undef) = true
+is_simple (atom.Constant constant.Null) = true
+is_simple (atom.Constant c) = false
+is_simple (atom.Register r) = false
 
--- `undef >= C`, C a number or undef
+-- `undef >= C`, C a number, null or undef
 abbrev pub is_undef_const : List Fact → Fact → Bool
-is_undef_const [] (LessDef (expr.Plain a) (expr.Plain b)) = have_one_type (expr.Plain a) (expr.Plain b) && is_undef a.atom && is_constant b.atom
+is_undef_const [] (LessDef (expr.Plain a) (expr.Plain b)) = have_one_type (expr.Plain a) (expr.Plain b) && is_undef a.atom && is_simple b.atom
 is_undef_const from to = false
 
 -- the two differ at most in operands: `add nuw i8 %x, 1` and `add nuw i8 2, %y`
@@ -105,15 +110,15 @@ is_number (atom.Register r) = false
 abbrev pub is_over_numbers : Expr0 → Bool
 is_over_numbers e = list_all (λ o. is_number o.atom) (operands_in e)
 
--- what an expression over numbers comes to, which reads no register
+-- what an expression over numbers comes to, which reads no register, no global and no memory
 abbrev pub folded : Expr0 → Outcome
-folded e = outcome (λ k r. Poison) e
+folded e = outcome no_scope (λ k r. Poison) [] e
 
--- The constants that an outcome may be made: undefined behaviour, poison and undef each of them, a number itself alone, an address none.
+-- The constants that an outcome may be made: undefined behaviour, poison and undef each that is simple, a number itself alone, an address none.
 abbrev pub may_become : Outcome → Atom Reg → Bool
-may_become Trap c = is_constant c
-may_become (Gives Poison) c = is_constant c
-may_become (Gives Undef) c = is_constant c
+may_become Trap c = is_simple c
+may_become (Gives Poison) c = is_simple c
+may_become (Gives Undef) c = is_simple c
 may_become (Gives (Num m)) (atom.Constant (constant.Number n)) = nat_eq m n
 may_become (Gives (Num m)) (atom.Constant c) = false
 may_become (Gives (Num m)) (atom.Register r) = false

@@ -6,19 +6,19 @@ ghost use Rattle.ir_core.specs.declared.operands.Operand.{Operand};
 ghost use Rattle.ir_core.specs.declared.expressions.Expr.TheVariants as expr;
 ghost use Rattle.ir_core.specs.declared.values.Value.TheVariants.{Poison};
 ghost use Rattle.ir_core.specs.Types.{kind_of};
-ghost use Rattle.ir_machine.specs.Registers.{atom_at};
 ghost use Rattle.ir_machine.specs.Registers as meaning;
+ghost use Rattle.ir_machine.specs.State.{no_scope};
 ghost use Rattle.ir_core.specs.declared.values.Value.TheVariants.{Num};
 ghost use Rattle.ir_values.specs.declared.operations.Outcome.TheVariants.{Gives};
-ghost use Rattle.ir_values.specs.Values.{IsInKind};
+ghost use Rattle.ir_values.specs.Values.{IsInKind, IsInKindOf};
 ghost use Rattle.rule_base.specs.Rows.{is_fold, is_number, is_over_numbers, folded, may_become};
 
-use crate::shipped::is_constant;
+use crate::shipped::is_simple;
 use crate::typed::{have_one_type, selects};
 use erhl_assert::Fact;
 use ir_core::{
-    Atom, Binary, Cast, Const, Expr, Expr0, Icmp, Kind, Operand, Reg, Select, Value, converts,
-    fits, kind_of,
+    Atom, Binary, Cast, Const, Expr, Expr0, Icmp, Kind, Load, Operand, Reg, Select, Ty, Value,
+    converts, fits, kind_of,
 };
 use ir_values::{Outcome, eval_binary, eval_cast, eval_icmp, eval_select};
 
@@ -79,7 +79,7 @@ fn may_become(outcome: &Outcome, atom: &Atom<Reg>) -> bool
         Outcome::Gives(Value::Num(given)) => is_that_number(*given, atom),
         Outcome::Gives(Value::Ptr(_, _)) => false,
         Outcome::Gives(Value::Bare(_)) => false,
-        _ => is_constant(atom),
+        _ => is_simple(atom),
     }
 }
 
@@ -94,36 +94,43 @@ fn is_that_number(number: u64, atom: &Atom<Reg>) -> bool
     }
 }
 
-/// What an atom is worth at a kind where no register is read.
-fn value_at(kind: Kind, atom: &Atom<Reg>) -> Value
-    ensures value { result ≡ atom_at (λ k r. Poison) kind atom.now }
+/// What a constant is worth at a kind.
+fn constant_at(kind: Kind, constant: &Const) -> Value
+    ensures value { result ≡ meaning.constant_at kind constant.now }
     ensures in_kind { IsInKind kind result }
 {
-    let Kind::Int(width) = kind else {
-        return Value::Poison;
-    };
-    match atom {
-        Atom::Constant(Const::Number(number)) => {
-            let number = number.get();
+    match (kind, constant) {
+        (Kind::Int(width), Const::Number(bits)) => {
+            let number = bits.get();
             if fits(number, width) {
                 Value::Num(number)
             } else {
                 Value::Poison
             }
         }
-        Atom::Constant(Const::Undef) => Value::Undef,
-        Atom::Constant(_) | Atom::Register(_) => Value::Poison,
+        (_, Const::Undef) => Value::Undef,
+        (Kind::Ptr, Const::Null) => Value::Bare(0),
+        _ => Value::Poison,
+    }
+}
+
+/// What an atom is worth at a type where no register is read.
+fn value_at(ty: &Ty, atom: &Atom<Reg>) -> Value
+    ensures value { result ≡ meaning.atom_value no_scope (λ k r. Poison) ty.now atom.now }
+    ensures in_kind { IsInKindOf (kind_of ty.now) result }
+{
+    match (kind_of(ty), atom) {
+        (Some(own), Atom::Constant(constant)) => constant_at(own, constant),
+        _ => Value::Poison,
     }
 }
 
 /// What an operand is worth where no register is read.
 fn operand_value(operand: &Operand<Reg>) -> Value
-    ensures { result ≡ meaning.operand_value (λ k r. Poison) operand.now }
+    ensures value { result ≡ meaning.operand_value no_scope (λ k r. Poison) operand.now }
+    ensures in_kind { IsInKindOf (kind_of operand.now.ty) result }
 {
-    match kind_of(&operand.ty) {
-        Some(kind) => value_at(kind, &operand.atom),
-        None => Value::Poison,
-    }
+    value_at(&operand.ty, &operand.atom)
 }
 
 /// What an expression over numbers comes to.
@@ -136,33 +143,31 @@ fn folded(expr: &Expr0) -> Outcome
         Expr::Icmp(icmp) => folded_icmp(icmp),
         Expr::Cast(cast) => folded_cast(cast),
         Expr::Select(select) => folded_select(select.get()),
-        Expr::Element(_) | Expr::Load(_) => Outcome::Gives(Value::Poison),
+        Expr::Element(_) => Outcome::Gives(Value::Poison),
+        Expr::Load(load) => folded_load(load),
     }
 }
 
 fn folded_binary(binary: &Binary<Reg>) -> Outcome
     ensures { result ≡ folded (expr.Binary binary.now) }
 {
-    let Some(kind) = kind_of(&binary.ty) else {
-        return Outcome::Gives(Value::Poison);
-    };
-    let left = value_at(kind, &binary.left);
-    let right = value_at(kind, &binary.right);
-    let Kind::Int(width) = kind else {
-        return Outcome::Gives(Value::Poison);
-    };
-    eval_binary(binary.op, binary.flags, width, &left, &right)
+    let left = value_at(&binary.ty, &binary.left);
+    let right = value_at(&binary.ty, &binary.right);
+    match kind_of(&binary.ty) {
+        Some(Kind::Int(width)) => eval_binary(binary.op, binary.flags, width, &left, &right),
+        _ => Outcome::Gives(Value::Poison),
+    }
 }
 
 fn folded_icmp(icmp: &Icmp<Reg>) -> Outcome
     ensures { result ≡ folded (expr.Icmp icmp.now) }
 {
-    let Some(kind) = kind_of(&icmp.ty) else {
-        return Outcome::Gives(Value::Poison);
-    };
-    let left = value_at(kind, &icmp.left);
-    let right = value_at(kind, &icmp.right);
-    eval_icmp(icmp.pred, kind, &left, &right, 0, 0)
+    let left = value_at(&icmp.ty, &icmp.left);
+    let right = value_at(&icmp.ty, &icmp.right);
+    match kind_of(&icmp.ty) {
+        Some(kind) => eval_icmp(icmp.pred, kind, &left, &right, 0, 0),
+        None => Outcome::Gives(Value::Poison),
+    }
 }
 
 fn folded_cast(cast: &Cast<Reg>) -> Outcome
@@ -171,10 +176,9 @@ fn folded_cast(cast: &Cast<Reg>) -> Outcome
     if !converts(cast.op, &cast.operand.ty, &cast.to) {
         return Outcome::Gives(Value::Poison);
     }
+    let value = operand_value(&cast.operand);
     match (kind_of(&cast.operand.ty), kind_of(&cast.to)) {
-        (Some(from), Some(to)) => {
-            eval_cast(cast.op, from, to, &value_at(from, &cast.operand.atom))
-        }
+        (Some(from), Some(to)) => eval_cast(cast.op, from, to, &value),
         _ => Outcome::Gives(Value::Poison),
     }
 }
@@ -188,4 +192,15 @@ fn folded_select(select: &Select<Reg>) -> Outcome
     }
     let (a, b) = (operand_value(left), operand_value(right));
     eval_select(&operand_value(condition), &a, &b)
+}
+
+/// There is no block to load from.
+#[tactic(auto, using(crate::proofs::Blockless::nothing_is_loaded))]
+fn folded_load(load: &Load<Reg>) -> Outcome
+    ensures { result ≡ folded (expr.Load load.now) }
+{
+    match kind_of(&load.of) {
+        Some(_) => Outcome::Trap,
+        None => Outcome::Gives(Value::Poison),
+    }
 }

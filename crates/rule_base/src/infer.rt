@@ -1,5 +1,6 @@
 ghost use Rattle.std.specs.Prelude.{◌≡◌, ℕ, List, Bool, true};
-ghost use Rattle.ir_core.specs.Modules.{Scope, scope_of};
+ghost use Rattle.ir_values.specs.Constants.{Scope};
+ghost use Rattle.ir_machine.specs.State.{scope_of};
 ghost use Rattle.erhl_assert.specs.declared.facts.Schema.{Schema};
 ghost use Rattle.erhl_assert.specs.Facts.{IsSound};
 

@@ -1,6 +1,6 @@
 ghost use Rattle.std.specs.Prelude.{◌≡◌, cond, nat_eq};
 ghost use Rattle.ir_types.specs.Same.{same_list};
-ghost use Rattle.ir_core.specs.Modules.{scope_of};
+ghost use Rattle.ir_machine.specs.State.{scope_of};
 ghost use Rattle.erhl_assert.specs.Steps.{rule_named, AreSound};
 ghost use Rattle.rule_base.specs.Book.{meanings_of, answer_of};
 

@@ -1,7 +1,7 @@
 ghost use Rattle.std.specs.Prelude.{◌≡◌, true, [], ◌∷◌, map, Contains};
 ghost use Rattle.rule_base.specs.declared.shipped.Rule.{Rule};
 ghost use Rattle.ir_values.specs.Laws.{flags_among};
-ghost use Rattle.rule_base.specs.Rows.{rule_name, stand_apart, is_refl, is_trans, is_undef_const, drops_flags, is_drop_flags, is_undef, is_constant};
+ghost use Rattle.rule_base.specs.Rows.{rule_name, stand_apart, is_refl, is_trans, is_undef_const, drops_flags, is_drop_flags, is_undef, is_simple};
 
 use crate::InferRule;
 use crate::folding::is_fold;
@@ -17,7 +17,7 @@ pub enum Rule {
     Refl,
     /// `a >= b, b >= c` to `a >= c`.
     Trans,
-    /// `undef >= C`, C a number or undef.
+    /// `undef >= C`, C a number, null or undef.
     UndefConst,
     /// `a >= b` to `e >= e'`, a and b operands, e' being e with one operand that is a made b.
     Subst,
@@ -111,10 +111,14 @@ fn is_undef(atom: &Atom<Reg>) -> bool
     matches!(atom, Atom::Constant(Const::Undef))
 }
 
-pub(crate) fn is_constant(atom: &Atom<Reg>) -> bool
-    ensures { result ≡ is_constant atom.now }
+/// Whether the atom is a constant that isn't poison where it is one of its type.
+pub(crate) fn is_simple(atom: &Atom<Reg>) -> bool
+    ensures { result ≡ is_simple atom.now }
 {
-    matches!(atom, Atom::Constant(_))
+    matches!(
+        atom,
+        Atom::Constant(Const::Number(_) | Const::Undef | Const::Null)
+    )
 }
 
 fn is_undef_const(from: &[Fact], to: &Fact) -> bool
@@ -126,7 +130,7 @@ fn is_undef_const(from: &[Fact], to: &Fact) -> bool
     let Fact::LessDef(a, b) = to;
     match (a, b) {
         (Expr::Plain(undef), Expr::Plain(other)) => {
-            have_one_type(a, b) && is_undef(&undef.atom) && is_constant(&other.atom)
+            have_one_type(a, b) && is_undef(&undef.atom) && is_simple(&other.atom)
         }
         _ => false,
     }

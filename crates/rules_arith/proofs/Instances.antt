@@ -2,7 +2,7 @@
 use Rattle.std.specs.Prelude.{◌≡◌, ◌↔◌, true}
 use Rattle.std.specs.List.{AllByRecursion}
 use Rattle.ir_core.specs.declared.expressions.Reg.{Reg}
-use Rattle.ir_core.specs.Modules.{Scope}
+use Rattle.ir_values.specs.Constants.{Scope}
 use Rattle.ir_core.specs.declared.operands.BinOp.TheVariants as op
 use Rattle.erhl_assert.specs.declared.facts.Schema.{Schema}
 use Rattle.form_matching.specs.Exactness.{IsAnInstance, ReadsBack}

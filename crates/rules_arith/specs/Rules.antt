@@ -1,7 +1,7 @@
 -- The rules of arithmetic, as lists of forms.
 use Rattle.std.specs.Prelude.{ℕ, Bool, List, [], ◌∷◌, codes}
 use Rattle.std.specs.List.{list_any}
-use Rattle.ir_core.specs.Modules.{Scope}
+use Rattle.ir_values.specs.Constants.{Scope}
 use Rattle.ir_core.specs.declared.operands.BinOp.TheVariants as op
 use Rattle.rule_forms.specs.declared.forms.Condition.TheVariants as condition
 use Rattle.erhl_assert.specs.declared.facts.Schema.{Schema}

@@ -1,6 +1,6 @@
 ghost use Rattle.std.specs.Prelude.{◌≡◌, ◌↔◌, true};
 ghost use Rattle.std.specs.List.{AllByRecursion};
-ghost use Rattle.ir_core.specs.Modules.{Scope};
+ghost use Rattle.ir_values.specs.Constants.{Scope};
 ghost use Rattle.erhl_assert.specs.declared.facts.Schema.{Schema};
 ghost use Rattle.rule_forms.specs.Meaning.{IsLawful};
 ghost use Rattle.form_matching.specs.Exactness.{IsAnInstance};

@@ -1,7 +1,7 @@
 -- What a rule takes is sound, since each of its forms is lawful.
 use Rattle.std.proofs.Common.{◌≡◌, true}
 use Rattle.std.specs.List.{AllByRecursion}
-use Rattle.ir_core.specs.Modules.{Scope}
+use Rattle.ir_values.specs.Constants.{Scope}
 use Rattle.erhl_assert.specs.declared.facts.Schema.{Schema}
 use Rattle.erhl_assert.specs.Facts.{IsSound}
 use Rattle.rule_forms.specs.Meaning.{IsLawful}

@@ -1,7 +1,7 @@
 -- The rules of conversions, comparisons and selections, as lists of forms.
 use Rattle.std.specs.Prelude.{ℕ, Bool, List, [], ◌∷◌, codes}
 use Rattle.std.specs.List.{list_any}
-use Rattle.ir_core.specs.Modules.{Scope}
+use Rattle.ir_values.specs.Constants.{Scope}
 use Rattle.ir_core.specs.declared.operands.BinOp.TheVariants as op
 use Rattle.ir_core.specs.declared.operands.CastOp.TheVariants as cast
 use Rattle.ir_core.specs.declared.operands.Pred.TheVariants as pred

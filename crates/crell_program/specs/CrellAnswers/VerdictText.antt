@@ -11,7 +11,7 @@ use Rattle.erhl_assert.specs.declared.verdict.Reason.TheVariants.{AlignmentDiffe
 use Rattle.erhl_assert.specs.declared.verdict.Spot.{Spot}
 use Rattle.erhl_assert.specs.declared.verdict.Spot.TheVariants.{Start, Line, Edge}
 use Rattle.erhl_assert.specs.declared.verdict.Difference.{Difference}
-use Rattle.erhl_assert.specs.declared.verdict.Difference.TheVariants.{Types, Functions}
+use Rattle.erhl_assert.specs.declared.verdict.Difference.TheVariants.{Types, Globals, Declarations, Functions}
 use Rattle.erhl_assert.specs.declared.verdict.ModuleVerdict.{ModuleVerdict}
 use Rattle.erhl_assert.specs.declared.verdict.ModuleVerdict.TheVariants as modules
 use Rattle.crell_program.specs.declared.crell_answers.answer.Answer.{Answer}
@@ -39,6 +39,8 @@ reason_text (DiffLeft register) = codes "diff left " ++ printed_register registe
 
 abbrev pub difference_text : Difference → List ℕ
 difference_text Types = codes "types"
+difference_text Globals = codes "globals"
+difference_text Declarations = codes "declarations"
 difference_text Functions = codes "functions"
 
 -- `SPOT: REASON`

@@ -63,6 +63,8 @@ fn push_difference(text: &mut Vec<u8>, what: Difference) -> Result<(), AllocErro
 {
     match what {
         Difference::Types => text.extend_from_slice(b"types"),
+        Difference::Globals => text.extend_from_slice(b"globals"),
+        Difference::Declarations => text.extend_from_slice(b"declarations"),
         Difference::Functions => text.extend_from_slice(b"functions"),
     }
 }

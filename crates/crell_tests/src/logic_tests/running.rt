@@ -4,14 +4,13 @@ ghost use Rattle.ir_machine.specs.Machine as machine;
 ghost use Rattle.ir_machine.specs.State.{Over};
 ghost use Rattle.ir_machine.specs.Places.{state_of};
 
+use block_memory::{Choice, Shown};
 use contents::Seq;
 use ir_core::{
     Atom, BinOp, Binary, Bits, Block, Calm, Const, Expr, Extensions, Flags, Function, Instr,
     Linkage, Module, Name, NamedTypes, Operand, Param, Term, Ty,
 };
-use ir_machine::{
-    Choice, Chooser, Input, Item, Progress, RunState, Shown, StartEnd, StepEnd, start, step,
-};
+use ir_machine::{Chooser, Input, Item, Progress, RunState, StartEnd, StepEnd, start, step};
 use std::alloc::{AllocError, Global};
 
 /// Tells one choice, or none.

@@ -1,7 +1,7 @@
 -- The steps of a hint, one at a time, within the limit on facts.
 use Rattle.std.proofs.Common.{◌≡◌, ◌∙◌, ℕ, ◌+◌, ◌<◌, true, false, cond, List, [], ◌∷◌, length, map, drop, get_or, Option, None, Some, Result, Ok, Err, refl, sym, ap}
 use Rattle.std.specs.Borrow.{Bor}
-use Rattle.ir_core.specs.Modules.{Scope}
+use Rattle.ir_values.specs.Constants.{Scope}
 use Rattle.ir_machine.proofs.Standing.{drop_at}
 use Rattle.erhl_assert.specs.declared.facts.Fact.{Fact}
 use Rattle.erhl_assert.specs.declared.facts.Assertion.{Assertion}

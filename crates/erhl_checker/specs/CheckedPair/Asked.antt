@@ -1,6 +1,7 @@
 -- What a check is asked of, as the code holds it.
 use Rattle.std.specs.Prelude.{ℕ, Bool, List}
-use Rattle.ir_core.specs.Modules.{Scope, scope_of}
+use Rattle.ir_values.specs.Constants.{Scope}
+use Rattle.ir_machine.specs.State.{scope_of}
 use Rattle.erhl_assert.specs.declared.facts.Schema.{Schema}
 use Rattle.erhl_assert.specs.Steps.{Beside, beside}
 use Rattle.rule_base.specs.Book.{rules_of}

@@ -1,6 +1,6 @@
 //! What is looked up of two functions and of their hint.
 ghost use Rattle.std.specs.Prelude.{◌≡◌, IfOk};
-ghost use Rattle.ir_core.specs.Modules.{scope_of};
+ghost use Rattle.ir_machine.specs.State.{scope_of};
 ghost use Rattle.erhl_assert.specs.Alignment.{block_hint, no_facts};
 ghost use Rattle.erhl_assert.specs.Edges.{phis_at};
 ghost use Rattle.erhl_assert.specs.Steps.{beside, rule_named};

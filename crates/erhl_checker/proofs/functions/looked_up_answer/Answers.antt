@@ -1,5 +1,5 @@
 use Rattle.std.proofs.Common.{map, rules}
-use Rattle.ir_core.specs.Modules.{scope_of}
+use Rattle.ir_machine.specs.State.{scope_of}
 use Rattle.line_align.specs.Lent.{lent_block}
 use Rattle.erhl_checker.proofs.CheckedPair.Progressing.{answers_so}
 use Rattle.erhl_checker.proofs.Reaching.{aligned_under, differs_under}

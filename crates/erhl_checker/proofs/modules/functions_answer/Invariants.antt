@@ -1,5 +1,5 @@
 use Rattle.std.proofs.Common.{◌≡◌, drop}
-use Rattle.ir_core.specs.Modules.{scope_of}
+use Rattle.ir_machine.specs.State.{scope_of}
 use Rattle.erhl_assert.specs.Acceptance.{functions_answer}
 use Rattle.rule_base.specs.Book.{rules_of}
 use Rattle.erhl_checker.proofs.modules.functions_answer.Given as goal

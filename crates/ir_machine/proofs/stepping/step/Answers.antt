@@ -6,18 +6,18 @@ use Rattle.ir_machine.proofs.stepping.step.Goals as goal
 
 pub returns-then-place-lines-clause-made : goal.returns-then-place-lines-clause-made
 returns-then-place-lines-clause-made g c = if_ok_first _ _ c.do_line.result
-    (line_done c.args.«module».now c.args.state.now.place c.in-Some.place (registers_in c.args.state.now.registers)
+    (line_done c.args.«module».now c.args.state.now.place c.in-Some.place (registers_in c.args.state.now.registers) c.args.state.now.world
     c.in-Some-get.function.now c.in-Some-get-2.block.now c.in-Some.is (sym c.in-Some-get.ensures) (sym c.in-Some-get-2.ensures)
     c.index-lines-place.result (rw c.as_slice-lines.ensures at c.if-place-lines.true) (rw c.as_slice-lines.ensures at c.index-lines-place.is)
-    c.do_line.result c.do_line.new.state.place (registers_in c.do_line.new.state.registers) (g.C.Chooser.script c.args.chooser.now)
+    c.do_line.result c.do_line.new.state.place (registers_in c.do_line.new.state.registers) c.do_line.new.state.world (g.C.Chooser.script c.args.chooser.now)
     c.do_line.ensures.gives c.do_line.ensures.traps)
 
 pub returns-then-place-lines-clause-progress : goal.returns-then-place-lines-clause-progress
 returns-then-place-lines-clause-progress g c = if_ok_second _ _ c.do_line.result
-    (line_done c.args.«module».now c.args.state.now.place c.in-Some.place (registers_in c.args.state.now.registers)
+    (line_done c.args.«module».now c.args.state.now.place c.in-Some.place (registers_in c.args.state.now.registers) c.args.state.now.world
     c.in-Some-get.function.now c.in-Some-get-2.block.now c.in-Some.is (sym c.in-Some-get.ensures) (sym c.in-Some-get-2.ensures)
     c.index-lines-place.result (rw c.as_slice-lines.ensures at c.if-place-lines.true) (rw c.as_slice-lines.ensures at c.index-lines-place.is)
-    c.do_line.result c.do_line.new.state.place (registers_in c.do_line.new.state.registers) (g.C.Chooser.script c.args.chooser.now)
+    c.do_line.result c.do_line.new.state.place (registers_in c.do_line.new.state.registers) c.do_line.new.state.world (g.C.Chooser.script c.args.chooser.now)
     c.do_line.ensures.gives c.do_line.ensures.traps)
 
 pub returns-then-place-lines-clause-goes_on : goal.returns-then-place-lines-clause-goes_on
@@ -33,7 +33,7 @@ returns-then-place-lines-clause-lacking g c = λ left lacks.
 
 pub returns-then-place-lines-clause-told : goal.returns-then-place-lines-clause-told
 returns-then-place-lines-clause-told g c =
-    line_tells c.args.«module».now c.args.state.now.place c.in-Some.place (registers_in c.args.state.now.registers)
+    line_tells c.args.«module».now c.args.state.now.place c.in-Some.place (registers_in c.args.state.now.registers) c.args.state.now.world
     c.in-Some-get.function.now c.in-Some-get-2.block.now c.in-Some.is (sym c.in-Some-get.ensures) (sym c.in-Some-get-2.ensures)
     c.index-lines-place.result (rw c.as_slice-lines.ensures at c.if-place-lines.true) (rw c.as_slice-lines.ensures at c.index-lines-place.is)
     (g.C.Chooser.script c.args.chooser.now)
@@ -41,4 +41,5 @@ returns-then-place-lines-clause-told g c =
 pub returns-then-place-lines-clause-as_before : goal.returns-then-place-lines-clause-as_before
 returns-then-place-lines-clause-as_before g c =
     as_it_was c.do_line.result c.args.«module».now c.do_line.new.state.place c.args.state.now.place
-    (registers_in c.do_line.new.state.registers) (registers_in c.args.state.now.registers) c.do_line.ensures.same_place c.do_line.ensures.same_registers
+    (registers_in c.do_line.new.state.registers) (registers_in c.args.state.now.registers) c.do_line.new.state.world c.args.state.now.world
+    c.do_line.ensures.same_place c.do_line.ensures.same_registers c.do_line.ensures.same_world

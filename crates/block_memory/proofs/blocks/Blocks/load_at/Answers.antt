@@ -13,8 +13,8 @@ read-requires-clause-inside c =
     place_inside c.args.self.now c.args.kind c.args.ptr.now c.args.align c.in-Some.block c.in-Some.start c.in-Some.ensures.some.0 c.in-Some.ensures.some.1
     c.index.result.now (c.index.ensures ∙ ap (λ m. get_or m c.in-Some.block c.index.result.now) c.self.view_is)
 
-pub returns-in-Some : goal.returns-in-Some
-returns-in-Some c =
-    ap Gives c.read.ensures
+pub returns-in-Some-clause-value : goal.returns-in-Some-clause-value
+returns-in-Some-clause-value c =
+    ap Gives c.read.ensures.value
     ∙ load_answer c.args.self.now c.args.kind c.args.ptr.now c.args.align c.in-Some.block c.in-Some.start c.in-Some.ensures.some.0 c.in-Some.ensures.some.1
     c.index.result.now (c.index.ensures ∙ ap (λ m. get_or m c.in-Some.block c.index.result.now) c.self.view_is)

@@ -1,4 +1,4 @@
-use Rattle.std.proofs.Common.{◌∙◌, ap, filter, take, length, ◌≡◌, arith, rules}
+use Rattle.std.proofs.Common.{◌∙◌, ap, filter, arith}
 use Rattle.std.proofs.lemmas.List.{take_all}
 use Rattle.ir_types.specs.Same.{same_name}
 use Rattle.line_align.proofs.by_name.ByName.new.Goals as goal

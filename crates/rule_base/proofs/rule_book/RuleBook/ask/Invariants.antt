@@ -1,5 +1,5 @@
 use Rattle.std.proofs.Common.{◌≡◌, drop}
-use Rattle.ir_core.specs.Modules.{scope_of}
+use Rattle.ir_machine.specs.State.{scope_of}
 use Rattle.erhl_assert.specs.Steps.{rule_named}
 use Rattle.rule_base.specs.Book.{meanings_of, answer_of}
 use Rattle.rule_base.proofs.rule_book.RuleBook.ask.Given as goal
