@@ -10,9 +10,10 @@ grammar) or `printing` (what putting a module into a text takes). Where a unit i
 a peak that isn't set yet is inf. In a command {} stands for the input's file, HINTS for the hints that belong to it, NONE for hints that
 say nothing, STEP for one step before the first line, with which facts are kept along the block, BASE for a module of one line. An input is
 made by rule: chain:N is a function of N lines of i32, mixed:N one of all operators over integers of several widths, flow:N one of N blocks
-that branch, join and loop, clang:N a module of N functions as clang writes them (which `check` doesn't read), steps:N a hint file of N steps, blocks:N one of N blocks. Three have HINTS, under which they are valid against
+that branch, join and loop, clang:N a module of N functions as clang writes them (which `check` doesn't read), steps:N a hint file of N steps, blocks:N one of N blocks. Four have HINTS, under which they are valid against
 themselves: edges:N, a function of N blocks with a phi each, at whose starts 60 facts are known; ghosts:N, one of N blocks with two ghost
-and two same steps each; switch:N, one of a block of 50 lines and a step, which leads to N blocks.
+and two same steps each; switch:N, one of a block of 50 lines and a step, which leads to N blocks; differ:N, one of N blocks in
+a row, at whose starts the same 400 registers may differ.
 
 Counts are callgrind's totals less those of the same command on an empty input, so they don't depend on the machine's load; two runs
 differ by less than 0.2 %. Peak memory is that of a run of its own. Where growth has to be linear the input is made at half its size too,
@@ -147,6 +148,20 @@ def ghost_hints(count):
     return hints([f'{{"at":"%b{k}","lines":"stb","steps":[{steps.format(k)}]}}' for k in range(1, count + 1)])
 
 
+def differ(count):
+    """A function of so many blocks in a row, each of one line."""
+    lines = ["define i32 @f(i32 %x) {", "b0:"]
+    for k in range(1, count + 1):
+        lines += [f"  br label %b{k}", f"b{k}:", f"  %v{k} = add i32 %x, {k}"]
+    return "\n".join(lines + ["  ret i32 %x", "}", ""])
+
+
+def differ_hints(count):
+    """In each block but the first the same 400 registers may differ."""
+    registers = ",".join(f'"%r{j}"' for j in range(400))
+    return hints([f'{{"at":"%b{k}","diff":[{registers}]}}' for k in range(1, count + 1)])
+
+
 def switch(count):
     """A function whose first block has 50 lines and leads to so many blocks that return."""
     lines = ["define i32 @f(i32 %x) {", "b0:"] + [f"  %v{j} = add i32 %x, {j}" for j in range(50)] + ["  switch i32 %x, label %b1 ["]
@@ -176,8 +191,8 @@ def blocks(count):
 
 ONE_STEP = hints(['{"at":"%entry","steps":[{"at":0,"rule":"undef_const","side":"src","from":[],"to":["ge","i32 undef","i32 7"]}]}'])
 RETURN = "define i32 @f() {\n  ret i32 0\n}\n"
-MAKERS = {"chain": chain, "mixed": mixed, "flow": flow, "clang": clang, "edges": edges, "ghosts": ghosts, "switch": switch, "steps": steps, "blocks": blocks}
-HINTS = {"edges": edge_hints, "ghosts": ghost_hints, "switch": switch_hints}
+MAKERS = {"chain": chain, "mixed": mixed, "flow": flow, "clang": clang, "edges": edges, "ghosts": ghosts, "differ": differ, "switch": switch, "steps": steps, "blocks": blocks}
+HINTS = {"edges": edge_hints, "ghosts": ghost_hints, "differ": differ_hints, "switch": switch_hints}
 EMPTY = {"steps": steps(0), "blocks": blocks(0)}
 
 

@@ -1,5 +1,6 @@
 pub mod AtOnce
 pub mod Differing
+pub mod Numbering
 pub mod Reaching
 pub mod FunctionLookup
 pub mod CheckedPair

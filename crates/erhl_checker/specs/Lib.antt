@@ -1,4 +1,5 @@
 pub mod Alike
+pub mod HintLists
 pub mod Reached
 pub mod FunctionLookup
 pub mod CheckedPair

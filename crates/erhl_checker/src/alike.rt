@@ -17,7 +17,7 @@ use std::alloc::{AllocError, Global};
 
 /// Lines agree where nothing is known.
 struct Agreeing<'b> {
-    nothing: &'b Sides<IndexedSet>,
+    nothing: &'b Sides<'b, 'b, IndexedSet>,
     ghost none: { nothing.now ≡ no_facts },
 }
 

@@ -19,6 +19,7 @@ ghost use Rattle.erhl_checker.specs.Reached.{from_entry_answer};
 
 use crate::alike::functions_alike;
 use crate::block_checker::{CheckEnd, FunctionIndex, FunctionParts, Pair, block_answer};
+use crate::hint_lists::{HintLists, ListedBlock, listed_blocks};
 use contents::Exact;
 use definedness::reached;
 use erhl_assert::{
@@ -43,7 +44,7 @@ fn marks_of(alloc: Global, function: &Function) -> Result<Vec<bool>, AllocError>
 /// The answer on two blocks, if they are reached.
 fn answer_if_reached(
     alloc: Global,
-    pair: &Pair<'_, '_, '_>,
+    pair: &Pair<'_, '_, '_, '_, '_>,
     is_reached: bool,
     block: &AlignedBlock<'_>,
 ) -> Result<Verdict, CheckEnd>
@@ -61,7 +62,7 @@ fn answer_if_reached(
 #[tactic(auto, using(crate::proofs::Reaching::blocks_more, crate::proofs::Reaching::blocks_refused, crate::proofs::Reaching::blocks_stopped))]
 fn blocks_answer(
     alloc: Global,
-    pair: &Pair<'_, '_, '_>,
+    pair: &Pair<'_, '_, '_, '_, '_>,
     marks: &[bool],
     blocks: &[AlignedBlock<'_>],
 ) -> Result<Verdict, CheckEnd>
@@ -108,7 +109,7 @@ fn entry_fault(alloc: Global, entry: &Assertion) -> Result<Option<Reason>, Alloc
 /// What the hint claims at the entry, and then the blocks that are reached from there.
 fn from_entry(
     alloc: Global,
-    pair: &Pair<'_, '_, '_>,
+    pair: &Pair<'_, '_, '_, '_, '_>,
     entry: &AlignedBlock<'_>,
     blocks: &[AlignedBlock<'_>],
 ) -> Result<Verdict, CheckEnd>
@@ -130,7 +131,7 @@ fn from_entry(
 
 fn reached_answer(
     alloc: Global,
-    pair: &Pair<'_, '_, '_>,
+    pair: &Pair<'_, '_, '_, '_, '_>,
     blocks: &[AlignedBlock<'_>],
 ) -> Result<Verdict, CheckEnd>
     ensures { Answers result (judged_answer (judged.reached_judged (asked called takes pair.now) (map lent_block blocks.now))) }
@@ -186,11 +187,11 @@ fn has_same(blocks: &[HeldBlock]) -> bool {
 }
 
 /// The answer on two functions whose blocks align, with what is looked up of them.
-fn parts_answer<'a>(
+fn parts_answer<'h, 'l, 'a>(
     alloc: Global,
     module: &'a Module,
     book: &'a RuleBook,
-    hints: ByName<'a, HeldBlock>,
+    hints: ByName<'h, ListedBlock<'l, 'a>>,
     source: &FunctionParts<'a>,
     target: &FunctionParts<'a>,
     blocks: &[AlignedBlock<'_>],
@@ -212,7 +213,7 @@ fn aligned_answer<'a>(
     alloc: Global,
     module: &'a Module,
     book: &'a RuleBook,
-    hints: ByName<'a, HeldBlock>,
+    hint: &'a [HeldBlock],
     asked: bool,
     source: &'a Function,
     target: &'a Function,
@@ -221,9 +222,12 @@ fn aligned_answer<'a>(
     ensures { Answers result
         (judged_answer
         (judged.reached_judged
-        (beside (rules_of called takes book.now) (scope_of «module».now) source.now target.now (record { blocks = hints.entry }))
+        (beside (rules_of called takes book.now) (scope_of «module».now) source.now target.now (record { blocks = hint.now }))
         (map lent_block blocks.now))) }
 {
+    let lists = HintLists::of(alloc, hint)?;
+    let listed = listed_blocks(alloc, &lists)?;
+    let hints = ByName::new(alloc, listed.as_slice())?;
     let source = FunctionParts::new(alloc, source, asked)?;
     let target = FunctionParts::new(alloc, target, asked)?;
     parts_answer(alloc, module, book, hints, &source, &target, blocks)
@@ -242,20 +246,13 @@ fn looked_up_answer(
     ensures { Answers result
         (function_answer (beside (rules_of called takes book.now) (scope_of «module».now) source.now target.now hint.now)) }
 {
-    let hints = ByName::new(alloc, hint.blocks.as_slice())?;
+    let given = hint.blocks.as_slice();
+    let hints = ByName::new(alloc, given)?;
     match align(alloc, source, target, &hints) {
         Ok(blocks) => {
-            let asked = has_same(hint.blocks.as_slice());
-            aligned_answer(
-                alloc,
-                module,
-                book,
-                hints,
-                asked,
-                source,
-                target,
-                blocks.as_slice(),
-            )
+            let asked = has_same(given);
+            let aligned = blocks.as_slice();
+            aligned_answer(alloc, module, book, given, asked, source, target, aligned)
         }
         Err(end) => match end {
             AlignEnd::Differs(block) => Ok(Verdict::Refused {

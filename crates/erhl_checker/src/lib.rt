@@ -1,7 +1,7 @@
 //! The checker: whether a target refines a source, by the proof that a hint gives. It says no where it doesn't know, with the
 //! first place and the first reason.
 //!
-//! `function_lookup` has what is looked up of a function by a name; `checked_pair` what the check of two functions is asked of, and when two
+//! `function_lookup` has what is looked up of a function by a name; `hint_lists` each list of registers that a hint names, once; `checked_pair` what the check of two functions is asked of, and when two
 //! blocks agree line by line; `hint_steps` what is known after the steps of a hint; `block_checker` the walk along the lines of two blocks
 //! and over the edges that leave them.
 #![tactic(auto)]
@@ -11,6 +11,7 @@ mod block_checker;
 mod checked_pair;
 mod function_lookup;
 mod functions;
+mod hint_lists;
 mod hint_steps;
 mod modules;
 

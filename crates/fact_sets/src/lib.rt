@@ -5,9 +5,12 @@
 #![tactic(auto)]
 
 mod added_facts;
+mod added_registers;
 mod erhl_sides;
 mod indexed_set;
 mod laws;
+mod left_registers;
+mod listed_registers;
 mod naming;
 mod near_facts;
 mod register_set;
@@ -19,5 +22,6 @@ pub use added_facts::{
 pub use erhl_sides::{Joined, Sides, Sort, fact_has, names_old, sides_of};
 pub use indexed_set::IndexedSet;
 pub use laws::examples_of_near_facts;
+pub use listed_registers::{LentRegisters, ListedRegisters};
 pub use near_facts::NearFacts;
 pub use register_set::RegisterSet;

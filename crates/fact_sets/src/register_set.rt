@@ -1,215 +1,270 @@
-//! A set of registers in which one is found without a walk.
+//! Registers that may differ: what is left of a lent list, what it was before an edge, and what was added.
 //!
-//! Speed alone beside a list: blocks whose hints name many registers (`check-edges` of `bench/count.py`).
-ghost use Rattle.std.specs.Prelude.{◌≡◌, [], IfOk, OnOk, OnErr, not, filter};
-ghost use Rattle.ir_core.specs.declared.expressions.Reg.TheVariants.{Now};
-ghost use Rattle.erhl_assert.specs.Sides.{has_reg};
+//! Speed alone beside a list: a block takes time by what it adds and takes out, not by its list (`check-differ` of `bench/count.py`).
+ghost use Rattle.std.specs.Prelude.{◌≡◌, ◌++◌, [], ◌∷◌, false, not, filter, map, IfOk, OnOk};
 ghost use Rattle.std.specs.List.{list_any};
-ghost use Rattle.ir_types.specs.Same.{same_name};
-ghost use Rattle.erhl_assert.specs.Named.{name_of};
+ghost use Rattle.ir_core.specs.declared.expressions.Reg.TheVariants.{Now};
+ghost use Rattle.erhl_assert.specs.Edges.{is_old, old_of, old_too};
+ghost use Rattle.erhl_assert.specs.Sides.{has_reg};
 ghost use Rattle.erhl_assert.specs.Postcondition.{with_reg, without_reg};
-ghost use Rattle.fact_sets.specs.Names.{of_kind, no_names, with_register, without_register, with_registers};
+ghost use Rattle.fact_sets.specs.ErhlSides.Differing.{is_left_over};
 
+use crate::added_facts::old_register;
+use crate::added_registers::AddedRegisters;
+use crate::left_registers::{LeftRegisters, is_left_over};
+use crate::listed_registers::LentRegisters;
 use contents::{Exact, Seq};
-use erhl_assert::bare_name;
-use indexmap::IndexSet;
-use ir_core::{Name, Reg, same_name, same_reg};
+use ir_core::{Name, Reg};
 use std::alloc::{AllocError, Global};
 use std::marker::Model;
 
-/// Names of registers, found by hash: of those of a function as they are now, of those as they were, and of ghost registers.
-struct ByKind {
-    current: IndexSet<Name>,
-    former: IndexSet<Name>,
-    ghosts: IndexSet<Name>,
+/// A list of registers, of which one is found by hash: what is left of a lent list and registers behind it; the same of a lent list as it
+/// was before an edge, each made old; and registers behind that.
+pub struct RegisterSet<'l, 'a> {
+    kept: LeftRegisters<'l, 'a>,
+    added: AddedRegisters,
+    before: LeftRegisters<'l, 'a>,
+    behind: AddedRegisters,
 }
 
-impl Model for ByKind {
-    ghost use Rattle.fact_sets.specs.Names.{Kinds};
-
-    ghost Value = { Kinds };
-
-    ghost view = { λ it. record { current = it.current.keys; former = it.former.keys; ghosts = it.ghosts.keys } };
-}
-
-impl Drop for ByKind {
-    fn drop(self) {
-        let ByKind {
-            current: _,
-            former: _,
-            ghosts: _,
-        } = self;
-    }
-}
-
-/// A list of registers, of which one is found by hash.
-pub struct RegisterSet {
-    registers: Vec<Reg>,
-    /// The names of exactly these registers.
-    names: ByKind,
-}
-
-impl Model for RegisterSet {
-    ghost use Rattle.std.specs.Prelude.{List};
+impl<'l, 'a> Model for RegisterSet<'l, 'a> {
+    ghost use Rattle.std.specs.Prelude.{◌++◌, List, map};
     ghost use Rattle.ir_core.specs.declared.expressions.Reg.{Reg};
-    ghost use Rattle.fact_sets.specs.Names.{AreListed};
+    ghost use Rattle.erhl_assert.specs.Edges.{old_of};
 
     ghost Value = { List Reg };
 
-    ghost view = { λ it. it.registers.items };
-
-    ghost invariant = { λ it. AreListed it.names it.registers.items };
+    ghost view = { λ it. it.kept ++ it.added ++ map old_of it.before ++ it.behind };
 }
 
-impl Drop for RegisterSet {
+impl<'l, 'a> Drop for RegisterSet<'l, 'a> {
     fn drop(self) {
         let RegisterSet {
-            registers: _,
-            names: _,
+            kept: _,
+            added: _,
+            before: _,
+            behind: _,
         } = self;
     }
 }
 
-/// Whether the name is there. Mostly no register differs, and then no name is hashed.
-fn is_among(name: &Name, names: &IndexSet<Name>) -> bool
-    ensures { result ≡ list_any (same_name name.now) names.now.keys }
+fn is_old(register: &Reg) -> bool
+    ensures { result ≡ is_old register.now }
 {
-    !names.is_empty() && names.contains(name)
+    matches!(register, Reg::Old(_))
 }
 
-/// Takes out the name.
-fn take_out(name: &Name, names: &mut IndexSet<Name>)
-    ensures { names.new.keys ≡ filter (λ n. not (same_name name.now n)) names.old.keys }
+/// Adds the register, if it isn't old.
+#[tactic(auto, using(crate::proofs::Crossed::young_put, crate::proofs::Crossed::old_not_put))]
+fn put_young(alloc: Global, register: &Reg, young: &mut Seq<Reg>) -> Result<(), AllocError>
+    ensures { OnOk result (young.new ≡ young.old ++ filter (λ r. not (is_old r)) (register.now ∷ [])) }
 {
-    names.retain(|other| !same_name(name, other));
+    if is_old(register) {
+        return Ok(());
+    }
+    young.push(register.copy(alloc)?)
 }
 
-impl ByKind {
-    fn none(alloc: Global) -> ByKind
-        ensures { result ≡ no_names }
-    {
-        ByKind {
-            current: IndexSet::new(alloc),
-            former: IndexSet::new(alloc),
-            ghosts: IndexSet::new(alloc),
-        }
-    }
-
-    /// Whether the register's name is among those of its kind.
-    fn has(&self, register: &Reg) -> bool
-        ensures { result ≡ list_any (same_name (name_of register.now)) (of_kind register.now self.now) }
-    {
-        match register {
-            Reg::Now(name) => is_among(name, &self.current),
-            Reg::Old(name) => is_among(name, &self.former),
-            Reg::Ghost(name) => is_among(name, &self.ghosts),
-        }
-    }
-
-    /// Whether the name is that of a register as it is now.
-    fn has_current(&self, name: &Name) -> bool
-        ensures { result ≡ list_any (same_name name.now) self.now.current }
-    {
-        is_among(name, &self.current)
-    }
-
-    /// Puts the register's name among those of its kind.
-    fn add(&mut self, alloc: Global, register: &Reg) -> Result<(), AllocError>
-        ensures ok { OnOk result (self.new ≡ with_register register.now self.old) }
-        ensures err { OnErr result (self.new ≡ self.old) }
-    {
-        match register {
-            Reg::Now(name) => {
-                self.current.insert(name.copy(alloc)?)?;
-            }
-            Reg::Old(name) => {
-                self.former.insert(name.copy(alloc)?)?;
-            }
-            Reg::Ghost(name) => {
-                self.ghosts.insert(name.copy(alloc)?)?;
-            }
-        }
-        Ok(())
-    }
-
-    /// Takes out the register's name.
-    fn remove(&mut self, register: &Reg)
-        ensures { self.new ≡ without_register register.now self.old }
-    {
-        match register {
-            Reg::Now(name) => take_out(name, &mut self.current),
-            Reg::Old(name) => take_out(name, &mut self.former),
-            Reg::Ghost(name) => take_out(name, &mut self.ghosts),
-        }
-    }
-}
-
-fn all_names(alloc: Global, registers: &[Reg]) -> Result<ByKind, AllocError>
-    ensures { IfOk result (λ names. names ≡ with_registers registers.now no_names) }
+/// Those that aren't old.
+#[tactic(auto, using(crate::proofs::Crossed::young_on))]
+fn all_young(alloc: Global, registers: &[Reg]) -> Result<Seq<Reg>, AllocError>
+    ensures { IfOk result (λ young. young ≡ filter (λ r. not (is_old r)) registers.now) }
 {
-    let mut names = ByKind::none(alloc);
+    let mut young = Seq::new(alloc);
     for register in registers {
-        names.add(alloc, register)?;
+        put_young(alloc, register, &mut young)?;
     }
-    Ok(names)
+    Ok(young)
 }
 
-impl RegisterSet {
-    #[tactic(auto, using(crate::proofs::Listed::all_listed))]
-    pub fn of(alloc: Global, registers: Seq<Reg>) -> Result<RegisterSet, AllocError>
-        ensures { IfOk result (λ set. set ≡ registers) }
+/// The registers as they were before the edge.
+fn all_old(alloc: Global, registers: &[Reg]) -> Result<Seq<Reg>, AllocError>
+    ensures { IfOk result (λ old. old ≡ map old_of registers.now) }
+{
+    let mut old = Seq::new(alloc);
+    for register in registers {
+        old.push(old_register(alloc, register)?)?;
+    }
+    Ok(old)
+}
+
+/// Puts registers behind others.
+fn put_all(alloc: Global, registers: &[Reg], all: &mut Seq<Reg>) -> Result<(), AllocError>
+    ensures { OnOk result (all.new ≡ all.old ++ registers.now) }
+{
+    for register in registers {
+        all.push(register.copy(alloc)?)?;
+    }
+    Ok(())
+}
+
+/// Whether the register is one of these as they were before the edge.
+#[tactic(auto, using(crate::proofs::Crossed::has_no_now, crate::proofs::Crossed::has_as_old, crate::proofs::Crossed::has_ghost))]
+fn has_before(before: &LeftRegisters<'_, '_>, register: &Reg) -> bool
+    ensures { result ≡ has_reg register.now (map old_of before.now) }
+{
+    match register {
+        Reg::Now(_) => false,
+        Reg::Old(name) => before.has_now(name) || before.has(register),
+        Reg::Ghost(_) => before.has(register),
+    }
+}
+
+/// Takes the register out of these as they were before the edge.
+#[tactic(auto, using(crate::proofs::Crossed::now_stays, crate::proofs::Crossed::old_leaves, crate::proofs::Crossed::ghost_leaves))]
+fn remove_before(before: &mut LeftRegisters<'_, '_>, register: &Reg)
+    ensures { map old_of before.new ≡ without_reg register.now (map old_of before.old) }
+{
+    match register {
+        Reg::Now(_) => {}
+        Reg::Old(name) => {
+            before.remove_now(name);
+            before.remove(register);
+        }
+        Reg::Ghost(_) => before.remove(register),
+    }
+}
+
+/// Whether one of these as they were before the edge may be left over: only ghost registers aren't old then.
+#[tactic(auto, using(crate::proofs::Crossed::none_before_over, crate::proofs::Crossed::none_over_before))]
+fn may_be_over_before(before: &LeftRegisters<'_, '_>, wanted: &LentRegisters<'_, '_>) -> bool
+    ensures { result ≡ false → list_any (is_left_over wanted.now) (map old_of before.now) ≡ false }
+{
+    before.may_have_ghosts() && before.has_left_over(wanted)
+}
+
+fn some_left_over(wanted: &LentRegisters<'_, '_>, registers: &[Reg]) -> bool
+    ensures { result ≡ list_any (is_left_over wanted.now) registers.now }
+{
+    registers
+        .iter()
+        .any(|register| is_left_over(wanted, register))
+}
+
+/// What may differ behind an edge, but for its phis, of what may where these and then those may before it.
+fn over_edge<'l, 'a>(
+    alloc: Global,
+    kept: LeftRegisters<'l, 'a>,
+    before: LeftRegisters<'l, 'a>,
+    rest: &[Reg],
+) -> Result<RegisterSet<'l, 'a>, AllocError>
+    ensures { IfOk result
+        (λ set. set
+        ≡ kept.entry ++ filter (λ r. not (is_old r)) rest.now ++ map old_of before.entry ++ map old_of (filter (λ r. not (is_old r)) rest.now)) }
+{
+    let young = all_young(alloc, rest)?;
+    let old = all_old(alloc, young.as_slice())?;
+    Ok(RegisterSet {
+        kept,
+        added: AddedRegisters::of(alloc, young)?,
+        before,
+        behind: AddedRegisters::of(alloc, old)?,
+    })
+}
+
+impl<'l, 'a> RegisterSet<'l, 'a> {
+    /// The registers of the lent list.
+    #[tactic(auto, using(crate::proofs::Crossed::kept_alone))]
+    pub fn lent(
+        alloc: Global,
+        list: LentRegisters<'l, 'a>,
+    ) -> Result<RegisterSet<'l, 'a>, AllocError>
+        ensures { IfOk result (λ set. set ≡ list.entry) }
     {
-        let names = all_names(alloc, registers.as_slice())?;
         Ok(RegisterSet {
-            registers: registers.into_vec(),
-            names,
+            kept: LeftRegisters::of(alloc, list)?,
+            added: AddedRegisters::none(alloc),
+            before: LeftRegisters::none(alloc),
+            behind: AddedRegisters::none(alloc),
         })
     }
 
-    pub fn as_slice(&self) -> &[Reg]
-        ensures { result.now ≡ self.now }
-    {
-        self.registers.as_slice()
-    }
-
-    #[tactic(auto, using(crate::proofs::Listed::listed))]
+    #[tactic(auto, using(crate::proofs::Crossed::has_in_four))]
     pub fn has(&self, register: &Reg) -> bool
         ensures { result ≡ has_reg register.now self.now }
     {
-        self.names.has(register)
+        self.kept.has(register)
+            || self.added.has(register)
+            || has_before(&self.before, register)
+            || self.behind.has(register)
     }
 
     /// Whether the register of now is there.
-    #[tactic(auto, using(crate::proofs::Listed::now_listed))]
+    #[tactic(auto, using(crate::proofs::Crossed::has_now_in_three))]
     pub fn has_now(&self, name: &Name) -> bool
         ensures { result ≡ has_reg (Now name.now) self.now }
     {
-        self.names.has_current(name)
+        self.kept.has_now(name) || self.added.has_now(name) || self.behind.has_now(name)
+    }
+
+    /// Puts the register at the end, whether it is there or not.
+    #[tactic(auto, using(crate::proofs::Crossed::one_behind))]
+    pub fn push(&mut self, alloc: Global, register: Reg) -> Result<(), AllocError>
+        ensures { OnOk result (self.new ≡ self.old ++ register ∷ []) }
+    {
+        self.behind.push(alloc, register)
     }
 
     /// Puts the register at the end, where it isn't there yet.
-    #[tactic(auto, using(crate::proofs::Listed::one_listed))]
     pub fn add(&mut self, alloc: Global, register: Reg) -> Result<(), AllocError>
         ensures { OnOk result (self.new ≡ with_reg register self.old) }
     {
         if self.has(&register) {
             return Ok(());
         }
-        self.registers.reserve(1)?;
-        self.names.add(alloc, &register)?;
-        self.registers.push(register)?;
-        Ok(())
+        self.push(alloc, register)
     }
 
-    /// Takes out the register. Where it is there, the others are walked: a line takes one out that may differ already as the line
-    /// defines it, so one that a loop's start names, and each such line does so once.
-    #[tactic(auto, using(crate::proofs::Listed::rest_listed))]
+    /// Takes out the register.
+    #[tactic(auto, using(crate::proofs::Crossed::without_in_four))]
     pub fn remove(&mut self, register: &Reg)
         ensures { self.new ≡ without_reg register.now self.old }
     {
-        if self.has(register) {
-            self.names.remove(register);
-            self.registers.retain(|other| !same_reg(register, other));
+        self.kept.remove(register);
+        self.added.remove(register);
+        remove_before(&mut self.before, register);
+        self.behind.remove(register);
+    }
+
+    /// A list of all.
+    pub fn all(&self, alloc: Global) -> Result<Seq<Reg>, AllocError>
+        ensures { IfOk result (λ all. all ≡ self.now) }
+    {
+        let mut all = self.kept.all(alloc)?;
+        put_all(alloc, self.added.as_slice(), &mut all)?;
+        let before = self.before.all(alloc)?;
+        let old = all_old(alloc, before.as_slice())?;
+        put_all(alloc, old.as_slice(), &mut all)?;
+        put_all(alloc, self.behind.as_slice(), &mut all)?;
+        Ok(all)
+    }
+
+    /// The registers that aren't old, and then the same as they were before an edge.
+    #[tactic(auto, using(crate::proofs::Crossed::kept_over, crate::proofs::Crossed::all_over))]
+    pub fn old_too(&self, alloc: Global) -> Result<RegisterSet<'l, 'a>, AllocError>
+        ensures { IfOk result (λ set. set ≡ old_too self.now) }
+    {
+        if self.before.is_none() && self.added.as_slice().is_empty() && !self.kept.may_have_old() {
+            let kept = self.kept.again(alloc)?;
+            let before = self.kept.again(alloc)?;
+            let set = over_edge(alloc, kept, before, self.behind.as_slice())?;
+            return Ok(set);
         }
+        let all = self.all(alloc)?;
+        let kept = LeftRegisters::none(alloc);
+        let before = LeftRegisters::none(alloc);
+        let set = over_edge(alloc, kept, before, all.as_slice())?;
+        Ok(set)
+    }
+
+    /// Whether one may be left over: where none may, none is printed.
+    #[tactic(auto, using(crate::proofs::Crossed::none_over_in_four))]
+    pub(crate) fn may_be_over(&self, wanted: &LentRegisters<'_, '_>) -> bool
+        ensures { result ≡ false → list_any (is_left_over wanted.now) self.now ≡ false }
+    {
+        self.kept.has_left_over(wanted)
+            || some_left_over(wanted, self.added.as_slice())
+            || may_be_over_before(&self.before, wanted)
+            || some_left_over(wanted, self.behind.as_slice())
     }
 }

@@ -27,7 +27,7 @@ use std::alloc::{AllocError, Global};
 #[tactic(auto, using(crate::proofs::CheckedPair::Progressing::end_refused))]
 fn at_terms(
     alloc: Global,
-    pair: &Pair<'_, '_, '_>,
+    pair: &Pair<'_, '_, '_, '_, '_>,
     hint: &HintBlock,
     k: u64,
     block: &AlignedBlock<'_>,
@@ -51,7 +51,7 @@ fn at_terms(
 /// The steps before the terminators, then the terminators and the edges.
 fn at_end(
     alloc: Global,
-    pair: &Pair<'_, '_, '_>,
+    pair: &Pair<'_, '_, '_, '_, '_>,
     hint: &HintBlock,
     steps: &[&HintStep],
     k: u64,
@@ -77,7 +77,7 @@ fn at_end(
 #[tactic(auto, using(crate::proofs::CheckedPair::Progressing::line_within, crate::proofs::CheckedPair::Progressing::line_refuses_so, crate::proofs::CheckedPair::Progressing::line_over))]
 fn over_line(
     alloc: Global,
-    pair: &Pair<'_, '_, '_>,
+    pair: &Pair<'_, '_, '_, '_, '_>,
     letter: Letter,
     xs: &[Instr],
     ys: &[Instr],
@@ -101,7 +101,7 @@ fn over_line(
 #[tactic(auto, using(erhl_assert::proofs::Courses::within_more, erhl_assert::proofs::Courses::within_refused, erhl_assert::proofs::Courses::within_none))]
 fn past_line(
     alloc: Global,
-    pair: &Pair<'_, '_, '_>,
+    pair: &Pair<'_, '_, '_, '_, '_>,
     steps: &[&HintStep],
     letter: Letter,
     xs: &[Instr],
@@ -128,7 +128,7 @@ fn letter_at(letters: &[Letter], i: usize) -> Letter
 /// Along the aligned lines of two blocks.
 fn along(
     alloc: Global,
-    pair: &Pair<'_, '_, '_>,
+    pair: &Pair<'_, '_, '_, '_, '_>,
     hint: &HintBlock,
     block: &AlignedBlock<'_>,
     labels: &[&Name],
@@ -136,7 +136,7 @@ fn along(
 ) -> Result<Verdict, CheckEnd>
     requires parts { AreParts hint.now (block_hint (asked called takes pair.now).hint block.now.source.now.name) }
     requires labels { names_lent labels.now ≡ judged.labels_once (successors_of block.now.source.now.term) }
-    ensures { Answers result (lines_answer (asked called takes pair.now) (lent_block block.now) 0 (lent_block block.now).lines entry) }
+    ensures { Answers result (lines_answer (asked called takes pair.now) (lent_block block.now) 0 (lent_block block.now).lines entry.entry) }
 {
     let letters = block.letters.as_slice();
     let placed = hint.steps.as_slice();
@@ -176,7 +176,7 @@ fn along(
 #[inline(never)]
 fn from_start(
     alloc: Global,
-    pair: &Pair<'_, '_, '_>,
+    pair: &Pair<'_, '_, '_, '_, '_>,
     hint: &HintBlock,
     block: &AlignedBlock<'_>,
     labels: &[&Name],
@@ -188,6 +188,7 @@ fn from_start(
     match sides_of(
         alloc,
         &hint.entry,
+        pair.list_of(&block.source.name),
         block.source.body.len(),
         block.target.body.len(),
     )? {
@@ -210,7 +211,7 @@ fn is_empty(hint: &HintBlock) -> bool
 /// Whether the blocks agree where nothing is known, and the hint says nothing of them: then they are valid.
 fn is_valid_at_once(
     alloc: Global,
-    pair: &Pair<'_, '_, '_>,
+    pair: &Pair<'_, '_, '_, '_, '_>,
     hint: &HintBlock,
     block: &AlignedBlock<'_>,
     labels: &[&Name],
@@ -230,7 +231,7 @@ fn is_valid_at_once(
 /// The answer on two blocks.
 pub fn block_answer(
     alloc: Global,
-    pair: &Pair<'_, '_, '_>,
+    pair: &Pair<'_, '_, '_, '_, '_>,
     block: &AlignedBlock<'_>,
 ) -> Result<Verdict, CheckEnd>
     ensures { Answers result (judged_answer (judged.block_judged (asked called takes pair.now) (lent_block block.now))) }

@@ -14,7 +14,7 @@ use crate::checked_pair::{CheckEnd, Pair};
 use crate::hint_steps::after_steps;
 use contents::{Exact, Seq};
 use erhl_assert::{HintBlock, HintEdge, HintStep, Reason, Side, Spot, Verdict};
-use fact_sets::{IndexedSet, Sides};
+use fact_sets::{IndexedSet, LentRegisters, Sides};
 use ir_core::Name;
 use line_align::ByName;
 use postcondition::{Edge, LineEnd, Phis, after_edge};
@@ -86,8 +86,10 @@ fn note_steps<'a>(more: &'a [HintStep], steps: &mut Seq<&'a HintStep>) -> Result
 fn arrival_fault(
     alloc: Global,
     claims: &HintBlock,
+    list: &LentRegisters<'_, '_>,
     known: &Sides<IndexedSet>,
 ) -> Result<Option<Reason>, AllocError>
+    requires { list.now ≡ claims.now.entry.diff }
     ensures { IfOk result (λ fault. fault ≡ judged.arrival_fault claims.now.entry (without_old known.now)) }
 {
     if let Some(fact) = known.first_missing(Side::Src, claims.entry.src.as_slice()) {
@@ -96,21 +98,21 @@ fn arrival_fault(
     if let Some(fact) = known.first_missing(Side::Tgt, claims.entry.tgt.as_slice()) {
         return Ok(Some(Reason::MissingFact(fact.copy(alloc)?)));
     }
-    match known.first_left_over(alloc, &claims.entry.diff)? {
-        Some(register) => Ok(Some(Reason::DiffLeft(register.copy(alloc)?))),
+    match known.first_left_over(alloc, list)? {
+        Some(register) => Ok(Some(Reason::DiffLeft(register))),
         None => Ok(None),
     }
 }
 
 /// What is known over an edge with its phis.
 #[tactic(auto, using(erhl_assert::proofs::Judging::edge_within, erhl_assert::proofs::Judging::edge_past))]
-fn cross(
+fn cross<'k, 'j>(
     alloc: Global,
-    pair: &Pair<'_, '_, '_>,
+    pair: &Pair<'_, '_, '_, '_, '_>,
     from: &Name,
     to: &Name,
-    known: &Sides<IndexedSet>,
-) -> Result<Sides<IndexedSet>, CheckEnd>
+    known: &Sides<'k, 'j, IndexedSet>,
+) -> Result<Sides<'k, 'j, IndexedSet>, CheckEnd>
     ensures { Gave result (within (over_edge (edge_between (asked called takes pair.now).source (asked called takes pair.now).target from.now to.now) known.now)) }
 {
     let edge = Edge {
@@ -130,7 +132,7 @@ fn cross(
 #[tactic(auto, using(crate::proofs::CheckedPair::Progressing::arrived, crate::proofs::CheckedPair::Progressing::arrival_refused, crate::proofs::CheckedPair::Progressing::arrival_stopped))]
 fn arrive(
     alloc: Global,
-    pair: &Pair<'_, '_, '_>,
+    pair: &Pair<'_, '_, '_, '_, '_>,
     steps: &[&HintStep],
     to: &Name,
     crossed: &mut Sides<IndexedSet>,
@@ -141,7 +143,7 @@ fn arrive(
     match after_steps(alloc, pair, steps, crossed)? {
         Some(reason) => Ok(Some(reason)),
         None => {
-            let fault = arrival_fault(alloc, pair.hint_of(to), crossed)?;
+            let fault = arrival_fault(alloc, pair.hint_of(to), &pair.list_of(to), crossed)?;
             Ok(fault)
         }
     }
@@ -156,7 +158,7 @@ fn are_none(phis: &Phis<'_>) -> bool
 }
 
 /// Whether neither side has a phi in the block.
-fn has_no_phis(pair: &Pair<'_, '_, '_>, to: &Name) -> bool
+fn has_no_phis(pair: &Pair<'_, '_, '_, '_, '_>, to: &Name) -> bool
     ensures { result ≡ true → (phis_at to.now (asked called takes pair.now).source ≡ []) × (phis_at to.now (asked called takes pair.now).target ≡ []) }
 {
     are_none(pair.source_phis(to)) && are_none(pair.target_phis(to))
@@ -164,13 +166,13 @@ fn has_no_phis(pair: &Pair<'_, '_, '_>, to: &Name) -> bool
 
 /// Finds what is known over an edge without steps, to a block without phis, unless it is found. It is the same on each such edge.
 #[tactic(auto, using(crate::proofs::BlockChecker::Plain::plain_over, crate::proofs::CheckedPair::Progressing::edge_stopped))]
-fn find_plain(
+fn find_plain<'k, 'j>(
     alloc: Global,
-    pair: &Pair<'_, '_, '_>,
+    pair: &Pair<'_, '_, '_, '_, '_>,
     from: &Name,
     to: &Name,
-    known: &Sides<IndexedSet>,
-    plain: &mut Option<Sides<IndexedSet>>,
+    known: &Sides<'k, 'j, IndexedSet>,
+    plain: &mut Option<Sides<'k, 'j, IndexedSet>>,
 ) -> Result<(), CheckEnd>
     requires edge { IsPlainEdge (asked called takes pair.now) from.now to.now }
     requires found { IfSome plain.old (IsOverPlain from.now known.now) }
@@ -185,13 +187,13 @@ fn find_plain(
 
 /// Over an edge without steps, to a block without phis.
 #[tactic(auto, using(crate::proofs::BlockChecker::Plain::plain_arrived))]
-fn along_plain_edge(
+fn along_plain_edge<'k, 'j>(
     alloc: Global,
-    pair: &Pair<'_, '_, '_>,
+    pair: &Pair<'_, '_, '_, '_, '_>,
     from: &Name,
     to: &Name,
-    known: &Sides<IndexedSet>,
-    plain: &mut Option<Sides<IndexedSet>>,
+    known: &Sides<'k, 'j, IndexedSet>,
+    plain: &mut Option<Sides<'k, 'j, IndexedSet>>,
 ) -> Result<Option<Reason>, CheckEnd>
     requires edge { IsPlainEdge (asked called takes pair.now) from.now to.now }
     requires found { IfSome plain.old (IsOverPlain from.now known.now) }
@@ -201,7 +203,7 @@ fn along_plain_edge(
     find_plain(alloc, pair, from, to, known, plain)?;
     match &*plain {
         Some(crossed) => {
-            let fault = arrival_fault(alloc, pair.hint_of(to), crossed)?;
+            let fault = arrival_fault(alloc, pair.hint_of(to), &pair.list_of(to), crossed)?;
             Ok(fault)
         }
         None => Err(CheckEnd::Memory),
@@ -210,14 +212,14 @@ fn along_plain_edge(
 
 /// Over the edge with its phis, the steps on it, and what the block claims that it enters.
 #[tactic(auto, using(crate::proofs::CheckedPair::Progressing::edge_stopped))]
-fn along_edge(
+fn along_edge<'k, 'j>(
     alloc: Global,
-    pair: &Pair<'_, '_, '_>,
+    pair: &Pair<'_, '_, '_, '_, '_>,
     edges: &ByName<'_, HintEdge>,
     from: &Name,
     to: &Name,
-    known: &Sides<IndexedSet>,
-    plain: &mut Option<Sides<IndexedSet>>,
+    known: &Sides<'k, 'j, IndexedSet>,
+    plain: &mut Option<Sides<'k, 'j, IndexedSet>>,
 ) -> Result<Option<Reason>, CheckEnd>
     requires edges { edges.now ≡ (block_hint (asked called takes pair.now).hint from.now).edges }
     requires found { IfSome plain.old (IsOverPlain from.now known.now) }
@@ -233,14 +235,14 @@ fn along_edge(
 }
 
 #[tactic(auto, using(crate::proofs::CheckedPair::Progressing::edge_valid, crate::proofs::CheckedPair::Progressing::edge_refused, crate::proofs::CheckedPair::Progressing::edge_unanswered))]
-fn edge_answer(
+fn edge_answer<'k, 'j>(
     alloc: Global,
-    pair: &Pair<'_, '_, '_>,
+    pair: &Pair<'_, '_, '_, '_, '_>,
     edges: &ByName<'_, HintEdge>,
     from: &Name,
     to: &Name,
-    known: &Sides<IndexedSet>,
-    plain: &mut Option<Sides<IndexedSet>>,
+    known: &Sides<'k, 'j, IndexedSet>,
+    plain: &mut Option<Sides<'k, 'j, IndexedSet>>,
 ) -> Result<Verdict, CheckEnd>
     requires edges { edges.now ≡ (block_hint (asked called takes pair.now).hint from.now).edges }
     requires found { IfSome plain.old (IsOverPlain from.now known.now) }
@@ -259,7 +261,7 @@ fn edge_answer(
 /// The edges to these blocks, of which the first that is refused decides.
 pub(crate) fn edges_answer(
     alloc: Global,
-    pair: &Pair<'_, '_, '_>,
+    pair: &Pair<'_, '_, '_, '_, '_>,
     hint: &HintBlock,
     from: &Name,
     labels: &[&Name],

@@ -91,7 +91,7 @@ fn phi_agrees(
 
 /// Phis agree on the edge from a block, where nothing is known.
 struct OnEdge<'b> {
-    nothing: &'b Sides<IndexedSet>,
+    nothing: &'b Sides<'b, 'b, IndexedSet>,
     from: &'b Name,
     ghost none: { nothing.now ≡ no_facts },
 }
@@ -141,7 +141,7 @@ fn are_few_over(lines: usize, phis: usize) -> bool
     8 * (lines as u128) + 4 * (phis as u128) <= most
 }
 
-fn edge_agrees(pair: &Pair<'_, '_, '_>, from: &Name, lines: usize, to: &Name) -> bool
+fn edge_agrees(pair: &Pair<'_, '_, '_, '_, '_>, from: &Name, lines: usize, to: &Name) -> bool
     ensures { result ≡ edge_agrees (asked called takes pair.now) from.now lines to.now }
 {
     let source = pair.source_phis(to).all();
@@ -150,7 +150,7 @@ fn edge_agrees(pair: &Pair<'_, '_, '_>, from: &Name, lines: usize, to: &Name) ->
         && phis_agree(pair.nothing(), from, source, pair.target_phis(to).all())
 }
 
-fn edges_agree(pair: &Pair<'_, '_, '_>, from: &Name, lines: usize, labels: &[&Name]) -> bool
+fn edges_agree(pair: &Pair<'_, '_, '_, '_, '_>, from: &Name, lines: usize, labels: &[&Name]) -> bool
     ensures { result ≡ edges_agree (asked called takes pair.now) from.now lines (names_lent labels.now) }
 {
     for to in labels {
@@ -172,7 +172,7 @@ fn are_few(lines: usize) -> bool
 #[tactic(auto, using(crate::proofs::CheckedPair::Agreements::lines_counted))]
 pub fn block_agrees(
     alloc: Global,
-    pair: &Pair<'_, '_, '_>,
+    pair: &Pair<'_, '_, '_, '_, '_>,
     block: &AlignedBlock<'_>,
     labels: &[&Name],
 ) -> Result<bool, AllocError>

@@ -10,16 +10,17 @@ ghost use Rattle.erhl_checker.specs.CheckedPair.Empty.{AreParts};
 
 use crate::checked_pair::pair::{Empty, Pair};
 use crate::function_lookup::FunctionIndex;
+use crate::hint_lists::ListedBlock;
 use contents::Seq;
-use erhl_assert::{HeldBlock, HintBlock, Schema};
-use fact_sets::{IndexedSet, Sides};
+use erhl_assert::{HintBlock, Schema};
+use fact_sets::{IndexedSet, LentRegisters, Sides};
 use ir_core::{Function, Module, Name};
 use line_align::ByName;
 use postcondition::Phis;
 use rule_base::{Fitness, RuleBook};
 use std::alloc::{AllocError, Global};
 
-impl<'a, 's, 't> Pair<'a, 's, 't> {
+impl<'a, 's, 't, 'h, 'l> Pair<'a, 's, 't, 'h, 'l> {
     #[tactic(auto, unfolding(crate::specs::CheckedPair::Asked::asked))]
     pub fn new(
         alloc: Global,
@@ -27,8 +28,8 @@ impl<'a, 's, 't> Pair<'a, 's, 't> {
         book: &'a RuleBook,
         source: FunctionIndex<'s, 'a>,
         target: FunctionIndex<'t, 'a>,
-        hints: ByName<'a, HeldBlock>,
-    ) -> Result<Pair<'a, 's, 't>, AllocError>
+        hints: ByName<'h, ListedBlock<'l, 'a>>,
+    ) -> Result<Pair<'a, 's, 't, 'h, 'l>, AllocError>
         ensures { IfOk result
             (λ pair. asked called takes pair
             ≡ beside (rules_of called takes book.now) (scope_of «module».now) source.entry target.entry (record { blocks = hints.entry })) }
@@ -74,8 +75,19 @@ impl<'a, 's, 't> Pair<'a, 's, 't> {
         }
     }
 
+    /// The registers that the hint says may differ where the block begins.
+    #[tactic(auto, unfolding(crate::specs::CheckedPair::Asked::asked))]
+    pub fn list_of(&self, block: &Name) -> LentRegisters<'l, 'a>
+        ensures { result ≡ (block_hint (asked called takes self.now).hint block.now).entry.diff }
+    {
+        let Some(held) = self.hints.first(block) else {
+            return LentRegisters::none();
+        };
+        held.list()
+    }
+
     /// Nothing is known.
-    pub fn nothing(&self) -> &Sides<IndexedSet>
+    pub fn nothing(&self) -> &Sides<'l, 'a, IndexedSet>
         ensures { result.now ≡ no_facts }
     {
         &self.empty.nothing

@@ -7,8 +7,9 @@ ghost use Rattle.erhl_assert.specs.Alignment.{no_facts};
 ghost use Rattle.erhl_checker.specs.CheckedPair.Empty.{IsEmpty};
 
 use crate::function_lookup::FunctionIndex;
+use crate::hint_lists::ListedBlock;
 use contents::Seq;
-use erhl_assert::{Assertion, HeldBlock, HintBlock};
+use erhl_assert::{Assertion, HintBlock};
 use fact_sets::{IndexedSet, Sides};
 use ir_core::{Module, Name};
 use line_align::ByName;
@@ -16,14 +17,14 @@ use rule_base::RuleBook;
 use std::alloc::{AllocError, Global};
 
 /// A hint of a block that says nothing, and that nothing is known.
-pub(crate) struct Empty {
+pub(crate) struct Empty<'l, 'a> {
     pub(crate) hint: HintBlock,
-    pub(crate) nothing: Sides<IndexedSet>,
+    pub(crate) nothing: Sides<'l, 'a, IndexedSet>,
     ghost empty: { IsEmpty hint } by { Prim.hlevel (codes, ty.the_row.coded, constant.the_row.coded) },
     ghost none: { nothing ≡ no_facts },
 }
 
-impl Drop for Empty {
+impl<'l, 'a> Drop for Empty<'l, 'a> {
     fn drop(self) {
         let Empty {
             hint: _,
@@ -32,8 +33,8 @@ impl Drop for Empty {
     }
 }
 
-impl Empty {
-    pub(crate) fn new(alloc: Global) -> Result<Empty, AllocError> {
+impl<'l, 'a> Empty<'l, 'a> {
+    pub(crate) fn new(alloc: Global) -> Result<Empty<'l, 'a>, AllocError> {
         let hint = HintBlock {
             at: Name::Number(0),
             lines: None,
@@ -51,16 +52,16 @@ impl Empty {
 }
 
 /// What a check of two functions is asked of: rules, a module, the functions and the blocks of their hint.
-pub struct Pair<'a, 's, 't> {
+pub struct Pair<'a, 's, 't, 'h, 'l> {
     pub(crate) module: &'a Module,
     pub(crate) book: &'a RuleBook,
     pub(crate) source: FunctionIndex<'s, 'a>,
     pub(crate) target: FunctionIndex<'t, 'a>,
-    pub(crate) hints: ByName<'a, HeldBlock>,
-    pub(crate) empty: Empty,
+    pub(crate) hints: ByName<'h, ListedBlock<'l, 'a>>,
+    pub(crate) empty: Empty<'l, 'a>,
 }
 
-impl<'a, 's, 't> Drop for Pair<'a, 's, 't> {
+impl<'a, 's, 't, 'h, 'l> Drop for Pair<'a, 's, 't, 'h, 'l> {
     fn drop(self) {
         let Pair {
             module: _,

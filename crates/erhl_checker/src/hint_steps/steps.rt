@@ -69,7 +69,7 @@ fn on_answer(
 #[tactic(auto, using(crate::proofs::HintSteps::Stepping::rule_by_answer))]
 fn after_rule(
     alloc: Global,
-    pair: &Pair<'_, '_, '_>,
+    pair: &Pair<'_, '_, '_, '_, '_>,
     step: &RuleStep,
     known: &mut Sides<IndexedSet>,
 ) -> Result<Option<Reason>, CheckEnd>
@@ -285,7 +285,7 @@ fn target_fault(
 
 fn same_fault(
     alloc: Global,
-    pair: &Pair<'_, '_, '_>,
+    pair: &Pair<'_, '_, '_, '_, '_>,
     register: &Reg,
     expr: &Expr0,
     known: &Sides<IndexedSet>,
@@ -309,7 +309,7 @@ fn same_fault(
 
 fn after_same(
     alloc: Global,
-    pair: &Pair<'_, '_, '_>,
+    pair: &Pair<'_, '_, '_, '_, '_>,
     step: &SameStep,
     known: &mut Sides<IndexedSet>,
 ) -> Result<Option<Reason>, CheckEnd>
@@ -326,7 +326,7 @@ fn after_same(
 
 fn after_step(
     alloc: Global,
-    pair: &Pair<'_, '_, '_>,
+    pair: &Pair<'_, '_, '_, '_, '_>,
     step: &HintStep,
     known: &mut Sides<IndexedSet>,
 ) -> Result<Option<Reason>, CheckEnd>
@@ -342,7 +342,7 @@ fn after_step(
 /// The steps in their order.
 pub fn after_steps(
     alloc: Global,
-    pair: &Pair<'_, '_, '_>,
+    pair: &Pair<'_, '_, '_, '_, '_>,
     steps: &[&HintStep],
     known: &mut Sides<IndexedSet>,
 ) -> Result<Option<Reason>, CheckEnd>

@@ -1,6 +1,6 @@
 -- The first register that may differ, and a register that is new.
-use Rattle.std.proofs.Common.{◌≡◌, ◌∙◌, true, false, cond, ℕ, ◌+◌, ◌-◌, ◌<◌, suc, List, [], ◌∷◌, length, drop, drop-cons, get_or, Option, None, Some, refl, sym, ap, ap₂, arith}
-use Rattle.std.specs.List.{cons_option, filter_map}
+use Rattle.std.proofs.Common.{◌≡◌, ◌∙◌, Bool, true, false, ◌||◌, cond, filter, ℕ, ◌+◌, ◌-◌, ◌<◌, suc, List, [], ◌∷◌, length, drop, drop-cons, get_or, Option, None, Some, refl, sym, ap, ap₂, arith}
+use Rattle.std.specs.List.{cons_option, filter_map, list_any}
 use Rattle.std.specs.Prelude.{find}
 use Rattle.ir_core.specs.declared.operands.Atom.{Atom}
 use Rattle.ir_core.specs.declared.operands.Operand.{Operand}
@@ -98,3 +98,14 @@ from_end wanted rs done r first h at so_far =
     ∙ sym (more_left wanted r (drop (length rs - done) rs))
     ∙ ap (λ (xs : List Reg). first_printed (left_over wanted xs)) (sym (from_last rs (length rs - 1 - done) (length rs - done) r (omega (arith, h)) (omega (arith, h)) at))
     ∙ ap (λ (i : ℕ). first_printed (left_over wanted (drop i rs))) (one_less (length rs) done h)
+
+none_are : (p : Reg → Bool) (rs : List Reg) → list_any p rs ≡ false → filter p rs ≡ []
+none_are p [] h = refl
+none_are p (r ∷ rs) h =
+    (elim (p r) as (λ b. (b || list_any p rs) ≡ false → cond b (r ∷ filter p rs) (filter p rs) ≡ []) [
+      | true ↦ λ e. absurd (cc)
+      | false ↦ λ e. none_are p rs e
+    ]) h
+
+pub none_told : (wanted rs : List Reg) → list_any (is_left_over wanted) rs ≡ false → first_printed (left_over wanted rs) ≡ None
+none_told wanted rs h = ap first_printed (none_are (is_left_over wanted) rs h)

@@ -5,9 +5,10 @@ ghost use Rattle.std.specs.Prelude.{◌≡◌, IfOk};
 ghost use Rattle.std.specs.Option.{option_copied, option_map};
 ghost use Rattle.ir_printer.specs.ExpressionPrinter.Printed.{printed_register};
 ghost use Rattle.erhl_assert.specs.Acceptance.{comes_first, first_of_two, first_printed, left_over};
-ghost use Rattle.fact_sets.specs.ErhlSides.Differing.{is_left_over, first_with};
+ghost use Rattle.fact_sets.specs.ErhlSides.Differing.{first_with};
 
-use crate::RegisterSet;
+use crate::LentRegisters;
+use crate::left_registers::is_left_over;
 use ir_core::Reg;
 use ir_printer::print_register;
 use std::alloc::{AllocError, Global};
@@ -51,17 +52,11 @@ fn first_of_two<'a>(register: Printed<'a>, other: Option<Printed<'a>>) -> Printe
     }
 }
 
-fn is_left_over(wanted: &RegisterSet, register: &Reg) -> bool
-    ensures { result ≡ is_left_over wanted.now register.now }
-{
-    !matches!(register, Reg::Old(_)) && !wanted.has(register)
-}
-
 /// The first one of those behind a register, and of the register too, if it is left over.
 #[tactic(auto, using(crate::proofs::ErhlSides::Telling::is_first, crate::proofs::ErhlSides::Telling::is_not))]
 fn first_with<'a>(
     alloc: Global,
-    wanted: &RegisterSet,
+    wanted: &LentRegisters<'_, '_>,
     register: &'a Reg,
     behind: Option<Printed<'a>>,
 ) -> Result<Option<Printed<'a>>, AllocError>
@@ -80,7 +75,7 @@ fn first_with<'a>(
 /// last, and each that is left over is printed once.
 pub(crate) fn first_left_over<'a>(
     alloc: Global,
-    wanted: &RegisterSet,
+    wanted: &LentRegisters<'_, '_>,
     registers: &'a [Reg],
 ) -> Result<Option<&'a Reg>, AllocError>
     ensures { IfOk result (λ first. option_copied first ≡ first_printed (left_over wanted.now registers.now)) }

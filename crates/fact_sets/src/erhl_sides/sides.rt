@@ -17,8 +17,8 @@ ghost use Rattle.fact_sets.specs.ErhlSides.Looking.{looked_at};
 use crate::erhl_sides::joined::Joined;
 use crate::erhl_sides::leaving::first_left_over;
 use crate::erhl_sides::naming::names_old;
-use crate::{IndexedSet, RegisterSet};
-use contents::{Exact, Seq};
+use crate::{IndexedSet, LentRegisters, RegisterSet};
+use contents::Exact;
 use erhl_assert::{Assertion, Fact, FactSet, Kill, Side};
 use ir_core::{Atom, Element, Expr, Expr0, Limit, Operand, Reg};
 use std::alloc::{AllocError, Global};
@@ -26,13 +26,13 @@ use std::marker::Model;
 
 /// What is known at a place, in a form in which facts and registers are found without a walk over all of them. Contracts
 /// see the assertion that it stands for.
-pub struct Sides<S: FactSet> {
+pub struct Sides<'l, 'a, S: FactSet> {
     pub(crate) src: Joined<S>,
     pub(crate) tgt: Joined<S>,
-    pub(crate) diff: RegisterSet,
+    pub(crate) diff: RegisterSet<'l, 'a>,
 }
 
-impl<S: FactSet> Model for Sides<S> {
+impl<'l, 'a, S: FactSet> Model for Sides<'l, 'a, S> {
     ghost use Rattle.erhl_assert.specs.declared.facts.Assertion.{Assertion};
     ghost use Rattle.std.specs.Coded.{codes};
     ghost use Rattle.ir_core.specs.contracts.operands.Const as constant;
@@ -45,7 +45,7 @@ impl<S: FactSet> Model for Sides<S> {
     ghost view = { λ it. record { src = it.src; tgt = it.tgt; diff = it.diff } };
 }
 
-impl<S: FactSet> Drop for Sides<S> {
+impl<'l, 'a, S: FactSet> Drop for Sides<'l, 'a, S> {
     fn drop(self) {
         let Sides {
             src: _,
@@ -69,7 +69,7 @@ fn put<S: FactSet>(
     alloc: Global,
     side: Side,
     facts: &[Fact],
-    sides: &mut Sides<S>,
+    sides: &mut Sides<'_, '_, S>,
 ) -> Result<bool, AllocError>
     ensures { IfOk result
         (λ few. within (adds_all side facts.now sides.old) ≡ cond few (Some (Gives sides.new)) None) }
@@ -82,21 +82,23 @@ fn put<S: FactSet>(
     Ok(true)
 }
 
-/// The facts of the lists are put in one after the other, those of the source first, and the registers that may differ as they stand.
+/// The facts of the lists are put in one after the other, those of the source first, and the registers that may differ are lent.
 /// None where more facts would be known than the limit allows. There is room for what so many lines of each side leave known.
 #[tactic(auto, using(erhl_assert::proofs::Courses::within_more, erhl_assert::proofs::Courses::within_none))]
-pub fn sides_of(
+pub fn sides_of<'l, 'a>(
     alloc: Global,
     known: &Assertion,
+    diff: LentRegisters<'l, 'a>,
     source: usize,
     target: usize,
-) -> Result<Option<Sides<IndexedSet>>, AllocError>
+) -> Result<Option<Sides<'l, 'a, IndexedSet>>, AllocError>
+    requires { diff ≡ known.now.diff }
     ensures { IfOk result (λ sides. within (put_in known.now) ≡ option_map Gives sides) }
 {
     let mut sides = Sides {
         src: Joined::of_none(alloc, facts_for(alloc, source)?),
         tgt: Joined::of_none(alloc, facts_for(alloc, target)?),
-        diff: RegisterSet::of(alloc, known.diff.copy(alloc)?)?,
+        diff: RegisterSet::lent(alloc, diff)?,
     };
     if !put(alloc, Side::Src, known.src.as_slice(), &mut sides)? {
         return Ok(None);
@@ -135,15 +137,15 @@ fn is_absent(is_passed: bool, is_known: bool) -> bool
     is_passed || !is_known
 }
 
-impl<S: FactSet> Sides<S> {
+impl<'l, 'a, S: FactSet> Sides<'l, 'a, S> {
     /// Nothing is known, and no register may differ.
-    pub fn empty(alloc: Global) -> Result<Sides<S>, AllocError>
+    pub fn empty(alloc: Global) -> Result<Sides<'l, 'a, S>, AllocError>
         ensures { IfOk result (λ sides. sides ≡ no_facts) }
     {
         Ok(Sides {
             src: Joined::of_none(alloc, S::empty(alloc)),
             tgt: Joined::of_none(alloc, S::empty(alloc)),
-            diff: RegisterSet::of(alloc, Seq::new(alloc))?,
+            diff: RegisterSet::lent(alloc, LentRegisters::none())?,
         })
     }
 
@@ -168,17 +170,10 @@ impl<S: FactSet> Sides<S> {
     }
 
     /// The registers that may differ, of which one is found by hash.
-    pub fn diff(&self) -> &RegisterSet
+    pub fn diff(&self) -> &RegisterSet<'l, 'a>
         ensures { result.now ≡ self.now.diff }
     {
         &self.diff
-    }
-
-    /// The registers that may differ.
-    pub fn differing(&self) -> &[Reg]
-        ensures { result.now ≡ self.now.diff }
-    {
-        self.diff.as_slice()
     }
 
     /// Whether the fact is known on the side.
@@ -204,7 +199,7 @@ impl<S: FactSet> Sides<S> {
     }
 
     /// The first of these facts that isn't among those of the side that are looked at.
-    fn first_absent<'a>(&self, side: Side, passes_old: bool, wanted: &'a [Fact]) -> Option<&'a Fact>
+    fn first_absent<'b>(&self, side: Side, passes_old: bool, wanted: &'b [Fact]) -> Option<&'b Fact>
         ensures { option_copied result ≡ first_missing (looked_at passes_old (facts_of side self.now)) wanted.now }
     {
         for fact in wanted {
@@ -216,35 +211,41 @@ impl<S: FactSet> Sides<S> {
     }
 
     /// The first of these facts that isn't known on the side.
-    pub fn first_unknown<'a>(&self, side: Side, wanted: &'a [Fact]) -> Option<&'a Fact>
+    pub fn first_unknown<'b>(&self, side: Side, wanted: &'b [Fact]) -> Option<&'b Fact>
         ensures { option_copied result ≡ first_missing (facts_of side self.now) wanted.now }
     {
         self.first_absent(side, false, wanted)
     }
 
     /// The first of these facts that isn't known on the side. Facts that name old registers are passed over.
-    pub fn first_missing<'a>(&self, side: Side, wanted: &'a [Fact]) -> Option<&'a Fact>
+    pub fn first_missing<'b>(&self, side: Side, wanted: &'b [Fact]) -> Option<&'b Fact>
         ensures { option_copied result ≡ first_missing (without is_old (facts_of side self.now)) wanted.now }
     {
         self.first_absent(side, true, wanted)
     }
 
     /// Of the registers that may differ, are not old and aren't wanted, the one whose printed form comes first by its bytes.
+    #[tactic(auto, using(crate::proofs::ErhlSides::Telling::none_told))]
     pub fn first_left_over(
         &self,
         alloc: Global,
-        wanted: &Seq<Reg>,
-    ) -> Result<Option<&Reg>, AllocError>
-        ensures { IfOk result
-            (λ first. option_copied first ≡ first_printed (left_over wanted.now self.now.diff)) }
+        wanted: &LentRegisters<'_, '_>,
+    ) -> Result<Option<Reg>, AllocError>
+        ensures { IfOk result (λ first. first ≡ first_printed (left_over wanted.now self.now.diff)) }
     {
-        let wanted = RegisterSet::of(alloc, wanted.copy(alloc)?)?;
-        first_left_over(alloc, &wanted, self.differing())
+        if !self.diff.may_be_over(wanted) {
+            return Ok(None);
+        }
+        let all = self.diff.all(alloc)?;
+        match first_left_over(alloc, wanted, all.as_slice())? {
+            Some(register) => Ok(Some(register.copy(alloc)?)),
+            None => Ok(None),
+        }
     }
 
     /// The atom's register, if it may differ.
     #[tactic(auto, using(crate::proofs::ErhlSides::Telling::constant_doesnt_differ, crate::proofs::ErhlSides::Telling::differs, crate::proofs::ErhlSides::Telling::doesnt_differ))]
-    fn differing_in<'a>(&self, atom: &'a Atom<Reg>) -> Option<&'a Reg>
+    fn differing_in<'b>(&self, atom: &'b Atom<Reg>) -> Option<&'b Reg>
         ensures { option_copied result ≡ differing_among self.now.diff (atom.now ∷ []) }
     {
         match atom {
@@ -260,7 +261,7 @@ impl<S: FactSet> Sides<S> {
     }
 
     #[tactic(auto, using(crate::proofs::ErhlSides::Telling::first_differs, crate::proofs::ErhlSides::Telling::first_doesnt))]
-    fn differing_in_two<'a>(&self, a: &'a Atom<Reg>, b: &'a Atom<Reg>) -> Option<&'a Reg>
+    fn differing_in_two<'b>(&self, a: &'b Atom<Reg>, b: &'b Atom<Reg>) -> Option<&'b Reg>
         ensures { option_copied result ≡ differing_among self.now.diff (a.now ∷ b.now ∷ []) }
     {
         match self.differing_in(a) {
@@ -270,12 +271,12 @@ impl<S: FactSet> Sides<S> {
     }
 
     #[tactic(auto, using(crate::proofs::ErhlSides::Telling::first_differs, crate::proofs::ErhlSides::Telling::first_doesnt))]
-    fn differing_in_three<'a>(
+    fn differing_in_three<'b>(
         &self,
-        a: &'a Atom<Reg>,
-        b: &'a Atom<Reg>,
-        c: &'a Atom<Reg>,
-    ) -> Option<&'a Reg>
+        a: &'b Atom<Reg>,
+        b: &'b Atom<Reg>,
+        c: &'b Atom<Reg>,
+    ) -> Option<&'b Reg>
         ensures { option_copied result ≡ differing_among self.now.diff (a.now ∷ b.now ∷ c.now ∷ []) }
     {
         match self.differing_in(a) {
@@ -286,7 +287,7 @@ impl<S: FactSet> Sides<S> {
 
     /// The first register of the operands that may differ.
     #[tactic(auto, using(crate::proofs::ErhlSides::Telling::operand_differs, crate::proofs::ErhlSides::Telling::operand_doesnt))]
-    fn differing_in_operands<'a>(&self, operands: &'a [Operand<Reg>]) -> Option<&'a Reg>
+    fn differing_in_operands<'b>(&self, operands: &'b [Operand<Reg>]) -> Option<&'b Reg>
         ensures { option_copied result ≡ differing_operands self.now.diff operands.now }
     {
         for operand in operands {
@@ -298,7 +299,7 @@ impl<S: FactSet> Sides<S> {
     }
 
     #[tactic(auto, using(crate::proofs::ErhlSides::Telling::operand_differs, crate::proofs::ErhlSides::Telling::operand_doesnt))]
-    fn differing_in_element<'a>(&self, element: &'a Element<Reg>) -> Option<&'a Reg>
+    fn differing_in_element<'b>(&self, element: &'b Element<Reg>) -> Option<&'b Reg>
         ensures { option_copied result ≡ differing_operands self.now.diff (element.now.base ∷ element.now.indices) }
     {
         match self.differing_in(&element.base.atom) {
@@ -308,7 +309,7 @@ impl<S: FactSet> Sides<S> {
     }
 
     /// The first register of the expression that may differ.
-    pub fn first_differing<'a>(&self, expr: &'a Expr0) -> Option<&'a Reg>
+    pub fn first_differing<'b>(&self, expr: &'b Expr0) -> Option<&'b Reg>
         ensures { option_copied result ≡ find (λ r. has_reg r self.now.diff) (registers_in expr.now) }
     {
         match expr {
@@ -413,11 +414,10 @@ impl<S: FactSet> Sides<S> {
     }
 
     /// Makes these the registers that may differ.
-    pub fn set_differing(&mut self, alloc: Global, registers: Seq<Reg>) -> Result<(), AllocError>
-        ensures { OnOk result (self.new ≡ record self.old { diff = registers }) }
+    pub fn set_differing(&mut self, registers: RegisterSet<'l, 'a>)
+        ensures { self.new ≡ record self.old { diff = registers.entry } }
     {
-        self.diff = RegisterSet::of(alloc, registers)?;
-        Ok(())
+        self.diff = registers;
     }
 
     /// Takes the register out of those that may differ.

@@ -10,19 +10,19 @@ ghost use Rattle.erhl_assert.specs.declared.verdict.Reason.{Reason};
 ghost use Rattle.erhl_assert.specs.Facts.{with_facts, on_side};
 ghost use Rattle.erhl_assert.specs.Course.{Gives, and_then, are_too_many, within};
 ghost use Rattle.erhl_assert.specs.Growth.{adds_all, over_edge};
-ghost use Rattle.erhl_assert.specs.Edges.{register_at, phi_fact, phi_facts, phi_registers, is_old, is_alike, as_old, old_of, diff_over, after_edge};
+ghost use Rattle.erhl_assert.specs.Edges.{register_at, phi_fact, phi_facts, phi_registers, is_alike, as_old, diff_over, after_edge};
 ghost use Rattle.ir_machine.specs.Machine.{entry_from};
 ghost use Rattle.fact_sets.specs.ErhlSides.Beside.{adds_all_beside};
 ghost use Rattle.fact_sets.specs.declared.added_facts.ends.AddEnd.TheVariants as add_end;
 ghost use Rattle.fact_sets.specs.declared.added_facts.ends.LineEnd.TheVariants as line_end;
 ghost use Rattle.fact_sets.specs.AddedFacts.Ends.{Follows};
-ghost use Rattle.postcondition.specs.EdgeCrossing.Crossing.{at_place, copies, goes, stays, over_staying};
+ghost use Rattle.postcondition.specs.EdgeCrossing.Crossing.{at_place, copies, goes, stays, stays_apart, over_staying};
 
 use crate::block_phis::{IndexedPhi, Phis, sets_alike};
-use contents::{Exact, Seq};
+use contents::Exact;
 use erhl_assert::{Fact, FactSet, Side};
 use fact_sets::{
-    AddEnd, LineEnd, Sides, add_equal, fact_has, names_old, old_atom, old_fact, old_register,
+    AddEnd, LineEnd, RegisterSet, Sides, add_equal, fact_has, names_old, old_atom, old_fact,
 };
 use ir_core::{Atom, Entry, Expr, Expr0, Limit, Name, Operand, Reg};
 use std::alloc::{AllocError, Global};
@@ -283,95 +283,44 @@ fn add_over<S: FactSet>(
 
 // ---- registers that may differ
 
-/// Whether both sides set the register by phis that match before the edge.
-fn is_alike<S: FactSet>(
-    known: &Sides<S>,
-    from: &Name,
-    source: &Phis<'_>,
-    target: &Phis<'_>,
-    register: &Reg,
-) -> bool
-    ensures { result
-        ≡ is_alike known.now (record { from = from.now; source = source.now; target = target.now }) register.now }
-{
-    match register {
-        Reg::Now(name) => sets_alike(known, from, source, target, name),
-        Reg::Old(_) | Reg::Ghost(_) => false,
-    }
-}
-
-fn is_old(register: &Reg) -> bool
-    ensures { result ≡ is_old register.now }
-{
-    matches!(register, Reg::Old(_))
-}
-
-/// Adds the register, if it isn't old and isn't set alike.
-#[tactic(auto, using(crate::proofs::EdgeCrossing::Differing::is_kept, crate::proofs::EdgeCrossing::Differing::old_goes, crate::proofs::EdgeCrossing::Differing::alike_goes))]
-fn add_one_kept<S: FactSet>(
+/// Takes out the phi's register, if it is set alike.
+#[tactic(auto, using(crate::proofs::EdgeCrossing::Differing::one_taken, crate::proofs::EdgeCrossing::Differing::none_taken))]
+fn take_one_alike<S: FactSet>(
     alloc: Global,
     known: &Sides<S>,
     from: &Name,
     source: &Phis<'_>,
     target: &Phis<'_>,
-    register: &Reg,
-    diff: &mut Seq<Reg>,
+    name: &Name,
+    diff: &mut RegisterSet<'_, '_>,
 ) -> Result<(), AllocError>
     ensures { OnOk result
         (diff.new
-        ≡ diff.old
-        ++ filter (λ r. not (is_alike known.now (record { from = from.now; source = source.now; target = target.now }) r))
-        (filter (λ r. not (is_old r)) (register.now ∷ []))) }
+        ≡ filter (stays_apart known.now (record { from = from.now; source = source.now; target = target.now }) (Now name.now ∷ [])) diff.old) }
 {
-    if is_old(register) {
-        return Ok(());
-    }
-    if is_alike(known, from, source, target, register) {
-        return Ok(());
-    }
-    diff.push(register.copy(alloc)?)
-}
-
-/// Adds the registers that may differ as they did: those that are old are forgotten, and those that are set alike leave.
-#[tactic(auto, using(crate::proofs::EdgeCrossing::Differing::kept_on))]
-fn add_kept<S: FactSet>(
-    alloc: Global,
-    known: &Sides<S>,
-    from: &Name,
-    source: &Phis<'_>,
-    target: &Phis<'_>,
-    diff: &mut Seq<Reg>,
-) -> Result<(), AllocError>
-    ensures { OnOk result
-        (diff.new
-        ≡ diff.old
-        ++ filter (λ r. not (is_alike known.now (record { from = from.now; source = source.now; target = target.now }) r))
-        (filter (λ r. not (is_old r)) known.now.diff)) }
-{
-    for register in known.differing() {
-        add_one_kept(alloc, known, from, source, target, register, diff)?;
+    if sets_alike(known, from, source, target, name) {
+        diff.remove(&Reg::Now(name.copy(alloc)?));
     }
     Ok(())
 }
 
-/// Adds the register as it was before the edge, if it isn't old.
-#[tactic(auto, using(crate::proofs::EdgeCrossing::Differing::made_old, crate::proofs::EdgeCrossing::Differing::not_made_old))]
-fn add_one_old(alloc: Global, register: &Reg, diff: &mut Seq<Reg>) -> Result<(), AllocError>
-    ensures { OnOk result (diff.new ≡ diff.old ++ map old_of (filter (λ r. not (is_old r)) (register.now ∷ []))) }
+/// Takes out the registers of phis that are set alike.
+#[tactic(auto, using(crate::proofs::EdgeCrossing::Differing::taken_on))]
+fn take_alike<S: FactSet>(
+    alloc: Global,
+    known: &Sides<S>,
+    from: &Name,
+    source: &Phis<'_>,
+    target: &Phis<'_>,
+    phis: &[IndexedPhi<'_>],
+    diff: &mut RegisterSet<'_, '_>,
+) -> Result<(), AllocError>
+    ensures { OnOk result
+        (diff.new
+        ≡ filter (stays_apart known.now (record { from = from.now; source = source.now; target = target.now }) (phi_registers phis.now)) diff.old) }
 {
-    if is_old(register) {
-        return Ok(());
-    }
-    diff.push(old_register(alloc, register)?)
-}
-
-/// Adds those that they were before the edge.
-#[tactic(auto, using(crate::proofs::EdgeCrossing::Differing::old_on))]
-fn add_old(alloc: Global, registers: &[Reg], diff: &mut Seq<Reg>) -> Result<(), AllocError>
-    ensures { OnOk result (diff.new ≡ diff.old ++ map old_of (filter (λ r. not (is_old r)) registers.now)) }
-{
-    for register in registers {
-        add_one_old(alloc, register, diff)?;
+    for phi in phis {
+        take_one_alike(alloc, known, from, source, target, phi.name(), diff)?;
     }
     Ok(())
 }
@@ -385,7 +334,7 @@ fn add_one_set<S: FactSet>(
     source: &Phis<'_>,
     target: &Phis<'_>,
     name: &Name,
-    diff: &mut Seq<Reg>,
+    diff: &mut RegisterSet<'_, '_>,
 ) -> Result<(), AllocError>
     ensures { OnOk result
         (diff.new
@@ -396,7 +345,7 @@ fn add_one_set<S: FactSet>(
     if sets_alike(known, from, source, target, name) {
         return Ok(());
     }
-    diff.push(Reg::Now(name.copy(alloc)?))
+    diff.push(alloc, Reg::Now(name.copy(alloc)?))
 }
 
 /// Adds the registers of phis that aren't set alike.
@@ -408,7 +357,7 @@ fn add_set<S: FactSet>(
     source: &Phis<'_>,
     target: &Phis<'_>,
     phis: &[IndexedPhi<'_>],
-    diff: &mut Seq<Reg>,
+    diff: &mut RegisterSet<'_, '_>,
 ) -> Result<(), AllocError>
     ensures { OnOk result
         (diff.new
@@ -423,20 +372,19 @@ fn add_set<S: FactSet>(
 }
 
 /// The registers that may differ behind the phis.
-fn diff_over<S: FactSet>(
+fn diff_over<'l, 'a, S: FactSet>(
     alloc: Global,
-    known: &Sides<S>,
+    known: &Sides<'l, 'a, S>,
     from: &Name,
     source: &Phis<'_>,
     target: &Phis<'_>,
-) -> Result<Seq<Reg>, AllocError>
+) -> Result<RegisterSet<'l, 'a>, AllocError>
     ensures { IfOk result
         (λ diff. diff
         ≡ diff_over (record { from = from.now; source = source.now; target = target.now }) known.now) }
 {
-    let mut diff = Seq::new(alloc);
-    add_kept(alloc, known, from, source, target, &mut diff)?;
-    add_old(alloc, known.differing(), &mut diff)?;
+    let mut diff = known.diff().old_too(alloc)?;
+    take_alike(alloc, known, from, source, target, source.all(), &mut diff)?;
     add_set(alloc, known, from, source, target, source.all(), &mut diff)?;
     add_set(alloc, known, from, source, target, target.all(), &mut diff)?;
     Ok(diff)
@@ -446,12 +394,12 @@ fn diff_over<S: FactSet>(
 
 /// What stays, where each fact stands once: without facts that name old registers or ones of phis.
 #[tactic(auto, using(crate::proofs::EdgeCrossing::Staying::all_stay))]
-fn staying<S: FactSet>(
+fn staying<'l, 'a, S: FactSet>(
     alloc: Global,
-    known: &Sides<S>,
+    known: &Sides<'l, 'a, S>,
     source: &Phis<'_>,
     target: &Phis<'_>,
-) -> Result<Sides<S>, AllocError>
+) -> Result<Sides<'l, 'a, S>, AllocError>
     requires source_once { with_facts known.now.src [] ≡ known.now.src }
     requires target_once { with_facts known.now.tgt [] ≡ known.now.tgt }
     ensures { IfOk result
@@ -470,11 +418,11 @@ fn staying<S: FactSet>(
 
 /// What is known behind the phis, with the registers that may differ, of sides in which each fact stands once.
 #[tactic(auto, using(crate::proofs::EdgeCrossing::Crossing::not_crossed))]
-fn over<S: FactSet>(
+fn over<'l, 'a, S: FactSet>(
     alloc: Global,
-    known: &Sides<S>,
+    known: &Sides<'l, 'a, S>,
     edge: &Edge<'_, '_>,
-) -> Result<Sides<S>, AddEnd>
+) -> Result<Sides<'l, 'a, S>, AddEnd>
     requires source_once { with_facts known.now.src [] ≡ known.now.src }
     requires target_once { with_facts known.now.tgt [] ≡ known.now.tgt }
     ensures ok { IfOk result
@@ -495,17 +443,17 @@ fn over<S: FactSet>(
     let mut after = staying(alloc, known, source, target)?;
     add_over(alloc, gone_source + gone_target, known, edge, &mut after)?;
     let diff = diff_over(alloc, known, edge.from, source, target)?;
-    after.set_differing(alloc, diff)?;
+    after.set_differing(diff);
     Ok(after)
 }
 
 /// What is known on an edge, behind the phis of the block that it enters, of what was known at the end of the block that it leaves.
 #[tactic(auto, using(crate::proofs::EdgeCrossing::Crossing::few_over, crate::proofs::EdgeCrossing::Crossing::too_many_over))]
-pub fn after_edge<S: FactSet>(
+pub fn after_edge<'l, 'a, S: FactSet>(
     alloc: Global,
-    sides: &Sides<S>,
+    sides: &Sides<'l, 'a, S>,
     edge: &Edge<'_, '_>,
-) -> Result<Sides<S>, LineEnd>
+) -> Result<Sides<'l, 'a, S>, LineEnd>
     ensures after { IfOk result
         (λ after. after
         ≡ after_edge sides.now

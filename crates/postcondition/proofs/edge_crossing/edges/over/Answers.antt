@@ -18,4 +18,4 @@ returns-clause-ok g c =
     c.add_over.new.after c.set_differing.new.self c.in_ok-diff.diff
     c.in_ok-add_over.ensures
     c.in_ok-diff.ensures
-    c.in_ok-set_differing.ensures
+    c.set_differing.ensures

@@ -2,7 +2,7 @@ use Rattle.std.proofs.Common.{not, rules}
 use Rattle.std.proofs.lemmas.Fn.{filter_same}
 use Rattle.ir_types.specs.declared.names.Name.{Name}
 use Rattle.ir_types.specs.Same.{same_name}
-use Rattle.fact_sets.proofs.register_set.take_out.Goals as goal
+use Rattle.fact_sets.proofs.added_registers.take_out.Goals as goal
 
 pub returns : goal.returns
 returns c =

@@ -5,7 +5,7 @@ use Rattle.ir_core.specs.Same.{same_reg}
 use Rattle.erhl_assert.specs.Sides.{has_reg}
 use Rattle.fact_sets.specs.Names.{Kinds, without_register, AreListed}
 use Rattle.fact_sets.proofs.Listed.{rest_listed, not_there}
-use Rattle.fact_sets.proofs.register_set.RegisterSet.remove.Goals as goal
+use Rattle.fact_sets.proofs.added_registers.AddedRegisters.remove.Goals as goal
 
 pub invariant_of-self : goal.invariant_of-self
 invariant_of-self c =
