@@ -1,7 +1,7 @@
 -- Where registers read related values, expressions have related outcomes. And which registers an expression has.
-use Rattle.std.proofs.Common.{◌≡◌, ◌||◌, Bool, true, false, cond, List, [], ◌∷◌, Option, None, Some, refl}
+use Rattle.std.proofs.Common.{◌≡◌, ◌||◌, Bool, true, false, cond, List, [], ◌∷◌, map, Option, None, Some, refl}
 use Rattle.std.specs.Prelude.{find}
-use Rattle.std.specs.List.{cons_option, filter_map, list_any}
+use Rattle.std.specs.List.{AllZip, cons_option, filter_map, list_any}
 use Rattle.std.proofs.lemmas.Bool.{or_parts, or_from}
 use Rattle.ir_core.specs.declared.values.Value.{Value}
 use Rattle.ir_core.specs.declared.values.Kind.{Kind}
@@ -18,10 +18,10 @@ use Rattle.ir_values.specs.Operations.{IsOutcomeLessDefined}
 use Rattle.ir_values.proofs.OperationLaws.{less_defined_refl}
 use Rattle.ir_values.specs.Constants.{Scope}
 use Rattle.block_memory.specs.Memory.{Memory}
-use Rattle.ir_machine.specs.Registers.{constant_value, register_value, atom_value, operand_value, align_or, outcome}
+use Rattle.ir_machine.specs.Registers.{constant_at, register_value, atom_value, operand_value, index_value, is_stated, element_from, align_or, outcome}
 use Rattle.erhl_assert.specs.Sides.{IsRelated}
 use Rattle.erhl_assert.specs.Steps.{register_in, registers_in}
-use Rattle.erhl_soundness.proofs.Operators.{binary_related, icmp_related, cast_related, select_related, load_related, flags_among_themselves}
+use Rattle.erhl_soundness.proofs.Operators.{IsIndexRelated, binary_related, icmp_related, cast_related, select_related, element_related, load_related, chosen_related, flags_among_themselves}
 
 module _ {R : Type 0} (scope : Scope) (source target : Kind → R → Value) (test : R → Bool) (related : (k : Kind) (r : R) → test r ≡ false → IsRelated (source k r) (target k r)) where
   register_alike : (k : Option Kind) (r : R) → test r ≡ false → IsRelated (register_value source k r) (register_value target k r)
@@ -29,8 +29,15 @@ module _ {R : Type 0} (scope : Scope) (source target : Kind → R → Value) (te
   register_alike (Some k) r h = related k r h
 
   atom_alike : (t : Ty) (a : Atom R) → atom_has test a ≡ false → IsRelated (atom_value scope source t a) (atom_value scope target t a)
-  atom_alike t (Constant c) h = less_defined_refl (constant_value scope t c)
+  atom_alike t (Constant c) h = less_defined_refl (constant_at scope t (kind_of t) c)
   atom_alike t (Register r) h = register_alike (kind_of t) r h
+
+  indices_alike : (os : List (Operand R)) → list_any (λ (o : Operand R). atom_has test o.atom) os ≡ false
+      → AllZip IsIndexRelated (map (index_value scope source) os) (map (index_value scope target) os)
+  indices_alike [] h = tt
+  indices_alike (o ∷ os) h =
+      let parts = or_parts (atom_has test o.atom) (list_any (λ (q : Operand R). atom_has test q.atom) os) h in
+      ((refl, atom_alike o.ty o.atom parts.0), indices_alike os parts.1)
 
   pub outcome_alike : (memory : Memory) (e : Expr R) → expr_has test e ≡ false → IsOutcomeLessDefined (outcome scope source memory e) (outcome scope target memory e)
   outcome_alike memory (Plain o) h = atom_alike o.ty o.atom h
@@ -53,7 +60,13 @@ module _ {R : Type 0} (scope : Scope) (source target : Kind → R → Value) (te
       (operand_value scope source s.condition) (operand_value scope source s.left) (operand_value scope source s.right)
       (operand_value scope target s.condition) (operand_value scope target s.left) (operand_value scope target s.right)
       (atom_alike s.condition.ty s.condition.atom first.0) (atom_alike s.left.ty s.left.atom first.1) (atom_alike s.right.ty s.right.atom parts.1)
-  outcome_alike memory (Element e) h = tt
+  outcome_alike memory (Element e) h =
+      let parts = or_parts (atom_has test e.base.atom) (list_any (λ (o : Operand R). atom_has test o.atom) e.indices) h in
+      let a = operand_value scope source e.base in
+      let b = operand_value scope target e.base in
+      chosen_related (is_stated scope.types e) (element_from scope source memory e a) (element_from scope target memory e b)
+      (element_related memory e.inbounds scope.types e.of a b (map (index_value scope source) e.indices) (map (index_value scope target) e.indices)
+      (atom_alike e.base.ty e.base.atom parts.0) (indices_alike e.indices parts.1))
   outcome_alike memory (Load l) h =
       load_related memory (kind_of l.of) (operand_value scope source l.pointer) (operand_value scope target l.pointer) (align_or scope.types l.of l.align)
       (atom_alike l.pointer.ty l.pointer.atom h)

@@ -6,11 +6,12 @@ use Rattle.ir_core.specs.declared.functions.Function.{Function}
 use Rattle.ir_core.specs.declared.modules.Module.{Module}
 use Rattle.ir_machine.specs.declared.items.Item.{Item}
 use Rattle.ir_machine.specs.declared.items.Item.TheVariants.{Turn, Returned, Wrong}
+use Rattle.ir_values.proofs.ConstantWalks.{of_number, worth_number}
 use Rattle.block_memory.specs.declared.items.Shown.TheVariants as shown
 use Rattle.ir_machine.specs.declared.items.Input.{Input}
 use Rattle.ir_machine.specs.Registers.{no_registers}
 use Rattle.ir_machine.specs.State.{no_world, scope_of, State, Running, Over}
-use Rattle.ir_machine.specs.Machine.{Made, at_block, with_phis, ShowsFrom}
+use Rattle.ir_machine.specs.Machine.{Does, Follows, Made, asks, at_block, with_phis, ShowsFrom}
 use Rattle.ir_machine.specs.Refinement.{Shows, MayShowFrom, MayShow}
 use Rattle.ir_machine.proofs.Runs.{over_shows}
 use Rattle.erhl_soundness.specs.Examples.{number}
@@ -46,11 +47,14 @@ result n = Turn ∷ Returned (Some (shown.Num n)) ∷ []
 abbrev ends_with_two : Made
 ends_with_two = record { told = []; items = result 2; after = Over }
 
+end_asks : asks source at_end ≡ Does (result 2) Over
+end_asks = simp (of_number, worth_number) refl
+
 shows_end : (n : ℕ) (items : List Item) → ShowsFrom source n at_end items → (items ≡ []) ⊎ (items ≡ result 2)
 shows_end zero items h = inl h
 shows_end (suc n) items (inl e) = inl e
 shows_end (suc n) items (inr h) =
-    let made : h.0 ≡ ends_with_two = h.2 in
+    let made : h.0 ≡ ends_with_two = subst (λ a. Follows a h.0) end_asks h.2 in
     let none = over_shows source n h.1 (subst (λ (m : Made). ShowsFrom source n m.after h.1) made h.4) in
     inr (h.3 ∙ ap₂ (λ (m : Made) (r : List Item). m.items ++ r) made none)
 
@@ -102,7 +106,7 @@ not_shown h = none h
 -- ---- what the target shows
 
 target_shows : Shows target (Number 0) no_input 2 wanted
-target_shows = inr (_, result 1, refl, refl, inr (_, [], refl, refl, refl))
+target_shows = inr (_, result 1, refl, refl, inr (record { told = []; items = result 1; after = Over }, [], simp (of_number, worth_number) refl, refl, refl))
 
 pub must_be_apart : PhisMustBeApart
 must_be_apart theorem =

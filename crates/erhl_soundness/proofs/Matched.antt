@@ -21,7 +21,7 @@ use Rattle.ir_core.proofs.SameLaws.{same_const_true, same_reg_true, same_reg_exp
 use Rattle.ir_values.specs.Values.{IsLessDefined}
 use Rattle.ir_values.proofs.KindLaws.{same_kind_true}
 use Rattle.ir_core.specs.Types.{kind_of}
-use Rattle.ir_machine.specs.Registers.{read, constant_value, register_value, atom_value, operand_value}
+use Rattle.ir_machine.specs.Registers.{read, constant_at, register_value, atom_value, operand_value}
 use Rattle.erhl_assert.specs.declared.facts.Fact.{Fact}
 use Rattle.erhl_assert.specs.declared.facts.Fact.TheVariants.{LessDef}
 use Rattle.erhl_assert.specs.declared.facts.Assertion.{Assertion}
@@ -85,9 +85,9 @@ module _ (diff : List Reg) (source target : SideState) (scopes : source.scope �
   meet_at_related k c d (atom.Constant m) (atom.Constant n) of_c of_d h =
       let types = same_ty_true c.ty d.ty (left_true (same_ty c.ty d.ty) (same_const m n) h) in
       let same = same_const_true m n (right_true (same_ty c.ty d.ty) (same_const m n) h) in
-      let value = constant_value source.scope c.ty m in
-      subst (λ s. IsRelated value (constant_value s d.ty n)) scopes
-      (subst₂ (λ t i. IsRelated value (constant_value source.scope t i)) types same (less_defined_refl value))
+      let value = constant_at source.scope c.ty (kind_of c.ty) m in
+      subst (λ s. IsRelated value (constant_at s d.ty (kind_of d.ty) n)) scopes
+      (subst₂ (λ t i. IsRelated value (constant_at source.scope t (kind_of t) i)) types same (less_defined_refl value))
   meet_at_related k c d (atom.Register x) (atom.Register y) of_c of_d h =
       let same = same_reg_true x y (left_true (same_reg x y) (not (has_reg x diff)) h) in
       let free = not-true (has_reg x diff) (right_true (same_reg x y) (not (has_reg x diff)) h) in

@@ -29,7 +29,7 @@ use Rattle.erhl_assert.specs.Acceptance.{hint_of_block, lines_judged}
 use Rattle.erhl_soundness.specs.Laws.{goes_on, LineLeads, Keeps}
 use Rattle.erhl_assert.specs.Sides.{SideState, IsSideInKind}
 use Rattle.erhl_soundness.proofs.Lines.{gives_on}
-use Rattle.erhl_soundness.proofs.Related.{set_by, registers_after, leads_so, keeps_so}
+use Rattle.erhl_soundness.proofs.Related.{set_by, registers_after, leads_so, source_may, target_may, keeps_so}
 use Rattle.erhl_soundness.proofs.Definitions.{AreDefined, IsLineDefined, AreLinesDefined, set_defined}
 use Rattle.erhl_soundness.proofs.Standing.{Files, side, Stand, with_now, with_ghost}
 use Rattle.erhl_soundness.proofs.Steps.{steps_lead}
@@ -249,5 +249,6 @@ module _ (first second : Module) (w : Beside) (of_first : scope_of first ≡ w.s
           let source = side w.scope world a' in
           let target = side w.scope world c' in
           line_moves (n + 1) ls (after_line at.after l) a' c' at.rest parts.1 l.source l.target (registers_after l.source source) (registers_after l.target target)
-          (leads_so l.source source) (leads_so l.target target) (line_stands w world at.after a' c' lead.2 l at.allowed parts.0)
+          (leads_so l.source source (source_may at.after l.source l.target at.allowed)) (leads_so l.target target (target_may at.after l.source l.target at.allowed))
+          (line_stands w world at.after a' c' lead.2 l at.allowed parts.0)
           (λ stand'. blocks_move ls (n + 1) (after_line at.after l) a' c' stand' at.rest parts.1)

@@ -1,5 +1,7 @@
 -- Operators on related values have related outcomes.
-use Rattle.std.proofs.Common.{◌≡◌, ℕ, true, cond, not, ◌||◌, nat_eq, Bool, false, Option, None, Some, refl, sym, ap, subst}
+use Rattle.std.proofs.Common.{◌≡◌, ℕ, true, cond, not, ◌||◌, nat_eq, Bool, false, List, [], ◌∷◌, Option, None, Some, refl, sym, ap, subst}
+use Rattle.std.specs.List.{AllZip}
+use Rattle.ir_types.specs.declared.named.NamedTy.{NamedTy}
 use Rattle.ir_types.specs.NameLaws.{all_true}
 use Rattle.ir_core.specs.declared.values.Value.{Value}
 use Rattle.ir_core.specs.declared.values.Value.TheVariants.{Num, Ptr, Bare, Undef, Poison}
@@ -16,9 +18,11 @@ use Rattle.ir_values.specs.declared.operations.Outcome.TheVariants.{Gives, Trap}
 use Rattle.ir_values.specs.Laws.{flags_among}
 use Rattle.ir_values.specs.Operations.{IsOutcomeLessDefined, traps, binary_value}
 use Rattle.ir_values.specs.Comparisons.{icmp_outcome}
-use Rattle.ir_values.specs.PointerLaws.{IsOneSize}
+use Rattle.ir_values.specs.Addresses.{GivenIndex, gep_outcome}
+use Rattle.ir_values.specs.PointerLaws.{AreIndicesRelated, IsOneSize}
 use Rattle.ir_values.specs.Selections.{select_outcome}
 use Rattle.ir_values.proofs.Compared as compared
+use Rattle.ir_values.proofs.Moved.{gep_related}
 use Rattle.ir_values.proofs.OperationLaws.{less_defined_refl}
 use Rattle.ir_values.proofs.RelatedValues.{less_related, one_memory, outcome_less}
 use Rattle.ir_values.proofs.Monotone.{binary_monotone, cast_monotone, select_monotone}
@@ -65,8 +69,26 @@ pub load_related : (memory : Memory) (k : Option Kind) (a c : Value) (align : �
 load_related memory None a c align p = tt
 load_related memory (Some k) a c align p = load_at_related memory k a c align p
 
+-- an index that is less defined, of one width
+abbrev pub IsIndexRelated : GivenIndex → GivenIndex → Type 0
+IsIndexRelated i j = (j.0 ≡ i.0) × IsRelated i.1 j.1
+
+indices_related : (is js : List GivenIndex) → AllZip IsIndexRelated is js → AllZip (AreIndicesRelated nat_eq) is js
+indices_related [] [] h = tt
+indices_related (i ∷ is) (j ∷ js) h = ((h.0.0, less_related i.1 j.1 h.0.1), indices_related is js h.1)
+indices_related [] (j ∷ js) h = h
+indices_related (i ∷ is) [] h = h
+
+-- the address of a part, from related bases by related indices
+pub element_related : (memory : Memory) (inbounds : Bool) (types : List NamedTy) (of : Ty) (a b : Value) (is js : List GivenIndex) → IsRelated a b → AllZip IsIndexRelated is js
+    → IsOutcomeLessDefined (gep_outcome inbounds types of a (size_at memory a) is) (gep_outcome inbounds types of b (size_at memory b) js)
+element_related memory inbounds types of a b is js p q =
+    outcome_less (gep_outcome inbounds types of a (size_at memory a) is) (gep_outcome inbounds types of b (size_at memory b) js)
+    (gep_related nat_eq inbounds inbounds (λ e. e) types of a b (size_at memory a) (size_at memory b) is js (less_related a b p) (one_size memory a b p)
+    (indices_related is js q))
+
 -- one choice between outcomes that are related
-chosen_related : (b : Bool) (o p : Outcome) → IsOutcomeLessDefined o p → IsOutcomeLessDefined (cond b o (Gives Poison)) (cond b p (Gives Poison))
+pub chosen_related : (b : Bool) (o p : Outcome) → IsOutcomeLessDefined o p → IsOutcomeLessDefined (cond b o (Gives Poison)) (cond b p (Gives Poison))
 chosen_related true o p h = h
 chosen_related false o p h = tt
 

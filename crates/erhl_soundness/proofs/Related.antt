@@ -315,11 +315,29 @@ outcome_leads : (k : Option Kind) (x : Name) (o : Outcome) (registers : Register
 outcome_leads k x (Gives v) registers frame rest world = refl
 outcome_leads k x Trap registers frame rest world = refl
 
-pub leads_so : (i : Option Instr) (side : SideState) → LineLeads side i (registers_after i side)
-leads_so None side = refl
-leads_so (Some (line.Calm l)) side =
+-- an alloca, a store and a call are refused, so no line that is allowed is one
+abbrev pub MaySet : Option Instr → Type 0
+MaySet None = Unit {0}
+MaySet (Some (line.Calm l)) = Unit {0}
+MaySet (Some i) = ⊥
+
+pub source_may : (known : Assertion) (i j : Option Instr) → line_fault_of known i j ≡ None → MaySet i
+source_may known None j allowed = tt
+source_may known (Some (line.Calm s)) j allowed = tt
+source_may known (Some i) j allowed = absurd (cc)
+
+pub target_may : (known : Assertion) (i j : Option Instr) → line_fault_of known i j ≡ None → MaySet j
+target_may known i None allowed = tt
+target_may known i (Some (line.Calm t)) allowed = tt
+target_may known None (Some j) allowed = absurd (cc)
+target_may known (Some (line.Calm s)) (Some j) allowed = absurd (cc)
+target_may known (Some i) (Some j) allowed = absurd (cc)
+
+pub leads_so : (i : Option Instr) (side : SideState) → MaySet i → LineLeads side i (registers_after i side)
+leads_so None side may = refl
+leads_so (Some (line.Calm l)) side may =
     λ frame rest. outcome_leads (kind_of (type_of l.right)) l.name (gives_on side l.right) side.now frame rest side.world
-leads_so (Some i) side = λ frame rest. refl
+leads_so (Some i) side may = absurd may
 
 -- after an aligned line what its postcondition says holds
 module _ (known : Assertion) (source target : SideState) (one : AreInOneWorld source target) (holds : AssertionHolds known source target) where
@@ -368,8 +386,8 @@ pub line_keeps : ALineKeepsWhatHolds
 line_keeps known l source target one holds allowed = (
   registers_after l.source source,
   registers_after l.target target,
-  leads_so l.source source,
-  leads_so l.target target,
+  leads_so l.source source (source_may known l.source l.target allowed),
+  leads_so l.target target (target_may known l.source l.target allowed),
   keeps_so known source target one holds l.source l.target allowed,
 )
 

@@ -23,10 +23,11 @@ use Rattle.ir_types.specs.NameLaws.{left_true, right_true}
 use Rattle.ir_values.specs.declared.operations.Outcome.{Outcome}
 use Rattle.ir_values.specs.declared.operations.Outcome.TheVariants.{Gives, Trap}
 use Rattle.ir_values.specs.Results.{is_division, is_signed_division}
-use Rattle.ir_values.specs.Constants.{Scope}
+use Rattle.ir_values.specs.Constants.{Scope, constant_value}
 use Rattle.ir_values.specs.Operations.{may_be, traps, binary_value}
+use Rattle.ir_values.proofs.ConstantWalks.{of_number, worth_number}
 use Rattle.block_memory.specs.Memory.{Memory}
-use Rattle.ir_machine.specs.Registers.{constant_of, atom_value, operand_value, binary_at, icmp_at, cast_at, selects, outcome}
+use Rattle.ir_machine.specs.Registers.{constant_at, atom_value, operand_value, binary_at, icmp_at, cast_at, selects, is_stated, element_from, outcome}
 use Rattle.erhl_assert.specs.Allowed.{divides_all, can_trap}
 
 -- ---- operators that give a value
@@ -92,12 +93,12 @@ gives_value false v h e = cc
 module _ {R : Type 0} (scope : Scope) (reading : Kind → R → Value) where
   number_no_trap : (op : BinOp) (flags : Flags) (width n : ℕ) (k : Bool) (a : Value)
       → (fits n width && not (nat_eq n 0) && not (is_signed_division op && nat_eq n (2 ^ width - 1))) ≡ true
-      → binary_at op flags (cond k (Some (kind.Int width)) None) a (constant_of (cond k (Some (kind.Int width)) None) (constant.Number n)) ≡ Trap → ⊥
+      → let o = cond k (Some (kind.Int width)) None in binary_at op flags o a (constant_at scope (ty.Int width) o (constant.Number n)) ≡ Trap → ⊥
   number_no_trap op flags width n false a h e = cc
   number_no_trap op flags width n true a h e =
       let few = fits n width && not (nat_eq n 0) in
       let fit = left_true (fits n width) (not (nat_eq n 0)) (left_true few (not (is_signed_division op && nat_eq n (2 ^ width - 1))) h) in
-      let at : (cond (fits n width) (Num n) Poison) ≡ Num n = ap (λ b. cond b (Num n) Poison) fit in
+      let at : constant_value scope (ty.Int width) (constant.Number n) ≡ Num n = rw (of_number scope (ty.Int width) n, worth_number scope (ty.Int width) n, fit) refl in
       gives_value (traps op width a (Num n)) (binary_value op flags width a (Num n)) (safe_division op width n a h)
       (ap (binary_at op flags (Some (kind.Int width)) a) (sym at) ∙ e)
 
@@ -134,5 +135,6 @@ module _ {R : Type 0} (scope : Scope) (reading : Kind → R → Value) where
       let a = operand_value scope reading s.left in
       let b = operand_value scope reading s.right in
       if_typed (selects s.condition.ty s.left.ty s.right.ty) (select_outcome c a b) (select_no_trap c a b) e
-  no_trap memory (Element x) h e = cc
+  no_trap memory (Element x) h e =
+      if_typed (is_stated scope.types x) (element_from scope reading memory x (operand_value scope reading x.base)) (λ traps. cc) e
   no_trap memory (Load l) h e = cc

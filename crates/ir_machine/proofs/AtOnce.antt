@@ -1,16 +1,16 @@
 -- Runs of one step, and lines of constants.
-use Rattle.std.proofs.Common.{◌≡◌, ◌⊎◌, inl, inr, ℕ, suc, List, [], ◌∷◌, ◌++◌, Option, None, Some, MatchOption, cond, refl, sym, ap, ◌∙◌, subst}
+use Rattle.std.proofs.Common.{◌≡◌, ◌⊎◌, inl, inr, ℕ, suc, List, [], ◌∷◌, ◌++◌, Option, None, Some, MatchOption, refl, sym, ap, ◌∙◌, subst}
 use Rattle.std.proofs.lemmas.List.{append-nil}
 use Rattle.ir_types.specs.declared.names.Name.{Name}
 use Rattle.ir_core.specs.declared.operands.Atom.TheVariants.{Register}
-use Rattle.ir_core.specs.declared.operands.Const.TheVariants.{Number}
-use Rattle.ir_core.specs.declared.operands.Pred.TheVariants.{Slt}
-use Rattle.ir_core.specs.declared.values.Kind.{Kind}
-use Rattle.ir_core.specs.declared.values.Kind.TheVariants as kind
-use Rattle.ir_types.specs.declared.ty.Ty.{Ty}
-use Rattle.ir_types.specs.declared.ty.Ty.TheOpen.{Ty-F}
-use Rattle.ir_types.specs.declared.ty.Ty.TheViews.{outs-Void}
+use Rattle.ir_types.specs.declared.ty.Ty.{Ty, Ptr}
+use Rattle.ir_types.specs.declared.ty.Ty.TheViews.{outs-Ptr, outs-Struct, outs-Void}
 use Rattle.ir_types.specs.declared.ty.Ty.TheVariants.{Void}
+use Rattle.ir_types.specs.Same.{same_ty}
+use Rattle.ir_types.proofs.Monotone as layout
+use Rattle.ir_types.proofs.SameLaws.{same_ty_refl}
+use Rattle.ir_typing.proofs.ShapeKinds.Pointers.{same_pointers}
+use Rattle.ir_values.proofs.ConstantWalks.{of_global, of_null, of_number, of_undef, worth_global, worth_null, worth_number, worth_undef}
 use Rattle.ir_core.specs.declared.functions.Block.{Block}
 use Rattle.ir_core.specs.declared.modules.Module.{Module}
 use Rattle.ir_core.specs.declared.functions.Term.TheVariants.{RetVoid}
@@ -20,9 +20,8 @@ use Rattle.ir_machine.specs.declared.items.Item.TheVariants.{Turn, Returned, Wro
 use Rattle.ir_machine.specs.State.{no_world, State, Over, Running}
 use Rattle.ir_machine.specs.Machine.{Asks, Does, Follows, Made, asks, at_block, start, ShowsFrom}
 use Rattle.ir_machine.specs.Examples.{dividing, dividing_line, returning_nothing}
-use Rattle.ir_machine.specs.Laws.{AreShownAtOnce, LinesGiveThese, TrapsAreWrong, VoidReturnsAreShown}
-use Rattle.ir_machine.specs.Registers.{constant_of, icmp_at, no_registers}
-use Rattle.ir_core.specs.Types.{is_pointer_at_level}
+use Rattle.ir_machine.specs.Laws.{AddressesGiveThese, AreShownAtOnce, LinesGiveThese, TrapsAreWrong, VoidReturnsAreShown}
+use Rattle.ir_machine.specs.Registers.{no_registers}
 use Rattle.ir_machine.proofs.Refining.{alone, entering}
 use Rattle.ir_machine.proofs.Runs.{over_shows, shows_nothing}
 use Rattle.ir_core.specs.Modules.{plain_function}
@@ -57,7 +56,7 @@ at_once m f s items starts ends n seen = (
 )
 
 pub traps_are_wrong : TrapsAreWrong
-traps_are_wrong f b y = at_once (dividing f b y) f (entering (alone f [] b (dividing_line y ∷ []) (Register y)) b (dividing_line y ∷ []) (Register y) no_registers) (Wrong ∷ []) (rw (same_name_refl f) refl) refl
+traps_are_wrong f b y = at_once (dividing f b y) f (entering (alone f [] b (dividing_line y ∷ []) (Register y)) b (dividing_line y ∷ []) (Register y) no_registers) (Wrong ∷ []) (rw (same_name_refl f) refl) (simp (of_number, worth_number) refl)
 
 abbrev empty_block : Name → Block
 empty_block b = record { name = b; phis = []; body = []; term = RetVoid }
@@ -68,20 +67,38 @@ nothing_left f b = Running (at_block (plain_function Void f [] (empty_block b �
 pub void_returns_are_shown : VoidReturnsAreShown
 void_returns_are_shown f b = at_once (returning_nothing f b) f (nothing_left f b) (Turn ∷ Returned None ∷ []) (rw (same_name_refl f) refl) refl
 
-abbrev kind_at_level : Ty-F Ty → Option Kind
-kind_at_level level = cond (is_pointer_at_level level) (Some kind.Ptr) None
-
 pub lines_give_these : LinesGiveThese
 lines_give_these scope reading memory = record {
-  add = refl;
-  add_no_i8 = refl;
-  icmp = refl;
-  icmp_void = ap (λ (level : Ty-F Ty). icmp_at memory Slt (kind_at_level level) (constant_of (kind_at_level level) (Number 128)) (constant_of (kind_at_level level) (Number 0))) outs-Void;
-  sext = refl;
+  plain = simp (of_number, worth_number) refl;
+  plain_i65 = refl;
+  add = simp (of_number, worth_number) refl;
+  add_no_i8 = simp (of_number, worth_number) refl;
+  icmp = simp (of_number, worth_number) refl;
+  icmp_void = simp (outs-Void) refl;
+  sext = simp (of_number, worth_number) refl;
   zext_same = refl;
   trunc_wider = refl;
-  bitcast = refl;
-  select = refl;
+  bitcast = simp (of_number, worth_number) refl;
+  select = simp (of_number, worth_number) refl;
   select_by_i8 = refl;
   select_of_two = refl;
+}
+
+pointers : (a b : Ty) → same_ty (Ptr a) (Ptr b) ≡ same_ty a b
+pointers a b = sym (same_pointers a b)
+
+pub addresses_give_these : AddressesGiveThese
+addresses_give_these reading = record {
+  field = simp (pointers, same_ty_refl, outs-Ptr, outs-Struct, of_global, of_number, worth_global, worth_number, layout.at_int, layout.at_struct) refl;
+  to_the_end = simp (pointers, same_ty_refl, outs-Ptr, of_global, of_number, worth_global, worth_number, layout.at_int, layout.at_struct) refl;
+  past_the_end = simp (pointers, same_ty_refl, outs-Ptr, of_global, of_number, worth_global, worth_number, layout.at_int, layout.at_struct) refl;
+  past_the_end_without = simp (pointers, same_ty_refl, outs-Ptr, of_global, of_number, worth_global, worth_number, layout.at_int, layout.at_struct) refl;
+  back = simp (pointers, same_ty_refl, outs-Ptr, of_global, of_number, worth_global, worth_number, layout.at_int, layout.at_struct) refl;
+  from_null = simp (pointers, same_ty_refl, outs-Ptr, of_null, of_number, worth_null, worth_number, layout.at_int, layout.at_struct) refl;
+  from_null_of_other = simp (pointers) refl;
+  from_undef = simp (pointers, same_ty_refl, outs-Ptr, of_undef, of_number, worth_undef, worth_number, layout.at_int, layout.at_struct) refl;
+  from_integer = refl;
+  no_field = simp (pointers, same_ty_refl, outs-Struct) refl;
+  field_by_i64 = simp (pointers, same_ty_refl, outs-Struct) refl;
+  to_other = simp (pointers, same_ty_refl, outs-Struct) refl;
 }

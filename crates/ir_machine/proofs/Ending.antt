@@ -15,6 +15,7 @@ use Rattle.ir_core.specs.declared.modules.Module.{Module}
 use Rattle.ir_values.specs.declared.operations.Outcome.{Outcome}
 use Rattle.ir_values.specs.declared.operations.Outcome.TheVariants.{Gives, Trap}
 use Rattle.ir_values.specs.Constants.{Scope}
+use Rattle.block_memory.specs.Memory.{Memory}
 use Rattle.block_memory.specs.declared.items.Shown.{Shown}
 use Rattle.ir_machine.specs.declared.items.Item.{Item}
 use Rattle.ir_machine.specs.declared.items.Item.TheVariants.{Wrong}
@@ -22,9 +23,11 @@ use Rattle.ir_core.specs.Types.{kind_of}
 use Rattle.ir_core.specs.Expressions.{type_of}
 use Rattle.ir_machine.specs.Registers.{Registers, no_registers, set, read, operand_value, outcome}
 use Rattle.ir_machine.specs.State.{Frame, World, no_world, scope_of, State, Running, Over}
-use Rattle.ir_machine.specs.Machine.{Made, Follows, asks, at_block, at_entry, entered, resolve, return_step, start, started, term_step, without_own, ShowsFrom}
+use Rattle.ir_machine.specs.Machine.{Asks, Does, Made, Follows, asks, at_block, at_entry, entered, resolve, return_step, start, started, stored_by, term_step, without_own, ShowsFrom}
 use Rattle.ir_machine.specs.Refinement.{MayShowFrom, EndTheRun}
 use Rattle.ir_machine.specs.Laws.{EndsByReturn, Leads, RunsAreSteps, Fit, OneBlockRunsEnd, FirstsAreShown, StartsAreKept, RefinedRunsAreShown}
+use Rattle.ir_machine.specs.Stepping.{Left, left_made}
+use Rattle.ir_machine.proofs.Leaving.{found_in}
 use Rattle.ir_machine.proofs.Trees.{AllDo, all_do_made, all_do_show}
 use Rattle.ir_machine.proofs.NeverStuck.{none_is_stuck, ends_are_shown}
 use Rattle.ir_machine.proofs.Runs.{step_on, shows_more}
@@ -72,31 +75,52 @@ IsOver items after = after ≡ Over
 return_is_over : (k : Option Kind) (v : Value) (world : World) → AllDo IsOver (return_step k v [] world)
 return_is_over k v world = all_do_show IsOver k v world _ _ refl (λ s after. refl)
 
-returns_over : (scope : Scope) (t : Term) (frame : Frame) → EndsByReturn t → AllDo IsOver (term_step scope t frame [] no_world)
-returns_over scope (Ret o) frame returns = return_is_over (kind_of o.ty) (operand_value scope (read frame.registers) o) (without_own frame.own no_world)
-returns_over scope RetVoid frame returns = refl
-returns_over scope (Br label) frame returns = absurd returns
-returns_over scope (CondBr c) frame returns = absurd returns
-returns_over scope (Switch s) frame returns = absurd returns
-returns_over scope Unreachable frame returns = absurd returns
+returns_over : (scope : Scope) (t : Term) (frame : Frame) (world : World) → EndsByReturn t → AllDo IsOver (term_step scope t frame [] world)
+returns_over scope (Ret o) frame world returns = return_is_over (kind_of o.ty) (operand_value scope (read frame.registers) o) (without_own frame.own world)
+returns_over scope RetVoid frame world returns = refl
+returns_over scope (Br label) frame world returns = absurd returns
+returns_over scope (CondBr c) frame world returns = absurd returns
+returns_over scope (Switch s) frame world returns = absurd returns
+returns_over scope Unreachable frame world returns = absurd returns
 
-abbrev left_in : Frame → List Instr → State
-left_in frame lines = Running (record frame { lines = lines }) [] no_world
+abbrev left_in : Frame → List Instr → World → State
+left_in frame lines world = Running (record frame { lines = lines }) [] world
 
-ends_from : (m : Module) (lines : List Instr) (frame : Frame) → EndsByReturn frame.term → EndsFrom m (left_in frame lines)
-ends_from m [] frame returns =
-    let made : (made : Made) × Follows (asks m (left_in frame [])) made = none_is_stuck m (left_in frame []) (λ e. cc) in
-    last_step m (left_in frame []) made.0 made.1
-    (all_do_made IsOver (asks m (left_in frame [])) made.0 (returns_over (scope_of m) frame.term (record frame { lines = [] }) returns) made.1)
-ends_from m (line.Calm b ∷ lines) frame returns = by_outcome (outcome (scope_of m) (read frame.registers) [] b.right) refl
-    (λ registers. ends_from m lines (record frame { registers = registers }) returns)
+-- where undefined behaviour is shown, the run has ended
+wrong_end : (m : Module) (s : State) → asks m s ≡ Does (Wrong ∷ []) Over → EndsFrom m s
+wrong_end m s is = last_step m s (record { told = []; items = Wrong ∷ []; after = Over })
+    (subst (λ (tree : Asks). Follows tree (record { told = []; items = Wrong ∷ []; after = Over })) (sym is) refl) refl
+
+-- and where it goes on to a state from which it ends
+quiet_end : (m : Module) (s t : State) → asks m s ≡ Does [] t → EndsFrom m t → EndsFrom m s
+quiet_end m s t is h = later m s t (subst (λ (tree : Asks). Follows tree (record { told = []; items = []; after = t })) (sym is) refl) h
+
+ends_from : (m : Module) (lines : List Instr) (frame : Frame) (world : World) → EndsByReturn frame.term → EndsFrom m (left_in frame lines world)
+ends_from m [] frame world returns =
+    let made : (made : Made) × Follows (asks m (left_in frame [] world)) made = none_is_stuck m (left_in frame [] world) (λ e. cc) in
+    last_step m (left_in frame [] world) made.0 made.1
+    (all_do_made IsOver (asks m (left_in frame [] world)) made.0 (returns_over (scope_of m) frame.term (record frame { lines = [] }) world returns) made.1)
+ends_from m (line.Calm b ∷ lines) frame world returns = by_outcome (outcome (scope_of m) (read frame.registers) world.memory b.right) refl
+    (λ registers. ends_from m lines (record frame { registers = registers }) world returns)
   where
-    by_outcome : (o : Outcome) → outcome (scope_of m) (read frame.registers) [] b.right ≡ o → ((registers : Registers) → EndsFrom m (left_in (record frame { registers = registers }) lines)) → EndsFrom m (left_in frame (line.Calm b ∷ lines))
+    by_outcome : (o : Outcome) → outcome (scope_of m) (read frame.registers) world.memory b.right ≡ o
+        → ((registers : Registers) → EndsFrom m (left_in (record frame { registers = registers }) lines world)) → EndsFrom m (left_in frame (line.Calm b ∷ lines) world)
     by_outcome (Gives v) e rest =
-        later m (left_in frame (line.Calm b ∷ lines)) (left_in (record frame { registers = set frame.registers b.name (kind_of (type_of b.right)) v }) lines)
+        quiet_end m (left_in frame (line.Calm b ∷ lines) world) (left_in (record frame { registers = set frame.registers b.name (kind_of (type_of b.right)) v }) lines world)
         (rw e refl) (rest (set frame.registers b.name (kind_of (type_of b.right)) v))
-    by_outcome Trap e rest = last_step m (left_in frame (line.Calm b ∷ lines)) (record { told = []; items = Wrong ∷ []; after = Over }) (rw e refl) refl
-ends_from m (i ∷ lines) frame returns = last_step m (left_in frame (i ∷ lines)) (record { told = []; items = Wrong ∷ []; after = Over }) refl refl
+    by_outcome Trap e rest = wrong_end m (left_in frame (line.Calm b ∷ lines) world) (rw e refl)
+ends_from m (line.Alloca a ∷ lines) frame world returns =
+    let made : Left = left_made (scope_of m) a (found_in frame world) in
+    let behind : Frame = record frame { registers = made.registers; own = made.own } in
+    quiet_end m (left_in frame (line.Alloca a ∷ lines) world) (left_in behind lines made.world) refl (ends_from m lines behind made.world returns)
+ends_from m (line.Store s ∷ lines) frame world returns = by_memory (stored_by (scope_of m) s frame.registers world.memory) refl
+    (λ memory. ends_from m lines frame (record world { memory = memory }) returns)
+  where
+    by_memory : (o : Option Memory) → stored_by (scope_of m) s frame.registers world.memory ≡ o
+        → ((memory : Memory) → EndsFrom m (left_in frame lines (record world { memory = memory }))) → EndsFrom m (left_in frame (line.Store s ∷ lines) world)
+    by_memory (Some memory) e rest = quiet_end m (left_in frame (line.Store s ∷ lines) world) (left_in frame lines (record world { memory = memory })) (rw e refl) (rest memory)
+    by_memory None e rest = wrong_end m (left_in frame (line.Store s ∷ lines) world) (rw e refl)
+ends_from m (line.Call c ∷ lines) frame world returns = wrong_end m (left_in frame (line.Call c ∷ lines) world) refl
 
 fit_enters : (ps : List Param) (args : List Shown) (registers : Registers) → Fit ps args → (after : Registers) × (entered no_world ps args registers ≡ Some after)
 fit_enters [] [] registers fit = (registers, refl)
@@ -112,7 +136,7 @@ one_block_runs_end m x f b input named blocks phis term fit =
     let starts : start m x input ≡ Some (Running (at_block f b registers.0 []) [] no_world) =
     ap (λ (o : Option Function). option_and_then (λ g. started no_world g input) o) named ∙ ap (λ (bs : List Block). at_entry no_world f bs (entered no_world f.params input.args no_registers)) blocks
     ∙ ap (λ (o : Option Registers). at_entry no_world f (b ∷ []) o) registers.1 in
-    let ends : EndsFrom m (Running (at_block f b registers.0 []) [] no_world) = ends_from m b.body (at_block f b registers.0 []) term in
+    let ends : EndsFrom m (Running (at_block f b registers.0 []) [] no_world) = ends_from m b.body (at_block f b registers.0 []) no_world term in
     (ends.0, ends.1, subst (λ (o : Option State). MatchOption o ⊥ (λ s. ShowsFrom m ends.0 s ends.1)) (sym starts) ends.2, ends.3)
 
 pub firsts_are_shown : FirstsAreShown

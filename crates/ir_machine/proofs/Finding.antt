@@ -23,10 +23,11 @@ use Rattle.ir_types.specs.Same.{same_name}
 use Rattle.ir_core.specs.Types.{kind_of}
 use Rattle.ir_core.specs.WellFormed.{FitsEdges, HasBlockShape, HasFunctionShape, HasShape}
 use Rattle.ir_types.specs.NameLaws.{same_name_refl, same_name_true}
+use Rattle.block_memory.specs.Memory.{Memory}
 use Rattle.ir_machine.specs.declared.items.Input.{Input}
 use Rattle.ir_machine.specs.declared.items.Item.{Item}
 use Rattle.ir_machine.specs.Laws.{Leads}
-use Rattle.ir_machine.specs.Machine.{asks, at_block, at_entry, entered, entry_from, frame_step, function_named, jump, return_step, return_void, started, term_step, without_own}
+use Rattle.ir_machine.specs.Machine.{asks, at_block, at_entry, entered, entry_from, frame_step, function_named, jump, return_step, return_void, started, stored_by, term_step, with_memory, without_own}
 use Rattle.ir_machine.specs.Reached.{FindsItsLabels, IsFound, NothingIsLost}
 use Rattle.ir_machine.specs.Registers.{Registers, no_registers, operand_value, outcome, read}
 use Rattle.ir_machine.specs.State.{Frame, Pending, World, no_world, scope_of, State, Running, Waiting, Over}
@@ -143,6 +144,11 @@ void_stands : (m : Module) (rest : List Pending) (world : World) → AllStand m 
 void_stands m [] world h = tt
 void_stands m (p ∷ ps) world h = h
 
+stored_stands : (m : Module) (stored : Option Memory) (frame : Frame) (rest : List Pending) (world : World) → FrameStands m frame → AllStand m rest
+    → AllDo (LeadsThere m) (with_memory stored frame rest world)
+stored_stands m None frame rest world h w = tt
+stored_stands m (Some memory) frame rest world h w = (h, w)
+
 module _ (m : Module) (scope : Scope) where
   jump_stands : (frame : Frame) (rest : List Pending) (world : World) → FrameStands m frame → AllStand m rest → (to : Name) → AllDo (LeadsThere m) (jump scope frame rest world to)
   jump_stands frame rest world h w to = all_do_jump (LeadsThere m) scope frame rest world to tt
@@ -164,7 +170,9 @@ module _ (m : Module) (scope : Scope) where
   frame_stands : (lines : List Instr) (frame : Frame) (rest : List Pending) (world : World) → FrameStands m frame → AllStand m rest → AllDo (LeadsThere m) (frame_step scope lines frame rest world)
   frame_stands (line.Calm l ∷ left) frame rest world h w =
       all_do_set_to (LeadsThere m) (kind_of (type_of l.right)) l.name (outcome scope (read frame.registers) world.memory l.right) (record frame { lines = left }) rest world (λ v e. (h, w)) tt
-  frame_stands (i ∷ left) frame rest world h w = tt
+  frame_stands (line.Alloca a ∷ left) frame rest world h w = (h, w)
+  frame_stands (line.Store s ∷ left) frame rest world h w = stored_stands m (stored_by scope s frame.registers world.memory) (record frame { lines = left }) rest world h w
+  frame_stands (line.Call c ∷ left) frame rest world h w = tt
   frame_stands [] frame rest world h w = term_stands frame.term frame rest world h w
 
 step_stands : (m : Module) (s : State) → Stands m s → AllDo (LeadsThere m) (asks m s)

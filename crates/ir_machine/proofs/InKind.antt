@@ -1,15 +1,14 @@
 -- Every value that a run comes to is of its kind.
-use Rattle.std.proofs.Common.{◌≡◌, ℕ, ℤ, pos, negsuc, ◌<◌, ◌≤◌, ◌^◌, ◌-◌, Bool, true, false, cond, List, [], ◌∷◌, Option, None, Some, refl, sym, subst, arith, slice_get, is_some, int_le, int_lt}
+use Rattle.std.proofs.Common.{◌≡◌, ℕ, ℤ, pos, negsuc, ◌<◌, ◌≤◌, ◌^◌, ◌-◌, Bool, true, false, cond, List, [], ◌∷◌, map, Option, None, Some, refl, sym, ap, subst, arith, slice_get, is_some, int_le, int_lt}
 use Rattle.std.specs.Prelude.{nat_lt}
+use Rattle.std.specs.List.{AllByRecursion}
 use Rattle.std.proofs.lemmas.Bool.{leb-true, ltb-true}
-use Rattle.std.proofs.lemmas.Nat.{pow_pos}
 use Rattle.ir_types.specs.declared.names.Name.{Name}
 use Rattle.ir_core.specs.declared.values.Value.{Value}
 use Rattle.ir_core.specs.declared.values.Value.TheVariants as value
 use Rattle.ir_core.specs.declared.values.Kind.{Kind}
 use Rattle.ir_core.specs.declared.values.Kind.TheVariants.{Int, Ptr}
 use Rattle.ir_core.specs.declared.operands.Const.{Const}
-use Rattle.ir_core.specs.declared.operands.Const.TheVariants as constant
 use Rattle.ir_core.specs.declared.operands.Atom.{Atom}
 use Rattle.ir_core.specs.declared.operands.Atom.TheVariants as atom
 use Rattle.ir_core.specs.declared.operands.Operand.{Operand}
@@ -17,18 +16,23 @@ use Rattle.ir_core.specs.declared.operands.BinOp.{BinOp}
 use Rattle.ir_core.specs.declared.operands.CastOp.{CastOp}
 use Rattle.ir_core.specs.declared.operands.Flags.{Flags}
 use Rattle.ir_core.specs.declared.operands.Pred.{Pred}
+use Rattle.ir_types.specs.declared.named.NamedTy.{NamedTy}
 use Rattle.ir_types.specs.declared.ty.Ty.{Ty}
 use Rattle.ir_types.specs.declared.ty.Ty.TheVariants as ty
+use Rattle.ir_core.specs.declared.expressions.Element.{Element}
 use Rattle.ir_core.specs.declared.expressions.Expr.{Expr}
 use Rattle.ir_core.specs.declared.expressions.Expr.TheVariants as expr
 use Rattle.ir_core.specs.declared.functions.Entry.{Entry}
 use Rattle.ir_core.specs.declared.functions.Param.{Param}
 use Rattle.ir_core.specs.declared.functions.Phi.{Phi}
 use Rattle.ir_values.specs.declared.operations.Outcome.{Outcome}
-use Rattle.ir_values.specs.Constants.{Scope}
+use Rattle.ir_values.specs.Addresses.{GivenIndex, IsIndex, gep_outcome}
+use Rattle.ir_values.specs.Constants.{Scope, width_of}
 use Rattle.ir_values.specs.Values.{IsInKind, IsInKindOf, IsOffset}
 use Rattle.ir_values.specs.Operations.{GivesInKind}
+use Rattle.ir_values.proofs.ConstantValues.{constants_in_kind}
 use Rattle.ir_values.proofs.KindLaws.{poison_in_kind}
+use Rattle.ir_values.proofs.Moved.{gep_in_kind}
 use Rattle.ir_values.specs.declared.operations.Outcome.TheVariants.{Gives, Trap}
 use Rattle.ir_values.specs.Selections.{select_outcome}
 use Rattle.ir_values.proofs.InKind as law
@@ -41,28 +45,18 @@ use Rattle.block_memory.proofs.Accesses.{loaded_in_kind}
 use Rattle.ir_types.specs.NameLaws.{left_true, right_true}
 use Rattle.ir_types.proofs.SameLaws.{same_ty_true}
 use Rattle.ir_types.specs.Same.{same_ty}
-use Rattle.ir_core.specs.Types.{converts, kind_of}
+use Rattle.ir_core.specs.Types.{converts, is_integer, is_width, kind_of}
+use Rattle.ir_core.specs.Typing.{index_of}
 use Rattle.ir_core.specs.Expressions.{type_of}
-use Rattle.ir_machine.specs.Registers.{Registers, no_registers, read, set, AreInKind, align_or, constant_at, constant_of, register_value, atom_value, operand_value, binary_at, icmp_at, cast_at, selects, size_at, outcome}
+use Rattle.ir_machine.specs.Registers.{Registers, no_registers, read, set, AreInKind, align_or, constant_at, register_value, atom_value, operand_value, binary_at, icmp_at, cast_at, element_from, index_value, is_stated, selects, size_at, outcome}
 use Rattle.ir_machine.specs.State.{World}
 use Rattle.ir_machine.specs.Machine.{entry_from, entry_value, phi_value, with_phis, fits_kind, entered, is_offset, is_ranged, is_value_of, resolve}
 use Rattle.ir_machine.proofs.Runs.{set_in_kind}
+use Rattle.ir_machine.proofs.Stated.{are_integers, base_kind, element_kind, indices_are_integers}
 
-number_in_kind : (n width : ℕ) (below : Bool) → (below ≡ true → n < 2 ^ width) → IsInKind (Int width) (cond below (value.Num n) value.Poison)
-number_in_kind n width true h = h refl
-number_in_kind n width false h = tt
-
-pub constant_in_kind : (k : Kind) (c : Const) → IsInKind k (constant_at k c)
-constant_in_kind (Int width) (constant.Number n) = number_in_kind n width (nat_lt n (2 ^ width)) (ltb-true n (2 ^ width))
-constant_in_kind (Int width) constant.Undef = tt
-constant_in_kind (Int width) c = tt
-constant_in_kind Ptr constant.Undef = tt
-constant_in_kind Ptr constant.Null = pow_pos 64
-constant_in_kind Ptr c = tt
-
-constant_of_in_kind : (k : Option Kind) (c : Const) → IsInKindOf k (constant_of k c)
-constant_of_in_kind None c = tt
-constant_of_in_kind (Some k) c = constant_in_kind k c
+constant_at_in_kind : (scope : Scope) (t : Ty) (c : Const) (k : Option Kind) → kind_of t ≡ k → IsInKindOf k (constant_at scope t k c)
+constant_at_in_kind scope t c None e = tt
+constant_at_in_kind scope t c (Some k) e = constants_in_kind scope t c k e
 
 register_in_kind : {R : Type 0} (reading : Kind → R → Value) → ((k : Kind) (r : R) → IsInKind k (reading k r)) → (k : Option Kind) (r : R) → IsInKindOf k (register_value reading k r)
 register_in_kind reading h None r = tt
@@ -70,7 +64,7 @@ register_in_kind reading h (Some k) r = h k r
 
 pub atom_value_in_kind : {R : Type 0} (scope : Scope) (reading : Kind → R → Value) → ((k : Kind) (r : R) → IsInKind k (reading k r)) → (t : Ty) (a : Atom R)
     → IsInKindOf (kind_of t) (atom_value scope reading t a)
-atom_value_in_kind scope reading h t (atom.Constant c) = constant_of_in_kind (kind_of t) c
+atom_value_in_kind scope reading h t (atom.Constant c) = constant_at_in_kind scope t c (kind_of t) refl
 atom_value_in_kind scope reading h t (atom.Register r) = register_in_kind reading h (kind_of t) r
 
 pub operand_in_kind : {R : Type 0} (scope : Scope) (reading : Kind → R → Value) → ((k : Kind) (r : R) → IsInKind k (reading k r)) → (o : Operand R)
@@ -119,6 +113,53 @@ pub select_in_kind : (condition left right : Ty) (c a b : Value) → IsInKindOf 
 select_in_kind condition left right c a b p q = if_typed (kind_of left) (selects condition left right) (select_outcome c a b)
     (λ h. selected_in_kind condition left right c a b (select_outcome c a b) h refl p q)
 
+-- ---- addresses of parts
+
+index_in_kind : {R : Type 0} (scope : Scope) (reading : Kind → R → Value) → ((k : Kind) (r : R) → IsInKind k (reading k r)) → (t : Ty) (a : Atom R) → is_integer t ≡ true
+    → IsInKind (Int (width_of t)) (atom_value scope reading t a)
+index_in_kind {R = R} scope reading h (ty.Int width) a integer = at (is_width width) refl
+  where
+    none : (b : Atom R) → kind_of (ty.Int width) ≡ None → atom_value scope reading (ty.Int width) b ≡ value.Poison
+    none (atom.Constant c) e = ap (λ (k : Option Kind). constant_at scope (ty.Int width) k c) e
+    none (atom.Register r) e = ap (λ (k : Option Kind). register_value reading k r) e
+
+    at : (b : Bool) → is_width width ≡ b → IsInKind (Int width) (atom_value scope reading (ty.Int width) a)
+    at true e =
+        let kinds : kind_of (ty.Int width) ≡ Some (Int width) = rw e refl in
+        subst (λ (k : Option Kind). IsInKindOf k (atom_value scope reading (ty.Int width) a)) kinds (atom_value_in_kind scope reading h (ty.Int width) a)
+    at false e =
+        let kinds : kind_of (ty.Int width) ≡ None = rw e refl in
+        subst (IsInKind (Int width)) (sym (none a kinds)) tt
+index_in_kind scope reading h t a integer = cc
+
+integers_in_kind : {R : Type 0} (scope : Scope) (reading : Kind → R → Value) → ((k : Kind) (r : R) → IsInKind k (reading k r)) → (os : List (Operand R))
+    → are_integers (map index_of os) ≡ true → AllByRecursion IsIndex (map (index_value scope reading) os)
+integers_in_kind scope reading h [] all = tt
+integers_in_kind scope reading h (o ∷ os) all = (
+  index_in_kind scope reading h o.ty o.atom (left_true (is_integer o.ty) (are_integers (map index_of os)) all),
+  integers_in_kind scope reading h os (right_true (is_integer o.ty) (are_integers (map index_of os)) all),
+)
+
+pub indices_in_kind : (scope : Scope) (registers : Registers) → AreInKind registers → (e : Element Name) → is_stated scope.types e ≡ true
+    → AllByRecursion IsIndex (map (index_value scope (read registers)) e.indices)
+indices_in_kind scope registers h e stated = integers_in_kind scope (read registers) (λ k x. h x k) e.indices (indices_are_integers scope.types e stated)
+
+-- the base of an address that a line may state is an address
+pub base_in_kind : (types : List NamedTy) (e : Element Name) (v : Value) → is_stated types e ≡ true → IsInKindOf (kind_of e.base.ty) v → IsInKind Ptr v
+base_in_kind types e v stated is = subst (λ (k : Option Kind). IsInKindOf k v) (base_kind types e stated) is
+
+-- and so is what it gives
+pub address_in_kind : {R : Type 0} (types : List NamedTy) (e : Element R) (base : Value) (size : ℕ) (is : List GivenIndex) → is_stated types e ≡ true
+    → GivesInKind (kind_of e.to) (gep_outcome e.inbounds types e.of base size is)
+address_in_kind types e base size is stated =
+    subst (λ (k : Option Kind). GivesInKind k (gep_outcome e.inbounds types e.of base size is)) (sym (element_kind types e stated)) (gep_in_kind e.inbounds types e.of base size is)
+
+element_in_kind : {R : Type 0} (scope : Scope) (reading : Kind → R → Value) (memory : Memory) (e : Element R) → GivesInKind (kind_of e.to) (outcome scope reading memory (expr.Element e))
+element_in_kind scope reading memory e =
+    let base = operand_value scope reading e.base in
+    if_typed (kind_of e.to) (is_stated scope.types e) (element_from scope reading memory e base)
+    (address_in_kind scope.types e base (size_at memory base) (map (index_value scope reading) e.indices))
+
 loads_in_kind : (k : Kind) (o : Outcome) → ((v : Value) → o ≡ Gives v → IsInKind k v) → GivesInKind (Some k) o
 loads_in_kind k (Gives v) h = h v refl
 loads_in_kind k Trap h = tt
@@ -137,7 +178,7 @@ outcome_in_kind scope reading h memory bytes (expr.Cast c) = cast_in_kind c.op (
 outcome_in_kind scope reading h memory bytes (expr.Select s) =
     select_in_kind s.condition.ty s.left.ty s.right.ty (operand_value scope reading s.condition) (operand_value scope reading s.left) (operand_value scope reading s.right)
     (operand_in_kind scope reading h s.left) (operand_in_kind scope reading h s.right)
-outcome_in_kind scope reading h memory bytes (expr.Element e) = poison_of (kind_of e.to)
+outcome_in_kind scope reading h memory bytes (expr.Element e) = element_in_kind scope reading memory e
 outcome_in_kind scope reading h memory bytes (expr.Load l) =
     load_in_kind memory bytes (kind_of l.of) (operand_value scope reading l.pointer) (align_or scope.types l.of l.align)
 

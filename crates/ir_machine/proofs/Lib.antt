@@ -4,6 +4,7 @@ pub mod WrongLast
 pub mod NeverStuck
 pub mod Order
 pub mod Outside
+pub mod Stated
 pub mod InKind
 pub mod Entries
 pub mod Telling
@@ -21,3 +22,5 @@ pub mod Finding
 pub mod Setting
 pub mod Reaching
 pub mod Lost
+pub mod Leaving
+pub mod Slots

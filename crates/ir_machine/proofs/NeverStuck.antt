@@ -26,6 +26,7 @@ use Rattle.block_memory.specs.declared.items.Choice.TheVariants as choice
 use Rattle.block_memory.specs.declared.items.Shown.{Shown}
 use Rattle.block_memory.specs.declared.items.Shown.TheVariants as shown
 use Rattle.block_memory.specs.declared.items.ShownByte.{ShownByte}
+use Rattle.block_memory.specs.Memory.{Memory}
 use Rattle.block_memory.specs.Names.{Showing, name_of}
 use Rattle.ir_machine.specs.declared.items.Item.{Item}
 use Rattle.ir_machine.specs.declared.items.Item.TheVariants.{Turn, EnvRead, EnvWrite, EnvNew, Replied, Returned, Wrong}
@@ -33,11 +34,11 @@ use Rattle.ir_core.specs.Types.{kind_of}
 use Rattle.ir_core.specs.Expressions.{type_of}
 use Rattle.ir_machine.specs.Registers.{read, operand_value, outcome}
 use Rattle.ir_machine.specs.State.{Frame, Pending, World, scope_of, State, Running, Waiting, Over}
-use Rattle.ir_machine.specs.Machine.{Asks, Does, Ask, Never, Chosen, Told, FreshByte, Made, Follows, act, asks, block_named, branch, byte_reached, chosen_by, entering, gone, gone_to, is_act, is_among, is_byte_pick, is_label, is_reply, jump, label_told, picked_byte, read_byte, reply, resumed, show, show_byte, show_part, show_undef, shown_as, set_to, frame_step, term_step, return_step, return_void, without_own}
+use Rattle.ir_machine.specs.Machine.{Asks, Does, Ask, Never, Chosen, Told, FreshByte, Made, Follows, act, asks, block_named, branch, byte_reached, chosen_by, entering, gone, gone_to, is_act, is_among, is_byte_pick, is_label, is_reply, jump, label_told, picked_byte, read_byte, reply, resumed, show, show_byte, show_part, show_undef, shown_as, set_to, frame_step, term_step, return_step, return_void, stored_by, with_memory, without_own}
 use Rattle.ir_machine.specs.Choices.{Lacks, NoStep, answer, RunsAnswer}
 use Rattle.ir_machine.specs.Refinement.{IsEnd, EndTheRun, NoneIsStuck, EndsAreShown}
 use Rattle.ir_types.specs.NameLaws.{same_name_refl}
-use Rattle.ir_machine.proofs.Trees.{AllDo, all_do_act, all_do_branch, all_do_jump, all_do_made, all_do_show, all_do_set_to}
+use Rattle.ir_machine.proofs.Trees.{AllDo, all_do_act, all_do_branch, all_do_jump, all_do_made, all_do_show, all_do_set_to, all_do_stored}
 
 abbrev CanStep : Asks → Type 0
 CanStep tree = (made : Made) × Follows tree made
@@ -117,10 +118,16 @@ set_can_step : (k : Option Kind) (x : Name) (o : Outcome) (frame : Frame) (rest 
 set_can_step k x (Gives v) frame rest world = does_step [] _
 set_can_step k x Trap frame rest world = does_step (Wrong ∷ []) Over
 
+store_can_step : (o : Option Memory) (frame : Frame) (rest : List Pending) (world : World) → CanStep (with_memory o frame rest world)
+store_can_step (Some memory) frame rest world = does_step [] _
+store_can_step None frame rest world = does_step (Wrong ∷ []) Over
+
 frame_can_step : (scope : Scope) (lines : List Instr) (frame : Frame) (rest : List Pending) (world : World) → CanStep (frame_step scope lines frame rest world)
 frame_can_step scope (line.Calm b ∷ left) frame rest world =
     set_can_step (kind_of (type_of b.right)) b.name (outcome scope (read frame.registers) world.memory b.right) (record frame { lines = left }) rest world
-frame_can_step scope (i ∷ left) frame rest world = does_step (Wrong ∷ []) Over
+frame_can_step scope (line.Alloca a ∷ left) frame rest world = does_step [] _
+frame_can_step scope (line.Store s ∷ left) frame rest world = store_can_step (stored_by scope s frame.registers world.memory) (record frame { lines = left }) rest world
+frame_can_step scope (line.Call c ∷ left) frame rest world = does_step (Wrong ∷ []) Over
 frame_can_step scope [] frame rest world = term_can_step scope frame.term frame rest world
 
 -- a call may be answered: by nothing, by 0 or by address 0
@@ -198,7 +205,10 @@ frame_shows_end : (scope : Scope) (lines : List Instr) (frame : Frame) (rest : L
 frame_shows_end scope (line.Calm b ∷ left) frame rest world =
     all_do_set_to ShowsItsEnd (kind_of (type_of b.right)) b.name (outcome scope (read frame.registers) world.memory b.right) (record frame { lines = left }) rest world
     (λ v e. goes_on [] _ rest world (no_end [] refl)) (ends (Wrong ∷ []) [] Wrong refl tt)
-frame_shows_end scope (i ∷ left) frame rest world = wrong_ends
+frame_shows_end scope (line.Alloca a ∷ left) frame rest world = goes_on [] _ rest _ (no_end [] refl)
+frame_shows_end scope (line.Store s ∷ left) frame rest world =
+    all_do_stored ShowsItsEnd (stored_by scope s frame.registers world.memory) (record frame { lines = left }) rest world (λ memory. goes_on [] _ rest _ (no_end [] refl)) wrong_ends
+frame_shows_end scope (line.Call c ∷ left) frame rest world = wrong_ends
 frame_shows_end scope [] frame rest world = term_shows_end scope frame.term frame rest world
 
 step_shows_end : (m : Module) (s : State) → AllDo ShowsItsEnd (asks m s)
@@ -276,10 +286,16 @@ set_always : (k : Option Kind) (x : Name) (o : Outcome) (frame : Frame) (rest : 
 set_always k x (Gives v) frame rest world = tt
 set_always k x Trap frame rest world = tt
 
+store_always : (o : Option Memory) (frame : Frame) (rest : List Pending) (world : World) → AlwaysSteps (with_memory o frame rest world)
+store_always (Some memory) frame rest world = tt
+store_always None frame rest world = tt
+
 frame_always : (scope : Scope) (lines : List Instr) (frame : Frame) (rest : List Pending) (world : World) → AlwaysSteps (frame_step scope lines frame rest world)
 frame_always scope (line.Calm b ∷ left) frame rest world =
     set_always (kind_of (type_of b.right)) b.name (outcome scope (read frame.registers) world.memory b.right) (record frame { lines = left }) rest world
-frame_always scope (i ∷ left) frame rest world = tt
+frame_always scope (line.Alloca a ∷ left) frame rest world = tt
+frame_always scope (line.Store s ∷ left) frame rest world = store_always (stored_by scope s frame.registers world.memory) (record frame { lines = left }) rest world
+frame_always scope (line.Call c ∷ left) frame rest world = tt
 frame_always scope [] frame rest world = term_always scope frame.term frame rest world
 
 part_always : (name : Option ℕ) (block : ℕ) (offset : ℤ) (place : ℕ) (world : World) (next : ShownByte → World → Asks) → ((s : ShownByte) (after : World) → AlwaysSteps (next s after))

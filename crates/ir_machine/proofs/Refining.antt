@@ -1,7 +1,9 @@
 -- Which of the modules written out refine which.
-use Rattle.std.proofs.Common.{◌≡◌, ◌⊎◌, inl, inr, ℕ, ◌<◌, ◌^◌, Bool, true, false, cond, List, [], ◌∷◌, Option, None, Some, MatchOption, refl, sym, ◌∙◌, subst, lit<, arith}
+use Rattle.std.proofs.Common.{◌≡◌, ◌⊎◌, inl, inr, ℕ, ◌<◌, ◌^◌, Bool, true, false, cond, List, [], ◌∷◌, Option, None, Some, MatchOption, refl, sym, ap, ◌∙◌, subst, lit<, arith}
 use Rattle.std.specs.Prelude.{option_and_then}
+use Rattle.std.proofs.lemmas.Bool.{lt-ltb}
 use Rattle.ir_types.specs.declared.names.Name.{Name}
+use Rattle.ir_core.specs.declared.values.Value.{Value}
 use Rattle.ir_core.specs.declared.values.Value.TheVariants as value
 use Rattle.ir_core.specs.declared.values.Kind.TheVariants.{Int}
 use Rattle.ir_core.specs.declared.operands.Const.{Const}
@@ -15,17 +17,21 @@ use Rattle.ir_core.specs.declared.functions.Function.{Function}
 use Rattle.ir_core.specs.declared.modules.Module.{Module}
 use Rattle.ir_types.specs.NameLaws.{same_name_refl}
 use Rattle.ir_types.specs.Same.{same_name}
+use Rattle.ir_values.specs.Constants as constants
+use Rattle.ir_values.specs.Constants.{constant_value}
+use Rattle.ir_values.specs.Values.{IsInKind, IsLessDefined}
+use Rattle.ir_values.proofs.ConstantValues.{constants_in_kind}
+use Rattle.ir_values.proofs.ConstantWalks.{of_number, of_undef, worth_number, worth_undef}
 use Rattle.block_memory.specs.declared.items.Shown.TheVariants as shown
 use Rattle.ir_machine.specs.declared.items.Item.{Item}
 use Rattle.ir_machine.specs.declared.items.Item.TheVariants.{Turn, Wrong}
 use Rattle.ir_machine.specs.declared.items.Input.{Input}
-use Rattle.ir_machine.specs.Registers.{Registers, no_registers, set, read, constant_at, atom_value}
+use Rattle.ir_machine.specs.Registers.{Registers, no_registers, set, read, atom_value}
 use Rattle.ir_machine.specs.State.{no_world, scope_of, State, Running}
-use Rattle.ir_machine.specs.Machine.{at_block, at_entry, entered, start, started, ShowsFrom}
+use Rattle.ir_machine.specs.Machine.{Follows, asks, at_block, at_entry, entered, start, started, ShowsFrom}
 use Rattle.ir_machine.specs.Refinement.{MayShowFrom, Refines}
-use Rattle.ir_machine.specs.Examples.{block, defining, returning, taking, wrapping, wrapping_line, number}
+use Rattle.ir_machine.specs.Examples.{block, defining, returning, taking, wrapping, wrapping_line, number, undef}
 use Rattle.ir_machine.specs.Laws.{ConstantsRefineByValue, NumbersAreKept, NumbersStayDefined, UndefIsAnyNumber, PoisonIsNoNumber, WrongIsRefined, ArgumentsAreSeen}
-use Rattle.ir_machine.proofs.InKind.{constant_in_kind}
 use Rattle.ir_machine.proofs.Runs.{step_on, may_show_nothing, may_step_on}
 use Rattle.ir_machine.proofs.Returning.{Returns, IsReturn, returns_only, returns_shown, may_return, may_show_turn, return_turns, less_defined, simulates}
 use Rattle.ir_core.specs.Modules.{plain_function, plain_param}
@@ -77,32 +83,60 @@ refines_by f params b c ls ks u v h x input n items = by_name (same_name f x)
 starts : (f b : Name) (lines : List Instr) (result : Atom Name) → start (defining f [] b lines result) f (record { args = [] }) ≡ Some (entering (alone f [] b lines result) b lines result no_registers)
 starts f b lines result = rw (same_name_refl f) refl
 
+-- what a constant is worth at i32 in a module
+abbrev worth : Module → Const → Value
+worth m c = constant_value (scope_of m) (ty.Int 32) c
+
+worth_in_kind : (m : Module) (c : Const) → IsInKind (Int 32) (worth m c)
+worth_in_kind m c = constants_in_kind (scope_of m) (ty.Int 32) c (Int 32) refl
+
+number_worth : (m : Module) (n : ℕ) → n < 2 ^ 32 → worth m (constant.Number n) ≡ value.Num n
+number_worth m n below =
+    ap (λ (is : Bool). cond is (constants.worth (scope_of m) (constant.Number n) (ty.Int 32)) value.Poison) (of_number (scope_of m) (ty.Int 32) n)
+    ∙ worth_number (scope_of m) (ty.Int 32) n
+    ∙ ap (λ (is : Bool). cond is (value.Num n) value.Poison) (lt-ltb n (2 ^ 32) below)
+
+undef_worth : (m : Module) → worth m constant.Undef ≡ value.Undef
+undef_worth m =
+    ap (λ (is : Bool). cond is (constants.worth (scope_of m) constant.Undef (ty.Int 32)) value.Poison) (of_undef (scope_of m) (ty.Int 32)) ∙ worth_undef (scope_of m) (ty.Int 32)
+
 pub constants_refine : ConstantsRefineByValue
 constants_refine f b c d = (
-  λ h. less_defined (returning f b (Constant c)) (returning f b (Constant d)) (entering (returner f b (Constant c)) b [] (Constant c) no_registers) (entering (returner f b (Constant d)) b [] (Constant d) no_registers) (constant_at (Int 32) c) (constant_at (Int 32) d) refl refl
-      (constant_in_kind (Int 32) c) (constant_in_kind (Int 32) d)
+  λ h. less_defined (returning f b (Constant c)) (returning f b (Constant d)) (entering (returner f b (Constant c)) b [] (Constant c) no_registers) (entering (returner f b (Constant d)) b [] (Constant d) no_registers) (worth (returning f b (Constant c)) c) (worth (returning f b (Constant d)) d) refl refl
+      (worth_in_kind (returning f b (Constant c)) c) (worth_in_kind (returning f b (Constant d)) d)
       (refines_from (returning f b (Constant c)) (returning f b (Constant d)) f (record { args = [] }) (entering (returner f b (Constant c)) b [] (Constant c) no_registers) (entering (returner f b (Constant d)) b [] (Constant d) no_registers) (starts f b [] (Constant c)) (starts f b [] (Constant d)) h),
   λ less. refines_by f [] b b [] [] (Constant c) (Constant d) (λ registers.
-      simulates (returning f b (Constant c)) (returning f b (Constant d)) (entering (returner f b (Constant c)) b [] (Constant c) registers) (entering (returner f b (Constant d)) b [] (Constant d) registers) (constant_at (Int 32) c) (constant_at (Int 32) d) refl refl
-      (constant_in_kind (Int 32) d) less),
+      simulates (returning f b (Constant c)) (returning f b (Constant d)) (entering (returner f b (Constant c)) b [] (Constant c) registers) (entering (returner f b (Constant d)) b [] (Constant d) registers) (worth (returning f b (Constant c)) c) (worth (returning f b (Constant d)) d) refl refl
+      (worth_in_kind (returning f b (Constant d)) d) less),
 )
 
 one_number : (m n : ℕ) → value.Num m ≡ value.Num n → m ≡ n
 one_number m n e = cc
 
+-- constants whose values are known
+refined_values : (f b : Name) (c d : Const) (v w : Value) → worth (returning f b (Constant c)) c ≡ v → worth (returning f b (Constant d)) d ≡ w
+    → Refines (returning f b (Constant c)) (returning f b (Constant d)) → IsLessDefined v w
+refined_values f b c d v w p q h =
+    subst (λ (x : Value). IsLessDefined x w) p (subst (IsLessDefined (worth (returning f b (Constant c)) c)) q ((constants_refine f b c d).0 h))
+
 pub numbers_are_kept : NumbersAreKept
 numbers_are_kept f b h =
-    let same : value.Num 8 ≡ value.Num 7 = (constants_refine f b (constant.Number 7) (constant.Number 8)).0 h in
+    let same : value.Num 8 ≡ value.Num 7 = refined_values f b (constant.Number 7) (constant.Number 8) (value.Num 7) (value.Num 8)
+    (number_worth (returning f b (number 7)) 7 (lit< tt)) (number_worth (returning f b (number 8)) 8 (lit< tt)) h in
     let differ = one_number 8 7 same in
     omega arith
 
 pub numbers_stay_defined : NumbersStayDefined
 numbers_stay_defined f b h =
-    let same : value.Undef ≡ value.Num 7 = (constants_refine f b (constant.Number 7) constant.Undef).0 h in
+    let same : value.Undef ≡ value.Num 7 = refined_values f b (constant.Number 7) constant.Undef (value.Num 7) value.Undef
+    (number_worth (returning f b (number 7)) 7 (lit< tt)) (undef_worth (returning f b undef)) h in
     cc
 
 pub undef_is_any_number : UndefIsAnyNumber
-undef_is_any_number f b = (constants_refine f b constant.Undef (constant.Number 7)).1 tt
+undef_is_any_number f b =
+    (constants_refine f b constant.Undef (constant.Number 7)).1
+    (subst (λ (x : Value). IsLessDefined x (worth (returning f b (number 7)) (constant.Number 7))) (sym (undef_worth (returning f b undef)))
+    (subst (IsLessDefined value.Undef) (sym (number_worth (returning f b (number 7)) 7 (lit< tt))) tt))
 
 -- the sum is poison
 abbrev wrapped : Name → Registers → Registers
@@ -111,17 +145,21 @@ wrapped y registers = set registers y (Some (Int 32)) value.Poison
 wraps : (m : Module) (f b y : Name) (registers : Registers) → Returns m (entering (wrapper f b y) b [] (Register y) (wrapped y registers)) value.Poison
 wraps m f b y registers = rw (same_name_refl y) refl
 
+wraps_at : (f b y : Name) (registers : Registers) → Follows (asks (wrapping f b y) (entering (wrapper f b y) b (wrapping_line y ∷ []) (Register y) registers))
+    (record { told = []; items = []; after = entering (wrapper f b y) b [] (Register y) (wrapped y registers) })
+wraps_at f b y registers = simp (of_number, worth_number) refl
+
 -- what the wrapping module may show: whatever begins with a turn
 wrapping_turns : (f b y : Name) (registers : Registers) (rest : List Item) → MayShowFrom (wrapping f b y) (entering (wrapper f b y) b (wrapping_line y ∷ []) (Register y) registers) (Turn ∷ rest)
 wrapping_turns f b y registers rest =
     may_step_on (wrapping f b y) (entering (wrapper f b y) b (wrapping_line y ∷ []) (Register y) registers)
-    (record { told = []; items = []; after = entering (wrapper f b y) b [] (Register y) (wrapped y registers) }) (Turn ∷ rest) refl
+    (record { told = []; items = []; after = entering (wrapper f b y) b [] (Register y) (wrapped y registers) }) (Turn ∷ rest) (wraps_at f b y registers)
     (may_show_turn (wrapping f b y) (entering (wrapper f b y) b [] (Register y) (wrapped y registers)) rest (wraps (wrapping f b y) f b y registers))
 
 wrapping_wrong : (f b y : Name) (registers : Registers) → ShowsFrom (wrapping f b y) 2 (entering (wrapper f b y) b (wrapping_line y ∷ []) (Register y) registers) (Turn ∷ Wrong ∷ [])
 wrapping_wrong f b y registers =
     step_on (wrapping f b y) 1 (entering (wrapper f b y) b (wrapping_line y ∷ []) (Register y) registers)
-    (record { told = []; items = []; after = entering (wrapper f b y) b [] (Register y) (wrapped y registers) }) (Turn ∷ Wrong ∷ []) refl
+    (record { told = []; items = []; after = entering (wrapper f b y) b [] (Register y) (wrapped y registers) }) (Turn ∷ Wrong ∷ []) (wraps_at f b y registers)
     (returns_shown (wrapping f b y) (entering (wrapper f b y) b [] (Register y) (wrapped y registers)) value.Poison (wraps (wrapping f b y) f b y registers) (Turn ∷ Wrong ∷ []) refl)
 
 abbrev at_seven : Name → Name → State
@@ -135,7 +173,7 @@ never_seven (inl e) = cc
 never_seven (inr e) = cc
 
 pub poison_is_no_number : PoisonIsNoNumber
-poison_is_no_number f b y h = never_seven (may_return (returning f b (number 7)) (at_seven f b) (value.Num 7) refl (λ e. cc) (Turn ∷ Wrong ∷ [])
+poison_is_no_number f b y h = never_seven (may_return (returning f b (number 7)) (at_seven f b) (value.Num 7) (simp (of_number, worth_number) refl) (λ e. cc) (Turn ∷ Wrong ∷ [])
     (refines_from (returning f b (number 7)) (wrapping f b y) f (record { args = [] }) (at_seven f b) (at_sum f b y) (starts f b [] (number 7)) (starts f b (wrapping_line y ∷ []) (Register y))
     h 2 (Turn ∷ Wrong ∷ []) (wrapping_wrong f b y no_registers)))
 
@@ -162,15 +200,15 @@ returns_argument m f x b n = rw (same_name_refl x) refl
 argument_kept : (f x b : Name) (c : Const) (n : ℕ) → n < 2 ^ 32 → Refines (taking f x b (Register x)) (taking f x b (Constant c))
     → start (taking f x b (Register x)) f (record { args = shown.Num n ∷ [] }) ≡ Some (entering (taker f x b (Register x)) b [] (Register x) (taken x n))
     → start (taking f x b (Constant c)) f (record { args = shown.Num n ∷ [] }) ≡ Some (entering (taker f x b (Constant c)) b [] (Constant c) (taken x n))
-    → constant_at (Int 32) c ≡ value.Num n
+    → worth (taking f x b (Constant c)) c ≡ value.Num n
 argument_kept f x b c n fits h p q =
     less_defined (taking f x b (Register x)) (taking f x b (Constant c)) (entering (taker f x b (Register x)) b [] (Register x) (taken x n)) (entering (taker f x b (Constant c)) b [] (Constant c) (taken x n))
-    (value.Num n) (constant_at (Int 32) c) (returns_argument (taking f x b (Register x)) f x b n) refl fits (constant_in_kind (Int 32) c)
+    (value.Num n) (worth (taking f x b (Constant c)) c) (returns_argument (taking f x b (Register x)) f x b n) refl fits (worth_in_kind (taking f x b (Constant c)) c)
     (refines_from (taking f x b (Register x)) (taking f x b (Constant c)) f (record { args = shown.Num n ∷ [] }) (entering (taker f x b (Register x)) b [] (Register x) (taken x n)) (entering (taker f x b (Constant c)) b [] (Constant c) (taken x n)) p q h)
 
 pub arguments_are_seen : ArgumentsAreSeen
 arguments_are_seen f x b c h =
-    let none : constant_at (Int 32) c ≡ value.Num 0 = argument_kept f x b c 0 (lit< tt) h (rw (same_name_refl f) refl) (rw (same_name_refl f) refl) in
-    let one : constant_at (Int 32) c ≡ value.Num 1 = argument_kept f x b c 1 (lit< tt) h (rw (same_name_refl f) refl) (rw (same_name_refl f) refl) in
+    let none : worth (taking f x b (Constant c)) c ≡ value.Num 0 = argument_kept f x b c 0 (lit< tt) h (rw (same_name_refl f) refl) (rw (same_name_refl f) refl) in
+    let one : worth (taking f x b (Constant c)) c ≡ value.Num 1 = argument_kept f x b c 1 (lit< tt) h (rw (same_name_refl f) refl) (rw (same_name_refl f) refl) in
     let differ = one_number 0 1 (sym none ∙ one) in
     omega arith

@@ -5,6 +5,7 @@ use Rattle.std.specs.List.{AllByRecursion, Contains, flat_map, list_any}
 use Rattle.std.proofs.lemmas.List.{append-nil, map-append}
 use Rattle.std.proofs.lemmas.List.Elements.{Contains-append_cases}
 use Rattle.std.proofs.lemmas.List.Sorted.{length_permutation}
+use Rattle.ir_core.specs.declared.functions.Alloca.{Alloca}
 use Rattle.ir_core.specs.declared.functions.Block.{Block}
 use Rattle.ir_core.specs.declared.functions.Calm.{Calm}
 use Rattle.ir_core.specs.declared.functions.Case.{Case}
@@ -15,6 +16,7 @@ use Rattle.ir_core.specs.declared.functions.Instr.TheVariants as line
 use Rattle.ir_core.specs.declared.modules.Module.{Module}
 use Rattle.ir_core.specs.declared.functions.Param.{Param}
 use Rattle.ir_core.specs.declared.functions.Phi.{Phi}
+use Rattle.ir_core.specs.declared.functions.Store.{Store}
 use Rattle.ir_core.specs.declared.functions.Term.{Term}
 use Rattle.ir_core.specs.declared.functions.Term.TheVariants.{Ret, RetVoid, Br, CondBr, Switch, Unreachable}
 use Rattle.ir_types.specs.declared.names.Name.{Name}
@@ -24,7 +26,7 @@ use Rattle.ir_core.specs.declared.operands.Operand.{Operand}
 use Rattle.ir_types.specs.declared.ty.Ty.{Ty}
 use Rattle.ir_types.specs.declared.ty.Ty.TheVariants as ty
 use Rattle.ir_core.specs.declared.values.Kind.{Kind}
-use Rattle.ir_core.specs.declared.values.Kind.TheVariants.{Int}
+use Rattle.ir_core.specs.declared.values.Kind.TheVariants.{Int, Ptr}
 use Rattle.ir_core.specs.declared.values.Value.{Value}
 use Rattle.ir_core.specs.declared.values.Value.TheVariants as value
 use Rattle.ir_core.specs.Expressions.{type_of}
@@ -41,12 +43,12 @@ use Rattle.ir_machine.specs.declared.items.Item.TheVariants.{Wrong}
 use Rattle.ir_values.specs.Constants.{Scope}
 use Rattle.block_memory.specs.declared.items.Shown.{Shown}
 use Rattle.ir_machine.specs.Laws.{Leads}
-use Rattle.ir_machine.specs.Machine.{Asks, Chosen, asks, at_block, at_entry, block_named, branch, case_of, entered, entry_from, fits_kind, frame_step, function_named, gone, gone_to, is_among, is_label, jump, label_told, phi_value, resolve, side_of, started, term_step, with_phis, without_own}
+use Rattle.ir_machine.specs.Machine.{Asks, Chosen, asks, at_block, at_entry, block_named, branch, case_of, entered, entry_from, fits_kind, frame_step, function_named, gone, gone_to, is_among, is_label, jump, label_told, phi_value, resolve, side_of, started, stored_by, term_step, with_phis, without_own}
 use Rattle.ir_machine.specs.Reads.{AreSet, IsSet, NextReadsSet, PhisReadSet, ReadsAreSet, ReadsSet}
 use Rattle.ir_machine.specs.Registers.{Held, Registers, no_registers, operand_value, outcome, read, set}
 use Rattle.ir_machine.specs.State.{Frame, Pending, World, no_world, scope_of, State, Running, Waiting, Over}
 use Rattle.ir_machine.proofs.Finding.{all_at, found_inside}
-use Rattle.ir_machine.proofs.Trees.{AllDo, all_do_jump, all_do_made, all_do_set_to, all_do_show}
+use Rattle.ir_machine.proofs.Trees.{AllDo, all_do_jump, all_do_made, all_do_set_to, all_do_show, all_do_stored}
 
 -- ---- lists
 
@@ -203,6 +205,41 @@ line_ready m l left frame v ready = record {
   in_all = append_assoc ready.known (l.name ∷ []) (names_in (set_by left)) ∙ ready.in_all;
 }
 
+-- an alloca sets its register to an address
+made_ready : (m : Module) (a : Alloca) (left : List Instr) (frame : Frame) (v : Value) (own : List ℕ) → Ready m (line.Alloca a ∷ left) frame
+    → Ready m left (record frame { lines = left; registers = set frame.registers a.name (Some Ptr) v; own = own })
+made_ready m a left frame v own ready = record {
+  function = ready.function;
+  block = ready.block;
+  inside = ready.inside;
+  name_is = ready.name_is;
+  term_is = ready.term_is;
+  taken = ready.taken;
+  ahead = ready.ahead;
+  known = ready.known ++ a.name ∷ [];
+  sets = sets_one frame.registers ready.known a.name Ptr v ready.sets;
+  uses = ready.uses.1;
+  kinds = ready.kinds.1;
+  in_all = append_assoc ready.known (a.name ∷ []) (names_in (set_by left)) ∙ ready.in_all;
+}
+
+-- a store sets none
+stored_ready : (m : Module) (s : Store) (left : List Instr) (frame : Frame) → Ready m (line.Store s ∷ left) frame → Ready m left (record frame { lines = left })
+stored_ready m s left frame ready = record {
+  function = ready.function;
+  block = ready.block;
+  inside = ready.inside;
+  name_is = ready.name_is;
+  term_is = ready.term_is;
+  taken = ready.taken;
+  ahead = ready.ahead;
+  known = ready.known;
+  sets = ready.sets;
+  uses = subst (λ (names : List Name). LinesUseDefined names left frame.term) (append-nil ready.known) ready.uses.1;
+  kinds = ready.kinds;
+  in_all = ready.in_all;
+}
+
 -- ---- labels
 
 among_by : (x y : Name) (ys : List Name) (b : Bool) → same_name x y ≡ b → (b || list_any (same_name x) ys) ≡ true → (list_any (same_name x) ys ≡ true → Contains ys x) → Contains (y ∷ ys) x
@@ -295,7 +332,10 @@ frame_ready : (m : Module) → CanRun m → (lines : List Instr) (frame : Frame)
 frame_ready m well (line.Calm l ∷ left) frame world ready =
     all_do_set_to (LeadsReady m) (kind_of (type_of l.right)) l.name (outcome (scope_of m) (read frame.registers) world.memory l.right) (record frame { lines = left }) [] world
     (λ v e. (line_ready m l left frame v ready, refl)) tt
-frame_ready m well (i ∷ left) frame world ready = tt
+frame_ready m well (line.Alloca a ∷ left) frame world ready = (made_ready m a left frame _ _ ready, refl)
+frame_ready m well (line.Store s ∷ left) frame world ready =
+    all_do_stored (LeadsReady m) (stored_by (scope_of m) s frame.registers world.memory) (record frame { lines = left }) [] world (λ memory. (stored_ready m s left frame ready, refl)) tt
+frame_ready m well (line.Call c ∷ left) frame world ready = tt
 frame_ready m well [] frame world ready = term_ready m well frame.term frame world refl ready
 
 step_ready : (m : Module) → CanRun m → (s : State) → StateReady m s → AllDo (LeadsReady m) (asks m s)

@@ -57,12 +57,12 @@ entered_misfit world ps args i p a registers wp ip wa ia misfit = rw (drop_at ps
 -- a run starts at the first line of the first block
 pub starts_at : (m : Module) (x : Name) (input : Input) (f : Function) (i : ℕ) (registers : Registers) → function_named x m.functions ≡ Some f → slice_get m.functions i ≡ Some f
     → f.blocks ≢ [] → entered no_world f.params input.args no_registers ≡ Some registers
-    → start m x input ≡ Some (state_at m (Some (record { function = i; block = 0; line = 0 })) registers no_world)
+    → start m x input ≡ Some (state_at m (Some (record { function = i; block = 0; line = 0 })) registers [] no_world)
 starts_at m x input f i registers named at blocks fits =
     ap (λ (o : Option Function). option_and_then (λ g. started no_world g input) o) named ∙ ap (λ (o : Option Registers). at_entry no_world f f.blocks o) fits
-    ∙ first_block f.blocks blocks refl ∙ ap (λ (o : Option Function). Some (in_function o 0 0 registers no_world)) (sym at)
+    ∙ first_block f.blocks blocks refl ∙ ap (λ (o : Option Function). Some (in_function o 0 0 registers [] no_world)) (sym at)
   where
-    first_block : (bs : List Block) → bs ≢ [] → f.blocks ≡ bs → at_entry no_world f f.blocks (Some registers) ≡ Some (in_block f (slice_get f.blocks 0) 0 registers no_world)
+    first_block : (bs : List Block) → bs ≢ [] → f.blocks ≡ bs → at_entry no_world f f.blocks (Some registers) ≡ Some (in_block f (slice_get f.blocks 0) 0 registers [] no_world)
     first_block [] some e = absurd (some refl)
     first_block (b ∷ bs) some e = rw e refl
 
@@ -75,21 +75,21 @@ starts_not m x input f named blocks misfit =
     no_entry [] = refl
     no_entry (b ∷ bs) = refl
 
-running_in : (f : Function) (bs : List Block) (registers : Registers) (world : World) → f.blocks ≡ bs → bs ≢ [] → in_block f (slice_get bs 0) 0 registers world ≢ Over
-running_in f [] registers world same some e = some refl
-running_in f (b ∷ bs) registers world same some e = cc
+running_in : (f : Function) (bs : List Block) (registers : Registers) (own : List ℕ) (world : World) → f.blocks ≡ bs → bs ≢ [] → in_block f (slice_get bs 0) 0 registers own world ≢ Over
+running_in f [] registers own world same some e = some refl
+running_in f (b ∷ bs) registers own world same some e = cc
 
-running_from : (o : Option Function) (f : Function) (registers : Registers) (world : World) → o ≡ Some f → IfSome o (λ g. g.blocks ≢ []) → in_function o 0 0 registers world ≢ Over
-running_from None f registers world is some e = cc
-running_from (Some g) f registers world is some e = running_in g g.blocks registers world refl some e
+running_from : (o : Option Function) (f : Function) (registers : Registers) (own : List ℕ) (world : World) → o ≡ Some f → IfSome o (λ g. g.blocks ≢ []) → in_function o 0 0 registers own world ≢ Over
+running_from None f registers own world is some e = cc
+running_from (Some g) f registers own world is some e = running_in g g.blocks registers own world refl some e
 
-running_at : (fs : List Function) (x : Name) (i : ℕ) (registers : Registers) (world : World) → i < length fs → function_named x fs ≡ slice_get fs i
-    → IfSome (function_named x fs) (λ f. f.blocks ≢ []) → in_function (slice_get fs i) 0 0 registers world ≢ Over
-running_at [] x i registers world within named some e = absurd (omega arith)
-running_at (f ∷ fs) x i registers world within named some e =
-    running_from (slice_get (f ∷ fs) i) (get_or (f ∷ fs) i f) registers world (slice_get-get_or (f ∷ fs) i f within) (subst (λ (o : Option Function). IfSome o (λ g. g.blocks ≢ [])) named some) e
+running_at : (fs : List Function) (x : Name) (i : ℕ) (registers : Registers) (own : List ℕ) (world : World) → i < length fs → function_named x fs ≡ slice_get fs i
+    → IfSome (function_named x fs) (λ f. f.blocks ≢ []) → in_function (slice_get fs i) 0 0 registers own world ≢ Over
+running_at [] x i registers own world within named some e = absurd (omega arith)
+running_at (f ∷ fs) x i registers own world within named some e =
+    running_from (slice_get (f ∷ fs) i) (get_or (f ∷ fs) i f) registers own world (slice_get-get_or (f ∷ fs) i f within) (subst (λ (o : Option Function). IfSome o (λ g. g.blocks ≢ [])) named some) e
 
 -- a run that starts isn't over
-pub starts_running : (m : Module) (x : Name) (i : ℕ) (registers : Registers) (world : World) → (i < length m.functions) × (function_named x m.functions ≡ slice_get m.functions i)
-    → IfSome (function_named x m.functions) (λ f. f.blocks ≢ []) → state_at m (Some (record { function = i; block = 0; line = 0 })) registers world ≢ Over
-starts_running m x i registers world h some e = running_at m.functions x i registers world h.0 h.1 some e
+pub starts_running : (m : Module) (x : Name) (i : ℕ) (registers : Registers) (own : List ℕ) (world : World) → (i < length m.functions) × (function_named x m.functions ≡ slice_get m.functions i)
+    → IfSome (function_named x m.functions) (λ f. f.blocks ≢ []) → state_at m (Some (record { function = i; block = 0; line = 0 })) registers own world ≢ Over
+starts_running m x i registers own world h some e = running_at m.functions x i registers own world h.0 h.1 some e

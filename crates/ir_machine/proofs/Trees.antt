@@ -13,12 +13,13 @@ use Rattle.ir_values.specs.declared.operations.Outcome.TheVariants.{Gives, Trap}
 use Rattle.block_memory.specs.declared.items.Choice.TheVariants as choice
 use Rattle.block_memory.specs.declared.items.Shown.{Shown}
 use Rattle.block_memory.specs.declared.items.ShownByte.{ShownByte}
+use Rattle.block_memory.specs.Memory.{Memory}
 use Rattle.block_memory.specs.Names.{Showing, name_of, shown_of}
 use Rattle.ir_machine.specs.declared.items.Item.{Item}
 use Rattle.ir_machine.specs.declared.items.Item.TheVariants.{Turn, EnvRead, EnvWrite, EnvNew, Replied, Wrong}
 use Rattle.ir_machine.specs.Registers.{set}
 use Rattle.ir_machine.specs.State.{Frame, Pending, World, State, Running, Waiting, Over}
-use Rattle.ir_machine.specs.Machine.{Asks, Does, Ask, Never, Chosen, Told, FreshByte, Made, Follows, act, at_block, block_named, branch, byte_reached, chosen_by, entering, gone, gone_to, jump, label_told, picked_byte, read_byte, reply, resolve, resumed, set_to, show, show_byte, show_part, show_undef, shown_as, with_phis}
+use Rattle.ir_machine.specs.Machine.{Asks, Does, Ask, Never, Chosen, Told, FreshByte, Made, Follows, act, at_block, block_named, branch, byte_reached, chosen_by, entering, gone, gone_to, jump, label_told, picked_byte, read_byte, reply, resolve, resumed, set_to, show, show_byte, show_part, show_undef, shown_as, with_memory, with_phis}
 
 -- whatever is chosen, the items shown and the state after are related so
 abbrev pub AllDo : (List Item → State → Type 0) → Asks → Type 0
@@ -82,6 +83,11 @@ pub all_do_set_to : (P : List Item → State → Type 0) (k : Option Kind) (x : 
     → P (Wrong ∷ []) Over → AllDo P (set_to k x o frame rest world)
 all_do_set_to P k x (Gives v) frame rest world h b = h v refl
 all_do_set_to P k x Trap frame rest world h b = b
+
+pub all_do_stored : (P : List Item → State → Type 0) (o : Option Memory) (frame : Frame) (rest : List Pending) (world : World)
+    → ((memory : Memory) → P [] (Running frame rest (record world { memory = memory }))) → P (Wrong ∷ []) Over → AllDo P (with_memory o frame rest world)
+all_do_stored P (Some memory) frame rest world h b = h memory
+all_do_stored P None frame rest world h b = b
 
 -- a byte that the outside reads
 all_do_part : (P : List Item → State → Type 0) (name : Option ℕ) (block : ℕ) (offset : ℤ) (place : ℕ) (world : World) (next : ShownByte → World → Asks)

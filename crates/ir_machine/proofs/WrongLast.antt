@@ -17,9 +17,9 @@ use Rattle.ir_core.specs.Expressions.{type_of}
 use Rattle.ir_values.specs.Constants.{Scope}
 use Rattle.ir_machine.specs.Registers.{read, operand_value, outcome}
 use Rattle.ir_machine.specs.State.{Frame, Pending, World, scope_of, State, Running, Waiting, Over}
-use Rattle.ir_machine.specs.Machine.{Made, asks, start, ShowsFrom, frame_step, jump, term_step, return_step, return_void, without_own}
+use Rattle.ir_machine.specs.Machine.{Made, asks, start, ShowsFrom, frame_step, jump, term_step, return_step, return_void, stored_by, without_own}
 use Rattle.ir_machine.specs.Refinement.{WrongIsLast}
-use Rattle.ir_machine.proofs.Trees.{AllDo, all_do_act, all_do_branch, all_do_jump, all_do_made, all_do_show, all_do_set_to}
+use Rattle.ir_machine.proofs.Trees.{AllDo, all_do_act, all_do_branch, all_do_jump, all_do_made, all_do_show, all_do_set_to, all_do_stored}
 use Rattle.ir_machine.proofs.Runs.{over_shows}
 
 -- undefined behaviour isn't among the items
@@ -93,7 +93,10 @@ frame_ends : (scope : Scope) (lines : List Instr) (frame : Frame) (rest : List P
 frame_ends scope (line.Calm b ∷ left) frame rest world =
     all_do_set_to WrongOnlyLast (kind_of (type_of b.right)) b.name (outcome scope (read frame.registers) world.memory b.right) (record frame { lines = left }) rest world
     (λ v e. inl calm_none) (inr (refl, ends_here))
-frame_ends scope (i ∷ left) frame rest world = at_once
+frame_ends scope (line.Alloca a ∷ left) frame rest world = inl calm_none
+frame_ends scope (line.Store s ∷ left) frame rest world =
+    all_do_stored WrongOnlyLast (stored_by scope s frame.registers world.memory) (record frame { lines = left }) rest world (λ memory. inl calm_none) at_once
+frame_ends scope (line.Call c ∷ left) frame rest world = at_once
 frame_ends scope [] frame rest world = term_ends scope frame.term frame rest world
 
 pub step_ends : (m : Module) (s : State) → AllDo WrongOnlyLast (asks m s)

@@ -1,14 +1,16 @@
 -- Modules written out, for the laws that say what refines what.
-use Rattle.std.specs.Prelude.{true, false, List, [], ◌∷◌, ℕ}
+use Rattle.std.specs.Prelude.{Bool, true, false, List, [], ◌∷◌, ℕ, None}
 use Rattle.ir_types.specs.declared.names.Name.{Name}
+use Rattle.ir_types.specs.declared.names.Name.TheVariants.{Number}
 use Rattle.ir_types.specs.declared.ty.Ty.TheVariants.{Int, Void}
 use Rattle.ir_core.specs.declared.operands.Const.TheVariants as constant
 use Rattle.ir_core.specs.declared.operands.Atom.{Atom}
 use Rattle.ir_core.specs.declared.operands.Atom.TheVariants.{Constant, Register}
+use Rattle.ir_core.specs.declared.operands.Operand.{Operand}
 use Rattle.ir_core.specs.declared.operands.BinOp.TheVariants.{Add, UDiv}
 use Rattle.ir_core.specs.declared.operands.CastOp.{CastOp}
 use Rattle.ir_core.specs.declared.operands.Pred.TheVariants.{Slt}
-use Rattle.ir_types.specs.declared.ty.Ty.{Ty}
+use Rattle.ir_types.specs.declared.ty.Ty.{Ty, Ptr, Struct}
 use Rattle.ir_core.specs.declared.expressions.Expr.{Expr}
 use Rattle.ir_core.specs.declared.expressions.Expr.TheVariants as expr
 use Rattle.ir_core.specs.declared.functions.Instr.{Instr}
@@ -16,7 +18,10 @@ use Rattle.ir_core.specs.declared.functions.Instr.TheVariants as line
 use Rattle.ir_core.specs.declared.functions.Term.TheVariants.{Ret, RetVoid}
 use Rattle.ir_core.specs.declared.functions.Param.{Param}
 use Rattle.ir_core.specs.declared.functions.Block.{Block}
+use Rattle.ir_core.specs.declared.modules.Linkage.TheVariants.{External}
 use Rattle.ir_core.specs.declared.modules.Module.{Module}
+use Rattle.ir_values.specs.Constants.{Scope}
+use Rattle.block_memory.specs.Memory.{Memory, new_cell}
 use Rattle.ir_core.specs.Modules.{plain_function, plain_module, plain_param}
 
 abbrev pub number : ℕ → Atom Name
@@ -24,6 +29,9 @@ number n = Constant (constant.Number n)
 
 abbrev pub undef : Atom Name
 undef = Constant constant.Undef
+
+abbrev pub null : Atom Name
+null = Constant constant.Null
 
 -- b: LINES  ret i32 RESULT
 abbrev pub block : Name → List Instr → Atom Name → Block
@@ -81,6 +89,10 @@ returning_nothing f b = plain_module [] (plain_function Void f [] (record { name
 
 -- ---- right sides of lines, of constants
 
+-- ty 5, which no text has as a line
+abbrev pub stating : Ty → Expr Name
+stating ty = expr.Plain (record { ty = ty; atom = number 5 })
+
 -- add i8 n, 1
 abbrev pub adding : ℕ → Expr Name
 adding n = expr.Binary (record {
@@ -106,3 +118,33 @@ selecting condition right = expr.Select (record {
   left = record { ty = Int 8; atom = number 7 };
   right = record { ty = right; atom = number 9 };
 })
+
+-- ---- addresses of parts
+
+-- a byte in 4 bytes, and a number
+abbrev pub pair : Ty
+pair = Struct (Int 8 ∷ Int 32 ∷ [])
+
+-- @0 = external global { i8, i32 }
+abbrev pub beside_pair : Scope
+beside_pair = record { types = []; globals = record { name = Number 0; linkage = External; constant = false; ty = pair; init = None; align = None } ∷ [] }
+
+abbrev pub memory_of_pair : Memory
+memory_of_pair = new_cell 8 4 [] ∷ []
+
+abbrev pub index : ℕ → ℕ → Operand Name
+index width n = record { ty = Int width; atom = number n }
+
+-- getelementptr [inbounds] { i8, i32 }, ty base, indices, of which it is said that it is a to*
+abbrev pub part_from : Ty → Atom Name → Bool → List (Operand Name) → Ty → Expr Name
+part_from ty base inbounds indices to = expr.Element (record {
+  inbounds = inbounds;
+  of = pair;
+  base = record { ty = ty; atom = base };
+  indices = indices;
+  to = Ptr to;
+})
+
+-- getelementptr [inbounds] { i8, i32 }, { i8, i32 }* @0, indices
+abbrev pub part_of_pair : Bool → List (Operand Name) → Ty → Expr Name
+part_of_pair inbounds indices to = part_from (Ptr pair) (Constant (constant.Global (Number 0))) inbounds indices to

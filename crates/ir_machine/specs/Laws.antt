@@ -1,12 +1,13 @@
 -- Laws that hold the definitions of running and refining to what they mean.
-use Rattle.std.specs.Prelude.{◌≡◌, ◌↔◌, ◌⊎◌, ◌≤◌, ℕ, zero, suc, true, List, [], ◌∷◌, ◌++◌, None, Some}
+use Rattle.std.specs.Prelude.{◌≡◌, ◌↔◌, ◌⊎◌, ◌≤◌, ℕ, zero, suc, pos, negsuc, true, false, List, [], ◌∷◌, ◌++◌, None, Some}
 use Rattle.ir_types.specs.declared.names.Name.{Name}
 use Rattle.ir_core.specs.declared.values.Value.{Value}
 use Rattle.ir_core.specs.declared.values.Value.TheVariants as value
 use Rattle.ir_core.specs.declared.values.Kind.{Kind}
-use Rattle.ir_core.specs.declared.values.Kind.TheVariants.{Int}
 use Rattle.ir_core.specs.declared.operands.CastOp.TheVariants.{ZExt, SExt, Trunc, BitCast}
+use Rattle.ir_types.specs.declared.ty.Ty.{Ptr}
 use Rattle.ir_types.specs.declared.ty.Ty.TheVariants as ty
+use Rattle.ir_core.specs.declared.expressions.Expr.{Expr}
 use Rattle.ir_core.specs.declared.operands.Const.{Const}
 use Rattle.ir_core.specs.declared.operands.Atom.{Atom}
 use Rattle.ir_core.specs.declared.operands.Atom.TheVariants.{Constant, Register}
@@ -17,24 +18,26 @@ use Rattle.ir_core.specs.declared.functions.Block.{Block}
 use Rattle.ir_core.specs.declared.functions.Function.{Function}
 use Rattle.ir_core.specs.declared.modules.Module.{Module}
 use Rattle.ir_values.specs.Values.{IsLessDefined}
+use Rattle.ir_values.specs.declared.operations.Outcome.{Outcome}
 use Rattle.ir_values.specs.declared.operations.Outcome.TheVariants.{Gives}
 use Rattle.ir_machine.specs.declared.items.Item.{Item}
 use Rattle.ir_machine.specs.declared.items.Item.TheVariants.{Turn, Returned, Wrong}
-use Rattle.ir_values.specs.Constants.{Scope}
+use Rattle.ir_values.specs.Constants.{Scope, constant_value, scope_of}
 use Rattle.block_memory.specs.Memory.{Memory}
 use Rattle.block_memory.specs.declared.items.Shown.{Shown}
 use Rattle.ir_machine.specs.declared.items.Input.{Input}
 use Rattle.ir_core.specs.Types.{kind_of}
-use Rattle.ir_machine.specs.Registers.{constant_at, outcome}
+use Rattle.ir_machine.specs.Registers.{outcome}
 use Rattle.ir_machine.specs.State.{State, no_world}
 use Rattle.ir_machine.specs.Machine.{Made, Follows, asks, ShowsFrom, function_named, fits_kind, start}
 use Rattle.ir_machine.specs.Refinement.{Shows, MayShowFrom, Refines, EndTheRun}
-use Rattle.ir_machine.specs.Examples.{adding, comparing, converting, dividing, number, undef, returning, returning_nothing, selecting, taking, wrapping}
+use Rattle.ir_machine.specs.Examples.{adding, beside_pair, comparing, converting, dividing, index, memory_of_pair, null, number, pair, part_from, part_of_pair, stating, undef, returning, returning_nothing, selecting, taking, wrapping}
 
 -- A module that returns a constant is refined by one that returns another exactly where the first's value is less defined.
 abbrev pub ConstantsRefineByValue : Type 0
 ConstantsRefineByValue = (f b : Name) (c d : Const)
-    → Refines (returning f b (Constant c)) (returning f b (Constant d)) ↔ IsLessDefined (constant_at (Int 32) c) (constant_at (Int 32) d)
+    → Refines (returning f b (Constant c)) (returning f b (Constant d))
+    ↔ IsLessDefined (constant_value (scope_of (returning f b (Constant c))) (ty.Int 32) c) (constant_value (scope_of (returning f b (Constant d))) (ty.Int 32) d)
 
 -- 7 isn't refined by 8
 abbrev pub NumbersAreKept : Type 0
@@ -75,6 +78,8 @@ VoidReturnsAreShown = (f b : Name) → AreShownAtOnce (returning_nothing f b) f 
 
 -- What lines of constants give, whatever registers and memory hold. Those whose types no operator takes give poison.
 pub record OutcomesAreThese (scope : Scope) (reading : Kind → Name → Value) (memory : Memory) : Type 0 where
+  pub plain : outcome scope reading memory (stating (ty.Int 64)) ≡ Gives (value.Num 5)
+  pub plain_i65 : outcome scope reading memory (stating (ty.Int 65)) ≡ Gives value.Poison
   pub add : outcome scope reading memory (adding 255) ≡ Gives (value.Num 0)
   pub add_no_i8 : outcome scope reading memory (adding 256) ≡ Gives value.Poison
   pub icmp : outcome scope reading memory (comparing (ty.Int 8)) ≡ Gives (value.Num 1)
@@ -89,6 +94,28 @@ pub record OutcomesAreThese (scope : Scope) (reading : Kind → Name → Value) 
 
 abbrev pub LinesGiveThese : Type 0
 LinesGiveThese = (scope : Scope) (reading : Kind → Name → Value) (memory : Memory) → OutcomesAreThese scope reading memory
+
+-- beside `@0 = external global { i8, i32 }`, of 8 bytes
+abbrev pub found_at : (Kind → Name → Value) → Expr Name → Outcome
+found_at reading e = outcome beside_pair reading memory_of_pair e
+
+-- Addresses of parts, whatever registers hold. What its types don't lead to gives poison. 255 of i8 is -1.
+pub record AddressesAreThese (reading : Kind → Name → Value) : Type 0 where
+  pub field : found_at reading (part_of_pair true (index 32 0 ∷ index 32 1 ∷ []) (ty.Int 32)) ≡ Gives (value.Ptr 0 (pos 4))
+  pub to_the_end : found_at reading (part_of_pair true (index 64 1 ∷ []) pair) ≡ Gives (value.Ptr 0 (pos 8))
+  pub past_the_end : found_at reading (part_of_pair true (index 64 2 ∷ []) pair) ≡ Gives value.Poison
+  pub past_the_end_without : found_at reading (part_of_pair false (index 64 2 ∷ []) pair) ≡ Gives (value.Ptr 0 (pos 16))
+  pub back : found_at reading (part_of_pair false (index 8 255 ∷ []) pair) ≡ Gives (value.Ptr 0 (negsuc 7))
+  pub from_null : found_at reading (part_from (Ptr pair) null false (index 64 1 ∷ []) pair) ≡ Gives (value.Bare 8)
+  pub from_null_of_other : found_at reading (part_from (Ptr (ty.Int 8)) null false (index 64 1 ∷ []) pair) ≡ Gives value.Poison
+  pub from_undef : found_at reading (part_from (Ptr pair) undef false (index 64 1 ∷ []) pair) ≡ Gives value.Undef
+  pub from_integer : found_at reading (part_from (ty.Int 64) undef false (index 64 1 ∷ []) pair) ≡ Gives value.Poison
+  pub no_field : found_at reading (part_of_pair true (index 32 0 ∷ index 32 2 ∷ []) (ty.Int 32)) ≡ Gives value.Poison
+  pub field_by_i64 : found_at reading (part_of_pair true (index 64 0 ∷ index 64 1 ∷ []) (ty.Int 32)) ≡ Gives value.Poison
+  pub to_other : found_at reading (part_of_pair true (index 32 0 ∷ index 32 1 ∷ []) (ty.Int 8)) ≡ Gives value.Poison
+
+abbrev pub AddressesGiveThese : Type 0
+AddressesGiveThese = (reading : Kind → Name → Value) → AddressesAreThese reading
 
 -- a step, and a run from where it leads, make a run
 abbrev pub StepsMakeRuns : Type 0

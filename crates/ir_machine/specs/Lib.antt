@@ -15,3 +15,4 @@ pub mod FlowLaws
 pub mod Reached
 pub mod Reads
 pub mod Lost
+pub mod SlotLaws

@@ -1,6 +1,6 @@
 -- The machine. A step is one body line, or one terminator with all phis of the block that it enters. It is told as a tree of
 -- choices: from it are read which steps a run may make, and what a step needs to be chosen.
-use Rattle.std.specs.Prelude.{◌≡◌, ◌⊎◌, ◌-◌, ◌^◌, ℕ, zero, suc, ℤ, pos, negsuc, int_le, int_lt, Bool, true, false, ◌&&◌, not, cond, nat_eq, nat_lt, List, [], ◌∷◌, ◌++◌, length, map, slice_get, Option, None, Some, find}
+use Rattle.std.specs.Prelude.{◌≡◌, ◌⊎◌, ◌-◌, ◌*◌, ◌^◌, ℕ, zero, suc, ℤ, pos, negsuc, int_le, int_lt, Bool, true, false, ◌&&◌, not, cond, nat_eq, nat_lt, List, [], ◌∷◌, ◌++◌, length, map, slice_get, Option, None, Some, find}
 use Rattle.std.specs.List.{list_all, list_any}
 use Rattle.std.specs.Option.{is_some, option_and_then}
 use Rattle.ir_types.specs.declared.names.Name.{Name}
@@ -10,8 +10,10 @@ use Rattle.ir_core.specs.declared.values.Value.TheVariants as value
 use Rattle.ir_core.specs.declared.values.Byte.{Byte}
 use Rattle.ir_core.specs.declared.values.Byte.TheVariants as byte
 use Rattle.ir_core.specs.declared.values.Kind.{Kind}
+use Rattle.ir_core.specs.declared.functions.Alloca.{Alloca}
 use Rattle.ir_core.specs.declared.functions.Instr.{Instr}
 use Rattle.ir_core.specs.declared.functions.Instr.TheVariants as line
+use Rattle.ir_core.specs.declared.functions.Store.{Store}
 use Rattle.ir_core.specs.declared.functions.Term.{Term}
 use Rattle.ir_core.specs.declared.functions.Term.TheVariants.{Ret, RetVoid, Br, CondBr, Switch, Unreachable}
 use Rattle.ir_core.specs.declared.functions.Case.{Case}
@@ -21,6 +23,8 @@ use Rattle.ir_core.specs.declared.functions.Phi.{Phi}
 use Rattle.ir_core.specs.declared.functions.Block.{Block}
 use Rattle.ir_core.specs.declared.functions.Function.{Function}
 use Rattle.ir_core.specs.declared.modules.Module.{Module}
+use Rattle.ir_core.specs.declared.values.Kind.TheVariants as kind
+use Rattle.ir_types.specs.Named.{size_of}
 use Rattle.ir_types.specs.Same.{same_name}
 use Rattle.ir_core.specs.Expressions.{type_of}
 use Rattle.ir_values.specs.declared.operations.Outcome.{Outcome}
@@ -32,14 +36,14 @@ use Rattle.block_memory.specs.declared.items.Shown.{Shown}
 use Rattle.block_memory.specs.declared.items.Shown.TheVariants as shown
 use Rattle.block_memory.specs.declared.items.ShownByte.{ShownByte}
 use Rattle.block_memory.specs.declared.items.ShownByte.TheVariants as part
-use Rattle.block_memory.specs.Memory.{Cell, Memory, cell_at, ended, updated, with_bytes}
+use Rattle.block_memory.specs.Memory.{Cell, Memory, cell_at, ended, new_cell, stored_of, updated, with_bytes}
 use Rattle.block_memory.specs.Names.{Names, Showing, chosen, is_unnamed, name_of, picked, resolved, shown_of}
 use Rattle.ir_machine.specs.declared.items.Item.{Item}
 use Rattle.ir_machine.specs.declared.items.Item.TheVariants.{Turn, EnvRead, EnvWrite, EnvNew, Replied, Returned, Wrong}
 use Rattle.ir_machine.specs.declared.items.Input.{Input}
 use Rattle.ir_core.specs.Functions.{successors_of}
 use Rattle.ir_core.specs.Types.{kind_of, number_at}
-use Rattle.ir_machine.specs.Registers.{Registers, no_registers, held_at, holding, read, set, atom_value, operand_value, outcome}
+use Rattle.ir_machine.specs.Registers.{Registers, no_registers, held_at, holding, read, set, align_or, atom_value, operand_value, outcome}
 use Rattle.ir_machine.specs.State.{Frame, Pending, World, no_world, scope_of, State, Running, Waiting, Over}
 
 -- What a tree is told where it asks: a choice; or, of an undef byte that the outside reads, that it is this part of a pointer to the next
@@ -92,12 +96,37 @@ abbrev pub set_to : Option Kind → Name → Outcome → Frame → List Pending 
 set_to k x (Gives v) frame rest world = Does [] (Running (record frame { registers = set frame.registers x k v }) rest world)
 set_to k x Trap frame rest world = wrong
 
--- The frame stands after the line. An alloca, a store and a call are undefined behaviour until they are there; no module that `check` reads
--- has one.
+-- so many of a type are made: one, where no count is stated
+abbrev pub count_made : Option (Ty × ℕ) → ℕ
+count_made None = 1
+count_made (Some c) = number_at c.0 c.1
+
+-- An alloca makes a block of undef bytes, of the size of what it is of, so often, at its alignment, or its type's. Its register holds the
+-- address of the first byte. The block is the frame's own: it ends when that returns.
+abbrev pub made_block : Scope → Alloca → Frame → List Pending → World → Asks
+made_block scope a frame rest world =
+    let b = length world.memory in
+    Does [] (Running
+    (record frame { registers = set frame.registers a.name (Some kind.Ptr) (value.Ptr b (pos 0)); own = frame.own ++ b ∷ [] }) rest
+    (record world { memory = world.memory ++ new_cell (size_of scope.types a.of * count_made a.count) (align_or scope.types a.of a.align) [] ∷ [] }))
+
+-- a store changes memory; one that isn't allowed is undefined behaviour
+abbrev pub with_memory : Option Memory → Frame → List Pending → World → Asks
+with_memory None frame rest world = wrong
+with_memory (Some memory) frame rest world = Does [] (Running frame rest (record world { memory = memory }))
+
+abbrev pub stored_by : Scope → Store → Registers → Memory → Option Memory
+stored_by scope s registers memory =
+    let value = operand_value scope (read registers) in
+    stored_of memory (kind_of s.value.ty) (value s.value) (value s.pointer) (align_or scope.types s.value.ty s.align)
+
+-- The frame stands after the line. A call is undefined behaviour until calls are there; no module that `check` reads has one.
 abbrev pub line_step : Scope → Instr → Frame → List Pending → World → Asks
 line_step scope (line.Calm l) frame rest world =
     set_to (kind_of (type_of l.right)) l.name (outcome scope (read frame.registers) world.memory l.right) frame rest world
-line_step scope i frame rest world = wrong
+line_step scope (line.Alloca a) frame rest world = made_block scope a frame rest world
+line_step scope (line.Store s) frame rest world = with_memory (stored_by scope s frame.registers world.memory) frame rest world
+line_step scope (line.Call c) frame rest world = wrong
 
 -- ---- returns
 

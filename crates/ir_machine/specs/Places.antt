@@ -16,25 +16,25 @@ use Rattle.ir_machine.specs.State.{Frame, World, State, Running, Waiting, Over}
 use Rattle.ir_machine.specs.Kept.{kept_registers}
 
 -- the frame at that line of the block
-abbrev pub at_line : Function → Block → ℕ → Registers → Frame
-at_line f b line registers = record { function = f; block = b.name; lines = drop line b.body; term = b.term; registers = registers; own = [] }
+abbrev pub at_line : Function → Block → ℕ → Registers → List ℕ → Frame
+at_line f b line registers own = record { function = f; block = b.name; lines = drop line b.body; term = b.term; registers = registers; own = own }
 
-abbrev pub in_block : Function → Option Block → ℕ → Registers → World → State
-in_block f (Some b) line registers world = Running (at_line f b line registers) [] world
-in_block f None line registers world = Over
+abbrev pub in_block : Function → Option Block → ℕ → Registers → List ℕ → World → State
+in_block f (Some b) line registers own world = Running (at_line f b line registers own) [] world
+in_block f None line registers own world = Over
 
-abbrev pub placed : Function → Option Place → Registers → World → State
-placed f None registers world = Over
-placed f (Some p) registers world = in_block f (slice_get f.blocks p.block) p.line registers world
+abbrev pub placed : Function → Option Place → Registers → List ℕ → World → State
+placed f None registers own world = Over
+placed f (Some p) registers own world = in_block f (slice_get f.blocks p.block) p.line registers own world
 
-abbrev pub in_function : Option Function → ℕ → ℕ → Registers → World → State
-in_function (Some f) block line registers world = in_block f (slice_get f.blocks block) line registers world
-in_function None block line registers world = Over
+abbrev pub in_function : Option Function → ℕ → ℕ → Registers → List ℕ → World → State
+in_function (Some f) block line registers own world = in_block f (slice_get f.blocks block) line registers own world
+in_function None block line registers own world = Over
 
 -- a run that stands nowhere in the module is over
-abbrev pub state_at : Module → Option Place → Registers → World → State
-state_at m None registers world = Over
-state_at m (Some p) registers world = in_function (slice_get m.functions p.function) p.block p.line registers world
+abbrev pub state_at : Module → Option Place → Registers → List ℕ → World → State
+state_at m None registers own world = Over
+state_at m (Some p) registers own world = in_function (slice_get m.functions p.function) p.block p.line registers own world
 
 abbrev pub next_line : Place → Place
 next_line p = record { function = p.function; block = p.block; line = p.line + 1 }
@@ -47,15 +47,15 @@ world_in kept = record { memory = kept.blocks; names = kept.names }
 
 -- THE state that the code keeps
 abbrev pub state_of : Module → RunState → State
-state_of m kept = state_at m kept.place (registers_in kept.registers) (world_in kept.world)
+state_of m kept = state_at m kept.place (registers_in kept.registers) kept.own.items (world_in kept.world)
 
 -- the same of a run that stands in that function
 abbrev pub state_in : Function → RunState → State
-state_in f kept = placed f kept.place (registers_in kept.registers) (world_in kept.world)
+state_in f kept = placed f kept.place (registers_in kept.registers) kept.own.items (world_in kept.world)
 
 -- the frame before the block's terminator
-abbrev pub at_end : Function → Block → Registers → Frame
-at_end f b registers = record { function = f; block = b.name; lines = []; term = b.term; registers = registers; own = [] }
+abbrev pub at_end : Function → Block → Registers → List ℕ → Frame
+at_end f b registers own = record { function = f; block = b.name; lines = []; term = b.term; registers = registers; own = own }
 
 -- how a run stands that showed these items last and is in this state
 abbrev pub progress_of : List Item → State → Progress

@@ -1,12 +1,11 @@
 -- Registers, and what operands are worth over them.
-use Rattle.std.specs.Prelude.{ℕ, Bool, ◌&&◌, cond, List, length, Option, None, Some}
+use Rattle.std.specs.Prelude.{ℕ, Bool, ◌&&◌, cond, List, length, map, Option, None, Some}
 use Rattle.ir_types.specs.declared.names.Name.{Name}
 use Rattle.ir_core.specs.declared.values.Value.{Value}
 use Rattle.ir_core.specs.declared.values.Value.TheVariants.{Num, Ptr, Bare, Undef, Poison}
 use Rattle.ir_core.specs.declared.values.Kind.{Kind}
 use Rattle.ir_core.specs.declared.values.Kind.TheVariants as kind
 use Rattle.ir_core.specs.declared.operands.Const.{Const}
-use Rattle.ir_core.specs.declared.operands.Const.TheVariants as constant
 use Rattle.ir_core.specs.declared.operands.Atom.{Atom}
 use Rattle.ir_core.specs.declared.operands.Atom.TheVariants as atom
 use Rattle.ir_core.specs.declared.operands.Operand.{Operand}
@@ -19,14 +18,17 @@ use Rattle.ir_types.specs.declared.ty.Ty.TheVariants as ty
 use Rattle.ir_types.specs.Same.{same_name, same_ty}
 use Rattle.ir_core.specs.declared.expressions.Expr.{Expr}
 use Rattle.ir_core.specs.declared.expressions.Expr.TheVariants.{Plain, Binary, Icmp, Cast, Select, Element, Load}
-use Rattle.ir_core.specs.Types.{converts, fits, kind_of}
+use Rattle.ir_core.specs.declared.expressions.Element.{Element as ElementOf}
+use Rattle.ir_core.specs.Types.{converts, kind_of}
+use Rattle.ir_core.specs.Typing.{element_type, index_of, is_due}
 use Rattle.ir_types.specs.declared.named.NamedTy.{NamedTy}
 use Rattle.ir_types.specs.Named.{align_of}
 use Rattle.ir_values.specs.declared.operations.Outcome.{Outcome}
 use Rattle.ir_values.specs.declared.operations.Outcome.TheVariants.{Gives}
 use Rattle.ir_values.specs.Values.{IsInKind, same_kind}
 use Rattle.ir_values.specs.Comparisons.{icmp_outcome}
-use Rattle.ir_values.specs.Constants.{Scope}
+use Rattle.ir_values.specs.Addresses.{GivenIndex, gep_outcome}
+use Rattle.ir_values.specs.Constants.{Scope, constant_value, width_of}
 use Rattle.ir_values.specs.Conversions.{cast_outcome}
 use Rattle.ir_values.specs.Operations.{binary_outcome}
 use Rattle.ir_values.specs.Selections.{select_outcome}
@@ -64,26 +66,6 @@ set registers x k v = λ y. cond (same_name x y) (holding k v) (registers y)
 abbrev pub AreInKind : Registers → Type 0
 AreInKind registers = (x : Name) (k : Kind) → IsInKind k (read registers k x)
 
--- ---- constants
-
--- What a constant is worth at a kind: a number that isn't of the kind is worth poison, and so is an address of a global, until a run has
--- globals.
-abbrev pub constant_at : Kind → Const → Value
-constant_at (kind.Int width) (constant.Number n) = cond (fits n width) (Num n) Poison
-constant_at (kind.Int width) constant.Undef = Undef
-constant_at (kind.Int width) c = Poison
-constant_at kind.Ptr constant.Undef = Undef
-constant_at kind.Ptr constant.Null = Bare 0
-constant_at kind.Ptr c = Poison
-
-abbrev pub constant_of : Option Kind → Const → Value
-constant_of None c = Poison
-constant_of (Some k) c = constant_at k c
-
--- what it is worth at its stated type, beside the types and globals of the module: poison at a type without values
-abbrev pub constant_value : Scope → Ty → Const → Value
-constant_value scope t c = constant_of (kind_of t) c
-
 -- ---- operands
 
 -- what a register is worth at a kind, where registers are read by the function given: poison without a kind
@@ -91,9 +73,14 @@ abbrev pub register_value : {R : Type 0} → (Kind → R → Value) → Option K
 register_value reading None r = Poison
 register_value reading (Some k) r = reading k r
 
+-- what a constant is worth at its stated type, of that kind: poison at a type without values
+abbrev pub constant_at : Scope → Ty → Option Kind → Const → Value
+constant_at scope t None c = Poison
+constant_at scope t (Some k) c = constant_value scope t c
+
 -- what an atom is worth at a type
 abbrev pub atom_value : {R : Type 0} → Scope → (Kind → R → Value) → Ty → Atom R → Value
-atom_value scope reading t (atom.Constant c) = constant_value scope t c
+atom_value scope reading t (atom.Constant c) = constant_at scope t (kind_of t) c
 atom_value scope reading t (atom.Register r) = register_value reading (kind_of t) r
 
 abbrev pub operand_value : {R : Type 0} → Scope → (Kind → R → Value) → Operand R → Value
@@ -139,9 +126,23 @@ abbrev pub align_or : List NamedTy → Ty → Option ℕ → ℕ
 align_or types t None = align_of types t
 align_or types t (Some align) = align
 
+-- ---- addresses of parts
+
+-- The address is one that a line may state: its base points to what is stated, and its indices lead to what it is said to point to.
+abbrev pub is_stated : {R : Type 0} → List NamedTy → ElementOf R → Bool
+is_stated types e = same_ty e.base.ty (ty.Ptr e.of) && is_due (element_type types e.of (map index_of e.indices)) e.to
+
+abbrev pub index_value : {R : Type 0} → Scope → (Kind → R → Value) → Operand R → GivenIndex
+index_value scope reading o = (width_of o.ty, operand_value scope reading o)
+
+-- what it comes to from a base
+abbrev pub element_from : {R : Type 0} → Scope → (Kind → R → Value) → Memory → ElementOf R → Value → Outcome
+element_from scope reading memory e base =
+    gep_outcome e.inbounds scope.types e.of base (size_at memory base) (map (index_value scope reading) e.indices)
+
 -- The outcome of an expression beside the types and globals of a module, in a memory: an operand is worth its value, and an operator works
--- on the values of its operands. Where its types are none that the operator takes it gives poison, as an address does until a run has
--- globals; no module that `check` reads has such a line.
+-- on the values of its operands. Where its types are none that the operator takes it gives poison; no module that `check` reads has such a
+-- line.
 abbrev pub outcome : {R : Type 0} → Scope → (Kind → R → Value) → Memory → Expr R → Outcome
 outcome scope reading memory (Plain o) = Gives (operand_value scope reading o)
 outcome scope reading memory (Binary b) =
@@ -153,5 +154,6 @@ outcome scope reading memory (Cast c) =
 outcome scope reading memory (Select s) =
     cond (selects s.condition.ty s.left.ty s.right.ty)
     (select_outcome (operand_value scope reading s.condition) (operand_value scope reading s.left) (operand_value scope reading s.right)) (Gives Poison)
-outcome scope reading memory (Element e) = Gives Poison
+outcome scope reading memory (Element e) =
+    cond (is_stated scope.types e) (element_from scope reading memory e (operand_value scope reading e.base)) (Gives Poison)
 outcome scope reading memory (Load l) = loaded_of memory (kind_of l.of) (operand_value scope reading l.pointer) (align_or scope.types l.of l.align)

@@ -1,19 +1,15 @@
 -- The state of a run, as data.
 use Rattle.std.specs.Prelude.{ℕ, List, [], Option}
 use Rattle.ir_types.specs.declared.names.Name.{Name}
-use Rattle.ir_core.specs.declared.modules.Module.{Module}
 use Rattle.ir_core.specs.declared.values.Kind.{Kind}
 use Rattle.ir_core.specs.declared.functions.Instr.{Instr}
 use Rattle.ir_core.specs.declared.functions.Term.{Term}
 use Rattle.ir_core.specs.declared.functions.Function.{Function}
 use Rattle.ir_values.specs.Constants.{Scope}
+pub use Rattle.ir_values.specs.Constants.{scope_of}
 use Rattle.block_memory.specs.Memory.{Memory}
 use Rattle.block_memory.specs.Names.{Names}
 use Rattle.ir_machine.specs.Registers.{Registers}
-
--- what may be spoken of anywhere in a module besides its functions
-abbrev pub scope_of : Module → Scope
-scope_of m = record { types = m.types; globals = m.globals }
 
 -- no types are named, and no globals
 abbrev pub no_scope : Scope

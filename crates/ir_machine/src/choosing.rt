@@ -31,6 +31,7 @@ fn show_undef<C: Chooser>(
     ensures answers { (poison : machine.Asks) (next : Shown → World → machine.Asks)
         → ShowingAnswers result (machine.show_undef kind (world_in world.old) poison next)
         (C.script chooser.old) poison next (world_in world.new) (C.script chooser.new) }
+    ensures memory { world.new.blocks ≡ world.old.blocks }
     ensures same { OnErr result (world.new ≡ world.old) }
 {
     let Some(own) = kind else {
@@ -52,6 +53,7 @@ pub(crate) fn show<C: Chooser>(
     ensures answers { (poison : machine.Asks) (next : Shown → World → machine.Asks)
         → ShowingAnswers result (machine.show kind value (world_in world.old) poison next)
         (C.script chooser.old) poison next (world_in world.new) (C.script chooser.new) }
+    ensures memory { world.new.blocks ≡ world.old.blocks }
     ensures same { OnErr result (world.new ≡ world.old) }
 {
     match value {

@@ -1,5 +1,5 @@
 //! Where a terminator leads within its function: the block of a label, entered with its phis set at once.
-ghost use Rattle.std.specs.Prelude.{◌≡◌, ◌<◌, length, [], map, None, slice_get, MatchOption, IfOk, IfSome};
+ghost use Rattle.std.specs.Prelude.{◌≡◌, ◌<◌, ℕ, List, length, [], map, None, slice_get, MatchOption, IfOk, IfSome};
 ghost use Rattle.ir_core.specs.Functions.{successors_of};
 ghost use Rattle.ir_types.specs.Same as same;
 ghost use Rattle.ir_core.specs.declared.functions.Case.{Case};
@@ -88,9 +88,9 @@ pub(crate) fn jump(
     to: &Name,
     registers: &RegisterFile,
 ) -> Result<Option<Landing>, AllocError>
-    ensures lands { (world : World) → IfOk result (λ landing.
-        machine.jump (scope_of «module».now) (at_end function.now block.now (registers_in registers.now)) [] world to.now
-        ≡ lands function.now world landing) }
+    ensures lands { (own : List ℕ) (world : World) → IfOk result (λ landing.
+        machine.jump (scope_of «module».now) (at_end function.now block.now (registers_in registers.now) own) [] world to.now
+        ≡ lands function.now own world landing) }
     ensures within { IfOk result (λ landing. IfSome landing (λ l. l.block < length function.now.blocks)) }
 {
     let blocks = function.blocks.as_slice();
@@ -122,7 +122,7 @@ pub(crate) fn side_of<'a>(branch: &'a CondBr, value: &Value) -> &'a Name
 
 /// The number at the type, modulo 2 to its width.
 #[tactic(auto, using(crate::proofs::Landing::one_shifted, crate::proofs::Landing::stays))]
-fn number_at(ty: &Ty, number: u64) -> u64
+pub(crate) fn number_at(ty: &Ty, number: u64) -> u64
     ensures { result ≡ types.number_at ty.now number }
 {
     match ty {

@@ -1,5 +1,6 @@
-ghost use Rattle.ir_machine.specs.Laws.{ConstantsRefineByValue, NumbersAreKept, NumbersStayDefined, UndefIsAnyNumber, PoisonIsNoNumber, WrongIsRefined, ArgumentsAreSeen, TrapsAreWrong, VoidReturnsAreShown, LinesGiveThese, StepsMakeRuns, RunsAreSteps, OneBlockRunsEnd, FirstsAreShown, StartsAreKept, RefinedRunsAreShown};
+ghost use Rattle.ir_machine.specs.Laws.{AddressesGiveThese, ConstantsRefineByValue, NumbersAreKept, NumbersStayDefined, UndefIsAnyNumber, PoisonIsNoNumber, WrongIsRefined, ArgumentsAreSeen, TrapsAreWrong, VoidReturnsAreShown, LinesGiveThese, StepsMakeRuns, RunsAreSteps, OneBlockRunsEnd, FirstsAreShown, StartsAreKept, RefinedRunsAreShown};
 ghost use Rattle.ir_machine.specs.OutsideLaws.{ActsAreThese, ReturnsEndTheirBlocks, UndefBytesAreParts};
+ghost use Rattle.ir_machine.specs.SlotLaws.{AccessesMayTrap, SlotsAreMemory, SlotsEndWithTheirFrames};
 ghost use Rattle.ir_machine.specs.Reached.{NothingIsLost, StartsAreReached, StepsAreReached};
 ghost use Rattle.ir_machine.specs.Reads.{ReadsAreSet};
 ghost use Rattle.ir_machine.specs.Lost.{LostJumpsAreTold, UnsetIsTold};
@@ -35,10 +36,11 @@ pub fn ends_are_shown_at_once()
 
 /// Empty on purpose: its contract is the law.
 ///
-/// A line gives what its operator gives, and poison where its types are none that the operator takes.
-#[tactic(auto, using(crate::proofs::AtOnce::lines_give_these))]
+/// A line gives what its operator gives, and poison where its types are none that the operator takes, or its indices lead to nothing that it
+/// states.
 pub fn examples_of_outcomes()
-    ensures { LinesGiveThese }
+    ensures lines { LinesGiveThese }
+    ensures addresses { AddressesGiveThese }
 {}
 
 /// Empty on purpose: its contract is the law.
@@ -49,6 +51,17 @@ pub fn examples_of_the_outside()
     ensures acts { ActsAreThese }
     ensures parts { UndefBytesAreParts }
     ensures returns { ReturnsEndTheirBlocks }
+{}
+
+/// Empty on purpose: its contract is the law.
+///
+/// What is stored in a slot is loaded from it, byte by byte; what is stored past its end, or read after its frame's end, is undefined
+/// behaviour.
+#[tactic(auto, using(crate::proofs::Slots::slots_are_memory, crate::proofs::Slots::accesses_may_trap, crate::proofs::Slots::slots_end_with_their_frames))]
+pub fn examples_of_slots()
+    ensures memory { SlotsAreMemory }
+    ensures traps { AccessesMayTrap }
+    ensures ends { SlotsEndWithTheirFrames }
 {}
 
 /// Empty on purpose: its contract is the law.
@@ -80,7 +93,7 @@ pub fn one_block_runs_end()
 /// A jump shows a turn and sets all phis at once, one without an entry for the block that is left to poison. Numbers lead to their
 /// labels and undef to any that is told. `unreachable` shows undefined behaviour and no turn, as does a branch on poison or a jump to
 /// no block.
-#[tactic(auto, using(crate::proofs::Flow::jumps_are_turns, crate::proofs::Flow::phis_are_taken_at_once, crate::proofs::Flow::first_entries_are_taken, crate::proofs::Flow::phis_without_entries_are_poison, crate::proofs::Flow::branches_go, crate::proofs::Flow::switches_go, crate::proofs::Flow::ends_are_wrong))]
+#[tactic(auto, using(crate::proofs::Flow::jumps_are_turns, crate::proofs::Flow::phis_are_taken_at_once, crate::proofs::Flow::phis_without_entries_are_poison, crate::proofs::Flow::branches_go, crate::proofs::Flow::switches_go, crate::proofs::Flow::ends_are_wrong))]
 pub fn examples_of_control_flow()
     ensures turns { JumpsAreTurns }
     ensures at_once { PhisAreTakenAtOnce }

@@ -8,6 +8,7 @@ mod ends;
 mod items;
 mod jumping;
 mod laws;
+mod lines;
 mod machine;
 mod operands;
 mod reading;
@@ -20,9 +21,9 @@ pub use choosing::Chooser;
 pub use items::{Input, Item};
 pub use laws::{
     constants_refine_by_value, ends_are_shown_at_once, examples_of_control_flow,
-    examples_of_outcomes, examples_of_the_outside, lost_states_are_told, one_block_runs_end,
-    refined_runs_are_shown, returns_are_told_apart, runs_are_steps, runs_reach_what_they_lead_to,
-    well_formed_runs_go_on,
+    examples_of_outcomes, examples_of_slots, examples_of_the_outside, lost_states_are_told,
+    one_block_runs_end, refined_runs_are_shown, returns_are_told_apart, runs_are_steps,
+    runs_reach_what_they_lead_to, well_formed_runs_go_on,
 };
 pub use machine::{KeptWorld, Place, Progress, RunState, StartEnd, StepEnd, Stepped};
 pub use refinement::{answers_are_steps, no_run_is_stuck, refinement_is_a_preorder};

@@ -2,6 +2,7 @@ use crate::Item;
 use crate::registers::RegisterFile;
 use block_memory::{Blocks, Names};
 use contents::Seq;
+use ir_core::BlockId;
 
 /// Where a run stands: function and block of the module, and the line of the block's body, or its terminator
 /// past the last line.
@@ -19,11 +20,12 @@ pub struct KeptWorld {
     pub(crate) names: Names,
 }
 
-/// The state of a run of a module: its place, none once it is over, the registers, and the world.
+/// The state of a run of a module: its place, none once it is over, the registers, the blocks that its frame made, and the world.
 #[derive(Drop)]
 pub struct RunState {
     pub(crate) place: Option<Place>,
     pub(crate) registers: RegisterFile,
+    pub(crate) own: Vec<BlockId>,
     pub(crate) world: KeptWorld,
 }
 

@@ -1,10 +1,15 @@
-ghost use Rattle.std.specs.Prelude.{◌≡◌, Some};
+ghost use Rattle.std.specs.Prelude.{◌≡◌, map, Some};
+ghost use Rattle.std.specs.Option.{option_copied, option_map};
+ghost use Rattle.ir_types.specs.declared.ty.Ty.{Ptr};
 ghost use Rattle.ir_core.specs.declared.expressions.Expr.TheVariants as expr;
 ghost use Rattle.ir_core.specs.declared.values.Kind.TheVariants.{Int};
 ghost use Rattle.ir_core.specs.Types as types;
+ghost use Rattle.ir_core.specs.Typing as typing;
+ghost use Rattle.ir_core.specs.Typing.{index_of};
 ghost use Rattle.ir_core.specs.Expressions.{type_of};
 ghost use Rattle.ir_machine.specs.Registers as meaning;
 ghost use Rattle.ir_machine.specs.State.{scope_of};
+ghost use Rattle.ir_values.specs.Constants as constants;
 ghost use Rattle.ir_values.specs.Values.{IsInKindOf};
 ghost use Rattle.ir_values.specs.Operations.{GivesInKind};
 ghost use Rattle.ir_machine.specs.Places.{registers_in};
@@ -13,29 +18,14 @@ use crate::KeptWorld;
 use crate::registers::RegisterFile;
 use block_memory::Blocks;
 use ir_core::{
-    Atom, Binary, Cast, Const, Expr, Icmp, Kind, Load, Module, Name, Operand, Select, Ty, Value,
-    converts, fits, kind_of, same_ty,
+    Atom, Binary, Cast, Element, Expr, Icmp, Kind, Load, Module, Name, NamedTypes, Operand, Select,
+    Ty, Value, converts, is_integer, kind_of, same_ty,
 };
 use ir_types::align_of;
-use ir_values::{Outcome, eval_binary, eval_cast, eval_icmp, eval_select};
-
-fn constant_at(kind: &Kind, constant: &Const) -> Value
-    ensures { result ≡ meaning.constant_at kind.now constant.now }
-{
-    match (kind, constant) {
-        (Kind::Int(width), Const::Number(bits)) => {
-            let n = bits.get();
-            if fits(n, *width) {
-                Value::Num(n)
-            } else {
-                Value::Poison
-            }
-        }
-        (_, Const::Undef) => Value::Undef,
-        (Kind::Ptr, Const::Null) => Value::Bare(0),
-        _ => Value::Poison,
-    }
-}
+use ir_typing::{entered, number_in, points_to};
+use ir_values::{
+    Indices, Outcome, constant_value, eval_binary, eval_cast, eval_gep, eval_icmp, eval_select,
+};
 
 /// What an atom is worth at the type, beside the module.
 #[tactic(auto, using(crate::proofs::InKind::file_atom_in_kind))]
@@ -50,7 +40,7 @@ pub(crate) fn atom_value(
 {
     match (kind_of(ty), atom) {
         (None, _) => Value::Poison,
-        (Some(own), Atom::Constant(constant)) => constant_at(&own, constant),
+        (Some(_), Atom::Constant(constant)) => constant_value(module, ty, constant),
         (Some(own), Atom::Register(name)) => registers.read(&own, name),
     }
 }
@@ -231,6 +221,115 @@ fn load_outcome(
     world.blocks.load(&load.of, &pointer, align)
 }
 
+// ---- addresses of parts
+
+/// What operands lead to from a type on.
+fn led_by<'a>(types: &'a NamedTypes, of: &'a Ty, indices: &[Operand<Name>]) -> Option<&'a Ty>
+    ensures { option_copied result ≡ typing.led_to types.now of.now (map index_of indices.now) }
+{
+    let mut ty = of;
+    for index in indices {
+        match entered(types, ty, &index.ty, number_in(&index.atom)) {
+            Some(further) => ty = further,
+            None => return None,
+        }
+    }
+    Some(ty)
+}
+
+/// What an address points to.
+fn pointed_by<'a>(types: &'a NamedTypes, of: &'a Ty, indices: &[Operand<Name>]) -> Option<&'a Ty>
+    ensures { option_map Ptr (option_copied result) ≡ typing.element_type types.now of.now (map index_of indices.now) }
+{
+    match indices.split_first() {
+        None => Some(of),
+        Some((first, further)) => {
+            if is_integer(&first.ty) {
+                led_by(types, of, further)
+            } else {
+                None
+            }
+        }
+    }
+}
+
+/// Whether the type is that of pointers to this, where it is there.
+fn is_due(pointed: Option<&Ty>, ty: &Ty) -> bool
+    ensures { result ≡ typing.is_due (option_map Ptr (option_copied pointed.entry)) ty.now }
+{
+    match pointed {
+        Some(pointed) => points_to(ty, pointed),
+        None => false,
+    }
+}
+
+/// Whether a line may state the address.
+fn is_stated(types: &NamedTypes, element: &Element<Name>) -> bool
+    ensures { result ≡ meaning.is_stated types.now element.now }
+{
+    points_to(&element.base.ty, &element.of)
+        && is_due(
+            pointed_by(types, &element.of, element.indices.as_slice()),
+            &element.to,
+        )
+}
+
+fn width_of(ty: &Ty) -> u32
+    ensures { result ≡ constants.width_of ty.now }
+{
+    match ty {
+        Ty::Int(width) => *width,
+        _ => 0,
+    }
+}
+
+/// The indices of an address, each worth what its operand is.
+#[derive(Drop)]
+struct OperandIndices<'a> {
+    module: &'a Module,
+    registers: &'a RegisterFile,
+    operands: &'a [Operand<Name>],
+}
+
+impl<'a> Indices for OperandIndices<'a> {
+    ghost listed = { λ it. map (meaning.index_value (scope_of it.«module».now) (meaning.read (registers_in it.registers.now))) it.operands.now };
+
+    fn count(&self) -> usize {
+        self.operands.len()
+    }
+
+    fn at(&self, place: usize) -> (u32, Value) {
+        let operand = &self.operands[place];
+        (
+            width_of(&operand.ty),
+            operand_value(self.module, self.registers, operand),
+        )
+    }
+}
+
+/// The address of a part: poison, where it is none that a line may state.
+fn element_outcome(
+    module: &Module,
+    registers: &RegisterFile,
+    world: &KeptWorld,
+    element: &Element<Name>,
+) -> Outcome
+    ensures value { result ≡ meaning.outcome (scope_of «module».now) (meaning.read (registers_in registers.now)) world.now.blocks (expr.Element element.now) }
+    ensures in_kind { GivesInKind (types.kind_of element.now.to) result }
+{
+    if !is_stated(&module.types, element) {
+        return Outcome::Gives(Value::Poison);
+    }
+    let base = operand_value(module, registers, &element.base);
+    let size = size_at(&world.blocks, &base);
+    let indices = OperandIndices {
+        module,
+        registers,
+        operands: element.indices.as_slice(),
+    };
+    eval_gep(module, element.inbounds, &element.of, &base, size, &indices)
+}
+
 /// What an expression of a line leads to.
 #[tactic(auto, using(crate::proofs::InKind::poison_of))]
 pub(crate) fn outcome(
@@ -248,7 +347,7 @@ pub(crate) fn outcome(
         Expr::Icmp(icmp) => icmp_outcome(module, registers, world, icmp),
         Expr::Cast(cast) => cast_outcome(module, registers, world, cast),
         Expr::Select(select) => select_outcome(module, registers, world, select.get()),
-        Expr::Element(_) => Outcome::Gives(Value::Poison),
+        Expr::Element(element) => element_outcome(module, registers, world, element.get()),
         Expr::Load(load) => load_outcome(module, registers, world, load),
     }
 }

@@ -82,8 +82,7 @@ fn enter(
 
 /// The state in which a run of that function on that input starts.
 ///
-/// It is meant for modules over integers, as long as a run has no globals: a `getelementptr` gives poison, and an `alloca`, `store` or `call`
-/// is undefined behaviour.
+/// It is meant for modules without globals, as long as a run has none. A `call` is undefined behaviour.
 #[tactic(auto, using(crate::proofs::Starts::starts_at, crate::proofs::Starts::starts_not))]
 pub fn start(
     alloc: Global,
@@ -121,6 +120,7 @@ pub fn start(
             line: 0,
         }),
         registers,
+        own: Vec::new(alloc),
         world,
     })
 }

@@ -1,39 +1,28 @@
-ghost use Rattle.std.specs.Prelude.{◌≡◌, ◌≢◌, ◌+◌, ◌<◌, List, [], ◌∷◌, ◌++◌, Some, None, IfOk, OnErr, IsErr, IsErrOf};
-ghost use Rattle.ir_values.specs.declared.operations.Outcome.TheVariants as outcome;
+ghost use Rattle.std.specs.Prelude.{◌≡◌, ◌≢◌, List, [], ◌∷◌, drop, None, IfOk, OnErr, IsErr, IsErrOf};
 ghost use Rattle.ir_machine.specs.declared.items.Item.TheVariants as item;
 ghost use Rattle.block_memory.specs.declared.items.Choice.{Choice};
 ghost use Rattle.ir_machine.specs.declared.machine.Progress.TheVariants as progress;
 ghost use Rattle.ir_core.specs.Types.{kind_of};
-ghost use Rattle.ir_core.specs.Expressions.{type_of};
 ghost use Rattle.ir_machine.specs.Registers as registers;
 ghost use Rattle.ir_machine.specs.State.{scope_of, Over};
+ghost use Rattle.block_memory.specs.Memory.{ended, updated};
 ghost use Rattle.ir_machine.specs.Machine as machine;
 ghost use Rattle.ir_machine.specs.Choices.{Did, Lacks, answer, TakesAsked};
 ghost use Rattle.ir_machine.specs.Machine.{Ask, Does};
-ghost use Rattle.ir_machine.specs.Places.{at_end, registers_in, world_in, state_in, state_of, progress_of, next_line};
-ghost use Rattle.ir_machine.specs.Stepping.{Answers, StaysIn, line_outcome, line_set};
+ghost use Rattle.ir_machine.specs.Places.{at_end, registers_in, world_in, state_in, state_of, progress_of};
+ghost use Rattle.ir_machine.specs.Stepping.{Answers, StaysIn};
 ghost use Rattle.ir_core.specs.Functions.{successors_of};
 ghost use Rattle.ir_core.specs.declared.values.Value.TheVariants.{Num};
 
 use crate::choosing::show;
 use crate::jumping::{case_of, jump, side_of, told_label};
-use crate::operands::{operand_value, outcome};
+use crate::lines::{do_line, go_wrong, one_item};
+use crate::operands::operand_value;
 use crate::{Chooser, Item, KeptWorld, Place, Progress, RunState, StepEnd, Stepped};
-use block_memory::ShowEnd;
+use block_memory::{Blocks, ShowEnd};
 use contents::Seq;
-use ir_core::{
-    BitType, Block, Calm, Function, Instr, Kind, Module, Name, Operand, Term, Value, kind_of,
-};
-use ir_values::Outcome;
+use ir_core::{Block, BlockId, Function, Kind, Module, Name, Operand, Term, Value, kind_of};
 use std::alloc::{AllocError, Global};
-
-fn one_item(alloc: Global, first: Item) -> Result<Seq<Item>, AllocError>
-    ensures { IfOk result (λ items. items ≡ first ∷ []) }
-{
-    let mut items = Seq::new(alloc);
-    items.push(first)?;
-    Ok(items)
-}
 
 fn two_items(alloc: Global, first: Item, second: Item) -> Result<Seq<Item>, AllocError>
     ensures { IfOk result (λ items. items ≡ first ∷ second ∷ []) }
@@ -57,6 +46,7 @@ fn last_return<C: Chooser>(
     ensures no_choice { IsErrOf result StepEnd.NoChoice
         → answer (machine.return_step kind value [] (world_in world.old)) (C.script chooser.old) ≡ Lacks (C.script chooser.new) }
     ensures told { TakesAsked (machine.return_step kind value [] (world_in world.old)) (C.script chooser.old) (C.script chooser.new) }
+    ensures memory { world.new.blocks ≡ world.old.blocks }
     ensures same { OnErr result (world.new ≡ world.old) }
 {
     let mut items = two_items(alloc, Item::Turn, Item::Wrong)?.into_vec();
@@ -75,17 +65,6 @@ fn last_return<C: Chooser>(
         Err(ShowEnd::NoChoice) => Err(StepEnd::NoChoice),
         Err(ShowEnd::Memory) => Err(StepEnd::Memory),
     }
-}
-
-/// The last return of a run, of nothing.
-fn void_return(alloc: Global) -> Result<Stepped, AllocError>
-    ensures items { IfOk result (λ stepped. stepped.items ≡ item.Turn ∷ item.Returned None ∷ []) }
-    ensures progress { IfOk result (λ stepped. stepped.progress ≡ progress.Ended) }
-{
-    Ok(Stepped {
-        items: two_items(alloc, Item::Turn, Item::Returned(None))?,
-        progress: Progress::Ended,
-    })
 }
 
 /// Where a run stands: the module, a block of a function of it, and its place there.
@@ -107,21 +86,6 @@ impl<'a> Drop for Here<'a> {
     }
 }
 
-/// The run is wrong, and over.
-fn go_wrong(alloc: Global, state: &mut RunState) -> Result<Stepped, AllocError>
-    ensures items { IfOk result (λ stepped. stepped.items ≡ item.Wrong ∷ []) }
-    ensures progress { IfOk result (λ stepped. stepped.progress ≡ progress.IsWrong) }
-    ensures over { IfOk result (λ stepped. state.new.place ≡ None) }
-    ensures same { OnErr result (state.new ≡ state.old) }
-{
-    let items = one_item(alloc, Item::Wrong)?;
-    state.place = None;
-    Ok(Stepped {
-        items,
-        progress: Progress::IsWrong,
-    })
-}
-
 /// The run goes to the block of that label, or is wrong where there is none.
 fn go_to(
     alloc: Global,
@@ -130,7 +94,7 @@ fn go_to(
     state: &mut RunState,
 ) -> Result<Stepped, AllocError>
     ensures made { IfOk result (λ stepped.
-        machine.jump (scope_of here.now.whole.now) (at_end here.now.function.now here.now.block.now (registers_in state.old.registers)) [] (world_in state.old.world) label.now
+        machine.jump (scope_of here.now.whole.now) (at_end here.now.function.now here.now.block.now (registers_in state.old.registers) state.old.own.items) [] (world_in state.old.world) label.now
         ≡ Does stepped.items (state_in here.now.function.now state.new)) }
     ensures progress { IfOk result
         (λ stepped. stepped.progress ≡ progress_of stepped.items (state_in here.now.function.now state.new)) }
@@ -169,7 +133,7 @@ fn do_told<C: Chooser>(
     chooser: &mut C,
 ) -> Result<Stepped, StepEnd>
     ensures answers { Answers (Ask (machine.is_label (successors_of here.now.block.now.term))
-        (λ c. machine.gone c (machine.jump (scope_of here.now.whole.now) (at_end here.now.function.now here.now.block.now (registers_in state.old.registers)) [] (world_in state.old.world))))
+        (λ c. machine.gone c (machine.jump (scope_of here.now.whole.now) (at_end here.now.function.now here.now.block.now (registers_in state.old.registers) state.old.own.items) [] (world_in state.old.world))))
         (C.script chooser.old) (C.script chooser.new) (state_in here.now.function.now state.new) result }
     ensures place { IfOk result (λ stepped. StaysIn here.now.place state.new.place) }
     ensures same { OnErr result (state.new ≡ state.old) }
@@ -192,7 +156,7 @@ fn do_branch<C: Chooser>(
 ) -> Result<Stepped, StepEnd>
     ensures answers { (label : _ → _) → ((n : _) → value ≡ Num n → numbered.now ≡ label n)
         → Answers (machine.branch value label (successors_of here.now.block.now.term)
-        (machine.jump (scope_of here.now.whole.now) (at_end here.now.function.now here.now.block.now (registers_in state.old.registers)) [] (world_in state.old.world)))
+        (machine.jump (scope_of here.now.whole.now) (at_end here.now.function.now here.now.block.now (registers_in state.old.registers) state.old.own.items) [] (world_in state.old.world)))
         (C.script chooser.old) (C.script chooser.new) (state_in here.now.function.now state.new) result }
     ensures place { IfOk result (λ stepped. StaysIn here.now.place state.new.place) }
     ensures same { OnErr result (state.new ≡ state.old) }
@@ -204,7 +168,27 @@ fn do_branch<C: Chooser>(
     }
 }
 
-/// The last return of a run, of that operand.
+/// The block of that number ends, where there is one.
+#[tactic(auto, using(crate::proofs::Leaving::updated_past))]
+fn end_one(block: BlockId, blocks: &mut Blocks)
+    ensures { blocks.new ≡ updated ended blocks.old block }
+{
+    if block < blocks.count() {
+        blocks.end_block(block);
+    }
+}
+
+/// The blocks that a frame made end.
+#[tactic(auto, using(crate::proofs::Leaving::ended_next))]
+fn end_own(own: &[BlockId], blocks: &mut Blocks)
+    ensures { blocks.new ≡ machine.all_ended own.now blocks.old }
+{
+    for i in 0..own.len() {
+        end_one(own[i], blocks);
+    }
+}
+
+/// The last return of a run, of that operand. The blocks that its frame made end.
 fn do_return<C: Chooser>(
     alloc: Global,
     module: &Module,
@@ -216,6 +200,7 @@ fn do_return<C: Chooser>(
         (registers.operand_value (scope_of «module».now) (registers.read (registers_in state.old.registers)) operand.now) [] (world_in state.old.world))
         (C.script chooser.old) (C.script chooser.new) Over result }
     ensures over { IfOk result (λ stepped. state.new.place ≡ None) }
+    ensures ended { IfOk result (λ stepped. state.new.world.blocks ≡ machine.all_ended state.old.own.items state.old.world.blocks) }
     ensures same { OnErr result (state.new ≡ state.old) }
 {
     let value = operand_value(module, &state.registers, operand);
@@ -226,8 +211,26 @@ fn do_return<C: Chooser>(
         &mut state.world,
         chooser,
     )?;
+    end_own(&state.own, &mut state.world.blocks);
     state.place = None;
     Ok(stepped)
+}
+
+/// The last return of a run, of nothing. The blocks that its frame made end.
+fn do_void_return(alloc: Global, state: &mut RunState) -> Result<Stepped, AllocError>
+    ensures items { IfOk result (λ stepped. stepped.items ≡ item.Turn ∷ item.Returned None ∷ []) }
+    ensures progress { IfOk result (λ stepped. stepped.progress ≡ progress.Ended) }
+    ensures over { IfOk result (λ stepped. state.new.place ≡ None) }
+    ensures ended { IfOk result (λ stepped. state.new.world.blocks ≡ machine.all_ended state.old.own.items state.old.world.blocks) }
+    ensures same { OnErr result (state.new ≡ state.old) }
+{
+    let items = two_items(alloc, Item::Turn, Item::Returned(None))?;
+    end_own(&state.own, &mut state.world.blocks);
+    state.place = None;
+    Ok(Stepped {
+        items,
+        progress: Progress::Ended,
+    })
 }
 
 /// A terminator is executed in the only frame of a run.
@@ -238,18 +241,14 @@ fn do_terminator<C: Chooser>(
     chooser: &mut C,
 ) -> Result<Stepped, StepEnd>
     ensures answers { Answers (machine.term_step (scope_of here.now.whole.now) here.now.block.now.term
-        (at_end here.now.function.now here.now.block.now (registers_in state.old.registers)) [] (world_in state.old.world))
+        (at_end here.now.function.now here.now.block.now (registers_in state.old.registers) state.old.own.items) [] (world_in state.old.world))
         (C.script chooser.old) (C.script chooser.new) (state_in here.now.function.now state.new) result }
     ensures place { IfOk result (λ stepped. StaysIn here.now.place state.new.place) }
     ensures same { OnErr result (state.new ≡ state.old) }
 {
     match &here.block.term {
         Term::Ret(operand) => do_return(alloc, here.whole, operand, state, chooser),
-        Term::RetVoid => {
-            let stepped = void_return(alloc)?;
-            state.place = None;
-            Ok(stepped)
-        }
+        Term::RetVoid => Ok(do_void_return(alloc, state)?),
         Term::Br(label) => Ok(go_to(alloc, here, label, state)?),
         Term::CondBr(branch) => {
             let value = operand_value(here.whole, &state.registers, &branch.condition);
@@ -260,79 +259,6 @@ fn do_terminator<C: Chooser>(
             do_branch(alloc, here, value, case_of(switch, &value), state, chooser)
         }
         Term::Unreachable => Ok(go_wrong(alloc, state)?),
-    }
-}
-
-/// A line that does nothing but set its register is done: the run stands after it, or is wrong.
-fn do_calm(
-    alloc: Global,
-    module: &Module,
-    line: &Calm,
-    place: Place,
-    state: &mut RunState,
-) -> Result<Stepped, StepEnd>
-    requires room { place.line < usize.MAX }
-    ensures gives { (v : _) → registers.outcome (scope_of «module».now) (registers.read (registers_in state.old.registers)) state.old.world.blocks line.now.right ≡ outcome.Gives v
-        → IfOk result (λ stepped. (stepped.items ≡ []) × (stepped.progress ≡ progress.Goes)
-        × (state.new.place ≡ Some (next_line place))
-        × (registers_in state.new.registers
-        ≡ registers.set (registers_in state.old.registers) line.now.name (kind_of (type_of line.now.right)) v)
-        × (state.new.world ≡ state.old.world)) }
-    ensures traps { registers.outcome (scope_of «module».now) (registers.read (registers_in state.old.registers)) state.old.world.blocks line.now.right ≡ outcome.Trap
-        → IfOk result (λ stepped. (stepped.items ≡ item.Wrong ∷ []) × (stepped.progress ≡ progress.IsWrong)
-        × (state.new.place ≡ None)) }
-    ensures same_place { OnErr result (state.new.place ≡ state.old.place) }
-    ensures same_registers { OnErr result
-        (registers_in state.new.registers ≡ registers_in state.old.registers) }
-    ensures same_world { OnErr result (state.new.world ≡ state.old.world) }
-    ensures memory { IsErr result → IsErrOf result StepEnd.Memory }
-{
-    let bit = BitType::new();
-    match outcome(module, &state.registers, &state.world, &line.right) {
-        Outcome::Gives(value) => {
-            state
-                .registers
-                .set(alloc, &line.name, kind_of(line.right.ty(&bit)), value)?;
-            state.place = Some(Place {
-                function: place.function,
-                block: place.block,
-                line: place.line + 1,
-            });
-            Ok(Stepped {
-                items: Seq::new(alloc),
-                progress: Progress::Goes,
-            })
-        }
-        Outcome::Trap => Ok(go_wrong(alloc, state)?),
-    }
-}
-
-/// A line is done, and the run stands after it; or the run is wrong.
-fn do_line(
-    alloc: Global,
-    module: &Module,
-    line: &Instr,
-    place: Place,
-    state: &mut RunState,
-) -> Result<Stepped, StepEnd>
-    requires room { place.line < usize.MAX }
-    ensures gives { (v : _) → line_outcome (scope_of «module».now) (registers_in state.old.registers) state.old.world.blocks line.now ≡ outcome.Gives v
-        → IfOk result (λ stepped. (stepped.items ≡ []) × (stepped.progress ≡ progress.Goes)
-        × (state.new.place ≡ Some (next_line place))
-        × (registers_in state.new.registers ≡ line_set (registers_in state.old.registers) line.now v)
-        × (state.new.world ≡ state.old.world)) }
-    ensures traps { line_outcome (scope_of «module».now) (registers_in state.old.registers) state.old.world.blocks line.now ≡ outcome.Trap
-        → IfOk result (λ stepped. (stepped.items ≡ item.Wrong ∷ []) × (stepped.progress ≡ progress.IsWrong)
-        × (state.new.place ≡ None)) }
-    ensures same_place { OnErr result (state.new.place ≡ state.old.place) }
-    ensures same_registers { OnErr result
-        (registers_in state.new.registers ≡ registers_in state.old.registers) }
-    ensures same_world { OnErr result (state.new.world ≡ state.old.world) }
-    ensures memory { IsErr result → IsErrOf result StepEnd.Memory }
-{
-    match line {
-        Instr::Calm(calm) => do_calm(alloc, module, calm, place, state),
-        Instr::Alloca(_) | Instr::Store(_) | Instr::Call(_) => Ok(go_wrong(alloc, state)?),
     }
 }
 

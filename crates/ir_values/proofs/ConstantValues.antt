@@ -26,20 +26,20 @@ use Rattle.ir_core.specs.Types.{converts, fits, is_integer, is_pointer, is_width
 use Rattle.ir_core.specs.Typing.{Fitting, Index, are_typed, contents_of, element_type, fitting_at_level, index_at, is_address, is_cast, is_due, led_to}
 use Rattle.ir_values.specs.Constants.{Part, Scope, address_of_part, global_at, index_in, is_of_type, number_value, part_value, recast_part, size_behind, worth, worth_at_level}
 use Rattle.ir_values.specs.ConstantLaws.{ConstantsAreInKind}
-use Rattle.ir_values.specs.Values.{IsInKind}
+use Rattle.ir_values.specs.Values.{IsInKind, IsInKindOf}
 use Rattle.ir_values.proofs.KindLaws.{poison_in_kind, undef_in_kind}
 use Rattle.ir_values.proofs.Moved.{gep_in_kind}
 
 -- ---- kinds of types
 
-no_pointer_int : (w : ℕ) → is_pointer (Int w) ≡ false
+pub no_pointer_int : (w : ℕ) → is_pointer (Int w) ≡ false
 no_pointer_int w = ap is_pointer_at_level (outs-Int w)
 
-pointer_kind : (t : Ty) → is_pointer t ≡ true → kind_of t ≡ Some kind.Ptr
+pub pointer_kind : (t : Ty) → is_pointer t ≡ true → kind_of t ≡ Some kind.Ptr
 pointer_kind (Int w) h = cc (no_pointer_int w)
 pointer_kind t h = ap (λ b. cond b (Some kind.Ptr) None) h
 
-is_pointer_to : (t : Ty) → is_pointer (Ptr t) ≡ true
+pub is_pointer_to : (t : Ty) → is_pointer (Ptr t) ≡ true
 is_pointer_to t = ap is_pointer_at_level (outs-Ptr t)
 
 same_kinds : (from to : Ty) → converts conversion.BitCast from to ≡ true → kind_of from ≡ kind_of to
@@ -81,11 +81,11 @@ part_in_kind scope inbounds of [] = tt
 part_in_kind scope inbounds of (base ∷ indices) = gep_in_kind inbounds scope.types of (part_value base) (size_behind scope (part_value base)) (map index_in indices)
 
 -- what is due is a pointer
-due_pointer : (o : Option Ty) (t : Ty) → is_due (option_map Ptr o) t ≡ true → is_pointer t ≡ true
+pub due_pointer : (o : Option Ty) (t : Ty) → is_due (option_map Ptr o) t ≡ true → is_pointer t ≡ true
 due_pointer None t h = cc
 due_pointer (Some u) t h = subst (λ v. is_pointer v ≡ true) (same_ty_true (Ptr u) t h) (is_pointer_to u)
 
-element_pointer : (types : List NamedTy) (of : Ty) (is : List Index) (t : Ty) → is_due (element_type types of is) t ≡ true → is_pointer t ≡ true
+pub element_pointer : (types : List NamedTy) (of : Ty) (is : List Index) (t : Ty) → is_due (element_type types of is) t ≡ true → is_pointer t ≡ true
 element_pointer types of [] t h = due_pointer (Some of) t h
 element_pointer types of (i ∷ is) t h = at (is_integer i.ty) h
   where
@@ -170,7 +170,7 @@ module _ (scope : Scope) where
       by_level (Cast (to, cs)) (step (part.Cast (to, told))) (value_step (part.Cast (to, values)))
       (constants.at_cast Fitting step to cs) (constants.at_cast (Ty → Value) value_step to cs) (recast_fine to cs each)
 
-  all_fine : (c : Const) → Fine c
+  pub all_fine : (c : Const) → Fine c
   all_fine = constants.by_parts Fine fine_number fine_undef fine_null fine_global fine_element fine_cast
 
 pub constants_in_kind : ConstantsAreInKind
@@ -179,3 +179,10 @@ constants_in_kind scope t c k h = at (is_of_type scope t c) refl
     at : (b : Bool) → is_of_type scope t c ≡ b → IsInKind k (cond b (worth scope c t) value.Poison)
     at true e = all_fine scope c t k h e
     at false e = poison_in_kind k
+
+pub worth_in_kind : (scope : Scope) (t : Ty) (c : Const) (v : Value) → is_of_type scope t c ≡ true → v ≡ worth scope c t → IsInKindOf (kind_of t) v
+worth_in_kind scope t c v typed is = subst (IsInKindOf (kind_of t)) (sym is) (at (kind_of t) refl)
+  where
+    at : (o : Option Kind) → kind_of t ≡ o → IsInKindOf o (worth scope c t)
+    at None e = tt
+    at (Some k) e = all_fine scope c t k e typed

@@ -1,5 +1,5 @@
 -- Steps of the walk along indices.
-use Rattle.std.proofs.Common.{◌≡◌, ℕ, zero, suc, ◌+◌, ◌*◌, ◌^◌, ◌<◌, ◌≤◌, Bool, true, false, ◌&&◌, ◌||◌, cond, List, [], ◌∷◌, length, get_or, drop, map, slice_get, Option, None, Some, refl, sym, ap, subst, ◌∙◌, arith, add-one}
+use Rattle.std.proofs.Common.{◌≡◌, ℕ, zero, suc, ◌+◌, ◌*◌, ◌^◌, ◌<◌, ◌≤◌, Bool, true, false, ◌&&◌, ◌||◌, cond, List, [], ◌∷◌, length, drop, map, slice_get, Option, None, Some, refl, sym, ap, subst, ◌∙◌, arith, add-one}
 use Rattle.std.specs.Prelude.{ℤ, pos, negsuc, ◌+ℤ◌, ◌*ℤ◌, nat_lt, unsigned_abs}
 use Rattle.std.specs.Int.{cast_signed, w64}
 use Rattle.std.specs.List.{AllByRecursion, list_all}
@@ -8,7 +8,6 @@ use Rattle.std.proofs.lemmas.Bool.{ltb-false}
 use Rattle.std.proofs.lemmas.Int.{unsigned_abs-mul}
 use Rattle.std.proofs.lemmas.Nat.{mul-lt}
 use Rattle.std.proofs.Math.Nat.{mod-eq_of_lt}
-use Rattle.std.proofs.Math.Seq.{drop-cons}
 use Rattle.ir_types.specs.declared.named.NamedTy.{NamedTy}
 use Rattle.ir_types.specs.declared.ty.Ty.{Ty, Array, Int, out-Ty}
 use Rattle.ir_types.specs.declared.ty.Ty.TheOpen.{Ty-F}
@@ -21,12 +20,13 @@ use Rattle.ir_core.specs.Sizes.{entered_along, entered_behind}
 use Rattle.ir_core.specs.Typing.{entered, entered_at_level, field_at}
 use Rattle.ir_core.specs.declared.values.Value.{Value}
 use Rattle.ir_core.specs.declared.values.Value.TheVariants.{Ptr, Bare, Poison}
-use Rattle.ir_values.specs.Addresses.{GivenIndex, distance, distance_at_level, distances, distances_inside, is_past, leaves, led_address, moved_address, moved_by, or_zero, over, told_index, undef_inside, wrapped}
+use Rattle.ir_values.specs.Addresses.{GivenIndex, IsIndex, distance, distance_at_level, distances, distances_inside, is_past, leaves, led_address, moved_address, moved_by, or_zero, over, told_index, undef_inside, wrapped}
 use Rattle.ir_values.specs.Numbers.{modulo, signed}
-use Rattle.ir_values.specs.Private.{IsIndex, IsSmall, ended, ended_at, stepped}
+use Rattle.ir_values.specs.Private.{IsSmall, ended, ended_at, stepped}
 use Rattle.ir_values.specs.Values.{as_number}
 use Rattle.ir_values.proofs.Entering.{enters, enters_none}
 use Rattle.ir_values.proofs.InKind.{modulo_below}
+use Rattle.ir_values.proofs.Listed.{drop_past, drop_there}
 use Rattle.ir_values.proofs.Wrapped.{moved_same, word_again}
 
 right_false : (a b : Bool) → (a || b) ≡ false → b ≡ false
@@ -182,12 +182,6 @@ module _ (types : List NamedTy) (t : Ty) (inbounds : Bool) (size at : ℕ) (i : 
 
 -- ---- a loop over the indices, from one place on
 
-drop_past : (xs : List GivenIndex) (k : ℕ) → length xs ≤ k → drop k xs ≡ []
-drop_past [] zero h = refl
-drop_past [] (suc k) h = refl
-drop_past (x ∷ xs) zero h = absurd (omega arith)
-drop_past (x ∷ xs) (suc k) h = drop_past xs k (omega arith)
-
 -- behind the last index
 pub walk_done : (types : List NamedTy) (t : Ty) (inbounds : Bool) (size at k : ℕ) (is : List GivenIndex) (to : Option ℕ) → length is ≤ k → at < 2 ^ 64
     → (inbounds ≡ true → is_past size (pos at) ≡ false) → ended inbounds size (pos at) (distances_inside types t (drop k is)) ≡ to → Some at ≡ to
@@ -198,23 +192,23 @@ walk_done types t inbounds size at k is to past small inside leads =
     here true inside = ap (λ p. cond p None (Some (modulo 64 (pos at)))) (inside refl) ∙ ap Some (mod-eq_of_lt small)
     here false inside = ap Some (mod-eq_of_lt small)
 
-module _ (types : List NamedTy) (t u : Ty) (inbounds : Bool) (size at k : ℕ) (is : List GivenIndex) (d : GivenIndex) (to : Option ℕ) (there : k < length is)
-    (enters : entered types t (told_index (get_or is k d)) ≡ Some u) where
-  split : drop k is ≡ get_or is k d ∷ drop (suc k) is
-  split = drop-cons is k d there
+module _ (types : List NamedTy) (t u : Ty) (inbounds : Bool) (size at k : ℕ) (is : List GivenIndex) (i : GivenIndex) (to : Option ℕ) (there : Some i ≡ slice_get is k)
+    (enters : entered types t (told_index i) ≡ Some u) where
+  split : drop k is ≡ i ∷ drop (suc k) is
+  split = drop_there is k i there
 
   later : drop (suc k) is ≡ drop (k + 1) is
   later = ap (λ n. drop n is) (sym (add-one k))
 
-  pub walk_ends : ended inbounds size (pos at) (distances_inside types t (drop k is)) ≡ to → stepped inbounds size (pos at +ℤ distance types t (get_or is k d)) ≡ None → None ≡ to
+  pub walk_ends : ended inbounds size (pos at) (distances_inside types t (drop k is)) ≡ to → stepped inbounds size (pos at +ℤ distance types t i) ≡ None → None ≡ to
   walk_ends leads none =
-      sym (ap (λ xs. ended inbounds size (pos at) (distances_inside types t xs)) split ∙ goes_nowhere types t inbounds size at (get_or is k d) (drop (suc k) is) u enters none) ∙ leads
+      sym (ap (λ xs. ended inbounds size (pos at) (distances_inside types t xs)) split ∙ goes_nowhere types t inbounds size at i (drop (suc k) is) u enters none) ∙ leads
 
   pub walk_goes : (next : ℕ) → size < 2 ^ 64 → (inbounds ≡ true → is_past size (pos at) ≡ false) → ended inbounds size (pos at) (distances_inside types t (drop k is)) ≡ to
-      → stepped inbounds size (pos at +ℤ distance types t (get_or is k d)) ≡ Some next → ended inbounds size (pos next) (distances_inside types u (drop (k + 1) is)) ≡ to
+      → stepped inbounds size (pos at +ℤ distance types t i) ≡ Some next → ended inbounds size (pos next) (distances_inside types u (drop (k + 1) is)) ≡ to
   walk_goes next small inside leads gone =
       sym (ap (λ xs. ended inbounds size (pos at) (distances_inside types t xs)) split
-      ∙ goes types t inbounds size at (get_or is k d) (drop (suc k) is) u next enters small inside gone
+      ∙ goes types t inbounds size at i (drop (suc k) is) u next enters small inside gone
       ∙ ap (λ xs. ended inbounds size (pos next) (distances_inside types u xs)) later)
       ∙ leads
 
@@ -236,7 +230,7 @@ module _ (types : List NamedTy) (t u : Ty) (inbounds : Bool) (size at k : ℕ) (
   pub walk_numbers : list_all (λ i. is_some (as_number i.1)) (drop k is) ≡ true → list_all (λ i. is_some (as_number i.1)) (drop (k + 1) is) ≡ true
   walk_numbers h =
       subst (λ xs. list_all (λ i. is_some (as_number i.1)) xs ≡ true) later
-      (right_true (is_some (as_number (get_or is k d).1)) (list_all (λ i. is_some (as_number i.1)) (drop (suc k) is)) (subst (λ xs. list_all (λ i. is_some (as_number i.1)) xs ≡ true) split h))
+      (right_true (is_some (as_number i.1)) (list_all (λ i. is_some (as_number i.1)) (drop (suc k) is)) (subst (λ xs. list_all (λ i. is_some (as_number i.1)) xs ≡ true) split h))
 
 -- the first index of some
 pub first_goes : (types : List NamedTy) (of : Ty) (inbounds : Bool) (size at next : ℕ) (i : GivenIndex) (is all : List GivenIndex) (to : Option ℕ) → all ≡ i ∷ is → size < 2 ^ 64
@@ -244,6 +238,11 @@ pub first_goes : (types : List NamedTy) (of : Ty) (inbounds : Bool) (size at nex
     → to ≡ ended inbounds size (pos next) (distances_inside types of is) → to ≡ ended inbounds size (pos at) (distances types of all)
 first_goes types of inbounds size at next i is all to whole small inside gone leads =
     leads ∙ sym (starts types of inbounds size at i is next small inside gone) ∙ sym (ap (λ xs. ended inbounds size (pos at) (distances types of xs)) whole)
+
+pub first_stops : (types : List NamedTy) (of : Ty) (inbounds : Bool) (size at : ℕ) (i : GivenIndex) (is all : List GivenIndex) → all ≡ i ∷ is
+    → stepped inbounds size (pos at +ℤ over types of i) ≡ None → None ≡ ended inbounds size (pos at) (distances types of all)
+first_stops types of inbounds size at i is all whole none =
+    sym (starts_nowhere types of inbounds size at i is none) ∙ sym (ap (λ xs. ended inbounds size (pos at) (distances types of xs)) whole)
 
 -- ---- from a base, where all indices are numbers
 

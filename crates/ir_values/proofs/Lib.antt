@@ -1,12 +1,16 @@
 pub mod AsNumbers
 pub mod Compared
+pub mod ConstantExamples
 pub mod ConstantValues
+pub mod ConstantWalks
 pub mod Defined
 pub mod Entering
 pub mod Examples
 pub mod Going
 pub mod InKind
 pub mod KindLaws
+pub mod LedSmall
+pub mod Listed
 pub mod Monotone
 pub mod Moved
 pub mod OperationLaws

@@ -9,15 +9,16 @@ use Rattle.ir_types.specs.declared.named.NamedTy.{NamedTy}
 use Rattle.ir_types.specs.declared.ty.Ty.{Ty, Int, Ptr as address_of, out-Ty}
 use Rattle.ir_types.specs.declared.ty.Ty.TheOpen.{Ty-F}
 use Rattle.ir_types.specs.declared.ty.Ty.TheOpen as level
-use Rattle.ir_types.specs.NameLaws.{left_true, right_true}
+use Rattle.ir_types.specs.NameLaws.{all_true, left_true, right_true}
 use Rattle.ir_types.specs.Named.{fields_of, fields_or_none, size_of}
 use Rattle.ir_types.specs.Same.{same_ty}
+use Rattle.ir_core.specs.Sizes.{entered_along, entered_behind}
 use Rattle.ir_core.specs.Typing.{entered, entered_at_level, field_at, led_to}
 use Rattle.ir_core.specs.declared.values.Value.{Value}
 use Rattle.ir_core.specs.declared.values.Value.TheVariants.{Num, Ptr, Bare, Undef, Poison}
 use Rattle.ir_core.specs.declared.values.Kind.TheVariants as kind
 use Rattle.ir_values.specs.declared.operations.Outcome.TheVariants.{Gives}
-use Rattle.ir_values.specs.Addresses.{GivenIndex, distance, distances, distances_inside, gep_outcome, led_address, leaves, moved_address, moved_by, over, told_index, undef_inside, wrapped}
+use Rattle.ir_values.specs.Addresses.{GivenIndex, are_entered_small, distance, distances, distances_inside, gep_outcome, is_small, led_address, leaves, moved_address, moved_by, over, told_index, undef_inside, wrapped}
 use Rattle.ir_values.specs.Numbers.{modulo, signed}
 use Rattle.ir_values.specs.Operations.{IsOutcomeLessDefined}
 use Rattle.ir_values.specs.PointerLaws.{AddressesFollowTypes, AddressesKeepRelated, AddressesStayInKind, AreIndicesRelated, IsOneSize, ZeroKeepsAddresses}
@@ -95,6 +96,39 @@ module _ (ps : Pairing) where
           let rest = inside_kept types of is js es r.1 e in
           (over types of j ∷ rest.0, ap (option_map (λ es. over types of j ∷ es)) rest.1)
 
+  -- and they enter the same types
+  along_kept : (types : List NamedTy) (t : Ty) (is js : List GivenIndex) (ds : List ℤ) → AllZip (AreIndicesRelated ps) is js
+      → distances_inside types t is ≡ Some ds → entered_along types t (map told_index js) ≡ entered_along types t (map told_index is)
+  along_kept types t [] [] ds r h = refl
+  along_kept types t [] (j ∷ js) ds r h = absurd r
+  along_kept types t (i ∷ is) [] ds r h = absurd r
+  along_kept types t (i ∷ is) (j ∷ js) ds r h = at (λ u es e. along_kept types u is js es r.1 e) (entered types t (told_index i)) refl h
+    where
+      further : (u : Ty) → ((es : List ℤ) → distances_inside types u is ≡ Some es → entered_along types u (map told_index js) ≡ entered_along types u (map told_index is)) → (o : Option (List ℤ))
+          → distances_inside types u is ≡ o → option_map (λ es. distance types t i ∷ es) o ≡ Some ds → entered_along types u (map told_index js) ≡ entered_along types u (map told_index is)
+      further u rest None e h = cc
+      further u rest (Some es) e h = rest es e
+
+      at : ((u : Ty) (es : List ℤ) → distances_inside types u is ≡ Some es → entered_along types u (map told_index js) ≡ entered_along types u (map told_index is)) → (o : Option Ty) → entered types t (told_index i) ≡ o
+          → option_and_then (λ u. option_map (λ es. distance types t i ∷ es) (distances_inside types u is)) o ≡ Some ds
+          → entered_behind (λ u. entered_along types u (map told_index js)) (entered types t (told_index j)) ≡ entered_behind (λ u. entered_along types u (map told_index is)) (entered types t (told_index i))
+      at rest None e h = cc
+      at rest (Some u) e h =
+          ap (entered_behind (λ v. entered_along types v (map told_index js))) (entered_kept types t i j u r.0 e)
+          ∙ ap (λ ts. u ∷ ts) (further u (rest u) (distances_inside types u is) refl h)
+          ∙ sym (ap (entered_behind (λ v. entered_along types v (map told_index is))) e)
+
+  small_kept : (types : List NamedTy) (of : Ty) (is js : List GivenIndex) (ds : List ℤ) → AllZip (AreIndicesRelated ps) is js
+      → distances types of is ≡ Some ds → are_entered_small types of js ≡ are_entered_small types of is
+  small_kept types of [] [] ds r h = refl
+  small_kept types of [] (j ∷ js) ds r h = absurd r
+  small_kept types of (i ∷ is) [] ds r h = absurd r
+  small_kept types of (i ∷ is) (j ∷ js) ds r h = at (distances_inside types of is) refl h
+    where
+      at : (o : Option (List ℤ)) → distances_inside types of is ≡ o → option_map (λ es. over types of i ∷ es) o ≡ Some ds → are_entered_small types of (j ∷ js) ≡ are_entered_small types of (i ∷ is)
+      at None e h = cc
+      at (Some es) e h = ap (λ ts. list_all (is_small types) (of ∷ ts)) (along_kept types of is js es r.1 e)
+
   -- numbers are the same on both sides
   one_same : (w x : ℕ) (v u : Value) → x ≡ w → IsRelated ps v u → is_some (as_number v) ≡ true → ◌≡◌ {A = GivenIndex} (x, u) (w, v)
   one_same w x (Num n) u e r h = cc (e, r)
@@ -167,12 +201,32 @@ module _ (ps : Pairing) where
           rw (f, there.1) (below_both ps (list_all (λ i. is_some (as_number i.1)) js) (undef_inside many) (moved_address few b n there.0) (undef_inside few)
           (undef_below many few h b n there.0) (undef_related many few h))
 
+  -- and where the source's types are small, so are the target's
+  small_related : (many few : Bool) → (few ≡ true → many ≡ true) → (types : List NamedTy) (of : Ty) (a b : Value) (m n : ℕ) (is js : List GivenIndex)
+      → IsRelated ps a b → IsOneSize a m n → AllZip (AreIndicesRelated ps) is js
+      → IsRelated ps (cond (are_entered_small types of is) (led_address many a m is (distances types of is)) Poison)
+      (cond (are_entered_small types of js) (led_address few b n js (distances types of js)) Poison)
+  small_related many few h types of a b m n is js r size indices = at (are_entered_small types of is) refl (distances types of is) refl
+    where
+      led : Value
+      led = led_address few b n js (distances types of js)
+
+      at : (s : Bool) → are_entered_small types of is ≡ s → (o : Option (List ℤ)) → distances types of is ≡ o
+          → IsRelated ps (cond s (led_address many a m is o) Poison) (cond (are_entered_small types of js) led Poison)
+      at false e o f = tt
+      at true e None f = tt
+      at true e (Some ds) f =
+          subst (λ o. IsRelated ps (led_address many a m is o) (cond (are_entered_small types of js) led Poison)) f
+          (subst (λ s. IsRelated ps (led_address many a m is (distances types of is)) (cond s led Poison)) (sym (small_kept types of is js ds indices f ∙ e))
+          (led_related many few h types of a b m n is js r size indices))
+
 pub gep_related : AddressesKeepRelated
 gep_related ps many few h types of a b m n is js r size indices =
     cond_poison ps (is_poison a || list_any (λ i. is_poison i.1) is) (is_poison b || list_any (λ i. is_poison i.1) js)
-    (led_address many a m is (distances types of is)) (led_address few b n js (distances types of js))
+    (cond (are_entered_small types of is) (led_address many a m is (distances types of is)) Poison)
+    (cond (are_entered_small types of js) (led_address few b n js (distances types of js)) Poison)
     (or_kept (is_poison b) (list_any (λ i. is_poison i.1) js) (is_poison a) (list_any (λ i. is_poison i.1) is) (poison_kept ps a b r) (any_kept ps is js indices))
-    (led_related ps many few h types of a b m n is js r size indices)
+    (small_related ps many few h types of a b m n is js r size indices)
 
 -- ---- kinds
 
@@ -197,8 +251,9 @@ led_in_kind inbounds base size is (Some ds) =
 
 pub gep_in_kind : AddressesStayInKind
 gep_in_kind inbounds types of base size is =
-    choice_in_kind kind.Ptr (is_poison base || list_any (λ i. is_poison i.1) is) Poison (led_address inbounds base size is (distances types of is)) tt
-    (led_in_kind inbounds base size is (distances types of is))
+    let led = led_address inbounds base size is (distances types of is) in
+    choice_in_kind kind.Ptr (is_poison base || list_any (λ i. is_poison i.1) is) Poison (cond (are_entered_small types of is) led Poison) tt
+    (choice_in_kind kind.Ptr (are_entered_small types of is) led Poison (led_in_kind inbounds base size is (distances types of is)) tt)
 
 -- ---- the index 0
 
@@ -212,6 +267,9 @@ less_than_kept : (t : Bool) (v w : Value) → v ≡ w → IsLessDefined (cond t 
 less_than_kept true v w e = tt
 less_than_kept false v w e = rw e (less_defined_refl w)
 
+abbrev led_by_zero : Bool → List NamedTy → Ty → Value → ℕ → ℕ → Value
+led_by_zero inbounds types of base size width = led_address inbounds base size ((width, Num 0) ∷ []) (distances types of ((width, Num 0) ∷ []))
+
 pub zero_keeps : ZeroKeepsAddresses
 zero_keeps = record {
   kept = kept;
@@ -224,23 +282,44 @@ zero_keeps = record {
     bare_kept : (types : List NamedTy) (of : Ty) (a width : ℕ) → IsInKind kind.Ptr (Bare a) → Bare (modulo 64 (pos a +ℤ (pos (size_of types of) *ℤ signed width 0))) ≡ Bare a
     bare_kept types of a width h = ap Bare (ap (modulo 64) (nowhere (pos a) (size_of types of) width) ∙ modulo_same a h)
 
-    kept : (types : List NamedTy) (of : Ty) (base : Value) (size width : ℕ) → IsInKind kind.Ptr base
+    led_kept : (types : List NamedTy) (of : Ty) (base : Value) (size width : ℕ) → IsInKind kind.Ptr base → is_poison base ≡ false → led_by_zero false types of base size width ≡ base
+    led_kept types of (Ptr b o) size width h p = pointer_kept types of b width o h
+    led_kept types of (Bare a) size width h p = bare_kept types of a width h
+    led_kept types of (Num n) size width h p = absurd h
+    led_kept types of Undef size width h p = refl
+    led_kept types of Poison size width h p = cc
+
+    kept_unless : (s : Bool) (types : List NamedTy) (of : Ty) (base : Value) (size width : ℕ) → s ≡ true → IsInKind kind.Ptr base → (p : Bool) → is_poison base ≡ p
+        → cond (p || false) Poison (cond s (led_by_zero false types of base size width) Poison) ≡ base
+    kept_unless s types of Poison size width e h true f = refl
+    kept_unless s types of Undef size width e h true f = cc
+    kept_unless s types of (Num n) size width e h true f = cc
+    kept_unless s types of (Ptr b o) size width e h true f = cc
+    kept_unless s types of (Bare a) size width e h true f = cc
+    kept_unless s types of base size width e h false f = ap (λ t. cond t (led_by_zero false types of base size width) Poison) e ∙ led_kept types of base size width h f
+
+    kept : (types : List NamedTy) (of : Ty) (base : Value) (size width : ℕ) → is_small types of ≡ true → IsInKind kind.Ptr base
         → gep_outcome false types of base size ((width, Num 0) ∷ []) ≡ Gives base
-    kept types of (Ptr b o) size width h = ap Gives (pointer_kept types of b width o h)
-    kept types of (Bare a) size width h = ap Gives (bare_kept types of a width h)
-    kept types of (Num n) size width h = absurd h
-    kept types of Undef size width h = refl
-    kept types of Poison size width h = refl
+    kept types of base size width small h = ap Gives (kept_unless (are_entered_small types of ((width, Num 0) ∷ [])) types of base size width (all_true small refl) h (is_poison base) refl)
+
+    led_less : (inbounds : Bool) (types : List NamedTy) (of : Ty) (base : Value) (size width : ℕ) → IsInKind kind.Ptr base → is_poison base ≡ false → IsLessDefined (led_by_zero inbounds types of base size width) base
+    led_less false types of base size width h p = subst (λ v. IsLessDefined v base) (sym (led_kept types of base size width h p)) (less_defined_refl base)
+    led_less true types of (Ptr b o) size width h p =
+        less_than_kept (leaves size o (over types of (width, Num 0) ∷ [])) (Ptr b (wrapped (o +ℤ (pos (size_of types of) *ℤ signed width 0)))) (Ptr b o) (pointer_kept types of b width o h)
+    led_less true types of (Bare a) size width h p = tt
+    led_less true types of (Num n) size width h p = absurd h
+    led_less true types of Undef size width h p = tt
+    led_less true types of Poison size width h p = tt
+
+    less_unless : (p s : Bool) (v w : Value) → (p ≡ false → IsLessDefined v w) → IsLessDefined (cond (p || false) Poison (cond s v Poison)) w
+    less_unless true s v w h = tt
+    less_unless false true v w h = h refl
+    less_unless false false v w h = tt
 
     less : (inbounds : Bool) (types : List NamedTy) (of : Ty) (base : Value) (size width : ℕ) → IsInKind kind.Ptr base
         → IsOutcomeLessDefined (gep_outcome inbounds types of base size ((width, Num 0) ∷ [])) (Gives base)
-    less false types of base size width h = subst (λ o. IsOutcomeLessDefined o (Gives base)) (sym (kept types of base size width h)) (less_defined_refl base)
-    less true types of (Ptr b o) size width h =
-        less_than_kept (leaves size o (over types of (width, Num 0) ∷ [])) (Ptr b (wrapped (o +ℤ (pos (size_of types of) *ℤ signed width 0)))) (Ptr b o) (pointer_kept types of b width o h)
-    less true types of (Bare a) size width h = tt
-    less true types of (Num n) size width h = absurd h
-    less true types of Undef size width h = tt
-    less true types of Poison size width h = tt
+    less inbounds types of base size width h =
+        less_unless (is_poison base) (are_entered_small types of ((width, Num 0) ∷ [])) (led_by_zero inbounds types of base size width) base (led_less inbounds types of base size width h)
 
 -- ---- types
 

@@ -32,6 +32,17 @@ signed_low width n h = rw (lt-ltb n (2 ^ (width - 1)) h) refl
 pub signed_high : (width n : ℕ) → 2 ^ (width - 1) ≤ n → n < 2 ^ width → signed width n ≡ negsuc (2 ^ width - 1 - n)
 signed_high width n low high = rw (le-ltb n (2 ^ (width - 1)) low) (below_whole n (2 ^ width) high)
 
+-- at widths that no integer has
+pub signed_none : (width n : ℕ) → width ≡ 0 → n < 2 ^ width → signed width n ≡ pos n
+signed_none zero n e h = let none : n < 2 ^ (zero - 1) = omega arith in signed_low zero n none
+signed_none (suc k) n e h = cc
+
+pub signed_wide : (width n : ℕ) → 64 < width → n < 2 ^ 64 → signed width n ≡ pos n
+signed_wide width n h small =
+    let wide : 64 ≤ width - 1 = omega (arith, h) in
+    let big : 2 ^ 64 ≤ 2 ^ (width - 1) = pow-le-pow_right (lit< tt) wide in
+    signed_low width n (omega (arith, small, big))
+
 pub magnitude_low : (width n : ℕ) → n < 2 ^ (width - 1) → unsigned_abs (signed width n) ≡ n
 magnitude_low width n h = rw (signed_low width n h) refl
 

@@ -1,5 +1,5 @@
 -- What the address of a part is (LangRef 3.7, getelementptr Instruction).
-use Rattle.std.specs.Prelude.{ℕ, ℤ, pos, ◌+ℤ◌, ◌*ℤ◌, int_lt, Bool, ◌&&◌, ◌||◌, cond, List, [], ◌∷◌, Option, None, Some}
+use Rattle.std.specs.Prelude.{ℕ, ℤ, pos, ◌+ℤ◌, ◌*ℤ◌, int_lt, ◌^◌, nat_le, Bool, ◌&&◌, ◌||◌, cond, List, [], ◌∷◌, map, Option, None, Some}
 use Rattle.std.specs.Int.{cast_signed, w64}
 use Rattle.std.specs.List.{list_all, list_any}
 use Rattle.std.specs.Option.{is_some, option_and_then, option_map}
@@ -7,18 +7,24 @@ use Rattle.ir_types.specs.declared.named.NamedTy.{NamedTy}
 use Rattle.ir_types.specs.declared.ty.Ty.{Ty, Int, out-Ty}
 use Rattle.ir_types.specs.declared.ty.Ty.TheOpen.{Ty-F}
 use Rattle.ir_types.specs.declared.ty.Ty.TheOpen as level
-use Rattle.ir_types.specs.Named.{field_offset, size_of}
+use Rattle.ir_types.specs.Named.{field_offset, is_sized, size_of}
+use Rattle.ir_core.specs.Sizes.{stepped}
 use Rattle.ir_core.specs.Typing.{Index, entered}
+use Rattle.ir_core.specs.declared.values.Kind.TheVariants as kind
 use Rattle.ir_core.specs.declared.values.Value.{Value}
 use Rattle.ir_core.specs.declared.values.Value.TheVariants.{Num, Ptr, Bare, Undef, Poison}
 use Rattle.ir_values.specs.declared.operations.Outcome.{Outcome}
 use Rattle.ir_values.specs.declared.operations.Outcome.TheVariants.{Gives}
 use Rattle.ir_values.specs.Numbers.{modulo, signed}
-use Rattle.ir_values.specs.Values.{as_number, is_poison}
+use Rattle.ir_values.specs.Values.{IsInKind, as_number, is_poison}
 
 -- an index: its width, and its value
 abbrev pub GivenIndex : Type 0
 GivenIndex = ℕ × Value
+
+-- a value of its width, which needn't be that of an integer
+abbrev pub IsIndex : GivenIndex → Type 0
+IsIndex i = IsInKind (kind.Int i.0) i.1
 
 abbrev pub told_index : GivenIndex → Index
 told_index i = record { ty = Int i.0; number = as_number i.1 }
@@ -89,9 +95,20 @@ abbrev pub led_address : Bool → Value → ℕ → List GivenIndex → Option (
 led_address inbounds base size indices None = Poison
 led_address inbounds base size indices (Some ds) = cond (list_all (λ i. is_some (as_number i.1)) indices) (moved_address inbounds base size ds) (undef_inside inbounds)
 
+-- the type has a size, within the limit on blocks
+abbrev pub is_small : List NamedTy → Ty → Bool
+is_small types t = is_sized types t && nat_le (size_of types t) (2 ^ 31)
+
+-- The type that is pointed to is small, and so is each that the indices enter. An index that is no number enters no field: so where indices
+-- lead somewhere, numbers in place of those that are none enter the same types, and what is told of an address stays monotone.
+abbrev pub are_entered_small : List NamedTy → Ty → List GivenIndex → Bool
+are_entered_small types of indices = list_all (is_small types) (stepped types of (map told_index indices))
+
+-- Poison, where a type that is entered isn't small; a module that is read has none.
 abbrev pub gep_value : Bool → List NamedTy → Ty → Value → ℕ → List GivenIndex → Value
 gep_value inbounds types of base size indices =
-    cond (is_poison base || list_any (λ i. is_poison i.1) indices) Poison (led_address inbounds base size indices (distances types of indices))
+    cond (is_poison base || list_any (λ i. is_poison i.1) indices) Poison
+    (cond (are_entered_small types of indices) (led_address inbounds base size indices (distances types of indices)) Poison)
 
 -- of a type that is pointed to, a base with the size of the block that it is in, and the indices
 abbrev pub gep_outcome : Bool → List NamedTy → Ty → Value → ℕ → List GivenIndex → Outcome

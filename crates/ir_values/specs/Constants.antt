@@ -7,6 +7,7 @@ use Rattle.ir_types.specs.declared.ty.Ty.TheVariants as ty
 use Rattle.ir_types.specs.Named.{size_of}
 use Rattle.ir_types.specs.Same.{same_name}
 use Rattle.ir_core.specs.declared.modules.GlobalVar.{GlobalVar}
+use Rattle.ir_core.specs.declared.modules.Module.{Module}
 use Rattle.ir_core.specs.declared.operands.Const.{Const, fold-Const}
 use Rattle.ir_core.specs.declared.operands.Const.TheOpen.{Const-F}
 use Rattle.ir_core.specs.declared.operands.Const.TheOpen as part
@@ -14,12 +15,16 @@ use Rattle.ir_core.specs.declared.values.Value.{Value}
 use Rattle.ir_core.specs.declared.values.Value.TheVariants.{Num, Ptr, Bare, Undef, Poison}
 use Rattle.ir_core.specs.Types.{fits}
 use Rattle.ir_core.specs.Typing.{Fitting, fitting_at_level}
-use Rattle.ir_values.specs.Addresses.{GivenIndex, gep_value}
+use Rattle.ir_values.specs.Addresses.{GivenIndex, gep_value, is_small}
 
 -- the types that a module names, and its globals
 pub record Scope : Type 0 where
   pub types : List NamedTy
   pub globals : List GlobalVar
+
+-- of a whole module
+abbrev pub scope_of : Module → Scope
+scope_of m = record { types = m.types; globals = m.globals }
 
 -- the constant is one of the type
 abbrev pub is_of_type : Scope → Ty → Const → Bool
@@ -37,9 +42,10 @@ abbrev pub global_at : ℕ → List GlobalVar → Name → Value
 global_at place [] x = Poison
 global_at place (g ∷ gs) x = cond (same_name g.name x) (Ptr place (pos 0)) (global_at (suc place) gs x)
 
+-- of a type that isn't small it counts as empty; a module that is read has none
 abbrev pub size_of_global : List NamedTy → Option GlobalVar → ℕ
 size_of_global types None = 0
-size_of_global types (Some g) = size_of types g.ty
+size_of_global types (Some g) = cond (is_small types g.ty) (size_of types g.ty) 0
 
 -- the size of the global in which an address lies
 abbrev pub size_behind : Scope → Value → ℕ

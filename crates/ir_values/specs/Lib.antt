@@ -1,6 +1,8 @@
 pub mod Addresses
 pub mod Comparisons
+pub mod ConstantExamples
 pub mod ConstantLaws
+pub mod ConstantParts
 pub mod Constants
 pub mod Conversions
 pub mod Examples

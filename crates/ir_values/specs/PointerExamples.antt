@@ -1,6 +1,6 @@
 -- What operations give of addresses, worked out by hand from the LangRef: an example of each case.
 use Rattle.std.specs.Prelude.{◌≡◌, ℕ, pos, negsuc, true, false, [], ◌∷◌}
-use Rattle.ir_types.specs.declared.ty.Ty.{Ty, Array, Int, Struct}
+use Rattle.ir_types.specs.declared.ty.Ty.{Ty, Array, Int, Struct, Void}
 use Rattle.ir_core.specs.declared.values.Value.{Value}
 use Rattle.ir_core.specs.declared.values.Value.TheVariants.{Num, Ptr, Bare, Undef, Poison}
 use Rattle.ir_core.specs.declared.values.Kind.TheVariants as kind
@@ -66,6 +66,10 @@ at width n = (width, Num n)
 abbrev pub padded : Ty
 padded = Struct (Int 8 ∷ Int 32 ∷ Array 4 (Int 8) ∷ [])
 
+-- a byte past 2^31 of them
+abbrev pub large : Ty
+large = Struct (Array 2147483648 (Int 8) ∷ Int 8 ∷ [])
+
 -- Addresses in a block of 12 bytes. 255 of i8 is -1.
 pub record AddressesMoveSo : Type 0 where
   pub one_i32 : gep_outcome true [] (Int 32) (Ptr 0 (pos 4)) 12 (at 64 1 ∷ []) ≡ Gives (Ptr 0 (pos 8))
@@ -86,6 +90,12 @@ pub record AddressesMoveSo : Type 0 where
   pub undef_index : gep_outcome false [] (Int 8) (Ptr 0 (pos 0)) 12 ((64, Undef) ∷ []) ≡ Gives Undef
   pub undef_index_inbounds : gep_outcome true [] (Int 8) (Ptr 0 (pos 0)) 12 ((64, Undef) ∷ []) ≡ Gives Poison
   pub undef_base : gep_outcome false [] (Int 8) Undef 0 (at 64 1 ∷ []) ≡ Gives Undef
+  pub whole_limit : gep_outcome false [] (Array 2147483648 (Int 8)) (Ptr 0 (pos 0)) 12 (at 64 0 ∷ at 64 5 ∷ []) ≡ Gives (Ptr 0 (pos 5))
+  pub past_the_limit : gep_outcome false [] large (Ptr 0 (pos 0)) 12 (at 32 0 ∷ at 32 1 ∷ []) ≡ Gives Poison
+  pub large_array : gep_outcome false [] (Array 1099511627776 (Int 8)) (Ptr 0 (pos 0)) 12 (at 64 0 ∷ at 64 0 ∷ []) ≡ Gives Poison
+  pub large_inside : gep_outcome false [] (Array 0 (Array 1099511627776 (Int 8))) (Ptr 0 (pos 0)) 12 (at 64 0 ∷ at 64 0 ∷ []) ≡ Gives Poison
+  pub no_size : gep_outcome false [] Void (Ptr 0 (pos 0)) 12 (at 64 0 ∷ []) ≡ Gives Poison
+  pub no_size_undef : gep_outcome false [] Void Undef 0 (at 64 0 ∷ []) ≡ Gives Poison
   pub poison_index : gep_outcome false [] (Int 8) Undef 0 ((64, Poison) ∷ []) ≡ Gives Poison
 
 -- an offset is a signed number of 64 bits, an address one of 64 bits

@@ -16,7 +16,7 @@ use Rattle.ir_core.specs.declared.operands.Flags.{Flags}
 use Rattle.ir_core.specs.declared.operands.Pred.{Pred}
 use Rattle.ir_values.specs.declared.operations.Outcome.{Outcome}
 use Rattle.ir_values.specs.declared.operations.Outcome.TheVariants.{Gives}
-use Rattle.ir_values.specs.Addresses.{GivenIndex, distances, gep_outcome, told_index}
+use Rattle.ir_values.specs.Addresses.{GivenIndex, distances, gep_outcome, is_small, told_index}
 use Rattle.ir_values.specs.Comparisons.{icmp_outcome}
 use Rattle.ir_values.specs.Conversions.{cast_outcome}
 use Rattle.ir_values.specs.Laws.{flags_among}
@@ -81,9 +81,9 @@ abbrev pub AddressesStayInKind : Type 0
 AddressesStayInKind = (inbounds : Bool) (types : List NamedTy) (of : Ty) (base : Value) (size : ℕ) (is : List GivenIndex)
     → GivesInKind (Some kind.Ptr) (gep_outcome inbounds types of base size is)
 
--- the index 0 changes nothing, but for `inbounds`, under which the address may be poison
+-- the index 0 changes nothing, but for `inbounds`, under which the address may be poison, and for a type that isn't small
 pub record ZeroKeepsAddresses : Type 0 where
-  pub kept : (types : List NamedTy) (of : Ty) (base : Value) (size width : ℕ) → IsInKind kind.Ptr base
+  pub kept : (types : List NamedTy) (of : Ty) (base : Value) (size width : ℕ) → is_small types of ≡ true → IsInKind kind.Ptr base
       → gep_outcome false types of base size ((width, Num 0) ∷ []) ≡ Gives base
   pub less : (inbounds : Bool) (types : List NamedTy) (of : Ty) (base : Value) (size width : ℕ) → IsInKind kind.Ptr base
       → IsOutcomeLessDefined (gep_outcome inbounds types of base size ((width, Num 0) ∷ [])) (Gives base)

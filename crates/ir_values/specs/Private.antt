@@ -1,12 +1,14 @@
 -- How the code reckons with signed numbers: a sign and a magnitude. Only contracts of private functions cite these.
-use Rattle.std.specs.Prelude.{◌≡◌, ◌≤◌, ℕ, ℤ, neg_ℤ, pos, Bool, true, false, ◌&&◌, ◌^◌, ◌-◌, cond, nat_le, List, Option, None, Some}
+use Rattle.std.specs.Prelude.{◌≡◌, ◌≤◌, ℕ, ℤ, neg_ℤ, pos, Bool, true, false, ◌&&◌, ◌^◌, ◌-◌, cond, nat_le, List, map, Option, None, Some}
+use Rattle.std.specs.List.{list_all}
+use Rattle.std.specs.Option.{is_some}
 use Rattle.ir_types.specs.declared.named.NamedTy.{NamedTy}
 use Rattle.ir_types.specs.declared.ty.Ty.{Ty}
 use Rattle.ir_types.specs.Named.{is_sized, size_of}
-use Rattle.ir_core.specs.declared.values.Kind.TheVariants as kind
-use Rattle.ir_values.specs.Addresses.{GivenIndex, is_past, leaves, moved_by}
+use Rattle.ir_core.specs.Sizes.{entered_along}
+use Rattle.ir_core.specs.Typing.{led_to}
+use Rattle.ir_values.specs.Addresses.{GivenIndex, is_past, is_small, leaves, moved_by, told_index}
 use Rattle.ir_values.specs.Numbers.{modulo}
-use Rattle.ir_values.specs.Values.{IsInKind}
 
 -- the number is negative in two's complement
 abbrev pub is_negative : ℕ → ℕ → Bool
@@ -38,10 +40,10 @@ ended inbounds size at (Some ds) = ended_at inbounds size at ds
 abbrev pub stepped : Bool → ℕ → ℤ → Option ℕ
 stepped inbounds size at = cond (inbounds && is_past size at) None (Some (modulo 64 at))
 
+-- the indices enter small types, one inside the other
+abbrev pub leads_small : List NamedTy → Ty → List GivenIndex → Bool
+leads_small types t is = list_all (is_small types) (entered_along types t (map told_index is)) && is_some (led_to types t (map told_index is))
+
 -- the type has a size, within the limit on blocks
 abbrev pub IsSmall : List NamedTy → Ty → Type 0
 IsSmall types t = (is_sized types t ≡ true) × (size_of types t ≤ 2 ^ 31)
-
--- an index is a value of its width
-abbrev pub IsIndex : GivenIndex → Type 0
-IsIndex i = (1 ≤ i.0) × (i.0 ≤ 64) × IsInKind (kind.Int i.0) i.1

@@ -1,7 +1,7 @@
-ghost use Rattle.std.specs.Prelude.{◌≡◌, ◌≤◌, ◌<◌, ◌^◌, ◌+ℤ◌, unsigned_abs, pos, true, false, Some, map};
+ghost use Rattle.std.specs.Prelude.{◌≡◌, ◌≤◌, ◌<◌, ◌^◌, ◌+ℤ◌, ◌&&◌, unsigned_abs, pos, true, false, Some, drop, map};
 ghost use Rattle.std.specs.List.{AllByRecursion, list_all, list_any};
 ghost use Rattle.std.specs.Option.{is_some, option_copied};
-ghost use Rattle.ir_types.specs.Named.{fields_in, is_sized};
+ghost use Rattle.ir_types.specs.declared.ty.Ty.{Int};
 ghost use Rattle.ir_core.specs.Sizes.{entered_along, stepped as entered_from};
 ghost use Rattle.ir_core.specs.Typing as typing;
 ghost use Rattle.ir_core.specs.declared.values.Kind.TheVariants as kind;
@@ -10,48 +10,79 @@ ghost use Rattle.ir_values.specs.Addresses.{told_index};
 ghost use Rattle.ir_values.specs.Private as private;
 ghost use Rattle.ir_values.specs.Values.{IsInKind, as_number as number_of, is_poison as poison_is};
 
-use crate::numbers::{signed, word, word_of};
+use crate::indices::Indices;
+use crate::numbers::{signed_at, word, word_of};
 use crate::operations::{Outcome, as_number, is_poison};
 use ir_core::{Module, NamedTypes, Ty, Value};
-use ir_types::{field_offset, size_of};
+use ir_types::{field_offset, fits_block, size_of};
 
 /// The outcome of `getelementptr ty, base, indices`, on a base with the size of the block that it is in, and each index with its width.
-pub fn eval_gep(
+/// Takes no memory.
+pub fn eval_gep<I: Indices>(
     module: &Module,
     inbounds: bool,
     ty: &Ty,
     base: &Value,
     size: u64,
-    indices: &[(u32, Value)],
+    indices: &I,
 ) -> Outcome
-    requires types { AllByRecursion (private.IsSmall «module».now.types) (entered_from «module».now.types ty.now (map told_index indices.now)) }
     requires base { IsInKind kind.Ptr base.now }
-    requires indices { AllByRecursion private.IsIndex indices.now }
-    ensures { result ≡ meaning.gep_outcome inbounds «module».now.types ty.now base.now size indices.now }
+    requires indices { AllByRecursion meaning.IsIndex (I.listed indices.now) }
+    ensures { result ≡ meaning.gep_outcome inbounds «module».now.types ty.now base.now size (I.listed indices.now) }
 {
-    if is_poison(base) || has_poison(indices) {
-        return Outcome::Gives(Value::Poison);
+    Outcome::Gives(address(&module.types, inbounds, ty, base, size, indices))
+}
+
+/// The address that it gives.
+pub(crate) fn address<I: Indices>(
+    types: &NamedTypes,
+    inbounds: bool,
+    ty: &Ty,
+    base: &Value,
+    size: u64,
+    indices: &I,
+) -> Value
+    requires base { IsInKind kind.Ptr base.now }
+    requires indices { AllByRecursion meaning.IsIndex (I.listed indices.now) }
+    ensures { result ≡ meaning.gep_value inbounds types.now ty.now base.now size (I.listed indices.now) }
+{
+    if is_poison(base) || has_poison(indices) || !leads(types, ty, indices) {
+        return Value::Poison;
     }
     if are_numbers(indices) {
-        return Outcome::Gives(moved(&module.types, inbounds, ty, base, size, indices));
-    }
-    if leads(&module.types, ty, indices) {
-        Outcome::Gives(undef_inside(inbounds))
+        moved(types, inbounds, ty, base, size, indices)
     } else {
-        Outcome::Gives(Value::Poison)
+        undef_inside(inbounds)
     }
 }
 
-fn has_poison(indices: &[(u32, Value)]) -> bool
-    ensures { result ≡ list_any (λ (i : meaning.GivenIndex). poison_is i.1) indices.now }
+fn has_poison<I: Indices>(indices: &I) -> bool
+    ensures { result ≡ list_any (λ (i : meaning.GivenIndex). poison_is i.1) (I.listed indices.now) }
 {
-    indices.iter().any(|index| is_poison(&index.1))
+    for place in 0..indices.count() {
+        if is_poison(&indices.at(place).1) {
+            return true;
+        }
+    }
+    false
 }
 
-fn are_numbers(indices: &[(u32, Value)]) -> bool
-    ensures { result ≡ list_all (λ (i : meaning.GivenIndex). is_some (number_of i.1)) indices.now }
+fn are_numbers<I: Indices>(indices: &I) -> bool
+    ensures { result ≡ list_all (λ (i : meaning.GivenIndex). is_some (number_of i.1)) (I.listed indices.now) }
 {
-    indices.iter().all(|index| as_number(&index.1).is_some())
+    for place in 0..indices.count() {
+        if as_number(&indices.at(place).1).is_none() {
+            return false;
+        }
+    }
+    true
+}
+
+/// Whether the type has a size, within the limit on blocks.
+pub(crate) fn is_small(types: &NamedTypes, ty: &Ty) -> bool
+    ensures { result ≡ meaning.is_small types.now ty.now }
+{
+    fits_block(types, ty, 1).is_ok()
 }
 
 fn undef_inside(inbounds: bool) -> Value
@@ -94,29 +125,30 @@ fn entered<'a>(types: &'a NamedTypes, ty: &'a Ty, index: &(u32, Value)) -> Optio
     }
 }
 
-/// What the indices lead to, one inside the other.
-fn led_inside<'a>(types: &'a NamedTypes, of: &'a Ty, indices: &[(u32, Value)]) -> Option<&'a Ty>
-    ensures { option_copied result ≡ typing.led_to types.now of.now (map told_index indices.now) }
+/// Whether the indices from a place on enter small types, one inside the other.
+fn leads_inside<I: Indices>(types: &NamedTypes, of: &Ty, indices: &I, start: usize) -> bool
+    ensures { result ≡ private.leads_small types.now of.now (drop start (I.listed indices.now)) }
 {
     let mut ty = of;
-    for index in indices {
-        match entered(types, ty, index) {
-            Some(further) => ty = further,
-            None => return None,
+    for place in start..indices.count() {
+        match entered(types, ty, &indices.at(place)) {
+            Some(further) => {
+                if !is_small(types, further) {
+                    return false;
+                }
+                ty = further;
+            }
+            None => return false,
         }
     }
-    Some(ty)
+    true
 }
 
-/// Whether the indices enter what there is.
-#[tactic(auto, using(crate::proofs::Entering::leads_on))]
-fn leads(types: &NamedTypes, of: &Ty, indices: &[(u32, Value)]) -> bool
-    ensures { result ≡ is_some (meaning.distances types.now of.now indices.now) }
+/// Whether the indices enter what there is, and each type is small.
+fn leads<I: Indices>(types: &NamedTypes, of: &Ty, indices: &I) -> bool
+    ensures { result ≡ meaning.are_entered_small types.now of.now (I.listed indices.now) && is_some (meaning.distances types.now of.now (I.listed indices.now)) }
 {
-    match indices.split_first() {
-        None => true,
-        Some((_, further)) => led_inside(types, of, further).is_some(),
-    }
+    is_small(types, of) && leads_inside(types, of, indices, 1)
 }
 
 /// Before the first byte of a block of that size, or behind its end.
@@ -142,13 +174,13 @@ fn stepped(inbounds: bool, size: u64, at: u64, by: i128) -> Option<u64>
 #[tactic(auto, using(crate::proofs::Going::over_is, crate::proofs::Going::over_near))]
 fn over(types: &NamedTypes, ty: &Ty, index: &(u32, Value)) -> i128
     requires small { private.IsSmall types.now ty.now }
-    requires index { private.IsIndex index.now }
+    requires index { meaning.IsIndex index.now }
     requires number { is_some (number_of index.now.1) ≡ true }
     ensures value { result ≡ meaning.over types.now ty.now index.now }
     ensures near { unsigned_abs result ≤ 2 ^ 96 }
 {
     match as_number(&index.1) {
-        Some(number) => i128::from(size_of(types, ty)) * signed(index.0, number),
+        Some(number) => i128::from(size_of(types, ty)) * signed_at(index.0, number),
         None => 0,
     }
 }
@@ -159,7 +191,7 @@ fn distance(types: &NamedTypes, ty: &Ty, further: &Ty, index: &(u32, Value)) -> 
     requires entered { typing.entered types.now ty.now (told_index index.now) ≡ Some further.now }
     requires small { private.IsSmall types.now ty.now }
     requires part { private.IsSmall types.now further.now }
-    requires index { private.IsIndex index.now }
+    requires index { meaning.IsIndex index.now }
     requires number { is_some (number_of index.now.1) ≡ true }
     ensures value { result ≡ meaning.distance types.now ty.now index.now }
     ensures near { unsigned_abs result ≤ 2 ^ 96 }
@@ -173,30 +205,31 @@ fn distance(types: &NamedTypes, ty: &Ty, further: &Ty, index: &(u32, Value)) -> 
     }
 }
 
-/// Where indices lead from a place inside a type, as a word: nowhere, where they leave the block or enter nothing.
-#[tactic(auto, using(crate::proofs::Going::goes, crate::proofs::Going::goes_nowhere, crate::proofs::Going::enters_nothing, crate::proofs::Going::step_inside))]
-fn ended_inside(
+/// Where the indices from a place on lead, as a word: nowhere, where they leave the block or enter nothing.
+fn ended_inside<I: Indices>(
     types: &NamedTypes,
     inbounds: bool,
     of: &Ty,
-    start: u64,
+    from: u64,
     size: u64,
-    indices: &[(u32, Value)],
+    indices: &I,
+    start: usize,
 ) -> Option<u64>
     requires of { private.IsSmall types.now of.now }
-    requires types { AllByRecursion (private.IsSmall types.now) (entered_along types.now of.now (map told_index indices.now)) }
-    requires indices { AllByRecursion private.IsIndex indices.now }
-    requires numbers { list_all (λ (i : meaning.GivenIndex). is_some (number_of i.1)) indices.now ≡ true }
-    requires inside { inbounds ≡ true → meaning.is_past size (pos start) ≡ false }
-    ensures { result ≡ private.ended inbounds size (pos start) (meaning.distances_inside types.now of.now indices.now) }
+    requires types { AllByRecursion (private.IsSmall types.now) (entered_along types.now of.now (map told_index (drop start (I.listed indices.now)))) }
+    requires indices { AllByRecursion meaning.IsIndex (drop start (I.listed indices.now)) }
+    requires numbers { list_all (λ (i : meaning.GivenIndex). is_some (number_of i.1)) (drop start (I.listed indices.now)) ≡ true }
+    requires inside { inbounds ≡ true → meaning.is_past size (pos from) ≡ false }
+    ensures { result ≡ private.ended inbounds size (pos from) (meaning.distances_inside types.now of.now (drop start (I.listed indices.now))) }
 {
     let mut ty = of;
-    let mut at = start;
-    for index in indices {
-        let Some(further) = entered(types, ty, index) else {
+    let mut at = from;
+    for place in start..indices.count() {
+        let index = indices.at(place);
+        let Some(further) = entered(types, ty, &index) else {
             return None;
         };
-        let Some(next) = stepped(inbounds, size, at, distance(types, ty, further, index)) else {
+        let Some(next) = stepped(inbounds, size, at, distance(types, ty, further, &index)) else {
             return None;
         };
         ty = further;
@@ -206,47 +239,45 @@ fn ended_inside(
 }
 
 /// The same from a base: over many of the type first.
-#[tactic(auto, using(crate::proofs::Going::starts, crate::proofs::Going::starts_nowhere, crate::proofs::Going::step_inside))]
-fn ended(
+fn ended<I: Indices>(
     types: &NamedTypes,
     inbounds: bool,
     of: &Ty,
-    start: u64,
+    from: u64,
     size: u64,
-    indices: &[(u32, Value)],
+    indices: &I,
 ) -> Option<u64>
-    requires types { AllByRecursion (private.IsSmall types.now) (entered_from types.now of.now (map told_index indices.now)) }
-    requires indices { AllByRecursion private.IsIndex indices.now }
-    requires numbers { list_all (λ (i : meaning.GivenIndex). is_some (number_of i.1)) indices.now ≡ true }
-    requires inside { inbounds ≡ true → meaning.is_past size (pos start) ≡ false }
-    ensures { result ≡ private.ended inbounds size (pos start) (meaning.distances types.now of.now indices.now) }
+    requires types { AllByRecursion (private.IsSmall types.now) (entered_from types.now of.now (map told_index (I.listed indices.now))) }
+    requires indices { AllByRecursion meaning.IsIndex (I.listed indices.now) }
+    requires numbers { list_all (λ (i : meaning.GivenIndex). is_some (number_of i.1)) (I.listed indices.now) ≡ true }
+    requires inside { inbounds ≡ true → meaning.is_past size (pos from) ≡ false }
+    ensures { result ≡ private.ended inbounds size (pos from) (meaning.distances types.now of.now (I.listed indices.now)) }
 {
-    match indices.split_first() {
-        None => Some(start),
-        Some((first, further)) => {
-            match stepped(inbounds, size, start, over(types, of, first)) {
-                Some(next) => ended_inside(types, inbounds, of, next, size, further),
-                None => None,
-            }
-        }
+    if indices.count() == 0 {
+        return Some(from);
+    }
+    match stepped(inbounds, size, from, over(types, of, &indices.at(0))) {
+        Some(next) => ended_inside(types, inbounds, of, next, size, indices, 1),
+        None => None,
     }
 }
 
 /// What indices that are numbers make of a base.
 #[tactic(auto, using(crate::proofs::Going::from_block, crate::proofs::Going::from_outside, crate::proofs::Going::from_bare))]
-fn moved(
+fn moved<I: Indices>(
     types: &NamedTypes,
     inbounds: bool,
     of: &Ty,
     base: &Value,
     size: u64,
-    indices: &[(u32, Value)],
+    indices: &I,
 ) -> Value
-    requires types { AllByRecursion (private.IsSmall types.now) (entered_from types.now of.now (map told_index indices.now)) }
+    requires types { AllByRecursion (private.IsSmall types.now) (entered_from types.now of.now (map told_index (I.listed indices.now))) }
+    requires leads { is_some (meaning.distances types.now of.now (I.listed indices.now)) ≡ true }
     requires base { IsInKind kind.Ptr base.now }
-    requires indices { AllByRecursion private.IsIndex indices.now }
-    requires numbers { list_all (λ (i : meaning.GivenIndex). is_some (number_of i.1)) indices.now ≡ true }
-    ensures { result ≡ meaning.led_address inbounds base.now size indices.now (meaning.distances types.now of.now indices.now) }
+    requires indices { AllByRecursion meaning.IsIndex (I.listed indices.now) }
+    requires numbers { list_all (λ (i : meaning.GivenIndex). is_some (number_of i.1)) (I.listed indices.now) ≡ true }
+    ensures { result ≡ meaning.led_address inbounds base.now size (I.listed indices.now) (meaning.distances types.now of.now (I.listed indices.now)) }
 {
     match base {
         Value::Ptr(block, offset) => {
@@ -267,12 +298,6 @@ fn moved(
                 None => Value::Poison,
             }
         }
-        Value::Num(_) | Value::Undef | Value::Poison => {
-            if leads(types, of, indices) {
-                undef_inside(inbounds)
-            } else {
-                Value::Poison
-            }
-        }
+        Value::Num(_) | Value::Undef | Value::Poison => undef_inside(inbounds),
     }
 }

@@ -87,6 +87,21 @@ pub(crate) fn signed(width: u32, number: u64) -> i128
     }
 }
 
+/// The same at any width, also where no integer has it.
+#[tactic(auto, using(crate::proofs::Widths::signed_none, crate::proofs::Widths::signed_wide))]
+pub(crate) fn signed_at(width: u32, number: u64) -> i128
+    requires number { number < 2 ^ width }
+    ensures value { result ≡ meaning.signed width number }
+    ensures low { neg_ℤ (pos (2 ^ 64)) ≤ℤ result }
+    ensures high { result <ℤ pos (2 ^ 64) }
+{
+    if width == 0 || 64 < width {
+        i128::from(number)
+    } else {
+        signed(width, number)
+    }
+}
+
 /// The least number that two's complement has no place for.
 #[tactic(auto, using(crate::proofs::Widths::power_fits))]
 fn signed_end(width: u32) -> i128

@@ -1,5 +1,6 @@
 //! The laws of operations on addresses, and of all operations over the blocks of two memories. Each function is empty on purpose: its contract
 //! is the law.
+ghost use Rattle.ir_values.specs.ConstantExamples.{ConstantsAreWorth};
 ghost use Rattle.ir_values.specs.ConstantLaws as constants;
 ghost use Rattle.ir_values.specs.PointerExamples as example;
 ghost use Rattle.ir_values.specs.PointerLaws as law;
@@ -42,4 +43,10 @@ pub fn examples_of_pointers()
     ensures kinds { example.OtherKindsAreUndef }
     ensures addresses { example.AddressesMoveSo }
     ensures ranges { example.OffsetsHaveARange }
+{}
+
+/// What constants are worth: an example of each case.
+#[tactic(auto, using(crate::proofs::ConstantExamples::constants_are_worth))]
+pub fn examples_of_constants()
+    ensures { ConstantsAreWorth }
 {}

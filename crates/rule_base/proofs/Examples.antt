@@ -1,5 +1,6 @@
 -- The examples of specs/Examples compute.
 use Rattle.std.proofs.Common.{refl}
+use Rattle.rule_base.specs.NumberLaws.{number_worth}
 use Rattle.rule_base.specs.Examples.{DropFlagsTakesThese, FoldTakesThese, ReflTakesThese, SubstTakesThese, TheseStandApart, UndefConstTakesThese}
 
 pub refl_takes_these : ReflTakesThese
@@ -62,30 +63,30 @@ drop_flags_takes_these = record {
 
 pub fold_takes_these : FoldTakesThese
 fold_takes_these = record {
-  sum = refl;
-  another_sum = refl;
-  sum_is_no_undef = refl;
+  sum = simp (number_worth) refl;
+  another_sum = simp (number_worth) refl;
+  sum_is_no_undef = simp (number_worth) refl;
   sum_of_another_type = refl;
-  broken_flag_to_undef = refl;
-  broken_flag_to_any = refl;
+  broken_flag_to_undef = simp (number_worth) refl;
+  broken_flag_to_any = simp (number_worth) refl;
   broken_flag_to_none_past_its_type = refl;
-  broken_flag_to_no_register = refl;
-  division_by_zero = refl;
-  least_by_minus_one_of_i1 = refl;
-  shift_by_the_width = refl;
-  shift_by_the_width_to_undef = refl;
+  broken_flag_to_no_register = simp (number_worth) refl;
+  division_by_zero = simp (number_worth) refl;
+  least_by_minus_one_of_i1 = simp (number_worth) refl;
+  shift_by_the_width = simp (number_worth) refl;
+  shift_by_the_width_to_undef = simp (number_worth) refl;
   no_register = refl;
   no_undef = refl;
-  comparison = refl;
-  comparison_that_fails = refl;
-  sign_extended = refl;
-  truncated = refl;
-  first_arm = refl;
-  other_arm = refl;
+  comparison = simp (number_worth) refl;
+  comparison_that_fails = simp (number_worth) refl;
+  sign_extended = simp (number_worth) refl;
+  truncated = simp (number_worth) refl;
+  first_arm = simp (number_worth) refl;
+  other_arm = simp (number_worth) refl;
   undef_condition = refl;
   undef_arm = refl;
-  number_itself = refl;
-  another_number = refl;
+  number_itself = simp (number_worth) refl;
+  another_number = simp (number_worth) refl;
   undef_alone = refl;
 }
 

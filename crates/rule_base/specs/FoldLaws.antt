@@ -1,5 +1,6 @@
 -- What an expression over numbers comes to is the same in every state, and what it may be made is more defined.
-use Rattle.std.proofs.Common.{◌≡◌, ℕ, Bool, true, false, ◌&&◌, cond, List, [], Option, None, Some, refl, sym, ap}
+use Rattle.std.proofs.Common.{◌≡◌, ℕ, Bool, true, false, ◌&&◌, cond, List, [], Option, None, Some, refl, sym, ap, ◌∙◌, subst}
+use Rattle.std.specs.List.{list_all}
 use Rattle.std.proofs.lemmas.Bool.{eqb-true}
 use Rattle.ir_core.specs.declared.values.Value.{Value}
 use Rattle.ir_core.specs.declared.values.Value.TheVariants.{Num, Ptr, Bare, Undef, Poison}
@@ -10,6 +11,7 @@ use Rattle.ir_types.specs.declared.ty.Ty.TheVariants as ty
 use Rattle.ir_core.specs.declared.operands.Const.TheVariants as constant
 use Rattle.ir_core.specs.declared.operands.Atom.{Atom}
 use Rattle.ir_core.specs.declared.operands.Atom.TheVariants as atom
+use Rattle.ir_core.specs.declared.operands.Operand.{Operand}
 use Rattle.ir_core.specs.declared.operands.Pred.{Pred}
 use Rattle.ir_core.specs.declared.expressions.Reg.{Reg}
 use Rattle.ir_core.specs.declared.expressions.Expr.TheVariants.{Plain, Binary, Icmp, Cast, Select, Element, Load}
@@ -21,15 +23,17 @@ use Rattle.ir_values.specs.declared.operations.Outcome.TheVariants.{Gives, Trap}
 use Rattle.ir_values.specs.Operations.{IsOutcomeLessDefined}
 use Rattle.ir_values.specs.Values.{IsLessDefined}
 use Rattle.block_memory.specs.Memory.{Memory, loaded_of}
-use Rattle.ir_machine.specs.Registers.{atom_value, constant_of, icmp_at, size_at}
+use Rattle.ir_machine.specs.Registers.{atom_value, icmp_at, size_at}
 use Rattle.ir_machine.specs.State.{no_scope}
 use Rattle.erhl_assert.specs.declared.facts.Fact.{Fact}
 use Rattle.erhl_assert.specs.declared.facts.Fact.TheVariants.{LessDef}
 use Rattle.erhl_assert.specs.Sides.{SideState, read_reg, worth}
 use Rattle.erhl_assert.specs.Facts.{Holds}
 use Rattle.erhl_assert.specs.Typed.{atom_fits, has_values}
-use Rattle.rule_base.specs.Rows.{folded, have_one_type, is_fold, is_number, is_over_numbers, is_simple, may_become}
+use Rattle.rule_base.specs.Rows.{folded, have_one_type, is_fold, is_number, is_over_numbers, is_simple, may_become, number_of_kind}
 use Rattle.rule_base.specs.OneType.{OneType, one_type}
+use Rattle.rule_base.specs.NumberLaws as constants
+use Rattle.rule_base.specs.NumberLaws.{atom_is_worth, no_element, number_is_worth}
 
 -- ---- numbers are no addresses
 
@@ -44,13 +48,13 @@ number_or_poison : (fits : Bool) (n : ℕ) → IsNoAddress (cond fits (Num n) Po
 number_or_poison true n = tt
 number_or_poison false n = tt
 
-number_at_kind : (k : Option Kind) (n : ℕ) → IsNoAddress (constant_of k (constant.Number n))
+number_at_kind : (k : Option Kind) (n : ℕ) → IsNoAddress (number_of_kind k n)
 number_at_kind None n = tt
 number_at_kind (Some (kind.Int width)) n = number_or_poison (fits n width) n
 number_at_kind (Some kind.Ptr) n = tt
 
 number_no_address : (t : Ty) (x : Atom Reg) → is_number x ≡ true → IsNoAddress (atom_value no_scope (λ k r. Poison) t x)
-number_no_address t (atom.Constant (constant.Number n)) h = number_at_kind (kind_of t) n
+number_no_address t (atom.Constant (constant.Number n)) h = subst IsNoAddress (sym (number_is_worth no_scope t n)) (number_at_kind (kind_of t) n)
 number_no_address t (atom.Constant c) h = absurd (cc)
 number_no_address t (atom.Register r) h = absurd (cc)
 
@@ -78,8 +82,7 @@ one_load m n (Some k) Poison x y h = refl
 module _ (side : SideState) where
   -- a number is read from no register
   number_worth : (t : Ty) (x : Atom Reg) → is_number x ≡ true → atom_value side.scope (read_reg side) t x ≡ atom_value no_scope (λ k r. Poison) t x
-  number_worth t (atom.Constant c) h = refl
-  number_worth t (atom.Register r) h = absurd (cc)
+  number_worth t x h = atom_is_worth side.scope (read_reg side) t x h
 
   folded_worth : (e : Expr0) → is_over_numbers e ≡ true → worth side e ≡ folded e
   folded_worth (Plain o) h = ap Gives (number_worth o.ty o.atom (left_true (is_number o.atom) true h))
@@ -108,7 +111,9 @@ module _ (side : SideState) where
         number_worth s.left.ty s.left.atom (left_true l (r && true) arms),
         number_worth s.right.ty s.right.atom (left_true r true (right_true l (r && true) arms)),
       ) refl
-  folded_worth (Element e) h = refl
+  folded_worth (Element e) h =
+      let base = left_true (is_number e.base.atom) (list_all (λ (o : Operand Reg). is_number o.atom) e.indices) h in
+      no_element side.scope (read_reg side) side.world.memory e base ∙ sym (no_element no_scope (λ k r. Poison) [] e base)
   folded_worth (Load l) h =
       let through = left_true (is_number l.pointer.atom) true h in
       rw (number_worth l.pointer.ty l.pointer.atom through)
@@ -116,15 +121,15 @@ module _ (side : SideState) where
 
   undef_less : (t : Ty) (c : Atom Reg) → is_simple c ≡ true → has_values t ≡ true → atom_fits t c ≡ true
       → IsLessDefined Undef (atom_value side.scope (read_reg side) t c)
-  undef_less (ty.Int w) (atom.Constant (constant.Number n)) p v r = rw (v, r) tt
-  undef_less (ty.Int w) (atom.Constant constant.Undef) p v r = rw v tt
+  undef_less (ty.Int w) (atom.Constant (constant.Number n)) p v r = rw (v, constants.number_worth side.scope w n, r) tt
+  undef_less (ty.Int w) (atom.Constant constant.Undef) p v r = rw (v, constants.undef_worth side.scope w) tt
   undef_less (ty.Int w) (atom.Constant c) p v r = absurd (cc)
   undef_less (ty.Int w) (atom.Register s) p v r = absurd (cc)
   undef_less t c p v r = absurd (cc)
 
   number_less : (m : ℕ) (t : Ty) (c : Atom Reg) → may_become (Gives (Num m)) c ≡ true → has_values t ≡ true → atom_fits t c ≡ true
       → IsLessDefined (Num m) (atom_value side.scope (read_reg side) t c)
-  number_less m (ty.Int w) (atom.Constant (constant.Number n)) p v r = rw (v, r) (ap Num (sym (eqb-true m n p)))
+  number_less m (ty.Int w) (atom.Constant (constant.Number n)) p v r = rw (v, constants.number_worth side.scope w n, r) (ap Num (sym (eqb-true m n p)))
   number_less m (ty.Int w) (atom.Constant c) p v r = absurd (cc)
   number_less m (ty.Int w) (atom.Register s) p v r = absurd (cc)
   number_less m t c p v r = absurd (cc)

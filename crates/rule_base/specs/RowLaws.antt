@@ -30,6 +30,7 @@ use Rattle.rule_base.specs.declared.shipped.Rule.{Rule}
 use Rattle.rule_base.specs.declared.shipped.Rule.TheVariants.{Refl, Trans, UndefConst, Subst, DropFlags, Fold}
 use Rattle.rule_base.specs.Rows.{takes_row, have_one_type, is_refl, is_trans, is_undef, is_simple, is_undef_const}
 use Rattle.rule_base.specs.OneType.{one_type}
+use Rattle.rule_base.specs.NumberLaws.{number_worth, undef_worth}
 use Rattle.rule_base.specs.OperandLaws.{subst_is_sound, drop_flags_is_sound}
 use Rattle.rule_base.specs.FoldLaws.{fold_is_sound}
 
@@ -67,8 +68,8 @@ module _ (side : SideState) (fine : IsSideInKind side) where
   -- undef is less defined than a number of its type, and than undef
   undef_less : (t : Ty) (x y : Atom Reg) → is_undef x ≡ true → is_simple y ≡ true → has_values t ≡ true → atom_fits t y ≡ true
       → IsLessDefined (atom_value side.scope (read_reg side) t x) (atom_value side.scope (read_reg side) t y)
-  undef_less (ty.Int w) (atom.Constant constant.Undef) (atom.Constant (constant.Number n)) p q v r = rw (v, r) tt
-  undef_less (ty.Int w) (atom.Constant constant.Undef) (atom.Constant constant.Undef) p q v r = rw v tt
+  undef_less (ty.Int w) (atom.Constant constant.Undef) (atom.Constant (constant.Number n)) p q v r = rw (v, number_worth side.scope w n, undef_worth side.scope w, r) tt
+  undef_less (ty.Int w) (atom.Constant constant.Undef) (atom.Constant constant.Undef) p q v r = rw (v, undef_worth side.scope w) tt
   undef_less (ty.Int w) (atom.Constant constant.Undef) (atom.Constant c) p q v r = cc
   undef_less (ty.Int w) (atom.Constant constant.Undef) (atom.Register s) p q v r = cc
   undef_less (ty.Int w) (atom.Constant c) y p q v r = cc

@@ -1,7 +1,10 @@
 -- What the shipped rules take, as tests that compute. A fact `a >= b` says that a is less defined than b.
-use Rattle.std.specs.Prelude.{ℕ, Bool, true, false, ◌&&◌, ◌||◌, not, nat_eq, List, [], ◌∷◌, codes}
+use Rattle.std.specs.Prelude.{ℕ, Bool, true, false, ◌&&◌, ◌||◌, not, cond, nat_eq, List, [], ◌∷◌, codes, Option, None, Some}
 use Rattle.std.specs.List.{list_any, list_all}
+use Rattle.ir_core.specs.declared.values.Value.{Value}
 use Rattle.ir_core.specs.declared.values.Value.TheVariants.{Num, Ptr, Bare, Undef, Poison}
+use Rattle.ir_core.specs.declared.values.Kind.{Kind}
+use Rattle.ir_core.specs.declared.values.Kind.TheVariants as kind
 use Rattle.ir_core.specs.declared.operands.Const.TheVariants as constant
 use Rattle.ir_core.specs.declared.operands.Atom.{Atom}
 use Rattle.ir_core.specs.declared.operands.Atom.TheVariants as atom
@@ -10,6 +13,7 @@ use Rattle.ir_core.specs.declared.expressions.Reg.{Reg}
 use Rattle.ir_core.specs.declared.expressions.Binary.{Binary}
 use Rattle.ir_core.specs.declared.expressions.Expr.TheVariants as expr
 use Rattle.ir_core.specs.Expressions.{Expr0, type_of, operands_in}
+use Rattle.ir_core.specs.Types.{fits}
 use Rattle.ir_types.specs.Same.{same_list, same_ty}
 use Rattle.ir_core.specs.Same.{same_atom, same_operand, same_op, same_flags, same_cast, same_pred, same_reg, same_expr}
 use Rattle.ir_values.specs.declared.operations.Outcome.{Outcome}
@@ -110,7 +114,13 @@ is_number (atom.Register r) = false
 abbrev pub is_over_numbers : Expr0 → Bool
 is_over_numbers e = list_all (λ o. is_number o.atom) (operands_in e)
 
--- what an expression over numbers comes to, which reads no register, no global and no memory
+-- a number at a kind: poison, where it is none of so many bits
+abbrev pub number_of_kind : Option Kind → ℕ → Value
+number_of_kind None n = Poison
+number_of_kind (Some (kind.Int width)) n = cond (fits n width) (Num n) Poison
+number_of_kind (Some kind.Ptr) n = Poison
+
+-- what an expression over numbers comes to, which reads no register, no type or global of a module, and no memory
 abbrev pub folded : Expr0 → Outcome
 folded e = outcome no_scope (λ k r. Poison) [] e
 

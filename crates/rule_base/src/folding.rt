@@ -1,5 +1,5 @@
 //! The rule `fold`: an expression over numbers is a constant.
-ghost use Rattle.std.specs.Prelude.{◌≡◌};
+ghost use Rattle.std.specs.Prelude.{◌≡◌, true};
 ghost use Rattle.std.specs.List.{list_all};
 ghost use Rattle.ir_core.specs.declared.expressions.Reg.{Reg};
 ghost use Rattle.ir_core.specs.declared.operands.Operand.{Operand};
@@ -10,8 +10,8 @@ ghost use Rattle.ir_machine.specs.Registers as meaning;
 ghost use Rattle.ir_machine.specs.State.{no_scope};
 ghost use Rattle.ir_core.specs.declared.values.Value.TheVariants.{Num};
 ghost use Rattle.ir_values.specs.declared.operations.Outcome.TheVariants.{Gives};
-ghost use Rattle.ir_values.specs.Values.{IsInKind, IsInKindOf};
-ghost use Rattle.rule_base.specs.Rows.{is_fold, is_number, is_over_numbers, folded, may_become};
+ghost use Rattle.ir_values.specs.Values.{IsInKindOf};
+ghost use Rattle.rule_base.specs.Rows.{is_fold, is_number, is_over_numbers, folded, may_become, number_of_kind};
 
 use crate::shipped::is_simple;
 use crate::typed::{have_one_type, selects};
@@ -94,40 +94,38 @@ fn is_that_number(number: u64, atom: &Atom<Reg>) -> bool
     }
 }
 
-/// What a constant is worth at a kind.
-fn constant_at(kind: Kind, constant: &Const) -> Value
-    ensures value { result ≡ meaning.constant_at kind constant.now }
-    ensures in_kind { IsInKind kind result }
+/// A number at a kind.
+fn number_of_kind(kind: Option<Kind>, number: u64) -> Value
+    ensures value { result ≡ number_of_kind kind number }
+    ensures in_kind { IsInKindOf kind result }
 {
-    match (kind, constant) {
-        (Kind::Int(width), Const::Number(bits)) => {
-            let number = bits.get();
+    match kind {
+        Some(Kind::Int(width)) => {
             if fits(number, width) {
                 Value::Num(number)
             } else {
                 Value::Poison
             }
         }
-        (_, Const::Undef) => Value::Undef,
-        (Kind::Ptr, Const::Null) => Value::Bare(0),
         _ => Value::Poison,
     }
 }
 
-/// What an atom is worth at a type where no register is read.
+/// What a number is worth at a type; another atom counts as poison.
+#[tactic(auto, using(crate::specs::NumberLaws::number_is_worth))]
 fn value_at(ty: &Ty, atom: &Atom<Reg>) -> Value
-    ensures value { result ≡ meaning.atom_value no_scope (λ k r. Poison) ty.now atom.now }
+    ensures value { is_number atom.now ≡ true → result ≡ meaning.atom_value no_scope (λ k r. Poison) ty.now atom.now }
     ensures in_kind { IsInKindOf (kind_of ty.now) result }
 {
-    match (kind_of(ty), atom) {
-        (Some(own), Atom::Constant(constant)) => constant_at(own, constant),
+    match atom {
+        Atom::Constant(Const::Number(bits)) => number_of_kind(kind_of(ty), bits.get()),
         _ => Value::Poison,
     }
 }
 
-/// What an operand is worth where no register is read.
+/// What a number is worth at its stated type.
 fn operand_value(operand: &Operand<Reg>) -> Value
-    ensures value { result ≡ meaning.operand_value no_scope (λ k r. Poison) operand.now }
+    ensures value { is_number operand.now.atom ≡ true → result ≡ meaning.operand_value no_scope (λ k r. Poison) operand.now }
     ensures in_kind { IsInKindOf (kind_of operand.now.ty) result }
 {
     value_at(&operand.ty, &operand.atom)
@@ -135,7 +133,7 @@ fn operand_value(operand: &Operand<Reg>) -> Value
 
 /// What an expression over numbers comes to.
 fn folded(expr: &Expr0) -> Outcome
-    ensures { result ≡ folded expr.now }
+    ensures { is_over_numbers expr.now ≡ true → result ≡ folded expr.now }
 {
     match expr {
         Expr::Plain(operand) => Outcome::Gives(operand_value(operand)),
@@ -149,7 +147,7 @@ fn folded(expr: &Expr0) -> Outcome
 }
 
 fn folded_binary(binary: &Binary<Reg>) -> Outcome
-    ensures { result ≡ folded (expr.Binary binary.now) }
+    ensures { is_number binary.now.left ≡ true → is_number binary.now.right ≡ true → result ≡ folded (expr.Binary binary.now) }
 {
     let left = value_at(&binary.ty, &binary.left);
     let right = value_at(&binary.ty, &binary.right);
@@ -160,7 +158,7 @@ fn folded_binary(binary: &Binary<Reg>) -> Outcome
 }
 
 fn folded_icmp(icmp: &Icmp<Reg>) -> Outcome
-    ensures { result ≡ folded (expr.Icmp icmp.now) }
+    ensures { is_number icmp.now.left ≡ true → is_number icmp.now.right ≡ true → result ≡ folded (expr.Icmp icmp.now) }
 {
     let left = value_at(&icmp.ty, &icmp.left);
     let right = value_at(&icmp.ty, &icmp.right);
@@ -171,7 +169,7 @@ fn folded_icmp(icmp: &Icmp<Reg>) -> Outcome
 }
 
 fn folded_cast(cast: &Cast<Reg>) -> Outcome
-    ensures { result ≡ folded (expr.Cast cast.now) }
+    ensures { is_number cast.now.operand.atom ≡ true → result ≡ folded (expr.Cast cast.now) }
 {
     if !converts(cast.op, &cast.operand.ty, &cast.to) {
         return Outcome::Gives(Value::Poison);
@@ -184,7 +182,8 @@ fn folded_cast(cast: &Cast<Reg>) -> Outcome
 }
 
 fn folded_select(select: &Select<Reg>) -> Outcome
-    ensures { result ≡ folded (expr.Select select.now) }
+    ensures { is_number select.now.condition.atom ≡ true → is_number select.now.left.atom ≡ true → is_number select.now.right.atom ≡ true
+        → result ≡ folded (expr.Select select.now) }
 {
     let (condition, left, right) = (&select.condition, &select.left, &select.right);
     if !selects(&condition.ty, &left.ty, &right.ty) {

@@ -1,0 +1,120 @@
+-- What lines leave, by which their steps are told; and blocks that end.
+use Rattle.std.proofs.Common.{◌≡◌, ℕ, zero, suc, ◌<◌, ◌≤◌, ◌+◌, ◌&&◌, cond, not, List, [], ◌∷◌, length, get_or, drop, Option, None, Some, refl, ap, ◌∙◌, arith}
+use Rattle.std.specs.Prelude.{ℤ, nat_lt}
+use Rattle.std.specs.List.{list_any}
+use Rattle.std.specs.Option.{is_some}
+use Rattle.ir_core.specs.declared.functions.Instr.{Instr}
+use Rattle.ir_core.specs.declared.functions.Instr.TheVariants as line
+use Rattle.ir_core.specs.declared.values.Kind.{Kind}
+use Rattle.ir_core.specs.declared.values.Kind.TheVariants.{Int, Ptr}
+use Rattle.ir_core.specs.declared.values.Value.{Value}
+use Rattle.ir_core.specs.declared.values.Value.TheVariants as value
+use Rattle.ir_core.specs.Expressions.{type_of}
+use Rattle.ir_core.specs.Types.{kind_of}
+use Rattle.ir_types.specs.declared.names.Name.{Name}
+use Rattle.ir_values.specs.declared.operations.Outcome.{Outcome}
+use Rattle.ir_values.specs.declared.operations.Outcome.TheVariants.{Gives, Trap}
+use Rattle.ir_values.specs.Constants.{Scope}
+use Rattle.block_memory.specs.declared.items.Choice.TheVariants as choice
+use Rattle.block_memory.specs.declared.items.Shown.{Shown}
+use Rattle.block_memory.specs.Memory.{Cell, Memory, ended, updated}
+use Rattle.block_memory.specs.Names.{Showing, fresh, is_bound_to, under_next}
+use Rattle.ir_machine.specs.declared.items.Item.TheVariants.{Turn, Returned, Wrong}
+use Rattle.ir_machine.specs.Machine.{Asks, Ask, Does, Chosen, Told, FreshByte, all_ended, chosen_by, line_step, return_step, set_to, show, show_undef, shown_as, stored_by, with_memory, without_own, wrong}
+use Rattle.ir_machine.specs.Registers.{outcome, read}
+use Rattle.ir_machine.specs.State.{Frame, Pending, World, Over, Running}
+use Rattle.ir_machine.specs.Stepping.{Left, left_by, left_with, line_left}
+use Rattle.ir_machine.proofs.Standing.{drop_at}
+
+-- ---- a line's step
+
+-- the frame goes on with what is left, or is wrong
+abbrev pub goes_behind : Option Left → Frame → List Pending → Asks
+goes_behind None frame rest = wrong
+goes_behind (Some left) frame rest = Does [] (Running (record frame { registers = left.registers; own = left.own }) rest left.world)
+
+-- what a frame finds
+abbrev pub found_in : Frame → World → Left
+found_in frame world = record { registers = frame.registers; own = frame.own; world = world }
+
+calm_leaves : (k : Option Kind) (x : Name) (o : Outcome) (frame : Frame) (rest : List Pending) (world : World)
+    → set_to k x o frame rest world ≡ goes_behind (left_by k x o (found_in frame world)) frame rest
+calm_leaves k x (Gives v) frame rest world = refl
+calm_leaves k x Trap frame rest world = refl
+
+store_leaves : (o : Option Memory) (frame : Frame) (rest : List Pending) (world : World)
+    → with_memory o frame rest world ≡ goes_behind (left_with o (found_in frame world)) frame rest
+store_leaves None frame rest world = refl
+store_leaves (Some memory) frame rest world = refl
+
+-- a line's step, told by what it leaves
+pub line_leaves : (scope : Scope) (i : Instr) (frame : Frame) (rest : List Pending) (world : World)
+    → line_step scope i frame rest world ≡ goes_behind (line_left scope i (found_in frame world)) frame rest
+line_leaves scope (line.Calm l) frame rest world =
+    calm_leaves (kind_of (type_of l.right)) l.name (outcome scope (read frame.registers) world.memory l.right) frame rest world
+line_leaves scope (line.Alloca a) frame rest world = refl
+line_leaves scope (line.Store s) frame rest world = store_leaves (stored_by scope s frame.registers world.memory) frame rest world
+line_leaves scope (line.Call c) frame rest world = refl
+
+-- ---- blocks
+
+-- no block of that number changes
+pub updated_past : (f : Cell → Cell) (memory : Memory) (b : ℕ) → length memory ≤ b → updated f memory b ≡ memory
+updated_past f [] b past = refl
+updated_past f (c ∷ cs) zero past = absurd (omega (arith, past))
+updated_past f (c ∷ cs) (suc b) past = ap (λ (rest : Memory). c ∷ rest) (updated_past f cs b (omega (arith, past)))
+
+pub ended_next : (own : List ℕ) (i b : ℕ) (memory : Memory) → i < length own → b ≡ get_or own i b
+    → all_ended (drop i own) memory ≡ all_ended (drop (i + 1) own) (updated ended memory b)
+ended_next own i b memory within is = ap (λ (l : List ℕ). all_ended l memory) (drop_at own i b within is)
+
+-- as many blocks are there as before
+ended_at_length : (memory : Memory) (b : ℕ) → length (updated ended memory b) ≡ length memory
+ended_at_length [] b = refl
+ended_at_length (c ∷ cs) zero = refl
+ended_at_length (c ∷ cs) (suc b) = ap (λ (n : ℕ). suc n) (ended_at_length cs b)
+
+ended_length : (own : List ℕ) (memory : Memory) → length (all_ended own memory) ≡ length memory
+ended_length [] memory = refl
+ended_length (b ∷ bs) memory = ended_length bs (updated ended memory b) ∙ ended_at_length memory b
+
+-- ---- showing looks at no block
+
+fresh_same : (k : Kind) (own : List ℕ) (world : World) (bound : Option ℕ) (offset : ℤ)
+    → fresh k (all_ended own world.memory) world.names bound offset ≡ fresh k world.memory world.names bound offset
+fresh_same (Int width) own world bound offset = refl
+fresh_same Ptr own world None offset = refl
+fresh_same Ptr own world (Some b) offset =
+    ap (λ (n : ℕ). cond (nat_lt b n && not (list_any (is_bound_to b) world.names)) (Some (under_next world.names (Some b) offset)) None) (ended_length own world.memory)
+
+chosen_same : (k : Kind) (own : List ℕ) (world : World) (c : Chosen) → chosen_by k (without_own own world) c ≡ chosen_by k world c
+chosen_same k own world (Told (choice.Fresh bound offset)) = fresh_same k own world bound offset
+chosen_same k own world (Told c) = refl
+chosen_same k own world (FreshByte bound offset place) = refl
+
+shown_same : (o : Option Showing) (own : List ℕ) (world : World) (next : Shown → Asks)
+    → shown_as o (without_own own world) (λ s after. next s) ≡ shown_as o world (λ s after. next s)
+shown_same None own world next = refl
+shown_same (Some showing) own world next = refl
+
+undef_same : (k : Option Kind) (own : List ℕ) (world : World) (poison : Asks) (next : Shown → Asks)
+    → show_undef k (without_own own world) poison (λ s after. next s) ≡ show_undef k world poison (λ s after. next s)
+undef_same None own world poison next = refl
+undef_same (Some k) own world poison next = λ i. Ask (λ c. is_some (chosen_same k own world c i)) (λ c. goes c i)
+  where
+    goes : (c : Chosen) → shown_as (chosen_by k (without_own own world) c) (without_own own world) (λ s after. next s)
+        ≡ shown_as (chosen_by k world c) world (λ s after. next s)
+    goes c = shown_same (chosen_by k (without_own own world) c) own world next
+        ∙ ap (λ (o : Option Showing). shown_as o world (λ s after. next s)) (chosen_same k own world c)
+
+show_same : (k : Option Kind) (v : Value) (own : List ℕ) (world : World) (poison : Asks) (next : Shown → Asks)
+    → show k v (without_own own world) poison (λ s after. next s) ≡ show k v world poison (λ s after. next s)
+show_same k value.Poison own world poison next = refl
+show_same k value.Undef own world poison next = undef_same k own world poison next
+show_same k (value.Num n) own world poison next = refl
+show_same k (value.Ptr block offset) own world poison next = refl
+show_same k (value.Bare address) own world poison next = refl
+
+-- the result of a run is shown as if its blocks hadn't ended
+pub last_return_same : (k : Option Kind) (v : Value) (own : List ℕ) (world : World) → return_step k v [] (without_own own world) ≡ return_step k v [] world
+last_return_same k v own world = show_same k v own world (Does (Turn ∷ Wrong ∷ []) Over) (λ s. Does (Turn ∷ Returned (Some s) ∷ []) Over)
