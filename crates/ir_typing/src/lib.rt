@@ -19,7 +19,8 @@ pub use operand_laws::{
 };
 pub use operand_tests::{
     Beside, Callee, are_types_known, call_kind, constant_kind, element_fits, element_kind, entered,
-    global_var_kind, is_constant_known, is_type_known, leads_somewhere, number_in, number_of,
+    global_var_kind, is_constant_known, is_due, is_type_known, leads_somewhere, number_in,
+    number_of, pointed_by_constants, pointed_by_operands,
 };
 pub use shape_kinds::{
     LentNames, LentTypes, ShapeKind, fault_unless, is_same_ty, least, points_to,

@@ -118,7 +118,7 @@ fn led_by_constants<'a>(types: &'a NamedTypes, of: &'a Ty, indices: &[TypedConst
 }
 
 /// What an address points to whose indices are operands.
-fn pointed_by_operands<'a>(
+pub fn pointed_by_operands<'a>(
     types: &'a NamedTypes,
     of: &'a Ty,
     indices: &[Operand<Name>],
@@ -146,7 +146,7 @@ pub fn leads_somewhere(beside: &Beside, element: &Element<Name>) -> bool
 }
 
 /// What an address points to whose indices are constants.
-fn pointed_by_constants<'a>(
+pub fn pointed_by_constants<'a>(
     types: &'a NamedTypes,
     of: &'a Ty,
     indices: &[TypedConst],

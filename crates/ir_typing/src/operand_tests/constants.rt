@@ -14,7 +14,7 @@ use ir_core::{
 };
 
 /// Whether the type is that of pointers to these contents, where they are there.
-fn is_due(contents: Option<&Ty>, ty: &Ty) -> bool
+pub fn is_due(contents: Option<&Ty>, ty: &Ty) -> bool
     ensures { result ≡ typing.is_due (option_map Ptr (option_copied contents.entry)) ty.now }
 {
     match contents {
