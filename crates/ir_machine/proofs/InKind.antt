@@ -52,7 +52,8 @@ use Rattle.ir_machine.specs.Registers.{Registers, no_registers, read, set, AreIn
 use Rattle.ir_machine.specs.State.{World}
 use Rattle.ir_machine.specs.Machine.{entry_from, entry_value, phi_value, with_phis, fits_kind, entered, is_offset, is_ranged, is_value_of, resolve}
 use Rattle.ir_machine.proofs.Runs.{set_in_kind}
-use Rattle.ir_machine.proofs.Stated.{are_integers, base_kind, element_kind, indices_are_integers}
+use Rattle.ir_values.proofs.ConstantWalks.{are_integers}
+use Rattle.ir_machine.proofs.Stated.{base_kind, element_kind, indices_are_integers}
 
 constant_at_in_kind : (scope : Scope) (t : Ty) (c : Const) (k : Option Kind) → kind_of t ≡ k → IsInKindOf k (constant_at scope t k c)
 constant_at_in_kind scope t c None e = tt

@@ -19,13 +19,13 @@ slots_are_memory = record {
   second_byte = simp (pointers, outs-Ptr, of_number, worth_number, layout.at_int) refl;
   two_slots = simp (outs-Ptr, of_number, worth_number, layout.at_int) refl;
   last_of_three = simp (pointers, outs-Ptr, of_number, worth_number, layout.at_int) refl;
-  count_modulo = simp (pointers, outs-Ptr, of_number, worth_number, layout.at_int) refl;
 }
 
 pub accesses_may_trap : AccessesMayTrap
 accesses_may_trap = record {
   past_the_end = simp (outs-Ptr, of_number, worth_number, layout.at_int) refl;
   past_three = simp (pointers, outs-Ptr, of_number, worth_number, layout.at_int) refl;
+  count_modulo = simp (pointers, outs-Ptr, of_number, worth_number, layout.at_int) refl;
   of_none = simp (outs-Ptr, of_number, worth_number, layout.at_int) refl;
   of_no_size = simp (outs-Ptr, of_number, worth_number, layout.at_int, layout.at_named) refl;
   unaligned = simp (outs-Ptr, of_number, worth_number, layout.at_int) refl;

@@ -104,12 +104,12 @@ pub record SlotsAreMemory : Type 0 where
       ≡ returned 1
   pub two_slots : ran_over (slot 2 (Int 32) ∷ slot 3 (Int 32) ∷ storing (Int 32) 7 2 ∷ storing (Int 32) 8 3 ∷ loading 4 (Int 32) 2 ∷ []) (Int 32) 4 6 ≡ returned 7
   pub last_of_three : ran_over (slots 2 (Int 16) 3 ∷ behind 3 (Int 16) 2 2 ∷ storing (Int 16) 9 3 ∷ loading 4 (Int 16) 3 ∷ []) (Int 16) 4 5 ≡ returned 9
-  pub count_modulo : ran_over (slots 2 (Int 16) 259 ∷ behind 3 (Int 16) 2 2 ∷ storing (Int 16) 9 3 ∷ loading 4 (Int 16) 3 ∷ []) (Int 16) 4 5 ≡ returned 9
 
--- undefined behaviour
+-- Undefined behaviour. 259 of i8 is 3.
 pub record AccessesMayTrap : Type 0 where
   pub past_the_end : ran_over (slot 2 (Int 32) ∷ recast 3 (Int 32) 2 (Int 64) ∷ storing (Int 64) 7 3 ∷ []) (Int 32) 3 3 ≡ went_wrong
   pub past_three : ran_over (slots 2 (Int 16) 3 ∷ behind 3 (Int 16) 2 3 ∷ storing (Int 16) 9 3 ∷ []) (Int 16) 3 3 ≡ went_wrong
+  pub count_modulo : ran_over (slots 2 (Int 16) 259 ∷ behind 3 (Int 16) 2 3 ∷ storing (Int 16) 9 3 ∷ []) (Int 16) 3 3 ≡ went_wrong
   pub of_none : ran_over (slots 2 (Int 16) 0 ∷ storing (Int 16) 9 2 ∷ []) (Int 16) 2 2 ≡ went_wrong
   pub of_no_size : ran_over (slot 2 (Named (Number 9)) ∷ recast 3 (Named (Number 9)) 2 (Int 8) ∷ storing (Int 8) 9 3 ∷ []) (Int 8) 3 3 ≡ went_wrong
   pub unaligned : ran_over (slot 2 (Int 32) ∷ storing_at (Some 8) (Int 32) 7 2 ∷ []) (Int 32) 2 2 ≡ went_wrong

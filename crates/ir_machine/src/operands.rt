@@ -1,11 +1,7 @@
 ghost use Rattle.std.specs.Prelude.{◌≡◌, map, Some};
-ghost use Rattle.std.specs.Option.{option_copied, option_map};
-ghost use Rattle.ir_types.specs.declared.ty.Ty.{Ptr};
 ghost use Rattle.ir_core.specs.declared.expressions.Expr.TheVariants as expr;
 ghost use Rattle.ir_core.specs.declared.values.Kind.TheVariants.{Int};
 ghost use Rattle.ir_core.specs.Types as types;
-ghost use Rattle.ir_core.specs.Typing as typing;
-ghost use Rattle.ir_core.specs.Typing.{index_of};
 ghost use Rattle.ir_core.specs.Expressions.{type_of};
 ghost use Rattle.ir_machine.specs.Registers as meaning;
 ghost use Rattle.ir_machine.specs.State.{scope_of};
@@ -19,12 +15,12 @@ use crate::registers::RegisterFile;
 use block_memory::Blocks;
 use ir_core::{
     Atom, Binary, Cast, Element, Expr, Icmp, Kind, Load, Module, Name, NamedTypes, Operand, Select,
-    Ty, Value, converts, is_integer, kind_of, same_ty,
+    Ty, Value, converts, kind_of, same_ty,
 };
 use ir_types::align_of;
-use ir_typing::{entered, number_in, points_to};
+use ir_typing::{is_due, pointed_by_operands, points_to};
 use ir_values::{
-    Indices, Outcome, constant_value, eval_binary, eval_cast, eval_gep, eval_icmp, eval_select,
+    Indices, Outcome, address_of, constant_value, eval_binary, eval_cast, eval_icmp, eval_select,
 };
 
 /// What an atom is worth at the type, beside the module.
@@ -223,53 +219,13 @@ fn load_outcome(
 
 // ---- addresses of parts
 
-/// What operands lead to from a type on.
-fn led_by<'a>(types: &'a NamedTypes, of: &'a Ty, indices: &[Operand<Name>]) -> Option<&'a Ty>
-    ensures { option_copied result ≡ typing.led_to types.now of.now (map index_of indices.now) }
-{
-    let mut ty = of;
-    for index in indices {
-        match entered(types, ty, &index.ty, number_in(&index.atom)) {
-            Some(further) => ty = further,
-            None => return None,
-        }
-    }
-    Some(ty)
-}
-
-/// What an address points to.
-fn pointed_by<'a>(types: &'a NamedTypes, of: &'a Ty, indices: &[Operand<Name>]) -> Option<&'a Ty>
-    ensures { option_map Ptr (option_copied result) ≡ typing.element_type types.now of.now (map index_of indices.now) }
-{
-    match indices.split_first() {
-        None => Some(of),
-        Some((first, further)) => {
-            if is_integer(&first.ty) {
-                led_by(types, of, further)
-            } else {
-                None
-            }
-        }
-    }
-}
-
-/// Whether the type is that of pointers to this, where it is there.
-fn is_due(pointed: Option<&Ty>, ty: &Ty) -> bool
-    ensures { result ≡ typing.is_due (option_map Ptr (option_copied pointed.entry)) ty.now }
-{
-    match pointed {
-        Some(pointed) => points_to(ty, pointed),
-        None => false,
-    }
-}
-
 /// Whether a line may state the address.
 fn is_stated(types: &NamedTypes, element: &Element<Name>) -> bool
     ensures { result ≡ meaning.is_stated types.now element.now }
 {
     points_to(&element.base.ty, &element.of)
         && is_due(
-            pointed_by(types, &element.of, element.indices.as_slice()),
+            pointed_by_operands(types, &element.of, element.indices.as_slice()),
             &element.to,
         )
 }
@@ -327,7 +283,14 @@ fn element_outcome(
         registers,
         operands: element.indices.as_slice(),
     };
-    eval_gep(module, element.inbounds, &element.of, &base, size, &indices)
+    Outcome::Gives(address_of(
+        &module.types,
+        element.inbounds,
+        &element.of,
+        &base,
+        size,
+        &indices,
+    ))
 }
 
 /// What an expression of a line leads to.

@@ -182,7 +182,7 @@ entered_integer types t i u h = at (out-Ty t) h
     at (level.Ptr v) h = cc
     at level.Void h = cc
 
-abbrev are_integers : List Index → Bool
+abbrev pub are_integers : List Index → Bool
 are_integers is = list_all (λ i. is_integer i.ty) is
 
 both_true : (a b : Bool) → a ≡ true → b ≡ true → (a && b) ≡ true
@@ -196,7 +196,7 @@ led_integers types t (i ∷ is) u h = at (λ v. led_integers types v is u) (ente
     at rest None e h = cc
     at rest (Some v) e h = both_true (is_integer i.ty) (are_integers is) (entered_integer types t i v e) (rest v h)
 
-element_integers : (types : List NamedTy) (of : Ty) (is : List Index) (t : Ty) → is_due (element_type types of is) t ≡ true → are_integers is ≡ true
+pub element_integers : (types : List NamedTy) (of : Ty) (is : List Index) (t : Ty) → is_due (element_type types of is) t ≡ true → are_integers is ≡ true
 element_integers types of [] t h = refl
 element_integers types of (i ∷ is) t h = at (is_integer i.ty) refl (led_to types of is) refl h
   where

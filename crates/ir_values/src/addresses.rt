@@ -18,23 +18,23 @@ use ir_types::{field_offset, fits_block, size_of};
 
 /// The outcome of `getelementptr ty, base, indices`, on a base with the size of the block that it is in, and each index with its width.
 /// Takes no memory.
-pub fn eval_gep<I: Indices>(
+pub fn eval_gep(
     module: &Module,
     inbounds: bool,
     ty: &Ty,
     base: &Value,
     size: u64,
-    indices: &I,
+    indices: &[(u32, Value)],
 ) -> Outcome
     requires base { IsInKind kind.Ptr base.now }
-    requires indices { AllByRecursion meaning.IsIndex (I.listed indices.now) }
-    ensures { result ≡ meaning.gep_outcome inbounds «module».now.types ty.now base.now size (I.listed indices.now) }
+    requires indices { AllByRecursion meaning.IsIndex indices.now }
+    ensures { result ≡ meaning.gep_outcome inbounds «module».now.types ty.now base.now size indices.now }
 {
-    Outcome::Gives(address(&module.types, inbounds, ty, base, size, indices))
+    Outcome::Gives(address_of(&module.types, inbounds, ty, base, size, &indices))
 }
 
-/// The address that it gives.
-pub(crate) fn address<I: Indices>(
+/// The same of indices that are asked one by one, over the named types of a module: the address that it gives.
+pub fn address_of<I: Indices>(
     types: &NamedTypes,
     inbounds: bool,
     ty: &Ty,

@@ -13,14 +13,14 @@ ghost use Rattle.ir_values.specs.ConstantParts as told;
 ghost use Rattle.ir_values.specs.Constants as meaning;
 ghost use Rattle.ir_values.specs.Values.{IsInKind, IsInKindOf};
 
-use crate::addresses::{address, is_small};
+use crate::addresses::{address_of, is_small};
 use crate::indices::Indices;
 use ir_core::{
     CastOp, Const, GlobalVar, Module, Name, NamedTypes, Ty, TypedConst, Value, converts, fits,
     is_first_class, is_integer, is_pointer, same_name, same_ty,
 };
 use ir_types::{SizeFault, fits_block, size_of};
-use ir_typing::{entered, number_of, points_to};
+use ir_typing::{is_due, pointed_by_constants, points_to};
 
 /// What a constant is worth at a type, beside a module. Numbers, undef and null are told without a look at the module.
 pub fn constant_value(module: &Module, ty: &Ty, constant: &Const) -> Value
@@ -108,16 +108,6 @@ fn contents_of<'a>(globals: &'a [GlobalVar], name: &Name) -> Option<&'a Ty>
     None
 }
 
-/// Whether the type is that of pointers to this, where it is there.
-fn is_due(pointed: Option<&Ty>, ty: &Ty) -> bool
-    ensures { result ≡ typing.is_due (option_map Ptr (option_copied pointed.entry)) ty.now }
-{
-    match pointed {
-        Some(pointed) => points_to(ty, pointed),
-        None => false,
-    }
-}
-
 fn is_sized(types: &NamedTypes, ty: &Ty) -> bool
     ensures { result ≡ named.is_sized types.now ty.now }
 {
@@ -125,36 +115,6 @@ fn is_sized(types: &NamedTypes, ty: &Ty) -> bool
         Ok(_) => true,
         Err(SizeFault::TooLarge) => true,
         Err(SizeFault::Unsized) => false,
-    }
-}
-
-/// What constants lead to from a type on.
-fn led_by<'a>(types: &'a NamedTypes, of: &'a Ty, indices: &[TypedConst]) -> Option<&'a Ty>
-    ensures { option_copied result ≡ typing.led_to types.now of.now (map index_told indices.now) }
-{
-    let mut ty = of;
-    for index in indices {
-        match entered(types, ty, &index.0, number_of(&index.1)) {
-            Some(further) => ty = further,
-            None => return None,
-        }
-    }
-    Some(ty)
-}
-
-/// What an address points to.
-fn pointed_by<'a>(types: &'a NamedTypes, of: &'a Ty, indices: &[TypedConst]) -> Option<&'a Ty>
-    ensures { option_map Ptr (option_copied result) ≡ typing.element_type types.now of.now (map index_told indices.now) }
-{
-    match indices.split_first() {
-        None => Some(of),
-        Some((first, further)) => {
-            if is_integer(&first.0) {
-                led_by(types, of, further)
-            } else {
-                None
-            }
-        }
     }
 }
 
@@ -166,7 +126,7 @@ fn leads_to(types: &NamedTypes, of: &Ty, parts: &[TypedConst], ty: &Ty) -> bool
         Some((base, indices)) => {
             points_to(&base.0, of)
                 && is_sized(types, of)
-                && is_due(pointed_by(types, of, indices), ty)
+                && is_due(pointed_by_constants(types, of, indices), ty)
         }
         None => false,
     }
@@ -276,7 +236,7 @@ fn part_address(
 {
     let size = size_behind(module, &base);
     let indices = TypedIndices { parts: indices };
-    address(&module.types, inbounds, of, &base, size, &indices)
+    address_of(&module.types, inbounds, of, &base, size, &indices)
 }
 
 /// What a constant is worth that is one of the type.

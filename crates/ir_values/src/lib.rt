@@ -17,7 +17,7 @@ mod pointer_laws;
 mod results;
 mod selections;
 
-pub use addresses::eval_gep;
+pub use addresses::{address_of, eval_gep};
 pub use comparisons::eval_icmp;
 pub use constants::constant_value;
 pub use conversions::eval_cast;

@@ -5,7 +5,7 @@ use Rattle.ir_core.specs.Sizes.{stepped}
 use Rattle.std.proofs.Common.{map}
 use Rattle.ir_values.specs.Addresses.{are_entered_small, distances, told_index}
 use Rattle.ir_values.proofs.LedSmall.{all_small}
-use Rattle.ir_values.proofs.addresses.address.Goals as goal
+use Rattle.ir_values.proofs.addresses.address_of.Goals as goal
 
 pub moved-requires-clause-types : goal.moved-requires-clause-types
 moved-requires-clause-types g c =
