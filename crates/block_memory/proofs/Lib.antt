@@ -1,5 +1,6 @@
 pub mod Accesses
 pub mod BytesAgain
+pub mod KeptNames
 pub mod MemoryExamples
 pub mod NamesShown
 pub mod OneMemory

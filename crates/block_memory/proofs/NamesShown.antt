@@ -1,9 +1,8 @@
 -- Names found one after the other, and what showing leaves.
-use Rattle.std.proofs.Common.{◌≡◌, ◌∙◌, ℕ, ◌+◌, ◌<◌, ◌≤◌, zero, suc, Bool, true, false, ◌||◌, not, cond, nat_eq, nat_lt, [], ◌∷◌, ◌++◌, length, drop, get_or, Option, None, Some, Result, Ok, Err, refl, sym, ap, subst, eq-eqb, eqb-true, arith}
+use Rattle.std.proofs.Common.{◌≡◌, ◌∙◌, ℕ, suc, Bool, true, false, ◌||◌, not, cond, nat_eq, nat_lt, [], ◌∷◌, ◌++◌, length, take, Option, None, Some, Result, Ok, Err, refl, sym, ap, subst, eq-eqb, eqb-true}
 use Rattle.std.specs.Prelude.{ℤ, ◌↔◌, IfOk, OnErr}
 use Rattle.std.specs.List.{list_any}
 use Rattle.std.specs.Option.{option_map}
-use Rattle.std.proofs.Math.Seq.{drop-cons}
 use Rattle.ir_types.specs.NameLaws.{right_true}
 use Rattle.ir_core.specs.Types.{fits}
 use Rattle.ir_core.specs.declared.values.Value.{Value}
@@ -19,47 +18,6 @@ use Rattle.block_memory.specs.declared.names.ShowEnd.TheVariants as end
 use Rattle.block_memory.specs.Memory.{Memory}
 use Rattle.block_memory.specs.NameLaws.{AreApart, IsFree, NamesStayApart, PointersAreShownAgain}
 use Rattle.block_memory.specs.Names.{Chooses, IsShown, Names, Showing, chosen, chosen_maybe, fresh, is_bound_to, is_unnamed, name_of, picked, shown_of, under_name, under_next}
-
--- ---- the first name
-
-abbrev pub shifted : ℕ → Option ℕ → Option ℕ
-shifted n None = None
-shifted n (Some k) = Some (n + k)
-
-shifted_suc : (n : ℕ) (o : Option ℕ) → shifted n (option_map suc o) ≡ shifted (suc n) o
-shifted_suc n None = refl
-shifted_suc n (Some k) = let e : n + suc k ≡ suc n + k = omega arith in ap Some e
-
-pub from_the_first : (names : Names) (b : ℕ) → name_of names b ≡ shifted 0 (name_of names b)
-from_the_first names b = at (name_of names b)
-  where
-    at : (o : Option ℕ) → o ≡ shifted 0 o
-    at None = refl
-    at (Some k) = let e : k ≡ 0 + k = omega arith in ap Some e
-
-module _ (names : Names) (b i : ℕ) (d : Option ℕ) (inside : i < length names) where
-  -- the name at a place
-  pub named_here : is_bound_to b (get_or names i d) ≡ true → shifted i (name_of (drop i names) b) ≡ Some i
-  named_here h =
-      let e : i + 0 ≡ i = omega arith in
-      ap (λ xs. shifted i (name_of xs b)) (drop-cons names i d inside)
-      ∙ ap (λ t. shifted i (cond t (Some 0) (option_map suc (name_of (drop (suc i) names) b)))) h ∙ ap Some e
-
-  pub named_later : is_bound_to b (get_or names i d) ≡ false → shifted i (name_of (drop i names) b) ≡ shifted (suc i) (name_of (drop (suc i) names) b)
-  named_later h =
-      ap (λ xs. shifted i (name_of xs b)) (drop-cons names i d inside)
-      ∙ ap (λ t. shifted i (cond t (Some 0) (option_map suc (name_of (drop (suc i) names) b)))) h
-      ∙ shifted_suc i (name_of (drop (suc i) names) b)
-
-pub named_nowhere : (names : Names) (b i : ℕ) → length names ≤ i → shifted i (name_of (drop i names) b) ≡ None
-named_nowhere [] b zero h = refl
-named_nowhere [] b (suc i) h = refl
-named_nowhere (x ∷ names) b zero h = absurd (omega arith)
-named_nowhere (x ∷ names) b (suc i) h = at (name_of (drop i names) b) (named_nowhere names b i (omega arith))
-  where
-    at : (o : Option ℕ) → shifted i o ≡ None → shifted (suc i) o ≡ None
-    at None e = refl
-    at (Some k) e = cc
 
 -- ---- one name a block
 
@@ -264,3 +222,63 @@ module _ (v : Value) (k : Kind) (m : Memory) (names after : Names) (undef : v �
   chosen_err None (Err e) h = h.1
   chosen_err (Some showing) (Ok s) h = tt
   chosen_err (Some showing) (Err e) h = h.1
+
+-- ---- the names before stay
+
+pub taken_before : (names : Names) (y : Option ℕ) → take (length names) (names ++ (y ∷ [])) ≡ names
+taken_before [] y = refl
+taken_before (x ∷ names) y = ap (λ xs. x ∷ xs) (taken_before names y)
+
+pub taken_all : (names : Names) → take (length names) names ≡ names
+taken_all [] = refl
+taken_all (x ∷ names) = ap (λ xs. x ∷ xs) (taken_all names)
+
+module _ (names : Names) where
+  abbrev Keeps : Option Showing → Type 0
+  Keeps None = Unit {0}
+  Keeps (Some showing) = take (length names) showing.1 ≡ names
+
+  pub next_keeps : (bound : Option ℕ) (o : ℤ) (s : Shown) (after : Names) → under_next names bound o ≡ (s, after) → take (length names) after ≡ names
+  next_keeps bound o s after e = ap (λ (p : Showing). take (length names) p.1) (sym e) ∙ taken_before names bound
+
+  cond_keeps : (t : Bool) (s : Shown) → Keeps (cond t (Some (s, names)) None)
+  cond_keeps true s = taken_all names
+  cond_keeps false s = tt
+
+  picked_keeps : (k : Kind) (s : Shown) → Keeps (picked k names s)
+  picked_keeps (kind.Int width) (shown.Num n) = cond_keeps (fits n width) (shown.Num n)
+  picked_keeps (kind.Int width) (shown.Name x o) = tt
+  picked_keeps (kind.Int width) (shown.Bare a) = tt
+  picked_keeps kind.Ptr (shown.Num n) = tt
+  picked_keeps kind.Ptr (shown.Name x o) = cond_keeps (nat_lt x (length names)) (shown.Name x o)
+  picked_keeps kind.Ptr (shown.Bare a) = taken_all names
+
+  fresh_keeps : (k : Kind) (m : Memory) (bound : Option ℕ) (o : ℤ) → Keeps (fresh k m names bound o)
+  fresh_keeps (kind.Int width) m bound o = tt
+  fresh_keeps kind.Ptr m None o = taken_before names None
+  fresh_keeps kind.Ptr m (Some b) o = at (is_unnamed m names b)
+    where
+      at : (t : Bool) → Keeps (cond t (Some (under_next names (Some b) o)) None)
+      at true = taken_before names (Some b)
+      at false = tt
+
+  choice_keeps : (k : Kind) (m : Memory) (c : Choice) → Keeps (chosen k m names c)
+  choice_keeps k m (choice.Pick s) = picked_keeps k s
+  choice_keeps k m (choice.Fresh bound o) = fresh_keeps k m bound o
+  choice_keeps k m (choice.Go x) = tt
+  choice_keeps k m (choice.PickByte s) = tt
+  choice_keeps k m (choice.Read x o) = tt
+  choice_keeps k m (choice.Write x o s) = tt
+  choice_keeps k m (choice.New align bytes) = tt
+  choice_keeps k m (choice.Reply s) = tt
+  choice_keeps k m choice.Wrong = tt
+
+  pub chosen_keeps : (k : Kind) (m : Memory) (o : Option Choice) (r : Result Shown ShowEnd) (after : Names) → Chooses names (chosen_maybe k m names o) r after
+      → take (length names) after ≡ names
+  chosen_keeps k m None r after h = ap (take (length names)) h.1 ∙ taken_all names
+  chosen_keeps k m (Some c) r after h = by (chosen k m names c) r (choice_keeps k m c) h
+    where
+      by : (x : Option Showing) (r : Result Shown ShowEnd) → Keeps x → Chooses names x r after → take (length names) after ≡ names
+      by None r keeps h = ap (take (length names)) h.1 ∙ taken_all names
+      by (Some showing) (Ok s) keeps h = ap (λ (p : Showing). take (length names) p.1) (sym h) ∙ keeps
+      by (Some showing) (Err e) keeps h = ap (take (length names)) h.1 ∙ taken_all names

@@ -143,3 +143,24 @@ filled_step (b ∷ bytes) (suc n) = ap (λ xs. b ∷ xs) (filled_step bytes n)
 
 pub filled_more : (bytes : List Byte) (n : ℕ) → filled n bytes ++ (or_undef (slice_get bytes n) ∷ []) ≡ filled (n + 1) bytes
 filled_more bytes n = filled_step bytes n ∙ ap (λ m. filled m bytes) (sym (add-one n))
+
+-- ---- one byte
+
+pub put_inside : (xs : List Byte) (o : ℕ) (x : Byte) → o < length xs → set xs o x ≡ put xs o (x ∷ [])
+put_inside [] o x h = absurd (omega arith)
+put_inside (y ∷ ys) zero x h = ap (λ zs. x ∷ zs) (none ys)
+  where
+    none : (ys : List Byte) → ys ≡ put ys 0 []
+    none [] = refl
+    none (y ∷ ys) = refl
+put_inside (y ∷ ys) (suc o) x h = ap (λ zs. y ∷ zs) (put_inside ys o x (omega arith))
+
+pub put_outside : (xs : List Byte) (o : ℕ) (new : List Byte) → length xs ≤ o → xs ≡ put xs o new
+put_outside [] o new h = refl
+put_outside (y ∷ ys) zero new h = absurd (omega arith)
+put_outside (y ∷ ys) (suc o) new h = ap (λ zs. y ∷ zs) (put_outside ys o new (omega arith))
+
+pub nothing_updated : (f : Cell → Cell) (m : Memory) (b : ℕ) → length m ≤ b → m ≡ updated f m b
+nothing_updated f [] b h = refl
+nothing_updated f (c ∷ cs) zero h = absurd (omega arith)
+nothing_updated f (c ∷ cs) (suc b) h = ap (λ ds. c ∷ ds) (nothing_updated f cs b (omega arith))

@@ -5,4 +5,5 @@ pub mod Laws
 pub mod Memory
 pub mod NameLaws
 pub mod Names
+pub mod FirstNames
 pub mod Related

@@ -70,6 +70,14 @@ impl Block {
         self.bytes.get(place as usize).copied()
     }
 
+    fn put(&mut self, place: u64, byte: Byte)
+        ensures { self.new ≡ with_bytes place (byte ∷ []) self.old }
+    {
+        if (place as usize) < self.bytes.len() {
+            self.bytes[place as usize] = byte;
+        }
+    }
+
     fn end(&mut self)
         ensures { self.new ≡ ended self.old }
     {
@@ -220,6 +228,15 @@ impl Blocks {
         match self.cells.get(block as usize) {
             Some(cell) => cell.byte(place),
             None => None,
+        }
+    }
+
+    /// Writes a byte of the block, if it has that place.
+    pub fn write_byte(&mut self, block: BlockId, place: u64, byte: Byte)
+        ensures { self.new ≡ updated (with_bytes place (byte ∷ [])) self.old block }
+    {
+        if (block as usize) < self.cells.len() {
+            self.cells[block as usize].put(place, byte);
         }
     }
 

@@ -8,7 +8,7 @@ ghost use Rattle.ir_values.specs.Values.{HasWidth, IsInKind};
 use ir_core::{BlockId, Byte, Kind, Value};
 
 /// How many bytes a value of the kind has.
-pub(crate) fn byte_count(kind: Kind) -> usize
+pub fn byte_count(kind: Kind) -> usize
     ensures { result ≡ meaning.byte_count kind }
 {
     match kind {
@@ -18,7 +18,7 @@ pub(crate) fn byte_count(kind: Kind) -> usize
 }
 
 /// The byte of a value at a place.
-pub(crate) fn byte_at(value: Value, place: usize) -> Byte
+pub fn byte_at(value: Value, place: usize) -> Byte
     requires { place < 8 }
     ensures { result ≡ meaning.byte_at value place }
 {

@@ -9,6 +9,7 @@ mod laws;
 mod names;
 
 pub use blocks::{Blocks, Trap};
+pub use bytes::{byte_at, byte_count};
 pub use items::{Choice, Shown, ShownByte};
 pub use laws::{
     blocks_have_one_name, bytes_spell_values, examples_of_memory, examples_of_names,

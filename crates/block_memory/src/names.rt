@@ -1,12 +1,15 @@
-ghost use Rattle.std.specs.Prelude.{◌≡◌, ◌↔◌, ◌<◌, ℕ, ℤ, ◌++◌, [], ◌∷◌, List, Option, None, Some, Err, length, IfOk, IfErr, OnOk, OnErr};
+ghost use Rattle.std.specs.Prelude.{◌≡◌, ◌↔◌, ◌<◌, ◌-◌, ℕ, ℤ, ◌++◌, [], ◌∷◌, List, Option, None, Some, Err, length, take, not, is_some, IfOk, IfErr, OnOk, OnErr};
 ghost use Rattle.std.specs.List.{list_any};
 ghost use Rattle.std.specs.Option.{option_copied};
 ghost use Rattle.ir_core.specs.declared.values.Value.TheVariants.{Poison, Undef};
 ghost use Rattle.block_memory.specs.Names as meaning;
+ghost use Rattle.block_memory.specs.FirstNames.{AreFirst};
+ghost use Rattle.std.specs.Coded.{codes};
 ghost use Rattle.block_memory.specs.declared.names.ShowEnd.TheVariants as end;
 
 use crate::blocks::Blocks;
 use crate::items::{Choice, Shown};
+use indexmap::IndexMap;
 use ir_core::{BlockId, Kind, Value, fits};
 use std::alloc::{AllocError, Global};
 use std::marker::Model;
@@ -22,43 +25,23 @@ pub enum ShowEnd {
 }
 
 /// The names, from 0 on, each bound to one block or to nothing.
-#[derive(Drop)]
 pub struct Names {
     bound: Vec<Option<BlockId>>,
+    /// The first name of each block that has one, so that it is found without a walk.
+    first: IndexMap<BlockId, u64>,
+    ghost found: { AreFirst bound.items first.entries } by { Prim.hlevel codes },
+}
+
+impl Drop for Names {
+    fn drop(self) {
+        let Names { bound: _, first: _ } = self;
+    }
 }
 
 impl Model for Names {
     ghost Value = { List (Option ℕ) };
 
     ghost view = { λ s. s.bound.items };
-}
-
-fn is_bound_to(block: BlockId, bound: Option<BlockId>) -> bool
-    ensures { result ≡ meaning.is_bound_to block bound }
-{
-    match bound {
-        Some(other) => other == block,
-        None => false,
-    }
-}
-
-/// The first name that is bound to the block.
-#[tactic(auto, using(crate::proofs::NamesShown::named_here, crate::proofs::NamesShown::named_later, crate::proofs::NamesShown::named_nowhere, crate::proofs::NamesShown::from_the_first))]
-fn name_in(names: &[Option<BlockId>], block: BlockId) -> Option<u64>
-    ensures { result ≡ meaning.name_of names.now block }
-{
-    for (place, bound) in names.iter().enumerate() {
-        if is_bound_to(block, *bound) {
-            return Some(place as u64);
-        }
-    }
-    None
-}
-
-fn is_named(names: &[Option<BlockId>], block: BlockId) -> bool
-    ensures { result ≡ list_any (meaning.is_bound_to block) names.now }
-{
-    names.iter().any(|bound| is_bound_to(block, *bound))
 }
 
 impl Names {
@@ -68,6 +51,7 @@ impl Names {
     {
         Names {
             bound: Vec::new(alloc),
+            first: IndexMap::new(alloc),
         }
     }
 
@@ -85,8 +69,64 @@ impl Names {
         ensures err { OnErr result (self.new ≡ self.old) }
     {
         let name = self.bound.len() as u64;
-        self.bound.push(block)?;
+        self.bound.reserve(1)?;
+        let Some(own) = block else {
+            self.bound.push_reserved(None);
+            return Ok(name);
+        };
+        if self.first.contains_key(&own) {
+            self.bound.push_reserved(Some(own));
+            return Ok(name);
+        }
+        self.first.insert(own, name)?;
+        self.bound.push_reserved(Some(own));
         Ok(name)
+    }
+
+    /// The names from that many on are there no more.
+    pub fn cut_to(&mut self, count: u64)
+        ensures { self.new ≡ take count self.old }
+    {
+        while self.count() > count {
+            self.drop_last();
+        }
+    }
+
+    /// The last name is there no more.
+    fn drop_last(&mut self)
+        requires { 0 < length self.old }
+        ensures { self.new ≡ take (length self.old - 1) self.old }
+    {
+        let Some(last) = self.bound.pop() else {
+            return;
+        };
+        let Some(block) = last else {
+            return;
+        };
+        if self.first.get(&block).copied() == Some(self.bound.len() as u64) {
+            self.first.swap_remove(&block);
+        }
+    }
+
+    /// The first name that is bound to the block.
+    pub fn name_of(&self, block: BlockId) -> Option<u64>
+        ensures { result ≡ meaning.name_of self.now block }
+    {
+        self.first.get(&block).copied()
+    }
+
+    #[tactic(auto, using(crate::proofs::KeptNames::named_any))]
+    fn is_named(&self, block: BlockId) -> bool
+        ensures { result ≡ list_any (meaning.is_bound_to block) self.now }
+    {
+        self.first.contains_key(&block)
+    }
+
+    /// Whether a name is bound to nothing.
+    pub fn has_loose(&self) -> bool
+        ensures { result ≡ list_any (λ bound. not (is_some bound)) self.now }
+    {
+        self.bound.iter().any(|bound| bound.is_none())
     }
 
     /// The value that a name has at an offset: undef where it is bound to nothing.
@@ -102,7 +142,7 @@ impl Names {
     fn is_unnamed(&self, blocks: &Blocks, block: BlockId) -> bool
         ensures { result ≡ meaning.is_unnamed blocks.now self.now block }
     {
-        block < blocks.count() && !is_named(&self.bound, block)
+        block < blocks.count() && !self.is_named(block)
     }
 
     fn show_next(&mut self, bound: Option<BlockId>, offset: i64) -> Result<Shown, ShowEnd>
@@ -116,7 +156,7 @@ impl Names {
     }
 
     /// Whether undef of the kind may be taken for that.
-    fn may_pick(&self, kind: Kind, shown: Shown) -> bool
+    pub fn may_pick(&self, kind: Kind, shown: Shown) -> bool
         ensures { meaning.picked kind self.now shown ≡ meaning.shown_if result shown self.now }
     {
         match (kind, shown) {
@@ -169,7 +209,7 @@ impl Names {
 
     /// Shows a value of the kind. Undef is shown as the choice takes it; a pointer to a block that has no name is shown by the next, which is
     /// then bound to it.
-    #[tactic(auto, using(crate::proofs::NamesShown::shown_named, crate::proofs::NamesShown::shown_next, crate::proofs::NamesShown::chosen_ok, crate::proofs::NamesShown::chosen_wrong, crate::proofs::NamesShown::chosen_lacks, crate::proofs::NamesShown::chosen_err))]
+    #[tactic(auto, using(crate::proofs::NamesShown::taken_all, crate::proofs::NamesShown::chosen_keeps, crate::proofs::NamesShown::next_keeps, crate::proofs::NamesShown::shown_named, crate::proofs::NamesShown::shown_next, crate::proofs::NamesShown::chosen_ok, crate::proofs::NamesShown::chosen_wrong, crate::proofs::NamesShown::chosen_lacks, crate::proofs::NamesShown::chosen_err))]
     pub fn show(
         &mut self,
         value: &Value,
@@ -183,11 +223,12 @@ impl Names {
         ensures chosen { value.now ≡ Undef
             → meaning.Chooses self.old (meaning.chosen_maybe kind blocks.now self.old (option_copied choice.entry)) result self.new }
         ensures err { OnErr result (self.new ≡ self.old) }
+        ensures kept { take (length self.old) self.new ≡ self.old }
     {
         match value {
             Value::Num(number) => Ok(Shown::Num(*number)),
             Value::Bare(address) => Ok(Shown::Bare(*address)),
-            Value::Ptr(block, offset) => match name_in(&self.bound, *block) {
+            Value::Ptr(block, offset) => match self.name_of(*block) {
                 Some(name) => Ok(Shown::Name(name, *offset)),
                 None => self.show_next(Some(*block), *offset),
             },
