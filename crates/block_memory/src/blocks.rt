@@ -1,4 +1,4 @@
-ghost use Rattle.std.specs.Prelude.{◌≡◌, ◌≤◌, ◌<◌, ◌+◌, ◌++◌, [], ◌∷◌, pos, true, false, Some, IfNone, IfSome, IfOk, OnOk, OnErr, length, take, drop, IsTrue, ◌↔◌};
+ghost use Rattle.std.specs.Prelude.{◌≡◌, ◌≤◌, ◌<◌, ◌+◌, ◌-◌, ◌++◌, [], ◌∷◌, pos, true, false, Some, IfNone, IfSome, IfOk, OnOk, OnErr, length, take, drop, IsTrue, ◌↔◌};
 ghost use Rattle.std.specs.Prelude.{slice_get};
 ghost use Rattle.std.specs.Option.{option_and_then, option_map};
 ghost use Rattle.ir_core.specs.Types.{kind_of as kind_meant};
@@ -182,6 +182,14 @@ impl Blocks {
             bytes,
         })?;
         Ok(number)
+    }
+
+    /// The last block is there no more.
+    pub fn drop_last(&mut self)
+        requires { 0 < length self.old }
+        ensures { self.new ≡ take (length self.old - 1) self.old }
+    {
+        self.cells.pop();
     }
 
     /// How many blocks there are. Their numbers are below that.

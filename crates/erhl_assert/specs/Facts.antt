@@ -2,11 +2,13 @@
 use Rattle.std.specs.Prelude.{◌≡◌, Bool, ◌&&◌, ◌||◌, cond, not, filter, List, [], ◌∷◌, ◌++◌, Option}
 use Rattle.std.specs.List.{list_any, AllByRecursion}
 use Rattle.ir_core.specs.declared.values.Kind.{Kind}
+use Rattle.ir_types.specs.declared.names.Name.{Name}
 use Rattle.ir_core.specs.declared.expressions.Reg.{Reg}
 use Rattle.ir_core.specs.Same.{same_reg, same_expr}
 use Rattle.ir_core.specs.Expressions.{Expr0, type_of, expr_has}
 use Rattle.ir_values.specs.Constants.{Scope}
 use Rattle.ir_values.specs.Operations.{IsOutcomeLessDefined}
+use Rattle.ir_values.specs.Related.{Pairing}
 use Rattle.ir_core.specs.Types.{kind_of}
 use Rattle.erhl_assert.specs.declared.facts.Fact.{Fact}
 use Rattle.erhl_assert.specs.declared.facts.Fact.TheVariants.{LessDef}
@@ -26,11 +28,11 @@ kind_of_expr e = kind_of (type_of e)
 abbrev pub Holds : SideState → Fact → Type 0
 Holds side (LessDef a b) = (kind_of_expr a ≡ kind_of_expr b) × IsOutcomeLessDefined (worth side a) (worth side b)
 
--- an assertion holds of two states
-pub record AssertionHolds (known : Assertion) (source target : SideState) : Type 0 where
+-- an assertion holds of two states, by pairs of their blocks, beside the ghost registers that are one side's alone
+pub record AssertionHolds (ps : Pairing) (lone : Name → Bool) (known : Assertion) (source target : SideState) : Type 0 where
   pub source_facts : AllByRecursion (Holds source) known.src
   pub target_facts : AllByRecursion (Holds target) known.tgt
-  pub related : AreRelated known.diff source target
+  pub related : AreRelated ps lone known.diff source target
 
 -- In every state of a side of a module with these types and globals, in which every value lies in its kind: where the
 -- premises hold, so does the conclusion.

@@ -15,20 +15,20 @@ use Rattle.ir_types.specs.declared.ty.Ty.{Ty}
 use Rattle.ir_core.specs.Types.{kind_of}
 use Rattle.ir_core.specs.Expressions.{Expr0, atom_has, expr_has}
 use Rattle.ir_values.specs.Operations.{IsOutcomeLessDefined}
+use Rattle.ir_values.specs.Values.{IsLessDefined}
 use Rattle.ir_values.proofs.OperationLaws.{less_defined_refl}
 use Rattle.ir_values.specs.Constants.{Scope}
 use Rattle.block_memory.specs.Memory.{Memory}
 use Rattle.ir_machine.specs.Registers.{constant_at, register_value, atom_value, operand_value, index_value, is_stated, element_from, align_or, outcome}
-use Rattle.erhl_assert.specs.Sides.{IsRelated}
 use Rattle.erhl_assert.specs.Steps.{register_in, registers_in}
 use Rattle.erhl_soundness.proofs.Operators.{IsIndexRelated, binary_related, icmp_related, cast_related, select_related, element_related, load_related, chosen_related, flags_among_themselves}
 
-module _ {R : Type 0} (scope : Scope) (source target : Kind → R → Value) (test : R → Bool) (related : (k : Kind) (r : R) → test r ≡ false → IsRelated (source k r) (target k r)) where
-  register_alike : (k : Option Kind) (r : R) → test r ≡ false → IsRelated (register_value source k r) (register_value target k r)
+module _ {R : Type 0} (scope : Scope) (source target : Kind → R → Value) (test : R → Bool) (related : (k : Kind) (r : R) → test r ≡ false → IsLessDefined (source k r) (target k r)) where
+  register_alike : (k : Option Kind) (r : R) → test r ≡ false → IsLessDefined (register_value source k r) (register_value target k r)
   register_alike None r h = tt
   register_alike (Some k) r h = related k r h
 
-  atom_alike : (t : Ty) (a : Atom R) → atom_has test a ≡ false → IsRelated (atom_value scope source t a) (atom_value scope target t a)
+  atom_alike : (t : Ty) (a : Atom R) → atom_has test a ≡ false → IsLessDefined (atom_value scope source t a) (atom_value scope target t a)
   atom_alike t (Constant c) h = less_defined_refl (constant_at scope t (kind_of t) c)
   atom_alike t (Register r) h = register_alike (kind_of t) r h
 

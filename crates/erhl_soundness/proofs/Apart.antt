@@ -4,11 +4,12 @@ use Rattle.ir_types.specs.declared.names.Name.TheVariants.{Number}
 use Rattle.ir_core.specs.declared.functions.Term.TheVariants.{Br}
 use Rattle.ir_core.specs.declared.functions.Function.{Function}
 use Rattle.ir_core.specs.declared.modules.Module.{Module}
+use Rattle.ir_machine.specs.Starting.{given}
 use Rattle.ir_machine.specs.declared.items.Item.{Item}
 use Rattle.ir_machine.specs.declared.items.Item.TheVariants.{Turn, Returned, Wrong}
 use Rattle.ir_values.proofs.ConstantWalks.{of_number, worth_number}
 use Rattle.block_memory.specs.declared.items.Shown.TheVariants as shown
-use Rattle.ir_machine.specs.declared.items.Input.{Input}
+use Rattle.ir_machine.specs.declared.inputs.Input.{Input}
 use Rattle.ir_machine.specs.Registers.{no_registers}
 use Rattle.ir_machine.specs.State.{no_world, scope_of, State, Running, Over}
 use Rattle.ir_machine.specs.Machine.{Does, Follows, Made, asks, at_block, with_phis, ShowsFrom}
@@ -31,7 +32,7 @@ abbrev target : Module
 target = module_of second
 
 abbrev no_input : Input
-no_input = record { args = [] }
+no_input = given []
 
 -- ---- what the source shows
 

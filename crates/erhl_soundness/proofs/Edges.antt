@@ -1,5 +1,5 @@
 -- An edge: old registers are those before it, and phis are set at once from them; then old registers are forgotten where a block begins.
-use Rattle.std.proofs.Common.{◌≡◌, true, false, not, List, [], ◌∷◌, ◌++◌, map, Option, None, Some, refl, sym, ap, subst, subst₂, ◌∙◌, ⊎_elim}
+use Rattle.std.proofs.Common.{◌≡◌, true, false, not, List, [], ◌∷◌, ◌++◌, map, Option, None, Some, refl, sym, ap, subst, subst₂, ◌∙◌, ⊎_elim, nat_eq, ℕ}
 use Rattle.std.specs.Prelude.{filter}
 use Rattle.std.specs.List.{AllByRecursion, Contains, list_any}
 use Rattle.std.proofs.lemmas.Bool.{or_parts, or_from, false≢true, false_from_ne_true, cases_Bool, not_from_false, cond-true, cond-false}
@@ -21,6 +21,8 @@ use Rattle.ir_core.specs.Types.{kind_of}
 use Rattle.ir_types.specs.NameLaws.{left_true, right_true, same_name_true, same_name_refl}
 use Rattle.ir_types.proofs.SameLaws.{same_ty_true}
 use Rattle.ir_values.specs.declared.operations.Outcome.TheVariants.{Gives}
+use Rattle.ir_values.specs.Related.{IsRelated}
+use Rattle.ir_values.proofs.RelatedValues.{less_related}
 use Rattle.ir_values.specs.Constants.{Scope}
 use Rattle.ir_values.specs.Operations.{IsOutcomeLessDefined}
 use Rattle.ir_machine.specs.Registers.{Held, Registers, no_registers, read, set, holding, held_at, atom_value}
@@ -30,7 +32,7 @@ use Rattle.ir_machine.proofs.InKind.{phis_in_kind, no_registers_in_kind}
 use Rattle.erhl_assert.specs.declared.facts.Fact.{Fact}
 use Rattle.erhl_assert.specs.declared.facts.Fact.TheVariants.{LessDef}
 use Rattle.erhl_assert.specs.declared.facts.Assertion.{Assertion}
-use Rattle.erhl_assert.specs.Sides.{SideState, IsSideInKind, IsRelated, read_reg, worth, has_reg, AreRelated}
+use Rattle.erhl_assert.specs.Sides.{SideState, IsSideInKind, read_reg, worth, has_reg, AreRelated, RegisterFiles, no_ghost}
 use Rattle.erhl_assert.specs.Facts.{Holds, AssertionHolds, with_facts, fact_has, without, each_once}
 use Rattle.erhl_assert.specs.Edges.{Edge, is_old, old_of, as_old, without_old, sets, is_of_phi, register_at, phi_fact, phi_facts, facts_over, phi_setting, entries_match, phis_match, is_alike, phi_registers, old_too, diff_over, after_edge}
 use Rattle.erhl_assert.specs.Steps.{Beside, first_missing}
@@ -41,13 +43,13 @@ use Rattle.erhl_soundness.proofs.Matched.{atoms_matched_related}
 use Rattle.erhl_soundness.proofs.Related.{held_related}
 use Rattle.erhl_soundness.proofs.Outside.{outside_filter}
 use Rattle.erhl_soundness.proofs.Definitions.{ArePhisDefined, phis_defined, none_defined}
-use Rattle.erhl_soundness.proofs.Standing.{Files, side, Stand, register_worth}
+use Rattle.erhl_soundness.proofs.Standing.{side, Stand, register_worth}
 
 -- the state whose old registers are those that it has now
 abbrev renewed : SideState → SideState
-renewed here = record here { old = here.now }
+renewed here = record here { files = record here.files { old = here.files.now } }
 
-abbrev stays_there : (before : SideState) (now old ghost : Registers) → StaysThere before (record before { now = now; old = old; ghost = ghost })
+abbrev stays_there : (before : SideState) (now old ghost : Registers) → StaysThere before (record before { files = record { now = now; old = old; ghost = ghost } })
 stays_there before now old ghost = record { scope = refl; world = refl }
 
 -- ---- facts and their copies
@@ -87,8 +89,8 @@ module _ (here : SideState) where
       → AllByRecursion (Holds there) (with_facts (map as_old (without is_old fs)) (without is_old fs))
   copied_hold fs all =
       with_facts_hold there (map as_old (without is_old fs)) (without is_old fs)
-      (copies_hold (without is_old fs) (without_names_none is_old fs) (without_holds is_old here here (stays_there here here.now here.old here.ghost) (λ k r h. refl) fs all))
-      (without_holds is_old here there (stays_there here here.now here.now here.ghost) not_old fs all)
+      (copies_hold (without is_old fs) (without_names_none is_old fs) (without_holds is_old here here (stays_there here here.files.now here.files.old here.files.ghost) (λ k r h. refl) fs all))
+      (without_holds is_old here there (stays_there here here.files.now here.files.now here.files.ghost) not_old fs all)
 
 -- ---- phis that are apart
 
@@ -165,22 +167,22 @@ all_joined P (x ∷ xs) ys p q = (p.0, all_joined P xs ys p.1 q)
 -- ---- facts of phis, on one side
 module _ (from : Name) (before : SideState) where
   not_of_phi : (ps : List Phi) (k : Kind) (r : Reg) → is_of_phi ps r ≡ false → read_reg (crossed from ps before) k r ≡ read_reg (renewed before) k r
-  not_of_phi ps k (Now x) h = ap (held_at k) (unset_by_phis before.scope from before.now x ps before.now h)
+  not_of_phi ps k (Now x) h = ap (held_at k) (unset_by_phis before.scope from before.files.now x ps before.files.now h)
   not_of_phi ps k (Old x) h = refl
   not_of_phi ps k (Ghost x) h = refl
 
   phi_fact_holds : (ps : List Phi) (p : Phi) (o : Option Entry)
-      → with_phis before.scope before.now from ps before.now p.name ≡ holding (kind_of p.ty) (entry_value before.scope before.now p.ty o)
+      → with_phis before.scope before.files.now from ps before.files.now p.name ≡ holding (kind_of p.ty) (entry_value before.scope before.files.now p.ty o)
       → AllByRecursion (Holds (crossed from ps before)) (phi_fact p o)
   phi_fact_holds ps p None is = tt
   phi_fact_holds ps p (Some e) is =
       let s = crossed from ps before in
-      let v = atom_value before.scope (read before.now) p.ty e.value in
+      let v = atom_value before.scope (read before.files.now) p.ty e.value in
       both_ways_hold s (register_at p.ty (Now p.name)) (Plain (record { ty = p.ty; atom = map_atom Old e.value })) v refl
-      (register_worth (read_reg s) (Now p.name) v s.scope s.world.memory p.ty (λ k. ap (held_at k) is) (atom_of_none before.scope (read before.now) p.ty e.value))
+      (register_worth (read_reg s) (Now p.name) v s.scope s.world.memory p.ty (λ k. ap (held_at k) is) (atom_of_none before.scope (read before.files.now) p.ty e.value))
       (ap Gives (atom_mapped s.scope Old (read_reg s) p.ty e.value))
 
-  phi_facts_hold : (ps qs : List Phi) → AllByRecursion (λ (p : Phi). with_phis before.scope before.now from ps before.now p.name ≡ phi_holds before.scope from before.now p) qs
+  phi_facts_hold : (ps qs : List Phi) → AllByRecursion (λ (p : Phi). with_phis before.scope before.files.now from ps before.files.now p.name ≡ phi_holds before.scope from before.files.now p) qs
       → AllByRecursion (Holds (crossed from ps before)) (phi_facts from qs)
   phi_facts_hold ps [] set = tt
   phi_facts_hold ps (p ∷ qs) set =
@@ -193,7 +195,7 @@ module _ (from : Name) (before : SideState) where
       let kept = without is_old fs in
       let copied = with_facts (map as_old kept) kept in
       with_facts_hold (crossed from ps before) (phi_facts from ps) (without (is_of_phi ps) copied)
-      (phi_facts_hold ps ps (all_set before.scope from before.now ps before.now apart))
+      (phi_facts_hold ps ps (all_set before.scope from before.files.now ps before.files.now apart))
       (without_holds (is_of_phi ps) (renewed before) (crossed from ps before) (record { scope = refl; world = refl }) (not_of_phi ps) copied (copied_hold before fs all))
 
 -- ---- registers that may differ
@@ -216,7 +218,7 @@ unnamed x (p ∷ ps) h =
     let parts = or_parts (same_name x p.name) (has_reg (Now x) (phi_registers ps)) h in
     or_from (same_name p.name x) (list_any (sets x) ps) (same_name_apart x p.name parts.0) (unnamed x ps parts.1)
 
-module _ (known : Assertion) (e : Edge) (source target : SideState) (scopes : source.scope ≡ target.scope) (holds : AssertionHolds known source target)
+module _ (known : Assertion) (e : Edge) (source target : SideState) (scopes : source.scope ≡ target.scope) (holds : AssertionHolds nat_eq no_ghost known source target)
     (source_apart : NoneAgain e.source) (target_apart : NoneAgain e.target) where
   abbrev kept : List Reg
   kept = filter (λ r. not (is_old r)) known.diff
@@ -241,14 +243,16 @@ module _ (known : Assertion) (e : Edge) (source target : SideState) (scopes : so
   was_outside x h = outside_filter (λ r. not (is_old r)) (Now x) known.diff refl h
 
   entries_related : (t : Ty) (o p : Option Entry) → entries_match known t o p ≡ true
-      → IsRelated (entry_value source.scope source.now t o) (entry_value target.scope target.now t p)
+      → IsRelated nat_eq (entry_value source.scope source.files.now t o) (entry_value target.scope target.files.now t p)
   entries_related t None p h = absurd (false≢true h)
   entries_related t (Some d) None h = absurd (false≢true h)
-  entries_related t (Some d) (Some f) h = atoms_matched_related known source target scopes holds t d.value t f.value h
+  entries_related t (Some d) (Some f) h =
+      less_related (entry_value source.scope source.files.now t (Some d)) (entry_value target.scope target.files.now t (Some f))
+      (atoms_matched_related known source target scopes holds t d.value t f.value h)
 
   phis_related : (k : Kind) (x : Name) (o u : Option Phi) → phi_setting x e.source ≡ o → phi_setting x e.target ≡ u
       → phis_match known e.from o u ≡ true
-      → IsRelated (read (with_phis source.scope source.now e.from e.source source.now) k x) (read (with_phis target.scope target.now e.from e.target target.now) k x)
+      → IsRelated nat_eq (read (with_phis source.scope source.files.now e.from e.source source.files.now) k x) (read (with_phis target.scope target.files.now e.from e.target target.files.now) k x)
   phis_related k x None u is_p is_q h = absurd (false≢true h)
   phis_related k x (Some p) None is_p is_q h = absurd (false≢true h)
   phis_related k x (Some p) (Some q) is_p is_q h =
@@ -256,18 +260,18 @@ module _ (known : Assertion) (e : Edge) (source target : SideState) (scopes : so
       let of_q = entry_from e.from q.entries in
       let types : p.ty ≡ q.ty = same_ty_true p.ty q.ty (left_true (same_ty p.ty q.ty) (entries_match known p.ty of_p of_q) h) in
       let related = entries_related p.ty of_p of_q (right_true (same_ty p.ty q.ty) (entries_match known p.ty of_p of_q) h) in
-      let both : IsRelated (held_at k (phi_holds source.scope e.from source.now p)) (held_at k (phi_holds target.scope e.from target.now q)) =
-      subst (λ t. IsRelated (held_at k (phi_holds source.scope e.from source.now p)) (held_at k (holding (kind_of t) (entry_value target.scope target.now t of_q)))) types
-      (held_related (kind_of p.ty) k (entry_value source.scope source.now p.ty of_p) (entry_value target.scope target.now p.ty of_q) related) in
-      subst₂ IsRelated (sym (ap (held_at k) (set_by_found source.scope e.from source.now x p e.source source.now source_apart is_p)))
-      (sym (ap (held_at k) (set_by_found target.scope e.from target.now x q e.target target.now target_apart is_q))) both
+      let both : IsRelated nat_eq (held_at k (phi_holds source.scope e.from source.files.now p)) (held_at k (phi_holds target.scope e.from target.files.now q)) =
+      subst (λ t. IsRelated nat_eq (held_at k (phi_holds source.scope e.from source.files.now p)) (held_at k (holding (kind_of t) (entry_value target.scope target.files.now t of_q)))) types
+      (held_related (kind_of p.ty) k (entry_value source.scope source.files.now p.ty of_p) (entry_value target.scope target.files.now p.ty of_q) related) in
+      subst₂ (IsRelated nat_eq) (sym (ap (held_at k) (set_by_found source.scope e.from source.files.now x p e.source source.files.now source_apart is_p)))
+      (sym (ap (held_at k) (set_by_found target.scope e.from target.files.now x q e.target target.files.now target_apart is_q))) both
 
-  related_over : AreRelated (diff_over e known) (crossed e.from e.source source) (crossed e.from e.target target)
+  related_over : AreRelated nat_eq no_ghost (diff_over e known) (crossed e.from e.source source) (crossed e.from e.target target)
   related_over = record { outside = outside; ghosts = holds.related.ghosts }
     where
       outside : (r : Reg) (k : Kind) → has_reg r (diff_over e known) ≡ false
-          → IsRelated (read_reg (crossed e.from e.source source) k r) (read_reg (crossed e.from e.target target) k r)
-      outside (Ghost g) k out = holds.related.ghosts g k
+          → IsRelated nat_eq (read_reg (crossed e.from e.source source) k r) (read_reg (crossed e.from e.target target) k r)
+      outside (Ghost g) k out = holds.related.ghosts g k refl
       outside (Old x) k out =
           let parts = parts_of (Old x) (outside_filter (λ r. not (is_alike known e r)) (Old x) all_of refl out) in
           holds.related.outside (Now x) k (was_outside x (old_mapped x kept parts.1))
@@ -275,13 +279,13 @@ module _ (known : Assertion) (e : Edge) (source target : SideState) (scopes : so
           (λ h. phis_related k x (phi_setting x e.source) (phi_setting x e.target) refl refl h)
           (λ h.
           let parts = parts_of (Now x) (outside_filter (λ r. not (is_alike known e r)) (Now x) all_of (not_from_false (is_alike known e (Now x)) h) out) in
-          subst₂ IsRelated
-          (sym (ap (held_at k) (unset_by_phis source.scope e.from source.now x e.source source.now (unnamed x e.source parts.2))))
-          (sym (ap (held_at k) (unset_by_phis target.scope e.from target.now x e.target target.now (unnamed x e.target parts.3))))
+          subst₂ (IsRelated nat_eq)
+          (sym (ap (held_at k) (unset_by_phis source.scope e.from source.files.now x e.source source.files.now (unnamed x e.source parts.2))))
+          (sym (ap (held_at k) (unset_by_phis target.scope e.from target.files.now x e.target target.files.now (unnamed x e.target parts.3))))
           (holds.related.outside (Now x) k (was_outside x parts.0)))
           (cases_Bool (is_alike known e (Now x)))
 
-  pub edge_holds : AssertionHolds (after_edge known e) (crossed e.from e.source source) (crossed e.from e.target target)
+  pub edge_holds : AssertionHolds nat_eq no_ghost (after_edge known e) (crossed e.from e.source source) (crossed e.from e.target target)
   edge_holds = record {
     source_facts = facts_over_hold e.from source e.source known.src source_apart holds.source_facts;
     target_facts = facts_over_hold e.from target e.target known.tgt target_apart holds.target_facts;
@@ -296,59 +300,60 @@ edge_keeps known e source target scopes source_apart target_apart holds =
 -- ---- the invariant over an edge
 
 -- the registers of a side behind phis
-abbrev pub jumped : Scope → Name → List Phi → Files → Files
+abbrev pub jumped : Scope → Name → List Phi → RegisterFiles → RegisterFiles
 jumped scope from ps a = record { now = with_phis scope a.now from ps a.now; old = a.now; ghost = a.ghost }
 
-jumped_in_kind : (scope : Scope) (world : World) (from : Name) (ps : List Phi) (a : Files) → IsSideInKind (side scope world a)
-    → IsSideInKind (side scope world (jumped scope from ps a))
-jumped_in_kind scope world from ps a h = record { now = phis_in_kind scope a.now from ps a.now h.now h.now; old = h.now; ghost = h.ghost; bytes = h.bytes }
+jumped_in_kind : (scope : Scope) (own : List ℕ) (world : World) (from : Name) (ps : List Phi) (a : RegisterFiles) → IsSideInKind (side scope own world a)
+    → IsSideInKind (side scope own world (jumped scope from ps a))
+jumped_in_kind scope own world from ps a h = record { now = phis_in_kind scope a.now from ps a.now h.now h.now; old = h.now; ghost = h.ghost; bytes = h.bytes }
 
-pub edge_stands : (w : Beside) (world : World) (known : Assertion) (e : Edge) (a b : Files) → Stand w world known a b → NoneAgain e.source → NoneAgain e.target → ArePhisDefined w.source e.source
-    → Stand w world (after_edge known e) (jumped w.scope e.from e.source a) (jumped w.scope e.from e.target b)
-edge_stands w world known e a b stand source_apart target_apart defined = record {
-  source_in_kind = jumped_in_kind w.scope world e.from e.source a stand.source_in_kind;
-  target_in_kind = jumped_in_kind w.scope world e.from e.target b stand.target_in_kind;
+pub edge_stands : (w : Beside) (own : List ℕ) (world : World) (known : Assertion) (e : Edge) (a b : RegisterFiles) → Stand w own world known a b
+    → NoneAgain e.source → NoneAgain e.target → ArePhisDefined w.source e.source
+    → Stand w own world (after_edge known e) (jumped w.scope e.from e.source a) (jumped w.scope e.from e.target b)
+edge_stands w own world known e a b stand source_apart target_apart defined = record {
+  source_in_kind = jumped_in_kind w.scope own world e.from e.source a stand.source_in_kind;
+  target_in_kind = jumped_in_kind w.scope own world e.from e.target b stand.target_in_kind;
   now_defined = phis_defined w.source w.scope e.from e.source a.now a.now defined stand.now_defined;
   old_defined = stand.now_defined;
-  holds = edge_holds known e (side w.scope world a) (side w.scope world b) refl stand.holds source_apart target_apart;
+  holds = edge_holds known e (side w.scope own world a) (side w.scope own world b) refl stand.holds source_apart target_apart;
 }
 
 -- where a block begins old registers are forgotten
-abbrev pub forgotten : Files → Files
+abbrev pub forgotten : RegisterFiles → RegisterFiles
 forgotten a = record a { old = no_registers }
 
-module _ (scope : Scope) (world : World) (a : Files) where
-  forgets : (k : Kind) (r : Reg) → is_old r ≡ false → read_reg (side scope world (forgotten a)) k r ≡ read_reg (side scope world a) k r
+module _ (scope : Scope) (own : List ℕ) (world : World) (a : RegisterFiles) where
+  forgets : (k : Kind) (r : Reg) → is_old r ≡ false → read_reg (side scope own world (forgotten a)) k r ≡ read_reg (side scope own world a) k r
   forgets k (Now x) h = refl
   forgets k (Old x) h = absurd (false≢true (sym h))
   forgets k (Ghost x) h = refl
 
-  forgotten_facts : (fs : List Fact) → AllByRecursion (Holds (side scope world a)) fs → AllByRecursion (Holds (side scope world (forgotten a))) (without is_old fs)
-  forgotten_facts fs all = without_holds is_old (side scope world a) (side scope world (forgotten a)) (record { scope = refl; world = refl }) forgets fs all
+  forgotten_facts : (fs : List Fact) → AllByRecursion (Holds (side scope own world a)) fs → AllByRecursion (Holds (side scope own world (forgotten a))) (without is_old fs)
+  forgotten_facts fs all = without_holds is_old (side scope own world a) (side scope own world (forgotten a)) (record { scope = refl; world = refl }) forgets fs all
 
-  forgotten_in_kind : IsSideInKind (side scope world a) → IsSideInKind (side scope world (forgotten a))
+  forgotten_in_kind : IsSideInKind (side scope own world a) → IsSideInKind (side scope own world (forgotten a))
   forgotten_in_kind h = record { now = h.now; old = no_registers_in_kind; ghost = h.ghost; bytes = h.bytes }
 
 -- What the hint claims at a block's start, where it is known on the edge, and no other registers than it says may differ, but for old ones.
-pub arrives : (w : Beside) (world : World) (known wanted : Assertion) (a b : Files) → Stand w world known a b
+pub arrives : (w : Beside) (own : List ℕ) (world : World) (known wanted : Assertion) (a b : RegisterFiles) → Stand w own world known a b
     → first_missing (without_old known).src wanted.src ≡ None → first_missing (without_old known).tgt wanted.tgt ≡ None
     → ((r : Reg) → is_old r ≡ false → has_reg r wanted.diff ≡ false → has_reg r known.diff ≡ false)
-    → Stand w world (each_once wanted) (forgotten a) (forgotten b)
-arrives w world known wanted a b stand in_src in_tgt inside = record {
-  source_in_kind = forgotten_in_kind w.scope world a stand.source_in_kind;
-  target_in_kind = forgotten_in_kind w.scope world b stand.target_in_kind;
+    → Stand w own world (each_once wanted) (forgotten a) (forgotten b)
+arrives w own world known wanted a b stand in_src in_tgt inside = record {
+  source_in_kind = forgotten_in_kind w.scope own world a stand.source_in_kind;
+  target_in_kind = forgotten_in_kind w.scope own world b stand.target_in_kind;
   now_defined = stand.now_defined;
   old_defined = none_defined w.source;
   holds = record {
-    source_facts = with_facts_hold (side w.scope world (forgotten a)) wanted.src []
-        (premises_hold (side w.scope world (forgotten a)) (without is_old known.src) wanted.src (forgotten_facts w.scope world a known.src stand.holds.source_facts) in_src) tt;
-    target_facts = with_facts_hold (side w.scope world (forgotten b)) wanted.tgt []
-        (premises_hold (side w.scope world (forgotten b)) (without is_old known.tgt) wanted.tgt (forgotten_facts w.scope world b known.tgt stand.holds.target_facts) in_tgt) tt;
+    source_facts = with_facts_hold (side w.scope own world (forgotten a)) wanted.src []
+        (premises_hold (side w.scope own world (forgotten a)) (without is_old known.src) wanted.src (forgotten_facts w.scope own world a known.src stand.holds.source_facts) in_src) tt;
+    target_facts = with_facts_hold (side w.scope own world (forgotten b)) wanted.tgt []
+        (premises_hold (side w.scope own world (forgotten b)) (without is_old known.tgt) wanted.tgt (forgotten_facts w.scope own world b known.tgt stand.holds.target_facts) in_tgt) tt;
     related = record { outside = outside; ghosts = stand.holds.related.ghosts };
   };
 }
   where
-    outside : (r : Reg) (k : Kind) → has_reg r wanted.diff ≡ false → IsRelated (read_reg (side w.scope world (forgotten a)) k r) (read_reg (side w.scope world (forgotten b)) k r)
+    outside : (r : Reg) (k : Kind) → has_reg r wanted.diff ≡ false → IsRelated nat_eq (read_reg (side w.scope own world (forgotten a)) k r) (read_reg (side w.scope own world (forgotten b)) k r)
     outside (Now x) k out = stand.holds.related.outside (Now x) k (inside (Now x) refl out)
     outside (Old x) k out = tt
-    outside (Ghost x) k out = stand.holds.related.ghosts x k
+    outside (Ghost x) k out = stand.holds.related.ghosts x k refl

@@ -18,6 +18,7 @@ mod Moves
 mod Returning
 mod Terms
 mod Reached
+mod Entering
 mod Starts
 mod Modules
 mod Bounding

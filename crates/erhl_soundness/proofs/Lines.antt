@@ -26,16 +26,16 @@ use Rattle.erhl_soundness.proofs.Facts.{StaysThere, worth_kept, without_holds, w
 
 -- what a right side gives over the registers of a side
 abbrev pub gives_on : SideState → Expr Name → Outcome
-gives_on side e = outcome side.scope (read side.now) side.world.memory e
+gives_on side e = outcome side.scope (read side.files.now) side.world.memory e
 
 -- a side of which a register is set: old and ghost registers stay
 abbrev pub set_now : SideState → Name → Option Kind → Value → SideState
-set_now side x o v = record side { now = set side.now x o v }
+set_now side x o v = record side { files = record side.files { now = set side.files.now x o v } }
 
 -- every other register reads as before
 pub read_reg_other : (side : SideState) (x : Name) (o : Option Kind) (v : Value) (k : Kind) (r : Reg) → same_reg (reg.Now x) r ≡ false
     → read_reg (set_now side x o v) k r ≡ read_reg side k r
-read_reg_other side x o v k (reg.Now y) h = read_set_other side.now x y o k v h
+read_reg_other side x o v k (reg.Now y) h = read_set_other side.files.now x y o k v h
 read_reg_other side x o v k (reg.Old y) h = refl
 read_reg_other side x o v k (reg.Ghost y) h = refl
 
@@ -50,11 +50,11 @@ stays_there side x o v = record { scope = refl; world = refl }
 module _ (side : SideState) (l : Calm) (v : Value) (gives : gives_on side l.right ≡ Gives v) where
   -- at a type without values it gave poison
   poison_of_none : kind_of (type_of l.right) ≡ None → v ≡ Poison
-  poison_of_none h = let same : Gives v ≡ Gives Poison = sym gives ∙ poison_without_kind side.scope (read side.now) side.world.memory l.right h in cc
+  poison_of_none h = let same : Gives v ≡ Gives Poison = sym gives ∙ poison_without_kind side.scope (read side.files.now) side.world.memory l.right h in cc
 
   reads_back : (o : Option Kind) → (o ≡ None → v ≡ Poison) → register_value (read_reg (set_now side l.name o v)) o (reg.Now l.name) ≡ v
   reads_back None h = sym (h refl)
-  reads_back (Some k) h = read_set_same side.now l.name k v
+  reads_back (Some k) h = read_set_same side.files.now l.name k v
 
   -- the register of the line holds that value
   pub register_gives : worth (side_after side l v) (left_side l) ≡ Gives v

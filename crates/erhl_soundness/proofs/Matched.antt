@@ -1,5 +1,5 @@
 -- What is matched has related values on the source and the target.
-use Rattle.std.proofs.Common.{◌≡◌, Bool, true, false, ◌&&◌, not, List, [], ◌∷◌, Option, None, Some, sym, ap, subst, subst₂, ⊎_elim}
+use Rattle.std.proofs.Common.{◌≡◌, Bool, true, false, ◌&&◌, not, List, [], ◌∷◌, Option, None, Some, sym, ap, subst, subst₂, ⊎_elim, nat_eq}
 use Rattle.std.specs.List.{list_any, AllByRecursion}
 use Rattle.std.proofs.lemmas.Bool.{false≢true, not-true, or_cases}
 use Rattle.ir_types.specs.declared.names.Name.{Name}
@@ -25,10 +25,11 @@ use Rattle.ir_machine.specs.Registers.{read, constant_at, register_value, atom_v
 use Rattle.erhl_assert.specs.declared.facts.Fact.{Fact}
 use Rattle.erhl_assert.specs.declared.facts.Fact.TheVariants.{LessDef}
 use Rattle.erhl_assert.specs.declared.facts.Assertion.{Assertion}
-use Rattle.erhl_assert.specs.Sides.{SideState, IsRelated, read_reg, has_reg, AreRelated}
+use Rattle.erhl_assert.specs.Sides.{SideState, read_reg, has_reg, AreRelated, no_ghost}
 use Rattle.erhl_assert.specs.Facts.{Holds, AssertionHolds}
 use Rattle.erhl_assert.specs.Matched.{now_operand, from_fact, into_fact, some_from, some_into, is_kind, meet_at, meet, matched_at, matched_reg, matched, atoms_matched}
 use Rattle.ir_values.proofs.OperationLaws.{less_defined_refl, less_defined_trans}
+use Rattle.ir_values.proofs.RelatedValues.{related_less}
 use Rattle.erhl_soundness.proofs.Readings.{atom_mapped}
 
 abbrev pub value_on : SideState → Operand Reg → Value
@@ -79,24 +80,24 @@ is_kind_true None k h = absurd (false≢true h)
 is_kind_true (Some j) k h = ap Some (same_kind_true j k h)
 
 -- where two sides are of modules with the same types and globals
-module _ (diff : List Reg) (source target : SideState) (scopes : source.scope ≡ target.scope) (related : AreRelated diff source target) where
+module _ (diff : List Reg) (source target : SideState) (scopes : source.scope ≡ target.scope) (related : AreRelated nat_eq no_ghost diff source target) where
   meet_at_related : (k : Kind) (c d : Operand Reg) (x y : Atom Reg) → kind_of c.ty ≡ Some k → kind_of d.ty ≡ Some k
-      → meet_at diff c d x y ≡ true → IsRelated (atom_value source.scope (read_reg source) c.ty x) (atom_value target.scope (read_reg target) d.ty y)
+      → meet_at diff c d x y ≡ true → IsLessDefined (atom_value source.scope (read_reg source) c.ty x) (atom_value target.scope (read_reg target) d.ty y)
   meet_at_related k c d (atom.Constant m) (atom.Constant n) of_c of_d h =
       let types = same_ty_true c.ty d.ty (left_true (same_ty c.ty d.ty) (same_const m n) h) in
       let same = same_const_true m n (right_true (same_ty c.ty d.ty) (same_const m n) h) in
       let value = constant_at source.scope c.ty (kind_of c.ty) m in
-      subst (λ s. IsRelated value (constant_at s d.ty (kind_of d.ty) n)) scopes
-      (subst₂ (λ t i. IsRelated value (constant_at source.scope t (kind_of t) i)) types same (less_defined_refl value))
+      subst (λ s. IsLessDefined value (constant_at s d.ty (kind_of d.ty) n)) scopes
+      (subst₂ (λ t i. IsLessDefined value (constant_at source.scope t (kind_of t) i)) types same (less_defined_refl value))
   meet_at_related k c d (atom.Register x) (atom.Register y) of_c of_d h =
       let same = same_reg_true x y (left_true (same_reg x y) (not (has_reg x diff)) h) in
       let free = not-true (has_reg x diff) (right_true (same_reg x y) (not (has_reg x diff)) h) in
-      subst₂ (λ i j. IsRelated (register_value (read_reg source) i x) (register_value (read_reg target) j y)) (sym of_c) (sym of_d)
-      (subst (λ r. IsRelated (read_reg source k x) (read_reg target k r)) same (related.outside x k free))
+      subst₂ (λ i j. IsLessDefined (register_value (read_reg source) i x) (register_value (read_reg target) j y)) (sym of_c) (sym of_d)
+      (subst (λ r. IsLessDefined (read_reg source k x) (read_reg target k r)) same (related_less (read_reg source k x) (read_reg target k x) (related.outside x k free)))
   meet_at_related k c d (atom.Constant m) (atom.Register y) of_c of_d h = absurd (false≢true h)
   meet_at_related k c d (atom.Register x) (atom.Constant n) of_c of_d h = absurd (false≢true h)
 
-  meet_related : (k : Kind) (c d : Operand Reg) → meet diff k c d ≡ true → IsRelated (value_on source c) (value_on target d)
+  meet_related : (k : Kind) (c d : Operand Reg) → meet diff k c d ≡ true → IsLessDefined (value_on source c) (value_on target d)
   meet_related k c d h =
       let at = meet_at diff c d c.atom d.atom in
       let kinds = left_true (is_kind (kind_of c.ty) k && is_kind (kind_of d.ty) k) at h in
@@ -105,11 +106,11 @@ module _ (diff : List Reg) (source target : SideState) (scopes : source.scope �
       meet_at_related k c d c.atom d.atom of_c of_d (right_true (is_kind (kind_of c.ty) k && is_kind (kind_of d.ty) k) at h)
 
 -- less defined on the source, related, less defined on the target
-between : (a c d b : Value) → IsLessDefined a c → IsRelated c d → IsLessDefined d b → IsRelated a b
+between : (a c d b : Value) → IsLessDefined a c → IsLessDefined c d → IsLessDefined d b → IsLessDefined a b
 between a c d b first middle last = less_defined_trans a c b first (less_defined_trans c d b middle last)
 
-matched_at_related : (known : Assertion) (source target : SideState) → source.scope ≡ target.scope → AssertionHolds known source target → (o : Option Kind) (a b : Operand Reg)
-    → matched_at known o a b ≡ true → IsRelated (value_on source a) (value_on target b)
+matched_at_related : (known : Assertion) (source target : SideState) → source.scope ≡ target.scope → AssertionHolds nat_eq no_ghost known source target → (o : Option Kind) (a b : Operand Reg)
+    → matched_at known o a b ≡ true → IsLessDefined (value_on source a) (value_on target b)
 matched_at_related known source target scopes holds None a b h = absurd (false≢true h)
 matched_at_related known source target scopes holds (Some k) a b h =
     let through = λ (c : Operand Reg). some_into (λ d. meet known.diff k c d) b known.tgt in
@@ -119,21 +120,21 @@ matched_at_related known source target scopes holds (Some k) a b h =
     between (value_on source a) (value_on source found.0) (value_on target back.0) (value_on target b) found.2
     (meet_related known.diff source target scopes holds.related k found.0 back.0 back.1) back.2
 
-pub matched_reg_related : (known : Assertion) (source target : SideState) → source.scope ≡ target.scope → AssertionHolds known source target → (a b : Operand Reg)
-    → matched_reg known a b ≡ true → IsRelated (value_on source a) (value_on target b)
+pub matched_reg_related : (known : Assertion) (source target : SideState) → source.scope ≡ target.scope → AssertionHolds nat_eq no_ghost known source target → (a b : Operand Reg)
+    → matched_reg known a b ≡ true → IsLessDefined (value_on source a) (value_on target b)
 matched_reg_related known source target scopes holds a b h =
     matched_at_related known source target scopes holds (kind_of a.ty) a b (right_true (same_ty a.ty b.ty) (matched_at known (kind_of a.ty) a b) h)
 
 -- the operands of two functions
-module _ (known : Assertion) (source target : SideState) (scopes : source.scope ≡ target.scope) (holds : AssertionHolds known source target) where
+module _ (known : Assertion) (source target : SideState) (scopes : source.scope ≡ target.scope) (holds : AssertionHolds nat_eq no_ghost known source target) where
   pub matched_related : (a b : Operand Name) → matched known a b ≡ true
-      → IsRelated (operand_value source.scope (read source.now) a) (operand_value target.scope (read target.now) b)
+      → IsLessDefined (operand_value source.scope (read source.files.now) a) (operand_value target.scope (read target.files.now) b)
   matched_related a b h =
-      subst₂ IsRelated (atom_mapped source.scope Now (read_reg source) a.ty a.atom) (atom_mapped target.scope Now (read_reg target) b.ty b.atom)
+      subst₂ IsLessDefined (atom_mapped source.scope Now (read_reg source) a.ty a.atom) (atom_mapped target.scope Now (read_reg target) b.ty b.atom)
       (matched_reg_related known source target scopes holds (now_operand a) (now_operand b) h)
 
   pub atoms_matched_related : (s : Ty) (a : Atom Name) (t : Ty) (b : Atom Name) → atoms_matched known s a t b ≡ true
-      → IsRelated (atom_value source.scope (read source.now) s a) (atom_value target.scope (read target.now) t b)
+      → IsLessDefined (atom_value source.scope (read source.files.now) s a) (atom_value target.scope (read target.files.now) t b)
   atoms_matched_related s a t b h = matched_related (record { ty = s; atom = a }) (record { ty = t; atom = b }) h
 
 pub matched_type : (known : Assertion) (a b : Operand Name) → matched known a b ≡ true → a.ty ≡ b.ty

@@ -9,9 +9,10 @@ use Rattle.ir_values.specs.Constants.{Scope}
 use Rattle.ir_types.specs.Same.{same_list, same_name, same_ty}
 use Rattle.ir_types.specs.NameLaws.{left_true, same_name_true}
 use Rattle.ir_machine.specs.declared.items.Item.{Item}
-use Rattle.ir_machine.specs.declared.items.Input.{Input}
-use Rattle.ir_machine.specs.State.{no_world, scope_of, State}
-use Rattle.ir_machine.specs.Machine.{Follows, asks, started, start, function_named, ShowsFrom}
+use Rattle.ir_machine.specs.declared.inputs.Input.{Input}
+use Rattle.ir_machine.specs.State.{scope_of, State}
+use Rattle.ir_machine.specs.Machine.{Follows, asks, function_named, ShowsFrom}
+use Rattle.ir_machine.specs.Starting.{started, start}
 use Rattle.ir_machine.specs.Refinement.{MayShowFrom}
 use Rattle.erhl_assert.specs.declared.hints.Hint.{Hint}
 use Rattle.erhl_assert.specs.Steps.{Rules, AreSound, beside}
@@ -70,9 +71,11 @@ module _ (rules : Rules) (sound : AreSound rules) (scope : Scope) (source target
       (cases_Bool (same_name f.name x))
 
   starts : (o p : Option Function) (input : Input) → AreOneName o p
-      → AreStartsRelated rules scope (option_and_then (λ f. started no_world f input) o) (option_and_then (λ g. started no_world g input) p)
+      → AreStartsRelated rules scope (option_and_then (λ f. started (scope_of source) f input) o) (option_and_then (λ g. started (scope_of target) g input) p)
   starts None None input h = tt
-  starts (Some f) (Some g) input h = accepted_start (beside rules scope f g h.0.0) no_world tt h.0.1 h.1 h.2 input
+  starts (Some f) (Some g) input h =
+      subst₂ (λ s t. AreStartsRelated rules scope (started s f input) (started t g input)) (sym of_source) (sym of_target)
+      (accepted_start (beside rules scope f g h.0.0) h.0.1 h.1 h.2 input)
   starts None (Some g) input h = absurd h
   starts (Some f) None input h = absurd h
 

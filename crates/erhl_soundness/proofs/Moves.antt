@@ -1,5 +1,5 @@
 -- Related states make related moves: over aligned lines.
-use Rattle.std.proofs.Common.{◌≡◌, inl, inr, ℕ, suc, ◌+◌, List, [], ◌∷◌, Option, None, Some, refl, sym, ap, ◌∙◌, subst, subst₂, Bool}
+use Rattle.std.proofs.Common.{◌≡◌, inl, inr, ℕ, suc, ◌+◌, List, [], ◌∷◌, Option, None, Some, refl, sym, subst, subst₂, Bool}
 use Rattle.ir_types.specs.declared.names.Name.{Name}
 use Rattle.ir_core.specs.declared.functions.Calm.{Calm}
 use Rattle.ir_core.specs.declared.functions.Instr.{Instr}
@@ -14,10 +14,10 @@ use Rattle.ir_values.specs.declared.operations.Outcome.TheVariants.{Gives, Trap}
 use Rattle.ir_values.specs.Operations.{GivesInKind}
 use Rattle.ir_machine.specs.declared.items.Item.TheVariants.{Wrong}
 use Rattle.ir_values.specs.Constants.{Scope}
-use Rattle.ir_machine.specs.Registers.{Registers, read}
+use Rattle.ir_machine.specs.Registers.{Registers, AreInKind, read}
 use Rattle.ir_machine.specs.State.{scope_of, World, State, Over}
-use Rattle.ir_machine.specs.Machine.{Does, wrong, Made, Follows, asks, line_step}
-use Rattle.ir_machine.proofs.InKind.{EntersInKind, outcome_in_kind}
+use Rattle.ir_machine.specs.Machine.{Does, wrong, Made, Follows, asks}
+use Rattle.ir_machine.proofs.InKind.{outcome_in_kind}
 use Rattle.ir_machine.proofs.Runs.{set_in_kind}
 use Rattle.erhl_assert.specs.declared.facts.Assertion.{Assertion}
 use Rattle.erhl_assert.specs.Alignment.{Line, AlignedBlock}
@@ -27,11 +27,11 @@ use Rattle.erhl_assert.specs.Course.{IsGood}
 use Rattle.erhl_assert.specs.Steps.{Beside, AreSound, steps_at}
 use Rattle.erhl_assert.specs.Acceptance.{hint_of_block, lines_judged}
 use Rattle.erhl_soundness.specs.Laws.{goes_on, LineLeads, Keeps}
-use Rattle.erhl_assert.specs.Sides.{SideState, IsSideInKind}
+use Rattle.erhl_assert.specs.Sides.{SideState, IsSideInKind, RegisterFiles}
 use Rattle.erhl_soundness.proofs.Lines.{gives_on}
 use Rattle.erhl_soundness.proofs.Related.{set_by, registers_after, leads_so, source_may, target_may, keeps_so}
 use Rattle.erhl_soundness.proofs.Definitions.{AreDefined, IsLineDefined, AreLinesDefined, set_defined}
-use Rattle.erhl_soundness.proofs.Standing.{Files, side, Stand, with_now, with_ghost}
+use Rattle.erhl_soundness.proofs.Standing.{side, Stand, with_now, with_ghost}
 use Rattle.erhl_soundness.proofs.Steps.{steps_lead}
 use Rattle.erhl_soundness.proofs.Judging.{line_good}
 use Rattle.erhl_soundness.proofs.Relation.{Marked, mark_of, with_line, source_lines, target_lines, own_before, own_lines, frame_of, running, LeadsOn, IsPairFine, AreStatesRelated}
@@ -44,16 +44,20 @@ abbrev pub IsDefinedAt : Function → Option Instr → Type 0
 IsDefinedAt f None = Unit {0}
 IsDefinedAt f (Some i) = IsLineDefined f i
 
+abbrev EntersInKind : Option Registers → Type 0
+EntersInKind None = Unit {0}
+EntersInKind (Some registers) = AreInKind registers
+
 abbrev EntersDefined : Function → Option Registers → Type 0
 EntersDefined f None = Unit {0}
 EntersDefined f (Some registers) = AreDefined f registers
 
 calm_in_kind : (l : Calm) (s : SideState) (o : Outcome) → gives_on s l.right ≡ o → IsSideInKind s
-    → EntersInKind (set_by (kind_of (type_of l.right)) l.name o s.now)
+    → EntersInKind (set_by (kind_of (type_of l.right)) l.name o s.files.now)
 calm_in_kind l s Trap is h = tt
 calm_in_kind l s (Gives v) is h =
-    set_in_kind s.now l.name (kind_of (type_of l.right)) v h.now
-    (subst (GivesInKind (kind_of (type_of l.right))) is (outcome_in_kind s.scope (read s.now) (λ k x. h.now x k) s.world.memory h.bytes l.right))
+    set_in_kind s.files.now l.name (kind_of (type_of l.right)) v h.now
+    (subst (GivesInKind (kind_of (type_of l.right))) is (outcome_in_kind s.scope (read s.files.now) (λ k x. h.now x k) s.world.memory h.bytes l.right))
 
 after_in_kind : (i : Option Instr) (s : SideState) → IsSideInKind s → EntersInKind (registers_after i s)
 after_in_kind None s h = h.now
@@ -65,20 +69,20 @@ calm_defined : (f : Function) (l : Calm) (registers : Registers) (o : Outcome) �
 calm_defined f l registers Trap defined h = tt
 calm_defined f l registers (Gives v) defined h = set_defined f registers l.name (kind_of (type_of l.right)) v h defined
 
-after_defined : (f : Function) (i : Option Instr) (s : SideState) → IsDefinedAt f i → AreDefined f s.now → EntersDefined f (registers_after i s)
+after_defined : (f : Function) (i : Option Instr) (s : SideState) → IsDefinedAt f i → AreDefined f s.files.now → EntersDefined f (registers_after i s)
 after_defined f None s defined h = h
-after_defined f (Some (line.Calm l)) s defined h = calm_defined f l s.now (gives_on s l.right) defined h
+after_defined f (Some (line.Calm l)) s defined h = calm_defined f l s.files.now (gives_on s l.right) defined h
 after_defined f (Some i) s defined h = tt
 
 -- The source has undefined behaviour; or neither side has, and the two stand with their new registers.
-abbrev pub StandAfter : Beside → World → Assertion → Files → Files → Option Registers → Option Registers → Type 0
-StandAfter w world known a b None p = Unit {0}
-StandAfter w world known a b (Some s) None = ⊥
-StandAfter w world known a b (Some s) (Some t) = Stand w world known (with_now a s) (with_now b t)
+abbrev pub StandAfter : Beside → List ℕ → World → Assertion → RegisterFiles → RegisterFiles → Option Registers → Option Registers → Type 0
+StandAfter w own world known a b None p = Unit {0}
+StandAfter w own world known a b (Some s) None = ⊥
+StandAfter w own world known a b (Some s) (Some t) = Stand w own world known (with_now a s) (with_now b t)
 
-module _ (w : Beside) (world : World) (known after : Assertion) (a b : Files) (stand : Stand w world known a b) where
-  stand_after : (o p : Option Registers) → EntersInKind o → EntersInKind p → EntersDefined w.source o → Keeps after (side w.scope world a) (side w.scope world b) o p
-      → StandAfter w world after a b o p
+module _ (w : Beside) (own : List ℕ) (world : World) (known after : Assertion) (a b : RegisterFiles) (stand : Stand w own world known a b) where
+  stand_after : (o p : Option Registers) → EntersInKind o → EntersInKind p → EntersDefined w.source o → Keeps after (side w.scope own world a) (side w.scope own world b) o p
+      → StandAfter w own world after a b o p
   stand_after None p source_kind target_kind defined keeps = tt
   stand_after (Some s) None source_kind target_kind defined keeps = keeps
   stand_after (Some s) (Some t) source_kind target_kind defined keeps = record {
@@ -89,12 +93,13 @@ module _ (w : Beside) (world : World) (known after : Assertion) (a b : Files) (s
     holds = keeps;
   }
 
-line_stands : (w : Beside) (world : World) (known : Assertion) (a b : Files) → Stand w world known a b → (l : Line) → line_fault known l ≡ None → IsDefinedAt w.source l.source
-    → StandAfter w world (after_line known l) a b (registers_after l.source (side w.scope world a)) (registers_after l.target (side w.scope world b))
-line_stands w world known a b stand l allowed defined =
-    let source = side w.scope world a in
-    let target = side w.scope world b in
-    stand_after w world known (after_line known l) a b stand (registers_after l.source source) (registers_after l.target target)
+line_stands : (w : Beside) (own : List ℕ) (world : World) (known : Assertion) (a b : RegisterFiles) → Stand w own world known a b
+    → (l : Line) → line_fault known l ≡ None → IsDefinedAt w.source l.source
+    → StandAfter w own world (after_line known l) a b (registers_after l.source (side w.scope own world a)) (registers_after l.target (side w.scope own world b))
+line_stands w own world known a b stand l allowed defined =
+    let source = side w.scope own world a in
+    let target = side w.scope own world b in
+    stand_after w own world known (after_line known l) a b stand (registers_after l.source source) (registers_after l.target target)
     (after_in_kind l.source source stand.source_in_kind) (after_in_kind l.target target stand.target_in_kind)
     (after_defined w.source l.source source defined stand.now_defined)
     (keeps_so known source target (record { scope = refl; world = refl }) stand.holds l.source l.target allowed)
@@ -113,11 +118,11 @@ quiet s = record { told = []; items = []; after = s }
 abbrev pub at_wrong : Made
 at_wrong = record { told = []; items = Wrong ∷ []; after = Over }
 
-step_on_line : (m : Module) (scope : Scope) → scope_of m ≡ scope → (f : Function) (b : Block) (own : List ℕ) (world : World) (i : Instr) (left : List Instr) (a : Files)
-    (o : Option Registers) → LineLeads (side scope world a) (Some i) o
+step_on_line : (m : Module) (scope : Scope) → scope_of m ≡ scope → (f : Function) (b : Block) (own : List ℕ) (world : World) (i : Instr) (left : List Instr) (a : RegisterFiles)
+    (o : Option Registers) → LineLeads (side scope own world a) (Some i) o
     → asks m (running f b own world (i ∷ left) a.now) ≡ goes_on o (frame_of f b own left a.now) [] world
 step_on_line m scope is f b own world i left a o leads =
-    ap (λ (s : Scope). line_step s i (frame_of f b own left a.now) [] world) is ∙ leads (frame_of f b own left a.now) []
+    leads m (frame_of f b own left a.now) [] is
 
 may_make : (m : Module) (s after : State) → asks m s ≡ Does [] after → Follows (asks m s) (quiet after)
 may_make m s after e = subst (λ tree. Follows tree (quiet after)) (sym e) refl
@@ -144,7 +149,7 @@ module _ (first second : Module) (w : Beside) (of_first : scope_of first ≡ w.s
     abbrev target_at : List Instr → Registers → State
     target_at ls registers = running w.target b.target own world ls registers
 
-    pub related : (n : ℕ) (ls : List Line) (known : Assertion) (a c : Files) → Stand w world known a c → IsGood (lines_judged w b n ls known)
+    pub related : (n : ℕ) (ls : List Line) (known : Assertion) (a c : RegisterFiles) → Stand w own world known a c → IsGood (lines_judged w b n ls known)
         → AreLinesDefined w.source (source_lines ls) → R (own_lines ls) (source_at (source_lines ls) a.now) (target_at (target_lines ls) c.now)
     related n ls known a c stand good defined = inl (record {
       source = w.source;
@@ -173,11 +178,11 @@ module _ (first second : Module) (w : Beside) (of_first : scope_of first ≡ w.s
     abbrev MoveSo : ℕ → List Instr → Registers → List Instr → Registers → Type 0
     MoveSo k xs rs ys rt = Moves first second R k (source_at xs rs) (target_at ys rt)
 
-    module _ (n : ℕ) (ls : List Line) (known : Assertion) (a c : Files) (good : IsGood (lines_judged w b n ls known)) (defined : AreLinesDefined w.source (source_lines ls)) where
+    module _ (n : ℕ) (ls : List Line) (known : Assertion) (a c : RegisterFiles) (good : IsGood (lines_judged w b n ls known)) (defined : AreLinesDefined w.source (source_lines ls)) where
       abbrev After : Option Registers → Option Registers → Type 0
-      After o p = StandAfter w world known a c o p
+      After o p = StandAfter w own world known a c o p
 
-      source_moves : (i : Instr) (o : Option Registers) → LineLeads (side w.scope world a) (Some i) o → After o (Some c.now)
+      source_moves : (i : Instr) (o : Option Registers) → LineLeads (side w.scope own world a) (Some i) o → After o (Some c.now)
           → MoveSo (suc (own_lines ls)) (i ∷ source_lines ls) a.now (target_lines ls) c.now
       source_moves i None leads stand =
           inr (λ made follows. inr (inr (goes_wrong (source_at (i ∷ source_lines ls) a.now) (step_on_line first w.scope of_first w.source b.source own world i (source_lines ls) a None leads) made)))
@@ -191,7 +196,7 @@ module _ (first second : Module) (w : Beside) (of_first : scope_of first ≡ w.s
             related n ls known (with_now a after) c stand good defined,
           )
 
-      target_moves : (j : Instr) (p : Option Registers) → LineLeads (side w.scope world c) (Some j) p → After (Some a.now) p
+      target_moves : (j : Instr) (p : Option Registers) → LineLeads (side w.scope own world c) (Some j) p → After (Some a.now) p
           → MoveSo 0 (source_lines ls) a.now (j ∷ target_lines ls) c.now
       target_moves j None leads stand = absurd stand
       target_moves j (Some after) leads stand =
@@ -206,7 +211,7 @@ module _ (first second : Module) (w : Beside) (of_first : scope_of first ≡ w.s
             related n ls known a (with_now c after) stand good defined,
           )))
 
-      both_move : (i j : Instr) (o p : Option Registers) → LineLeads (side w.scope world a) (Some i) o → LineLeads (side w.scope world c) (Some j) p → After o p
+      both_move : (i j : Instr) (o p : Option Registers) → LineLeads (side w.scope own world a) (Some i) o → LineLeads (side w.scope own world c) (Some j) p → After o p
           → MoveSo 0 (i ∷ source_lines ls) a.now (j ∷ target_lines ls) c.now
       both_move i j None p leads leads' stand =
           inr (λ made follows. inr (inr (goes_wrong (source_at (i ∷ source_lines ls) a.now) (step_on_line first w.scope of_first w.source b.source own world i (source_lines ls) a None leads) made)))
@@ -227,7 +232,7 @@ module _ (first second : Module) (w : Beside) (of_first : scope_of first ≡ w.s
             related n ls known (with_now a after) (with_now c after') stand good defined,
           ))))
 
-      line_moves : (i j : Option Instr) (o p : Option Registers) → LineLeads (side w.scope world a) i o → LineLeads (side w.scope world c) j p → After o p
+      line_moves : (i j : Option Instr) (o p : Option Registers) → LineLeads (side w.scope own world a) i o → LineLeads (side w.scope own world c) j p → After o p
           → (After (Some a.now) (Some c.now) → MoveSo (own_lines ls) (source_lines ls) a.now (target_lines ls) c.now)
           → MoveSo (own_before i j (own_lines ls)) (with_line i (source_lines ls)) a.now (with_line j (target_lines ls)) c.now
       line_moves None None o p leads leads' stand on = on (subst₂ After leads leads' stand)
@@ -236,19 +241,19 @@ module _ (first second : Module) (w : Beside) (of_first : scope_of first ≡ w.s
       line_moves (Some i) (Some j) o p leads leads' stand on = both_move i j o p leads leads' stand
 
     -- where the terminators move, so do the lines before them
-    module _ (ends_move : (n : ℕ) (known : Assertion) (a c : Files) → Stand w world known a c → IsGood (lines_judged w b n [] known) → MoveSo 0 [] a.now [] c.now) where
-      pub blocks_move : (ls : List Line) (n : ℕ) (known : Assertion) (a c : Files) → Stand w world known a c → IsGood (lines_judged w b n ls known)
+    module _ (ends_move : (n : ℕ) (known : Assertion) (a c : RegisterFiles) → Stand w own world known a c → IsGood (lines_judged w b n [] known) → MoveSo 0 [] a.now [] c.now) where
+      pub blocks_move : (ls : List Line) (n : ℕ) (known : Assertion) (a c : RegisterFiles) → Stand w own world known a c → IsGood (lines_judged w b n ls known)
           → AreLinesDefined w.source (source_lines ls) → MoveSo (own_lines ls) (source_lines ls) a.now (target_lines ls) c.now
       blocks_move [] n known a c stand good defined = ends_move n known a c stand good
       blocks_move (l ∷ ls) n known a c stand good defined =
           let at = line_good w b n l ls known good in
-          let lead = steps_lead w sound world (steps_at n (hint_of_block w b).steps) a c known at.after stand at.steps in
+          let lead = steps_lead w sound own world (steps_at n (hint_of_block w b).steps) a c known at.after stand at.steps in
           let a' = with_ghost a lead.0 in
           let c' = with_ghost c lead.1 in
           let parts = first_defined w.source l.source (source_lines ls) defined in
-          let source = side w.scope world a' in
-          let target = side w.scope world c' in
+          let source = side w.scope own world a' in
+          let target = side w.scope own world c' in
           line_moves (n + 1) ls (after_line at.after l) a' c' at.rest parts.1 l.source l.target (registers_after l.source source) (registers_after l.target target)
           (leads_so l.source source (source_may at.after l.source l.target at.allowed)) (leads_so l.target target (target_may at.after l.source l.target at.allowed))
-          (line_stands w world at.after a' c' lead.2 l at.allowed parts.0)
+          (line_stands w own world at.after a' c' lead.2 l at.allowed parts.0)
           (λ stand'. blocks_move ls (n + 1) (after_line at.after l) a' c' stand' at.rest parts.1)

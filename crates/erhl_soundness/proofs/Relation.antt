@@ -15,13 +15,14 @@ use Rattle.ir_machine.specs.State.{Frame, World, State, Running, Over}
 use Rattle.ir_machine.specs.Machine.{block_named}
 use Rattle.erhl_assert.specs.declared.facts.Assertion.{Assertion}
 use Rattle.erhl_assert.specs.declared.hints.Hint.{Hint}
+use Rattle.erhl_assert.specs.Sides.{RegisterFiles}
 use Rattle.erhl_assert.specs.Alignment.{Line, AlignedBlock}
 use Rattle.erhl_assert.specs.Course.{IsGood}
 use Rattle.erhl_assert.specs.Steps.{Rules, Beside, beside}
 use Rattle.erhl_assert.specs.Acceptance.{lines_judged, block_judged}
 use Rattle.erhl_soundness.proofs.Definitions.{AreLinesDefined, IsBlockDefined}
 use Rattle.erhl_soundness.proofs.Edges.{NoneAgain}
-use Rattle.erhl_soundness.proofs.Standing.{Files, Stand}
+use Rattle.erhl_soundness.proofs.Standing.{Stand}
 
 -- the lines with one before them, or with a no-op
 abbrev pub with_line : Option Instr → List Instr → List Instr
@@ -148,9 +149,9 @@ module _ (rules : Rules) (scope : Scope) where
     pub known : Assertion
     pub own : List ℕ
     pub world : World
-    pub source_files : Files
-    pub target_files : Files
-    pub stand : Stand (beside rules scope source target hint) world known source_files target_files
+    pub source_files : RegisterFiles
+    pub target_files : RegisterFiles
+    pub stand : Stand (beside rules scope source target hint) own world known source_files target_files
     pub good : IsGood (lines_judged (beside rules scope source target hint) block place left known)
     pub names : block.target.name ≡ block.source.name
     pub onward : LeadsOn (beside rules scope source target hint) (λ to. mark_of to blocks) block.source

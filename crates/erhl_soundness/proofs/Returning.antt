@@ -6,7 +6,7 @@ use Rattle.ir_core.specs.declared.values.Value.{Value}
 use Rattle.ir_core.specs.declared.values.Value.TheVariants as value
 use Rattle.ir_core.specs.declared.values.Kind.{Kind}
 use Rattle.ir_core.specs.declared.values.Kind.TheVariants.{Int, Ptr}
-use Rattle.ir_values.specs.Values.{IsInKindOf}
+use Rattle.ir_values.specs.Values.{IsInKindOf, IsLessDefined}
 use Rattle.block_memory.specs.declared.items.Choice.TheVariants.{Pick, Fresh}
 use Rattle.block_memory.specs.declared.items.Shown.{Shown}
 use Rattle.block_memory.specs.declared.items.Shown.TheVariants as shown
@@ -15,7 +15,6 @@ use Rattle.ir_machine.specs.declared.items.Item.{Item}
 use Rattle.ir_machine.specs.declared.items.Item.TheVariants.{Turn, Returned, Wrong}
 use Rattle.ir_machine.specs.State.{World, Over}
 use Rattle.ir_machine.specs.Machine.{Asks, Chosen, Told, Does, Made, Follows, shown_as, chosen_by, return_step}
-use Rattle.erhl_assert.specs.Sides.{IsRelated}
 
 -- a name that a block has is one of the names
 name_is_there : (names : Names) (b x : ℕ) → name_of names b ≡ Some x → x < length names
@@ -90,7 +89,7 @@ module _ (world : World) where
       undef_shows Ptr (Told (Pick (shown.Name x offset))) (cond (nat_lt x (length world.names)) (Some showing) None) showing made refl
       (ap (λ b. cond b (Some showing) None) there) items
 
-  pub result_does_as : (k : Option Kind) (a b : Value) (made : Made) → IsRelated a b → IsInKindOf k b → Follows (result_step k b) made → DoesAs k a made
+  pub result_does_as : (k : Option Kind) (a b : Value) (made : Made) → IsLessDefined a b → IsInKindOf k b → Follows (result_step k b) made → DoesAs k a made
   result_does_as k value.Poison b made related kind h = inr refl
   result_does_as k (value.Num m) b made related kind h = inl (made, subst (λ v. Follows (result_step k v) made) related h, refl)
   result_does_as k (value.Ptr block offset) b made related kind h = inl (made, subst (λ v. Follows (result_step k v) made) related h, refl)

@@ -1,5 +1,5 @@
 -- THE INVARIANT of two sides, and what changes of ghost registers do to what is read.
-use Rattle.std.proofs.Common.{◌≡◌, false, Option, None, Some, refl, ap, ◌∙◌}
+use Rattle.std.proofs.Common.{◌≡◌, false, Option, None, Some, refl, ap, ◌∙◌, nat_eq, ℕ, List, []}
 use Rattle.ir_types.specs.declared.names.Name.{Name}
 use Rattle.ir_types.specs.declared.ty.Ty.{Ty}
 use Rattle.ir_core.specs.declared.values.Value.{Value}
@@ -21,34 +21,36 @@ use Rattle.ir_machine.specs.Registers.{Registers, held_at, holding, set, registe
 use Rattle.ir_machine.specs.State.{World}
 use Rattle.ir_machine.proofs.Runs.{read_set_at, read_set_other}
 use Rattle.erhl_assert.specs.declared.facts.Assertion.{Assertion}
-use Rattle.erhl_assert.specs.Sides.{SideState, IsSideInKind, read_reg}
+use Rattle.erhl_assert.specs.Sides.{SideState, IsSideInKind, all_paired, read_reg, RegisterFiles, no_ghost}
 use Rattle.erhl_assert.specs.Facts.{AssertionHolds}
 use Rattle.erhl_assert.specs.Edges.{register_at}
 use Rattle.erhl_assert.specs.Steps.{Beside}
 use Rattle.erhl_soundness.proofs.Readings.{poison_without_kind}
 use Rattle.erhl_soundness.proofs.Definitions.{AreDefined}
 
--- the registers of one side
-pub record Files : Type 0 where
-  pub now : Registers
-  pub old : Registers
-  pub ghost : Registers
+abbrev pub side : Scope → List ℕ → World → RegisterFiles → SideState
+side scope own world a = record {
+  scope = scope;
+  files = a;
+  own = own;
+  others = [];
+  world = world;
+  paired = all_paired;
+}
 
-abbrev pub side : Scope → World → Files → SideState
-side scope world a = record { scope = scope; now = a.now; old = a.old; ghost = a.ghost; world = world }
-
--- Both sides are in one world. Each value lies in its kind; a register of the source that is set, or was before the edge, holds a kind of one of its definitions; and
--- what is known holds.
-pub record Stand (w : Beside) (world : World) (known : Assertion) (a b : Files) : Type 0 where
-  pub source_in_kind : IsSideInKind (side w.scope world a)
-  pub target_in_kind : IsSideInKind (side w.scope world b)
+-- Both sides are in one world, in which they own the same blocks and each block stands for itself. Each value lies in its kind; a register of
+-- the source that is set, or was before the edge, holds a kind of one of its definitions; and what is known holds.
+pub record Stand (w : Beside) (own : List ℕ) (world : World) (known : Assertion) (a b : RegisterFiles) : Type 0 where
+  pub source_in_kind : IsSideInKind (side w.scope own world a)
+  pub target_in_kind : IsSideInKind (side w.scope own world b)
   pub now_defined : AreDefined w.source a.now
   pub old_defined : AreDefined w.source a.old
-  pub holds : AssertionHolds known (side w.scope world a) (side w.scope world b)
+  pub holds : AssertionHolds nat_eq no_ghost known (side w.scope own world a) (side w.scope own world b)
 
 -- of the same registers something else is known
-pub knowing : (w : Beside) (world : World) (known known' : Assertion) (a b : Files) → Stand w world known a b → AssertionHolds known' (side w.scope world a) (side w.scope world b) → Stand w world known' a b
-knowing w world known known' a b stand holds = record {
+pub knowing : (w : Beside) (own : List ℕ) (world : World) (known known' : Assertion) (a b : RegisterFiles) → Stand w own world known a b
+    → AssertionHolds nat_eq no_ghost known' (side w.scope own world a) (side w.scope own world b) → Stand w own world known' a b
+knowing w own world known known' a b stand holds = record {
   source_in_kind = stand.source_in_kind;
   target_in_kind = stand.target_in_kind;
   now_defined = stand.now_defined;
@@ -56,10 +58,10 @@ knowing w world known known' a b stand holds = record {
   holds = holds;
 }
 
-abbrev pub with_now : Files → Registers → Files
+abbrev pub with_now : RegisterFiles → Registers → RegisterFiles
 with_now a now = record a { now = now }
 
-abbrev pub with_ghost : Files → Registers → Files
+abbrev pub with_ghost : RegisterFiles → Registers → RegisterFiles
 with_ghost a ghost = record a { ghost = ghost }
 
 -- a reading of every register in kind
@@ -88,14 +90,14 @@ none_is_poison scope reading memory e v h none =
     let p : outcome scope reading memory e ≡ Gives Poison = poison_without_kind scope reading memory e none in cc
 
 -- what setting a ghost register does to what is read
-abbrev pub set_ghost : Files → Name → Option Kind → Value → Files
+abbrev pub set_ghost : RegisterFiles → Name → Option Kind → Value → RegisterFiles
 set_ghost a x o v = record a { ghost = set a.ghost x o v }
 
-module _ (scope : Scope) (world : World) (a : Files) (x : Name) (o : Option Kind) (v : Value) where
-  pub ghost_other : (k : Kind) (r : Reg) → same_reg (Ghost x) r ≡ false → read_reg (side scope world (set_ghost a x o v)) k r ≡ read_reg (side scope world a) k r
+module _ (scope : Scope) (own : List ℕ) (world : World) (a : RegisterFiles) (x : Name) (o : Option Kind) (v : Value) where
+  pub ghost_other : (k : Kind) (r : Reg) → same_reg (Ghost x) r ≡ false → read_reg (side scope own world (set_ghost a x o v)) k r ≡ read_reg (side scope own world a) k r
   ghost_other k (Now y) h = refl
   ghost_other k (Old y) h = refl
   ghost_other k (Ghost y) h = read_set_other a.ghost x y o k v h
 
-  pub ghost_at : (k : Kind) → read_reg (side scope world (set_ghost a x o v)) k (Ghost x) ≡ held_at k (holding o v)
+  pub ghost_at : (k : Kind) → read_reg (side scope own world (set_ghost a x o v)) k (Ghost x) ≡ held_at k (holding o v)
   ghost_at k = read_set_at a.ghost x x o k v (same_name_refl x)

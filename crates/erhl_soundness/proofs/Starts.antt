@@ -2,26 +2,26 @@
 use Rattle.std.proofs.Common.{◌≡◌, inl, true, false, ◌&&◌, ℕ, suc, List, [], ◌∷◌, ◌++◌, map, length, nat_eq, cond, Bool, Option, None, Some, refl, sym, ap, ◌∙◌, subst, subst₂, arith, ⊎_elim}
 use Rattle.std.specs.List.{AllByRecursion, zip}
 use Rattle.std.specs.Option.{option_map}
-use Rattle.std.proofs.lemmas.Bool.{cond-true, cond-false, cond_both, cases_Bool, false≢true}
+use Rattle.std.proofs.lemmas.Bool.{cond-true, cond-false, cases_Bool}
 use Rattle.ir_types.specs.declared.names.Name.{Name}
-use Rattle.ir_types.specs.declared.ty.Ty.{Ty}
+use Rattle.ir_core.specs.declared.values.Value.{Value}
 use Rattle.ir_core.specs.declared.functions.Instr.{Instr}
-use Rattle.ir_core.specs.declared.functions.Param.{Param}
 use Rattle.ir_core.specs.declared.functions.Block.{Block}
-use Rattle.ir_core.specs.declared.functions.Function.{Function}
 use Rattle.ir_core.specs.Functions.{successors_of}
 use Rattle.ir_types.specs.Same.{same_list, same_name, same_ty}
-use Rattle.ir_core.specs.Types.{kind_of}
 use Rattle.ir_types.specs.NameLaws.{left_true, right_true, same_nat_true, same_name_true}
-use Rattle.ir_types.proofs.SameLaws.{same_ty_true}
 use Rattle.ir_values.proofs.OperationLaws.{less_defined_refl}
-use Rattle.ir_machine.specs.declared.items.Input.{Input}
-use Rattle.block_memory.specs.declared.items.Shown.{Shown}
+use Rattle.ir_values.specs.Related.{IsRelated}
+use Rattle.ir_values.proofs.RelatedValues.{less_related}
+use Rattle.ir_machine.specs.declared.inputs.Input.{Input}
 use Rattle.block_memory.specs.Laws.{IsOfBytes}
-use Rattle.ir_machine.specs.Registers.{Registers, AreInKind, no_registers, set}
+use Rattle.ir_machine.specs.Registers.{Registers, AreInKind, no_registers}
 use Rattle.ir_machine.specs.State.{World, State}
-use Rattle.ir_machine.specs.Machine.{fits_kind, resolve, entered, at_entry, started}
-use Rattle.ir_machine.proofs.InKind.{EntersInKind, no_registers_in_kind, entered_in_kind}
+use Rattle.ir_machine.specs.declared.inputs.InputPath.{InputPath}
+use Rattle.ir_machine.specs.Starting.{misfit, started, started_unless, world_at_start}
+use Rattle.ir_machine.proofs.InKind.{no_registers_in_kind}
+use Rattle.ir_machine.proofs.Passing.{fitting}
+use Rattle.ir_machine.proofs.Worlds.{starts_of_bytes}
 use Rattle.flow_solver.specs.Near.{reached_nodes}
 use Rattle.definedness.specs.Graph.{labels_in, places_in, graph_in, flow_of}
 use Rattle.erhl_assert.specs.declared.facts.Fact.{Fact}
@@ -31,7 +31,7 @@ use Rattle.erhl_assert.specs.declared.hints.Letter.TheVariants.{Both, Source, Ta
 use Rattle.erhl_assert.specs.declared.hints.Hint.{Hint}
 use Rattle.erhl_assert.specs.declared.verdict.Reason.TheVariants.{AlignmentDiffers}
 use Rattle.erhl_assert.specs.declared.verdict.Spot.TheVariants as spot
-use Rattle.erhl_assert.specs.Sides.{read_reg}
+use Rattle.erhl_assert.specs.Sides.{read_reg, RegisterFiles}
 use Rattle.erhl_assert.specs.Facts.{Holds, with_facts, each_once}
 use Rattle.erhl_assert.specs.Alignment.{Line, AlignedBlock, Alignment, Aligned, Differs, after_first, aligned, letters_or_both, block_hint, block_aligned, with_block, blocks_aligned, same_param, same_header, first_block}
 use Rattle.erhl_assert.specs.Course.{tested, IsGood}
@@ -39,11 +39,12 @@ use Rattle.erhl_assert.specs.Steps.{Beside}
 use Rattle.erhl_assert.specs.Acceptance.{first_missing_of, entry_fault, hint_of_block, block_judged, blocks_judged, reached_judged, aligned_judged, Accepts}
 use Rattle.erhl_assert.proofs.Courses.{good_parts, no_fault, bad_is_not_good}
 use Rattle.erhl_soundness.specs.Laws.{AreApart, ArePhisApart}
-use Rattle.erhl_soundness.proofs.Definitions.{AreDefined, AreParamsDefined, AreLinesDefined, IsBlockDefined, blocks_defined, params_defined, none_defined, set_defined}
-use Rattle.erhl_soundness.proofs.Standing.{Files, side, Stand}
+use Rattle.erhl_soundness.proofs.Definitions.{AreDefined, AreLinesDefined, IsBlockDefined, blocks_defined, params_defined, none_defined}
+use Rattle.erhl_soundness.proofs.Standing.{side, Stand}
 use Rattle.erhl_soundness.proofs.Edges.{NoneAgain, apart_once}
 use Rattle.erhl_soundness.proofs.Judging.{block_good}
 use Rattle.erhl_soundness.proofs.Relation.{source_lines, target_lines, own_lines, IsAligned, Marked, source_of, target_of, mark_of, running, IsBlockFine, all_fine, IsPairFine, AreStartsRelated}
+use Rattle.erhl_soundness.proofs.Entering.{at_entry_is, entering, entering_defined, entering_in_kind, entering_same, entry_at, misfit_same}
 use Rattle.erhl_soundness.proofs.Reached.{marked, marked_blocks, all_marked, marked_good, marked_lead_on, first_reached}
 
 -- ---- aligned lines give both bodies back
@@ -130,43 +131,6 @@ blocks_back hint (f ∷ fs) (g ∷ gs) bs long h =
       target = cons_same (sym first.target) more.target;
       fine = (first.fine, more.fine);
     })
-
--- ---- equal headers take the same input to the same registers
-
-abbrev EntersDefined : Function → Option Registers → Type 0
-EntersDefined f None = Unit {0}
-EntersDefined f (Some registers) = AreDefined f registers
-
-module _ (world : World) where
-  entered_same : (ps qs : List Param) (args : List Shown) (registers : Registers) → same_list same_param ps qs ≡ true
-      → entered world ps args registers ≡ entered world qs args registers
-  entered_same [] [] args registers h = refl
-  entered_same [] (q ∷ qs) args registers h = absurd (false≢true h)
-  entered_same (p ∷ ps) [] args registers h = absurd (false≢true h)
-  entered_same (p ∷ ps) (q ∷ qs) [] registers h = refl
-  entered_same (p ∷ ps) (q ∷ qs) (a ∷ args) registers h =
-      let one = left_true (same_param p q) (same_list same_param ps qs) h in
-      let name = same_name_true p.name q.name (left_true (same_name p.name q.name) (same_ty p.ty q.ty) one) in
-      let type = same_ty_true p.ty q.ty (right_true (same_name p.name q.name) (same_ty p.ty q.ty) one) in
-      let parts : ((p.name, p.ty) ≡ (q.name, q.ty)) = cc in
-      ap (λ (x : Name × Ty). cond (fits_kind (kind_of x.1) world a) (entered world ps args (set registers x.0 (kind_of x.1) (resolve world a))) None) parts
-      ∙ ap (λ o. cond (fits_kind (kind_of q.ty) world a) o None)
-      (entered_same ps qs args (set registers q.name (kind_of q.ty) (resolve world a)) (right_true (same_param p q) (same_list same_param ps qs) h))
-
-  entered_alike : (f g : Function) (args : List Shown) (registers : Registers) → same_header f g ≡ true
-      → entered world f.params args registers ≡ entered world g.params args registers
-  entered_alike f g args registers h = entered_same f.params g.params args registers (right_true (same_ty f.result g.result) (same_list same_param f.params g.params) h)
-
-  entered_defined : (f : Function) (ps : List Param) (args : List Shown) (registers : Registers) → AreParamsDefined f ps → AreDefined f registers
-      → EntersDefined f (entered world ps args registers)
-  entered_defined f [] [] registers defined h = h
-  entered_defined f [] (a ∷ args) registers defined h = tt
-  entered_defined f (p ∷ ps) [] registers defined h = tt
-  entered_defined f (p ∷ ps) (a ∷ args) registers defined h =
-      cond_both (fits_kind (kind_of p.ty) world a) (entered world ps args (set registers p.name (kind_of p.ty) (resolve world a))) None (EntersDefined f)
-      (λ e. entered_defined f ps args (set registers p.name (kind_of p.ty) (resolve world a)) defined.1
-      (set_defined f registers p.name (kind_of p.ty) (resolve world a) h defined.0))
-      (λ e. tt)
 
 -- an entry without a fault claims no fact
 claims_nothing : (fs gs : List Fact) → first_missing_of (fs ++ gs) ≡ None → (fs ≡ []) × (gs ≡ [])
@@ -270,14 +234,17 @@ module _ (w : Beside) where
   -- ---- the start of a run
 
   module _ (world : World) (bytes : IsOfBytes world.memory) where
-    abbrev begun : Registers → Files
+    abbrev begun : Registers → RegisterFiles
     begun registers = record { now = registers; old = no_registers; ghost = no_registers }
 
-    facts_none : (registers : Registers) (fs : List Fact) → fs ≡ [] → AllByRecursion (Holds (side w.scope world (begun registers))) (with_facts fs [])
-    facts_none registers fs none = subst (λ gs. AllByRecursion (Holds (side w.scope world (begun registers))) (with_facts gs [])) (sym none) tt
+    facts_none : (registers : Registers) (fs : List Fact) → fs ≡ [] → AllByRecursion (Holds (side w.scope [] world (begun registers))) (with_facts fs [])
+    facts_none registers fs none = subst (λ gs. AllByRecursion (Holds (side w.scope [] world (begun registers))) (with_facts gs [])) (sym none) tt
+
+    alike : (v : Value) → IsRelated nat_eq v v
+    alike v = less_related v v (less_defined_refl v)
 
     begun_stand : (lists : Assertion) (registers : Registers) → AreInKind registers → AreDefined w.source registers → lists.src ≡ [] → lists.tgt ≡ []
-        → Stand w world (each_once lists) (begun registers) (begun registers)
+        → Stand w [] world (each_once lists) (begun registers) (begun registers)
     begun_stand lists registers kind defined no_src no_tgt = record {
       source_in_kind = record { now = kind; old = no_registers_in_kind; ghost = no_registers_in_kind; bytes = bytes };
       target_in_kind = record { now = kind; old = no_registers_in_kind; ghost = no_registers_in_kind; bytes = bytes };
@@ -286,55 +253,74 @@ module _ (w : Beside) where
       holds = record {
         source_facts = facts_none registers lists.src no_src;
         target_facts = facts_none registers lists.tgt no_tgt;
-        related = record { outside = λ r k out. less_defined_refl (read_reg (side w.scope world (begun registers)) k r); ghosts = λ g k. tt };
+        related = record { outside = λ r k out. alike (read_reg (side w.scope [] world (begun registers)) k r); ghosts = λ g k shared. tt };
       };
     }
 
     abbrev AreStarts : Option State → Option State → Type 0
     AreStarts = AreStartsRelated w.rules w.scope
 
-    entries_start : (blocks : List Marked) → IsPairFine w blocks → (bs : List AlignedBlock) → AllByRecursion (IsBlockFine w (λ to. mark_of to blocks)) (marks_of bs) → ClaimsNothing w bs
-        → (o : Option Registers) → EntersInKind o → EntersDefined w.source o
-        → AreStarts (at_entry world w.source (map (λ (b : AlignedBlock). b.source) bs) o) (at_entry world w.target (map (λ (b : AlignedBlock). b.target) bs) o)
-    entries_start blocks pair [] fine nothing o kind defined = tt
-    entries_start blocks pair (b ∷ bs) fine nothing None kind defined = tt
-    entries_start blocks pair (b ∷ bs) fine nothing (Some registers) kind defined =
-        let good = fine.0 in
-        let reached = first_reached graph in (
-          own_lines b.lines,
-          inl (record {
-            source = w.source;
-            target = w.target;
-            hint = w.hint;
-            blocks = blocks;
-            pair_fine = pair;
-            block = b;
-            place = 0;
-            left = b.lines;
-            known = each_once (hint_of_block w b).entry;
-            own = [];
-            world = world;
-            source_files = begun registers;
-            target_files = begun registers;
-            stand = begun_stand (hint_of_block w b).entry registers kind defined nothing.0 nothing.1;
-            good = block_good w b (good.good reached);
-            names = good.aligned.names;
-            onward = good.onward reached;
-            defined = subst (AreLinesDefined w.source) good.aligned.source good.defined.1;
-            is_k = refl;
-            is_s = ap (λ ls. running w.source b.source [] world ls registers) good.aligned.source;
-            is_t = ap (λ ls. running w.target b.target [] world ls registers) good.aligned.target;
-          }),
-        )
+    module _ (blocks : List Marked) (pair : IsPairFine w blocks) (registers : Registers) (kind : AreInKind registers) (defined : AreDefined w.source registers) where
+      entries_start : (bs : List AlignedBlock) → AllByRecursion (IsBlockFine w (λ to. mark_of to blocks)) (marks_of bs) → ClaimsNothing w bs
+          → AreStarts (entry_at world w.source (map (λ (b : AlignedBlock). b.source) bs) registers) (entry_at world w.target (map (λ (b : AlignedBlock). b.target) bs) registers)
+      entries_start [] fine nothing = tt
+      entries_start (b ∷ bs) fine nothing =
+          let good = fine.0 in
+          let reached = first_reached graph in (
+            own_lines b.lines,
+            inl (record {
+              source = w.source;
+              target = w.target;
+              hint = w.hint;
+              blocks = blocks;
+              pair_fine = pair;
+              block = b;
+              place = 0;
+              left = b.lines;
+              known = each_once (hint_of_block w b).entry;
+              own = [];
+              world = world;
+              source_files = begun registers;
+              target_files = begun registers;
+              stand = begun_stand (hint_of_block w b).entry registers kind defined nothing.0 nothing.1;
+              good = block_good w b (good.good reached);
+              names = good.aligned.names;
+              onward = good.onward reached;
+              defined = subst (AreLinesDefined w.source) good.aligned.source good.defined.1;
+              is_k = refl;
+              is_s = ap (λ ls. running w.source b.source [] world ls registers) good.aligned.source;
+              is_t = ap (λ ls. running w.target b.target [] world ls registers) good.aligned.target;
+            }),
+          )
 
-    -- functions that are accepted start related, whatever they are entered on
-    pub accepted_start : Accepts w → ArePhisApart w.source → ArePhisApart w.target → (input : Input) → AreStarts (started world w.source input) (started world w.target input)
-    accepted_start accepted source_apart target_apart input =
-        let parts = parts_of w accepted in
+  -- functions that are accepted start related, whatever they are entered on
+  module _ (accepted : Accepts w) (source_apart : ArePhisApart w.source) (target_apart : ArePhisApart w.target) (input : Input) where
+    abbrev world : World
+    world = world_at_start w.scope input
+
+    abbrev parts : Parts w
+    parts = parts_of w accepted
+
+    params_alike : same_list same_param w.source.params w.target.params ≡ true
+    params_alike = right_true (same_ty w.source.result w.target.result) (same_list same_param w.source.params w.target.params) parts.header
+
+    starts_unless : (o : Option InputPath) → misfit w.scope w.source.params input ≡ o
+        → AreStartsRelated w.rules w.scope (started_unless o world w.source input.args) (started_unless o world w.target input.args)
+    starts_unless (Some place) misfits = tt
+    starts_unless None fit =
         let pair = pair_is_fine parts source_apart target_apart in
-        let entering = entered world w.source.params input.args no_registers in
-        subst (λ enters. AreStarts (at_entry world w.source w.source.blocks entering) (at_entry world w.target w.target.blocks enters)) (entered_alike world w.source w.target input.args no_registers parts.header)
-        (subst₂ (λ fs gs. AreStarts (at_entry world w.source fs entering) (at_entry world w.target gs entering)) (sym parts.back.source) (sym parts.back.target)
-        (entries_start (marks_of parts.blocks) pair parts.blocks pair.fine (entry_claims_nothing w parts.blocks parts.good) entering
-        (entered_in_kind world w.source.params input.args no_registers no_registers_in_kind)
-        (entered_defined world w.source w.source.params input.args no_registers (params_defined w.source) (none_defined w.source))))
+        let fits = fitting w.scope input w.source.params fit in
+        let registers = entering world w.source.params input.args in
+        subst₂ (AreStartsRelated w.rules w.scope)
+        (ap (λ fs. entry_at world w.source fs registers) (sym parts.back.source) ∙ sym (at_entry_is world w.source w.source.blocks input.args))
+        (ap (λ gs. entry_at world w.target gs registers) (sym parts.back.target)
+        ∙ ap (entry_at world w.target w.target.blocks) (entering_same world w.source.params w.target.params input.args params_alike)
+        ∙ sym (at_entry_is world w.target w.target.blocks input.args))
+        (entries_start world (starts_of_bytes w.scope input fits.externals fits.blocks) (marks_of parts.blocks) pair registers
+        (entering_in_kind world w.source.params input.args fits.arguments) (entering_defined world w.source w.source.params input.args (params_defined w.source))
+        parts.blocks pair.fine (entry_claims_nothing w parts.blocks parts.good))
+
+    pub accepted_start : AreStartsRelated w.rules w.scope (started w.scope w.source input) (started w.scope w.target input)
+    accepted_start =
+        subst (λ o. AreStartsRelated w.rules w.scope (started w.scope w.source input) (started_unless o world w.target input.args))
+        (misfit_same w.scope input w.source.params w.target.params params_alike) (starts_unless (misfit w.scope w.source.params input) refl)

@@ -1,5 +1,5 @@
 -- The steps of a hint add only what holds, where the rules are sound.
-use Rattle.std.proofs.Common.{◌≡◌, ℕ, Bool, true, false, ◌&&◌, not, cond, List, [], ◌∷◌, Option, None, Some, refl, sym, ap, ◌∙◌, subst, subst₂, ⊎_elim}
+use Rattle.std.proofs.Common.{◌≡◌, ℕ, Bool, true, false, ◌&&◌, not, cond, List, [], ◌∷◌, Option, None, Some, refl, sym, ap, ◌∙◌, subst, subst₂, ⊎_elim, nat_eq}
 use Rattle.std.specs.Prelude.{find}
 use Rattle.std.specs.Option.{option_or, option_map}
 use Rattle.std.specs.List.{AllByRecursion, list_any}
@@ -23,6 +23,8 @@ use Rattle.ir_core.specs.Types.{kind_of, converts}
 use Rattle.ir_types.specs.NameLaws.{left_true, right_true}
 use Rattle.ir_core.proofs.SameLaws.{same_reg_true}
 use Rattle.ir_values.specs.declared.operations.Outcome.{Outcome}
+use Rattle.ir_values.specs.Related.{IsRelated}
+use Rattle.ir_values.proofs.RelatedValues.{less_related, related_less}
 use Rattle.ir_values.specs.declared.operations.Outcome.TheVariants.{Gives, Trap}
 use Rattle.ir_values.specs.Constants.{Scope}
 use Rattle.ir_values.specs.Operations.{IsOutcomeLessDefined, GivesInKind}
@@ -46,7 +48,7 @@ use Rattle.erhl_assert.specs.declared.hints.HintStep.{HintStep}
 use Rattle.erhl_assert.specs.declared.hints.HintStep.TheVariants.{Rule, Ghost as GhostOf, Same as SameAs}
 use Rattle.erhl_assert.specs.declared.verdict.Reason.{Reason}
 use Rattle.erhl_assert.specs.declared.verdict.Reason.TheVariants.{RuleUnfit, MissingPremise, DiffLeft}
-use Rattle.erhl_assert.specs.Sides.{SideState, IsSideInKind, IsRelated, read_reg, worth, has_reg, AreRelated}
+use Rattle.erhl_assert.specs.Sides.{SideState, IsSideInKind, read_reg, worth, has_reg, AreRelated, RegisterFiles, no_ghost}
 use Rattle.erhl_assert.specs.Facts.{Holds, IsSound, kind_of_expr, has_fact, with_facts, expr_names, without_naming}
 use Rattle.erhl_assert.specs.Typed.{has_values, has_type}
 use Rattle.erhl_assert.specs.Allowed.{can_trap}
@@ -64,12 +66,12 @@ use Rattle.erhl_soundness.proofs.Outside.{outside_without}
 use Rattle.erhl_soundness.proofs.Related.{held_related}
 use Rattle.erhl_soundness.proofs.Trapping.{no_trap}
 use Rattle.erhl_soundness.proofs.Definitions.{AreDefined, reads_poison}
-use Rattle.erhl_soundness.proofs.Standing.{Files, side, Stand, knowing, with_ghost, reads_in_kind, register_worth, none_is_poison, set_ghost, ghost_other, ghost_at}
+use Rattle.erhl_soundness.proofs.Standing.{side, Stand, knowing, with_ghost, reads_in_kind, register_worth, none_is_poison, set_ghost, ghost_other, ghost_at}
 
 -- what a course comes to, if it isn't refused, stands, for some ghost registers
-abbrev pub EndsStand : Beside → World → Files → Files → Ends Assertion → Type 0
-EndsStand w world a b (Refuses r) = Unit {0}
-EndsStand w world a b (course.Gives known) = (g : Registers) × (h : Registers) × Stand w world known (with_ghost a g) (with_ghost b h)
+abbrev pub EndsStand : Beside → List ℕ → World → RegisterFiles → RegisterFiles → Ends Assertion → Type 0
+EndsStand w own world a b (Refuses r) = Unit {0}
+EndsStand w own world a b (course.Gives known) = (g : Registers) × (h : Registers) × Stand w own world known (with_ghost a g) (with_ghost b h)
 
 -- ---- tests that find no fault
 
@@ -123,53 +125,53 @@ outcome_trans (Gives a) (Gives b) Trap h i = absurd i
 outcome_trans (Gives a) Trap q h i = absurd h
 
 -- ---- ghost, on one side: facts that name it go, and it is known to be the expression
-module _ (scope : Scope) (world : World) (a : Files) (g : Name) (e : Expr0) (v : Value) (gives : worth (side scope world a) e ≡ Gives v) (apart : expr_names (Ghost g) e ≡ false) where
-  abbrev after_choice : Files
+module _ (scope : Scope) (own : List ℕ) (world : World) (a : RegisterFiles) (g : Name) (e : Expr0) (v : Value) (gives : worth (side scope own world a) e ≡ Gives v) (apart : expr_names (Ghost g) e ≡ false) where
+  abbrev after_choice : RegisterFiles
   after_choice = set_ghost a g (kind_of (type_of e)) v
 
-  chosen_facts : (fs : List Fact) → AllByRecursion (Holds (side scope world a)) fs
-      → AllByRecursion (Holds (side scope world after_choice)) (with_facts (choice (Ghost g) e) (without_naming (Ghost g) fs))
+  chosen_facts : (fs : List Fact) → AllByRecursion (Holds (side scope own world a)) fs
+      → AllByRecursion (Holds (side scope own world after_choice)) (with_facts (choice (Ghost g) e) (without_naming (Ghost g) fs))
   chosen_facts fs all =
-      let before = side scope world a in
-      let after = side scope world after_choice in
+      let before = side scope own world a in
+      let after = side scope own world after_choice in
       let o = kind_of (type_of e) in
-      let same = ghost_other scope world a g o v in
+      let same = ghost_other scope own world a g o v in
       let stays : StaysThere before after = record { scope = refl; world = refl } in
       with_facts_hold after (choice (Ghost g) e) (without_naming (Ghost g) fs)
       (both_ways_hold after e (register_at (type_of e) (Ghost g)) v refl
       (worth_kept (same_reg (Ghost g)) before after stays same e apart ∙ gives)
-      (register_worth (read_reg after) (Ghost g) v scope world.memory (type_of e) (ghost_at scope world a g o v)
+      (register_worth (read_reg after) (Ghost g) v scope world.memory (type_of e) (ghost_at scope own world a g o v)
       (none_is_poison scope (read_reg before) world.memory e v gives)))
       (without_holds (same_reg (Ghost g)) before after stays same fs all)
 
-  choice_in_kind : IsSideInKind (side scope world a) → IsSideInKind (side scope world after_choice)
+  choice_in_kind : IsSideInKind (side scope own world a) → IsSideInKind (side scope own world after_choice)
   choice_in_kind h = record {
     now = h.now;
     old = h.old;
     ghost = set_in_kind a.ghost g (kind_of (type_of e)) v h.ghost
-        (subst (GivesInKind (kind_of (type_of e))) gives (outcome_in_kind scope (read_reg (side scope world a)) (reads_in_kind (side scope world a) h) world.memory h.bytes e));
+        (subst (GivesInKind (kind_of (type_of e))) gives (outcome_in_kind scope (read_reg (side scope own world a)) (reads_in_kind (side scope own world a) h) world.memory h.bytes e));
     bytes = h.bytes;
   }
 
-module _ (w : Beside) (sound : AreSound w.rules) (world : World) (a b : Files) where
+module _ (w : Beside) (sound : AreSound w.rules) (own : List ℕ) (world : World) (a b : RegisterFiles) where
   abbrev source : SideState
-  source = side w.scope world a
+  source = side w.scope own world a
 
   abbrev target : SideState
-  target = side w.scope world b
+  target = side w.scope own world b
 
-  tested_stands : (o : Option Reason) (known : Assertion) (next : Assertion → Course Assertion) → (o ≡ None → EndsStand w world a b (next known).ends)
-      → EndsStand w world a b (and_then (tested o known) next).ends
+  tested_stands : (o : Option Reason) (known : Assertion) (next : Assertion → Course Assertion) → (o ≡ None → EndsStand w own world a b (next known).ends)
+      → EndsStand w own world a b (and_then (tested o known) next).ends
   tested_stands None known next h = h refl
   tested_stands (Some r) known next h = tt
 
   -- ---- rules
 
-  conclusion_stands : (at : Side) (from : List Fact) (to : Fact) (known : Assertion) → Stand w world known a b → IsSound w.scope (record { from = from; to = to })
-      → first_missing (facts_of at known) from ≡ None → Stand w world (with_conclusion at to known) a b
+  conclusion_stands : (at : Side) (from : List Fact) (to : Fact) (known : Assertion) → Stand w own world known a b → IsSound w.scope (record { from = from; to = to })
+      → first_missing (facts_of at known) from ≡ None → Stand w own world (with_conclusion at to known) a b
   conclusion_stands Src from to known stand rule h =
       let holds = stand.holds in
-      knowing w world known (with_conclusion Src to known) a b stand (record {
+      knowing w own world known (with_conclusion Src to known) a b stand (record {
         source_facts = with_fact_holds source to known.src holds.source_facts
             (rule source refl stand.source_in_kind (premises_hold source known.src from holds.source_facts h));
         target_facts = holds.target_facts;
@@ -177,31 +179,31 @@ module _ (w : Beside) (sound : AreSound w.rules) (world : World) (a b : Files) w
       })
   conclusion_stands Tgt from to known stand rule h =
       let holds = stand.holds in
-      knowing w world known (with_conclusion Tgt to known) a b stand (record {
+      knowing w own world known (with_conclusion Tgt to known) a b stand (record {
         source_facts = holds.source_facts;
         target_facts = with_fact_holds target to known.tgt holds.target_facts
             (rule target refl stand.target_in_kind (premises_hold target known.tgt from holds.target_facts h));
         related = holds.related;
       })
 
-  concluded_stands : (step : RuleStep) (known : Assertion) → Stand w world known a b → IsSound w.scope step.schema
-      → (o : Option Fact) → first_missing (facts_of step.side known) step.schema.from ≡ o → EndsStand w world a b (concluded o step known).ends
+  concluded_stands : (step : RuleStep) (known : Assertion) → Stand w own world known a b → IsSound w.scope step.schema
+      → (o : Option Fact) → first_missing (facts_of step.side known) step.schema.from ≡ o → EndsStand w own world a b (concluded o step known).ends
   concluded_stands step known stand rule (Some f) h = tt
   concluded_stands step known stand rule None h = (a.ghost, b.ghost, conclusion_stands step.side step.schema.from step.schema.to known stand rule h)
 
-  rule_stands : (step : RuleStep) (known : Assertion) → Stand w world known a b → (o : Option Meaning)
-      → (rule_takes o w.scope step.schema ≡ true → IsSound w.scope step.schema) → EndsStand w world a b (after_rule o w.scope step known).ends
+  rule_stands : (step : RuleStep) (known : Assertion) → Stand w own world known a b → (o : Option Meaning)
+      → (rule_takes o w.scope step.schema ≡ true → IsSound w.scope step.schema) → EndsStand w own world a b (after_rule o w.scope step known).ends
   rule_stands step known stand None rule = tt
   rule_stands step known stand (Some r) rule =
       cond_both (r.takes w.scope step.schema) (concluded (first_missing (facts_of step.side known) step.schema.from) step known) (refuses (RuleUnfit step.rule))
-      (λ (c : Course Assertion). EndsStand w world a b c.ends)
+      (λ (c : Course Assertion). EndsStand w own world a b c.ends)
       (λ e. concluded_stands step known stand (rule e) (first_missing (facts_of step.side known) step.schema.from) refl)
       (λ e. tt)
 
   -- registers that may not differ are related, so what is made of them is
-  related_worth : (known : Assertion) (e : Expr0) → Stand w world known a b → differing_fault known e ≡ None → IsOutcomeLessDefined (worth source e) (worth target e)
+  related_worth : (known : Assertion) (e : Expr0) → Stand w own world known a b → differing_fault known e ≡ None → IsOutcomeLessDefined (worth source e) (worth target e)
   related_worth known e stand free =
-      outcome_alike w.scope (read_reg source) (read_reg target) (λ r. has_reg r known.diff) (λ k r out. stand.holds.related.outside r k out) world.memory e
+      outcome_alike w.scope (read_reg source) (read_reg target) (λ r. has_reg r known.diff) (λ k r out. related_less (read_reg source k r) (read_reg target k r) (stand.holds.related.outside r k out)) world.memory e
       (none_differs known e free)
 
   -- ---- same
@@ -209,52 +211,53 @@ module _ (w : Beside) (sound : AreSound w.rules) (world : World) (a b : Files) w
   module _ (e : Expr0) (k : Kind) (of_expr : kind_of_expr e ≡ Some k) where
     -- of facts at the expression's kind, and no definition at another
     same_now : (x : Name) (s t : Registers) → list_any (is_other x e) (typed_of w.source) ≡ false → AreDefined w.source s
-        → IsRelated (read s k x) (read t k x) → (j : Kind) → IsRelated (read s j x) (read t j x)
+        → IsRelated nat_eq (read s k x) (read t k x) → (j : Kind) → IsRelated nat_eq (read s j x) (read t j x)
     same_now x s t none defined related j = ⊎_elim
-        (λ h. subst (λ i. IsRelated (read s i x) (read t i x)) (same_kind_true k j h) related)
-        (λ h. subst (λ v. IsRelated v (read t j x)) (sym (reads_poison e k of_expr w.source x j (s x) none (defined x) h)) tt)
+        (λ h. subst (λ i. IsRelated nat_eq (read s i x) (read t i x)) (same_kind_true k j h) related)
+        (λ h. subst (λ v. IsRelated nat_eq v (read t j x)) (sym (reads_poison e k of_expr w.source x j (s x) none (defined x) h)) tt)
         (cases_Bool (same_kind k j))
 
-    same_reads : (x : Reg) (known : Assertion) → Stand w world known a b → has_other_kind w.source x e ≡ false
-        → IsRelated (read_reg source k x) (read_reg target k x) → (j : Kind) → IsRelated (read_reg source j x) (read_reg target j x)
+    same_reads : (x : Reg) (known : Assertion) → Stand w own world known a b → has_other_kind w.source x e ≡ false
+        → IsRelated nat_eq (read_reg source k x) (read_reg target k x) → (j : Kind) → IsRelated nat_eq (read_reg source j x) (read_reg target j x)
     same_reads (Now x) known stand none related j = same_now x a.now b.now none stand.now_defined related j
     same_reads (Old x) known stand none related j = same_now x a.old b.old none stand.old_defined related j
-    same_reads (Ghost g) known stand none related j = stand.holds.related.ghosts g j
+    same_reads (Ghost g) known stand none related j = stand.holds.related.ghosts g j refl
 
-    between : (x : Reg) (known : Assertion) → Stand w world known a b
+    between : (x : Reg) (known : Assertion) → Stand w own world known a b
         → has_fact (LessDef (register_at (type_of e) x) e) known.src ≡ true → has_fact (LessDef e (register_at (type_of e) x)) known.tgt ≡ true
-        → differing_fault known e ≡ None → IsRelated (read_reg source k x) (read_reg target k x)
+        → differing_fault known e ≡ None → IsRelated nat_eq (read_reg source k x) (read_reg target k x)
     between x known stand above below free =
         let r = register_at (type_of e) x in
         let first = (has_fact_holds source (LessDef r e) known.src above stand.holds.source_facts).1 in
         let last = (has_fact_holds target (LessDef e r) known.tgt below stand.holds.target_facts).1 in
         let whole = outcome_trans (worth source r) (worth source e) (worth target r) first
         (outcome_trans (worth source e) (worth target e) (worth target r) (related_worth known e stand free) last) in
-        subst (λ o. IsOutcomeLessDefined (Gives (register_value (read_reg source) o x)) (Gives (register_value (read_reg target) o x))) of_expr whole
+        less_related (read_reg source k x) (read_reg target k x)
+        (subst (λ o. IsOutcomeLessDefined (Gives (register_value (read_reg source) o x)) (Gives (register_value (read_reg target) o x))) of_expr whole)
 
-  same_related : (x : Reg) (known : Assertion) → Stand w world known a b → ((j : Kind) → IsRelated (read_reg source j x) (read_reg target j x))
-      → Stand w world (record known { diff = without_reg x known.diff }) a b
+  same_related : (x : Reg) (known : Assertion) → Stand w own world known a b → ((j : Kind) → IsRelated nat_eq (read_reg source j x) (read_reg target j x))
+      → Stand w own world (record known { diff = without_reg x known.diff }) a b
   same_related x known stand related =
       let holds = stand.holds in
-      knowing w world known (record known { diff = without_reg x known.diff }) a b stand (record {
+      knowing w own world known (record known { diff = without_reg x known.diff }) a b stand (record {
         source_facts = holds.source_facts;
         target_facts = holds.target_facts;
         related = record {
           outside = λ r k out. ⊎_elim
-              (λ e. subst (λ q. IsRelated (read_reg source k q) (read_reg target k q)) (same_reg_true x r e) (related k))
+              (λ e. subst (λ q. IsRelated nat_eq (read_reg source k q) (read_reg target k q)) (same_reg_true x r e) (related k))
               (λ e. holds.related.outside r k (outside_without r x known.diff e out))
               (cases_Bool (same_reg x r));
           ghosts = holds.related.ghosts;
         };
       })
 
-  same_stands : (step : SameStep) (known : Assertion) → Stand w world known a b → EndsStand w world a b (after_same w step known).ends
+  same_stands : (step : SameStep) (known : Assertion) → Stand w own world known a b → EndsStand w own world a b (after_same w step known).ends
   same_stands step known stand = go (same_fault w known step.register step.by) refl
     where
       after : Assertion
       after = record known { diff = without_reg step.register known.diff }
 
-      go : (o : Option Reason) → same_fault w known step.register step.by ≡ o → EndsStand w world a b (tested o after).ends
+      go : (o : Option Reason) → same_fault w known step.register step.by ≡ o → EndsStand w own world a b (tested o after).ends
       go (Some r) h = tt
       go None h =
           let e = step.by in
@@ -281,21 +284,21 @@ module _ (w : Beside) (sound : AreSound w.rules) (world : World) (a b : Files) w
 
   -- ---- ghost
 
-  choice_related : (g : Name) (o : Option Kind) (v u : Value) (known : Assertion) → AreRelated known.diff source target → IsRelated v u
-      → AreRelated (without_reg (Ghost g) known.diff) (side w.scope world (set_ghost a g o v)) (side w.scope world (set_ghost b g o u))
+  choice_related : (g : Name) (o : Option Kind) (v u : Value) (known : Assertion) → AreRelated nat_eq no_ghost known.diff source target → IsRelated nat_eq v u
+      → AreRelated nat_eq no_ghost (without_reg (Ghost g) known.diff) (side w.scope own world (set_ghost a g o v)) (side w.scope own world (set_ghost b g o u))
   choice_related g o v u known related less = record { outside = outside; ghosts = ghosts }
     where
-      ghosts : (x : Name) (k : Kind) → IsRelated (read (set a.ghost g o v) k x) (read (set b.ghost g o u) k x)
-      ghosts x k = ⊎_elim
-          (λ c. subst₂ IsRelated (sym (read_set_at a.ghost g x o k v c)) (sym (read_set_at b.ghost g x o k u c)) (held_related o k v u less))
-          (λ c. subst₂ IsRelated (sym (read_set_other a.ghost g x o k v c)) (sym (read_set_other b.ghost g x o k u c)) (related.ghosts x k))
+      ghosts : (x : Name) (k : Kind) → no_ghost x ≡ false → IsRelated nat_eq (read (set a.ghost g o v) k x) (read (set b.ghost g o u) k x)
+      ghosts x k shared = ⊎_elim
+          (λ c. subst₂ (IsRelated nat_eq) (sym (read_set_at a.ghost g x o k v c)) (sym (read_set_at b.ghost g x o k u c)) (held_related o k v u less))
+          (λ c. subst₂ (IsRelated nat_eq) (sym (read_set_other a.ghost g x o k v c)) (sym (read_set_other b.ghost g x o k u c)) (related.ghosts x k refl))
           (cases_Bool (same_name g x))
 
       outside : (r : Reg) (k : Kind) → has_reg r (without_reg (Ghost g) known.diff) ≡ false
-          → IsRelated (read_reg (side w.scope world (set_ghost a g o v)) k r) (read_reg (side w.scope world (set_ghost b g o u)) k r)
+          → IsRelated nat_eq (read_reg (side w.scope own world (set_ghost a g o v)) k r) (read_reg (side w.scope own world (set_ghost b g o u)) k r)
       outside (Now x) k out = related.outside (Now x) k (outside_without (Now x) (Ghost g) known.diff refl out)
       outside (Old x) k out = related.outside (Old x) k (outside_without (Old x) (Ghost g) known.diff refl out)
-      outside (Ghost x) k out = ghosts x k
+      outside (Ghost x) k out = ghosts x k refl
 
   -- what a choice comes to
   chosen_ends : (g : Reg) (e : Expr0) (known : Assertion)
@@ -305,30 +308,30 @@ module _ (w : Beside) (sound : AreSound w.rules) (world : World) (a b : Files) w
       (adds_all_ends Src (choice g e) (as_new g known))
       ∙ adds_all_ends Tgt (choice g e) (with_all Src (choice g e) (as_new g known))
 
-  choice_stands : (g : Name) (e : Expr0) (known : Assertion) → Stand w world known a b → can_trap e ≡ false → expr_names (Ghost g) e ≡ false → differing_fault known e ≡ None
-      → EndsStand w world a b (chosen (Ghost g) e known).ends
+  choice_stands : (g : Name) (e : Expr0) (known : Assertion) → Stand w own world known a b → can_trap e ≡ false → expr_names (Ghost g) e ≡ false → differing_fault known e ≡ None
+      → EndsStand w own world a b (chosen (Ghost g) e known).ends
   choice_stands g e known stand calm apart free =
       let v = gives_value w.scope (read_reg source) world.memory e calm in
       let u = gives_value w.scope (read_reg target) world.memory e calm in
-      let less : IsRelated v.0 u.0 = subst₂ IsOutcomeLessDefined v.1 u.1 (related_worth known e stand free) in
-      subst (EndsStand w world a b) (sym (chosen_ends (Ghost g) e known)) (
+      let less : IsRelated nat_eq v.0 u.0 = less_related v.0 u.0 (subst₂ IsOutcomeLessDefined v.1 u.1 (related_worth known e stand free)) in
+      subst (EndsStand w own world a b) (sym (chosen_ends (Ghost g) e known)) (
         set a.ghost g (kind_of (type_of e)) v.0,
         set b.ghost g (kind_of (type_of e)) u.0,
         record {
-          source_in_kind = choice_in_kind w.scope world a g e v.0 v.1 apart stand.source_in_kind;
-          target_in_kind = choice_in_kind w.scope world b g e u.0 u.1 apart stand.target_in_kind;
+          source_in_kind = choice_in_kind w.scope own world a g e v.0 v.1 apart stand.source_in_kind;
+          target_in_kind = choice_in_kind w.scope own world b g e u.0 u.1 apart stand.target_in_kind;
           now_defined = stand.now_defined;
           old_defined = stand.old_defined;
           holds = record {
-            source_facts = chosen_facts w.scope world a g e v.0 v.1 apart known.src stand.holds.source_facts;
-            target_facts = chosen_facts w.scope world b g e u.0 u.1 apart known.tgt stand.holds.target_facts;
+            source_facts = chosen_facts w.scope own world a g e v.0 v.1 apart known.src stand.holds.source_facts;
+            target_facts = chosen_facts w.scope own world b g e u.0 u.1 apart known.tgt stand.holds.target_facts;
             related = choice_related g (kind_of (type_of e)) v.0 u.0 known stand.holds.related less;
           };
         },
       )
 
-  may_be_stands : (r : Reg) (e : Expr0) (known : Assertion) → Stand w world known a b → may_be r e ≡ true → differing_fault known e ≡ None
-      → EndsStand w world a b (chosen r e known).ends
+  may_be_stands : (r : Reg) (e : Expr0) (known : Assertion) → Stand w own world known a b → may_be r e ≡ true → differing_fault known e ≡ None
+      → EndsStand w own world a b (chosen r e known).ends
   may_be_stands (Now x) e known stand may free = absurd (false≢true may)
   may_be_stands (Old x) e known stand may free = absurd (false≢true may)
   may_be_stands (Ghost g) e known stand may free =
@@ -337,7 +340,7 @@ module _ (w : Beside) (sound : AreSound w.rules) (world : World) (a b : Files) w
       let calm = not-true (can_trap e) (right_true (has_type e) (not (can_trap e)) (left_true two (not (expr_names (Ghost g) e)) may)) in
       choice_stands g e known stand calm apart free
 
-  ghost_stands : (step : GhostStep) (known : Assertion) → Stand w world known a b → EndsStand w world a b (after_ghost step known).ends
+  ghost_stands : (step : GhostStep) (known : Assertion) → Stand w own world known a b → EndsStand w own world a b (after_ghost step known).ends
   ghost_stands step known stand =
       tested_stands (ghost_fault known step.register step.value) known (chosen step.register step.value) (λ h.
       let g = step.register in
@@ -345,28 +348,28 @@ module _ (w : Beside) (sound : AreSound w.rules) (world : World) (a b : Files) w
       let may = no_first (cond (may_be g e) None (Some (RuleUnfit ghost_word))) (first_fault (differing_fault known e ∷ [])) h in
       may_be_stands g e known stand (passed (may_be g e) (RuleUnfit ghost_word) may.0) (no_first (differing_fault known e) None may.1).0)
 
-  step_stands : (s : HintStep) (known : Assertion) → Stand w world known a b → EndsStand w world a b (after_step w s known).ends
+  step_stands : (s : HintStep) (known : Assertion) → Stand w own world known a b → EndsStand w own world a b (after_step w s known).ends
   step_stands (Rule step) known stand = rule_stands step known stand (rule_named w.rules step.rule) (sound step.rule w.scope step.schema)
   step_stands (GhostOf step) known stand = ghost_stands step known stand
   step_stands (SameAs step) known stand = same_stands step known stand
 
-module _ (w : Beside) (sound : AreSound w.rules) (world : World) where
-  joined : (a b : Files) (sizes : List ℕ) (ends : Ends Assertion) (next : Assertion → Course Assertion) → EndsStand w world a b ends
-      → ((c d : Files) (known : Assertion) → Stand w world known c d → EndsStand w world c d (next known).ends) → EndsStand w world a b (after_ends sizes ends next).ends
+module _ (w : Beside) (sound : AreSound w.rules) (own : List ℕ) (world : World) where
+  joined : (a b : RegisterFiles) (sizes : List ℕ) (ends : Ends Assertion) (next : Assertion → Course Assertion) → EndsStand w own world a b ends
+      → ((c d : RegisterFiles) (known : Assertion) → Stand w own world known c d → EndsStand w own world c d (next known).ends) → EndsStand w own world a b (after_ends sizes ends next).ends
   joined a b sizes (Refuses r) next h on = tt
   joined a b sizes (course.Gives known) next h on = again (next known).ends (on (with_ghost a h.0) (with_ghost b h.1) known h.2)
     where
-      again : (ends : Ends Assertion) → EndsStand w world (with_ghost a h.0) (with_ghost b h.1) ends → EndsStand w world a b ends
+      again : (ends : Ends Assertion) → EndsStand w own world (with_ghost a h.0) (with_ghost b h.1) ends → EndsStand w own world a b ends
       again (Refuses r) k = tt
       again (course.Gives known) k = k
 
-  steps_stand : (steps : List HintStep) (a b : Files) (known : Assertion) → Stand w world known a b → EndsStand w world a b (after_steps w steps known).ends
+  steps_stand : (steps : List HintStep) (a b : RegisterFiles) (known : Assertion) → Stand w own world known a b → EndsStand w own world a b (after_steps w steps known).ends
   steps_stand [] a b known stand = (a.ghost, b.ghost, stand)
   steps_stand (s ∷ ss) a b known stand =
-      joined a b (after_step w s known).sizes (after_step w s known).ends (after_steps w ss) (step_stands w sound world a b s known stand)
+      joined a b (after_step w s known).sizes (after_step w s known).ends (after_steps w ss) (step_stands w sound own world a b s known stand)
       (λ c d known' stand'. steps_stand ss c d known' stand')
 
   -- where the steps of a hint come to something, it stands
-  pub steps_lead : (steps : List HintStep) (a b : Files) (known after : Assertion) → Stand w world known a b → (after_steps w steps known).ends ≡ course.Gives after
-      → (g : Registers) × (h : Registers) × Stand w world after (with_ghost a g) (with_ghost b h)
-  steps_lead steps a b known after stand ends = subst (EndsStand w world a b) ends (steps_stand steps a b known stand)
+  pub steps_lead : (steps : List HintStep) (a b : RegisterFiles) (known after : Assertion) → Stand w own world known a b → (after_steps w steps known).ends ≡ course.Gives after
+      → (g : Registers) × (h : Registers) × Stand w own world after (with_ghost a g) (with_ghost b h)
+  steps_lead steps a b known after stand ends = subst (EndsStand w own world a b) ends (steps_stand steps a b known stand)

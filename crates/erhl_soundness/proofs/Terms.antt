@@ -21,6 +21,7 @@ use Rattle.ir_types.proofs.SameLaws.{same_ty_true}
 use Rattle.ir_machine.specs.declared.items.Item.{Item}
 use Rattle.ir_machine.specs.declared.items.Item.TheVariants.{Turn, Wrong}
 use Rattle.ir_values.specs.Constants.{Scope}
+use Rattle.ir_values.specs.Values.{IsLessDefined}
 use Rattle.block_memory.specs.declared.items.Choice.TheVariants.{Go}
 use Rattle.ir_machine.specs.Registers.{Registers, read, operand_value}
 use Rattle.ir_machine.specs.State.{scope_of, Frame, World, State}
@@ -29,7 +30,7 @@ use Rattle.ir_machine.proofs.InKind.{operand_in_kind}
 use Rattle.erhl_assert.specs.declared.facts.Assertion.{Assertion}
 use Rattle.erhl_assert.specs.declared.verdict.Reason.{Reason}
 use Rattle.erhl_assert.specs.declared.verdict.Reason.TheVariants.{KindsDiffer, Unmatched}
-use Rattle.erhl_assert.specs.Sides.{IsRelated}
+use Rattle.erhl_assert.specs.Sides.{RegisterFiles}
 use Rattle.erhl_assert.specs.Facts.{each_once}
 use Rattle.erhl_assert.specs.Matched.{matched}
 use Rattle.erhl_assert.specs.Alignment.{AlignedBlock, block_hint}
@@ -39,7 +40,7 @@ use Rattle.erhl_assert.specs.Steps.{Beside, AreSound, after_steps, steps_at, ste
 use Rattle.erhl_assert.specs.Acceptance.{same_case, operand_fault, of_one_kind, term_fault, edge_judged, hint_of_block, lines_judged}
 use Rattle.erhl_soundness.proofs.Matched.{matched_related, matched_type}
 use Rattle.erhl_soundness.proofs.Definitions.{AreLinesDefined}
-use Rattle.erhl_soundness.proofs.Standing.{Files, side, Stand, with_ghost}
+use Rattle.erhl_soundness.proofs.Standing.{side, Stand, with_ghost}
 use Rattle.erhl_soundness.proofs.Steps.{passed, steps_lead}
 use Rattle.erhl_soundness.proofs.Edges.{jumped, edge_stands, forgotten, arrives}
 use Rattle.erhl_soundness.proofs.Judging.{EdgeIsGood, edge_good, end_good, block_good}
@@ -111,7 +112,7 @@ module _ (first second : Module) (w : Beside) (of_first : scope_of first ≡ w.s
   follow_wrong made = inr (at_wrong, [], made.items, refl, refl, refl)
 
   -- ---- jumps
-  module _ (b : AlignedBlock) (names : b.target.name ≡ b.source.name) (known : Assertion) (a c : Files) (stand : Stand w world known a c) where
+  module _ (b : AlignedBlock) (names : b.target.name ≡ b.source.name) (known : Assertion) (a c : RegisterFiles) (stand : Stand w own world known a c) where
     abbrev x : Frame
     x = frame_of w.source b.source own [] a.now
 
@@ -130,20 +131,20 @@ module _ (first second : Module) (w : Beside) (of_first : scope_of first ≡ w.s
 
     landed_stand : (to : Name) (mark : Bool) (d : AlignedBlock) → IsBlockFine w is_reached (mark, d)
         → block_named to w.source.blocks ≡ Some d.source → block_named to w.target.blocks ≡ Some d.target → EdgeIsGood w b.source.name to known
-        → (g : Files) × (h : Files) × Stand w world (each_once (block_hint w.hint to).entry) g h × (source_lands d.source ≡ g.now) × (target_lands d.target ≡ h.now)
+        → (g : RegisterFiles) × (h : RegisterFiles) × Stand w own world (each_once (block_hint w.hint to).entry) g h × (source_lands d.source ≡ g.now) × (target_lands d.target ≡ h.now)
     landed_stand to mark d good is_source is_target edge =
         let from = b.source.name in
         let e : Edge = record { from = from; source = d.source.phis; target = d.target.phis } in
         let steps = steps_on to (block_hint w.hint from).edges in
-        let crossing = edge_stands w world known e a c stand good.source_apart good.target_apart good.defined.0 in
+        let crossing = edge_stands w own world known e a c stand good.source_apart good.target_apart good.defined.0 in
         let judged = subst₂ (λ (p : Option Block) (q : Option Block). (after_steps w steps (after_edge known (record { from = b.source.name; source = phis_of p; target = phis_of q }))).ends ≡ Gives edge.after)
         is_source is_target edge.steps in
-        let stepped = steps_lead w sound world steps (jumped w.scope from d.source.phis a) (jumped w.scope from d.target.phis c) (after_edge known e) edge.after crossing judged in
+        let stepped = steps_lead w sound own world steps (jumped w.scope from d.source.phis a) (jumped w.scope from d.target.phis c) (after_edge known e) edge.after crossing judged in
         let g = with_ghost (jumped w.scope from d.source.phis a) stepped.0 in
         let h = with_ghost (jumped w.scope from d.target.phis c) stepped.1 in (
           forgotten g,
           forgotten h,
-          arrives w world edge.after (block_hint w.hint to).entry g h stepped.2 edge.in_src edge.in_tgt edge.inside,
+          arrives w own world edge.after (block_hint w.hint to).entry g h stepped.2 edge.in_src edge.in_tgt edge.inside,
           refl,
           ap (λ (n : Name). with_phis w.scope c.now n d.target.phis c.now) names,
         )
@@ -168,7 +169,7 @@ module _ (first second : Module) (w : Beside) (of_first : scope_of first ≡ w.s
           world = world;
           source_files = at.0;
           target_files = at.1;
-          stand = subst (λ n. Stand w world (each_once (block_hint w.hint n).entry) at.0 at.1) (sym named) at.2;
+          stand = subst (λ n. Stand w own world (each_once (block_hint w.hint n).entry) at.0 at.1) (sym named) at.2;
           good = block_good w d (good.good here);
           names = good.aligned.names;
           onward = good.onward here;
@@ -238,7 +239,7 @@ module _ (first second : Module) (w : Beside) (of_first : scope_of first ≡ w.s
         to_label None fits g = absurd g
         to_label (Some to) fits g = again to fits (jumps to (leads labels to fits all) f.1 g)
 
-    branches : (v u : Value) (label : ℕ → Name) (labels : List Name) → ((n : ℕ) → list_any (same_name (label n)) labels ≡ true) → IsRelated v u → AllByRecursion IsOpen labels
+    branches : (v u : Value) (label : ℕ → Name) (labels : List Name) → ((n : ℕ) → list_any (same_name (label n)) labels ≡ true) → IsLessDefined v u → AllByRecursion IsOpen labels
         → (made : Made) → Follows (branch u label labels (jump w.scope y [] world)) made → Follow (branch v label labels (jump w.scope x [] world)) made
     branches Poison u label labels among less all made f = follow_wrong made
     branches Undef Poison label labels among less all made f = absurd less
@@ -269,7 +270,7 @@ module _ (first second : Module) (w : Beside) (of_first : scope_of first ≡ w.s
         let u = operand_value w.scope (read c.now) e in
         let last = result_is_last left (kind_of e.ty) u made f in
         let does : DoesAs left (kind_of d.ty) v made = subst (λ k. DoesAs left k v made) (ap kind_of (sym (matched_type known d e same)))
-        (result_does_as left (kind_of e.ty) v u made (matched_related known (side w.scope world a) (side w.scope world c) refl stand.holds d e same)
+        (result_does_as left (kind_of e.ty) v u made (matched_related known (side w.scope own world a) (side w.scope own world c) refl stand.holds d e same)
         (operand_in_kind w.scope (read c.now) (λ k z. stand.target_in_kind.now z k) e) f) in
         ⊎_elim
         (λ r. inl (0, r.0, r.1, sym r.2, inr ((result_is_last left (kind_of d.ty) v r.0 r.1).2, last.2)))
@@ -291,7 +292,7 @@ module _ (first second : Module) (w : Beside) (of_first : scope_of first ≡ w.s
         let second_same = same_name_true d.on_false e.on_false (right_true on_true on_false parts.0) in
         let v = operand_value w.scope (read a.now) d.condition in
         let u = operand_value w.scope (read c.now) e.condition in
-        let less = matched_related known (side w.scope world a) (side w.scope world c) refl stand.holds d.condition e.condition
+        let less = matched_related known (side w.scope own world a) (side w.scope own world c) refl stand.holds d.condition e.condition
         (passed (matched known d.condition e.condition) (Unmatched d.condition e.condition) parts.1) in
         branches v u (side_of d.on_true d.on_false) (d.on_true ∷ d.on_false ∷ []) (side_among d.on_true d.on_false) less opened made
         (subst₂ (λ (i : Name) (j : Name). Follows (branch (operand_value w.scope (read c.now) e.condition) (side_of i j) (i ∷ j ∷ []) (jump w.scope y [] world)) made) (sym first_same) (sym second_same) f)
@@ -304,7 +305,7 @@ module _ (first second : Module) (w : Beside) (of_first : scope_of first ≡ w.s
         let same = passed (matched known d.value e.value) (Unmatched d.value e.value) parts.1 in
         let v = operand_value w.scope (read a.now) d.value in
         let u = operand_value w.scope (read c.now) e.value in
-        let less = matched_related known (side w.scope world a) (side w.scope world c) refl stand.holds d.value e.value same in
+        let less = matched_related known (side w.scope own world a) (side w.scope own world c) refl stand.holds d.value e.value same in
         branches v u (case_of d.value.ty d.default d.cases) (d.default ∷ case_labels d.cases) (cases_among d.value.ty d.default d.cases) less opened made
         (subst (λ (ty : Ty). Follows (branch (operand_value w.scope (read c.now) e.value) (case_of ty d.default d.cases) (d.default ∷ case_labels d.cases) (jump w.scope y [] world)) made) (sym (matched_type known d.value e.value same))
         (subst₂ (λ (i : Name) (j : List Case). Follows (branch (operand_value w.scope (read c.now) e.value) (case_of e.value.ty i j) (i ∷ case_labels j) (jump w.scope y [] world)) made) (sym same_default) (sym same_cases) f))
@@ -329,11 +330,11 @@ module _ (first second : Module) (w : Beside) (of_first : scope_of first ≡ w.s
 
   -- where what is left are the steps before the terminators, and these
   pub ends_move : (b : AlignedBlock) → b.target.name ≡ b.source.name → LeadsOn w is_reached b.source
-      → (n : ℕ) (known : Assertion) (a c : Files) → Stand w world known a c → IsGood (lines_judged w b n [] known)
+      → (n : ℕ) (known : Assertion) (a c : RegisterFiles) → Stand w own world known a c → IsGood (lines_judged w b n [] known)
       → Moves first second related_states 0 (running w.source b.source own world [] a.now) (running w.target b.target own world [] c.now)
   ends_move b names onward n known a c stand good = inr (λ made f.
       let at = end_good w b n known good in
-      let lead = steps_lead w sound world (steps_at n (hint_of_block w b).steps) a c known at.after stand at.steps in
+      let lead = steps_lead w sound own world (steps_at n (hint_of_block w b).steps) a c known at.after stand at.steps in
       let opened = both_all (λ to. is_reached to ≡ true) (λ to. IsGood (edge_judged w b.source.name at.after to)) (successors_of b.source.term) onward at.edges in
       let source_step : Scope → Asks = λ scope. term_step scope b.source.term (frame_of w.source b.source own [] a.now) [] world in
       let target_step : Scope → Asks = λ scope. term_step scope b.target.term (frame_of w.target b.target own [] c.now) [] world in

@@ -192,7 +192,7 @@ before_swap = record { src = LessDef (now 3) (numeral 1) ∷ []; tgt = []; diff 
 abbrev pub one_and_two : SideState
 one_and_two =
     let i32s = Some (kind.Int 32) in
-    side_of no_scope (set (set no_registers (Number 3) i32s (value.Num 1)) (Number 4) i32s (value.Num 2)) no_world
+    side_of no_scope (set (set no_registers (Number 3) i32s (value.Num 1)) (Number 4) i32s (value.Num 2)) [] no_world
 
 -- ---- two phis of one register
 

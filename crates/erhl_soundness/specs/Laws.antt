@@ -1,6 +1,6 @@
 -- The laws of the logic's words, and then its soundness laws (Crellvm's soundness theorem; the idea of checking each result
 -- of a compiler and proving the checker is credible compilation).
-use Rattle.std.specs.Prelude.{◌≡◌, ℕ, ◌≤◌, true, false, List, [], ◌∷◌, map, Option, None, Some}
+use Rattle.std.specs.Prelude.{◌≡◌, ℕ, ◌≤◌, true, false, List, [], ◌∷◌, map, Option, None, Some, nat_eq}
 use Rattle.std.specs.List.{AllByRecursion}
 use Rattle.ir_types.specs.declared.names.Name.{Name}
 use Rattle.ir_types.specs.declared.names.Name.TheVariants.{Number}
@@ -17,6 +17,7 @@ use Rattle.ir_core.specs.declared.modules.Module.{Module}
 use Rattle.ir_core.specs.Modules.{definitions_of}
 use Rattle.ir_core.specs.Order.{AreNew}
 use Rattle.ir_core.specs.WellFormed.{HasShape}
+use Rattle.ir_values.specs.Related.{IsRelated}
 use Rattle.ir_machine.specs.declared.items.Item.TheVariants.{Wrong}
 use Rattle.ir_machine.specs.Registers.{Registers, read, operand_value}
 use Rattle.ir_machine.specs.State.{scope_of, Frame, Pending, World, Running, Over}
@@ -29,7 +30,7 @@ use Rattle.erhl_assert.specs.declared.hints.Letter.TheVariants.{Both, Source, Ta
 use Rattle.erhl_assert.specs.declared.verdict.Reason.{Reason}
 use Rattle.erhl_assert.specs.declared.verdict.Reason.TheVariants.{UnknownRule, TargetMayTrap, Unmatched}
 use Rattle.erhl_assert.specs.declared.verdict.Spot.TheVariants as spot
-use Rattle.erhl_assert.specs.Sides.{SideState, IsRelated}
+use Rattle.erhl_assert.specs.Sides.{SideState, no_ghost}
 use Rattle.erhl_assert.specs.Facts.{AssertionHolds, each_once}
 use Rattle.erhl_assert.specs.Matched.{matched}
 use Rattle.erhl_assert.specs.Alignment.{Line, no_facts}
@@ -48,23 +49,24 @@ abbrev pub goes_on : Option Registers → Frame → List Pending → World → A
 goes_on (Some registers) frame rest world = Does [] (Running (record frame { registers = registers }) rest world)
 goes_on None frame rest world = Does (Wrong ∷ []) Over
 
--- two sides of modules with the same types and globals, in one world
+-- two sides of modules with the same types and globals, in one world, of which each block stands for itself
 pub record AreInOneWorld (source target : SideState) : Type 0 where
   pub scope : source.scope ≡ target.scope
   pub world : source.world ≡ target.world
 
--- the line, or a no-op, leads every frame with the side's registers so, in the side's world, which stays
+-- the line, or a no-op, leads every frame with the side's registers so, in the side's world, which stays, and in whichever module of its
+-- types and globals
 abbrev pub LineLeads : SideState → Option Instr → Option Registers → Type 0
-LineLeads side None after = after ≡ Some side.now
-LineLeads side (Some i) after = (frame : Frame) (rest : List Pending)
-    → line_step side.scope i (record frame { registers = side.now }) rest side.world ≡ goes_on after frame rest side.world
+LineLeads side None after = after ≡ Some side.files.now
+LineLeads side (Some i) after = (m : Module) (frame : Frame) (rest : List Pending) → scope_of m ≡ side.scope
+    → line_step m i (record frame { registers = side.files.now }) rest side.world ≡ goes_on after frame rest side.world
 
 -- The source has undefined behaviour; or neither side has, and the assertion holds of the sides with their new registers.
 abbrev pub Keeps : Assertion → SideState → SideState → Option Registers → Option Registers → Type 0
 Keeps known source target None target_after = Unit {0}
 Keeps known source target (Some source_after) None = ⊥
 Keeps known source target (Some source_after) (Some target_after) =
-    AssertionHolds known (record source { now = source_after }) (record target { now = target_after })
+    AssertionHolds nat_eq no_ghost known (record source { files = record source.files { now = source_after } }) (record target { files = record target.files { now = target_after } })
 
 -- where an aligned line has no fault, a check comes to what is known after it; else it is refused, and nothing is added
 abbrev pub ComesTo : Option Reason → Line → Assertion → Type 0
@@ -118,7 +120,7 @@ pub record FactsAreCounted : Type 0 where
 -- Where an assertion holds of two sides in one world and an aligned line is allowed, the two lines lead them to sides in that world of which
 -- holds what `after_line` gives, unless the source's line is undefined behaviour. So where the target's line is, the source's is.
 abbrev pub ALineKeepsWhatHolds : Type 0
-ALineKeepsWhatHolds = (known : Assertion) (l : Line) (source target : SideState) → AreInOneWorld source target → AssertionHolds known source target
+ALineKeepsWhatHolds = (known : Assertion) (l : Line) (source target : SideState) → AreInOneWorld source target → AssertionHolds nat_eq no_ghost known source target
     → line_fault known l ≡ None
     → (source_after target_after : Option Registers) × LineLeads source l.source source_after × LineLeads target l.target target_after
     × Keeps (after_line known l) source target source_after target_after
@@ -152,8 +154,8 @@ pub record LinesAreJudged : Type 0 where
 -- on the target are related.
 abbrev pub MatchedOperandsAreRelated : Type 0
 MatchedOperandsAreRelated = (known : Assertion) (source target : SideState) (a b : Operand Name)
-    → source.scope ≡ target.scope → AssertionHolds known source target → matched known a b ≡ true
-    → IsRelated (operand_value source.scope (read source.now) a) (operand_value target.scope (read target.now) b)
+    → source.scope ≡ target.scope → AssertionHolds nat_eq no_ghost known source target → matched known a b ≡ true
+    → IsRelated nat_eq (operand_value source.scope (read source.files.now) a) (operand_value target.scope (read target.files.now) b)
 
 -- no two phis of a block set one register, as in every well-formed function
 abbrev pub AreApart : List Phi → Type 0
@@ -168,12 +170,12 @@ ShapesKeepPhisApart = (m : Module) → HasShape m → AllByRecursion ArePhisApar
 
 -- a side behind the phis of a block that it enters from that one: its old registers are those before the edge
 abbrev pub crossed : Name → List Phi → SideState → SideState
-crossed from phis side = record side { now = with_phis side.scope side.now from phis side.now; old = side.now }
+crossed from phis side = record side { files = record side.files { now = with_phis side.scope side.files.now from phis side.files.now; old = side.files.now } }
 
 -- Where an assertion holds of two sides of modules with the same types and globals, and each crosses the edge with its phis, what `after_edge` gives holds of the two behind them.
 abbrev pub AnEdgeKeepsWhatHolds : Type 0
 AnEdgeKeepsWhatHolds = (known : Assertion) (e : Edge) (source target : SideState) → source.scope ≡ target.scope → AreApart e.source → AreApart e.target
-    → AssertionHolds known source target → AssertionHolds (after_edge known e) (crossed e.from e.source source) (crossed e.from e.target target)
+    → AssertionHolds nat_eq no_ghost known source target → AssertionHolds nat_eq no_ghost (after_edge known e) (crossed e.from e.source source) (crossed e.from e.target target)
 
 -- Where the rules are sound, two modules have the same types and globals, no two phis of a block set one register, and each pair of functions
 -- has one signature and is accepted under some hint, the target refines the source.

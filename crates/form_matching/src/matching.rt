@@ -14,18 +14,9 @@ use crate::letters::{Letters, read};
 use contents::Exact;
 use erhl_assert::Fact;
 use ir_core::{Atom, Const, Expr, Expr0, Flags, Reg, Ty, is_width};
+use ir_values::width_of;
 use rule_base::have_one_type;
 use rule_forms::{Condition, FlagPlace, Form, Pattern, Place, TypePlace};
-
-/// The width of an integer type, and 0 of another.
-fn width_of(ty: &Ty) -> u32
-    ensures { result ≡ meaning.width_of ty.now }
-{
-    match ty {
-        Ty::Int(width) => *width,
-        _ => 0,
-    }
-}
 
 /// Whether the atom is that number.
 fn is_number<R>(number: u64, atom: &Atom<R>) -> bool

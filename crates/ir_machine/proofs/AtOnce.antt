@@ -18,7 +18,8 @@ use Rattle.ir_types.specs.NameLaws.{same_name_refl}
 use Rattle.ir_machine.specs.declared.items.Item.{Item}
 use Rattle.ir_machine.specs.declared.items.Item.TheVariants.{Turn, Returned, Wrong}
 use Rattle.ir_machine.specs.State.{no_world, State, Over, Running}
-use Rattle.ir_machine.specs.Machine.{Asks, Does, Follows, Made, asks, at_block, start, ShowsFrom}
+use Rattle.ir_machine.specs.Machine.{Asks, Does, Follows, Made, asks, at_block, ShowsFrom}
+use Rattle.ir_machine.specs.Starting.{given, start}
 use Rattle.ir_machine.specs.Examples.{dividing, dividing_line, returning_nothing}
 use Rattle.ir_machine.specs.Laws.{AddressesGiveThese, AreShownAtOnce, LinesGiveThese, TrapsAreWrong, VoidReturnsAreShown}
 use Rattle.ir_machine.specs.Registers.{no_registers}
@@ -49,14 +50,14 @@ shows m s items ends n seen (inr e) =
       shows_nothing m n Over,
     )
 
-pub at_once : (m : Module) (f : Name) (s : State) (items : List Item) → start m f (record { args = [] }) ≡ Some s → EndsAtOnce m s items → AreShownAtOnce m f items
+pub at_once : (m : Module) (f : Name) (s : State) (items : List Item) → start m f (given []) ≡ Some s → EndsAtOnce m s items → AreShownAtOnce m f items
 at_once m f s items starts ends n seen = (
   λ h. shown m s items ends n seen (subst (λ (o : Option State). MatchOption o ⊥ (λ t. ShowsFrom m (suc n) t seen)) starts h),
   λ h. subst (λ (o : Option State). MatchOption o ⊥ (λ t. ShowsFrom m (suc n) t seen)) (sym starts) (shows m s items ends n seen h),
 )
 
 pub traps_are_wrong : TrapsAreWrong
-traps_are_wrong f b y = at_once (dividing f b y) f (entering (alone f [] b (dividing_line y ∷ []) (Register y)) b (dividing_line y ∷ []) (Register y) no_registers) (Wrong ∷ []) (rw (same_name_refl f) refl) (simp (of_number, worth_number) refl)
+traps_are_wrong f b y = at_once (dividing f b y) f (entering (alone f [] b (dividing_line y ∷ []) (Register y)) b (dividing_line y ∷ []) (Register y) no_registers no_world) (Wrong ∷ []) (rw (same_name_refl f) refl) (simp (of_number, worth_number) refl)
 
 abbrev empty_block : Name → Block
 empty_block b = record { name = b; phis = []; body = []; term = RetVoid }

@@ -1,14 +1,18 @@
 -- Runs are made of steps, and those of one block end.
-use Rattle.std.proofs.Common.{◌≡◌, ◌⊎◌, inl, inr, ℕ, zero, suc, ◌≤◌, List, [], ◌∷◌, ◌++◌, Option, None, Some, MatchOption, refl, sym, ap, ◌∙◌, subst, arith}
-use Rattle.std.specs.Prelude.{option_and_then}
+use Rattle.std.proofs.Common.{◌≡◌, ◌⊎◌, inl, inr, ℕ, zero, suc, ◌≤◌, List, [], ◌∷◌, ◌++◌, length, Option, None, Some, MatchOption, refl, sym, ap, ◌∙◌, subst, arith}
+use Rattle.std.specs.Prelude.{option_and_then, pos}
 use Rattle.std.proofs.lemmas.List.{append-nil}
+use Rattle.std.proofs.lemmas.List.{append_assoc}
+use Rattle.std.specs.List.{AllByRecursion}
 use Rattle.ir_core.specs.declared.values.Value.{Value}
+use Rattle.ir_core.specs.declared.values.Value.TheVariants as value
 use Rattle.ir_core.specs.declared.values.Kind.{Kind}
+use Rattle.ir_core.specs.declared.values.Kind.TheVariants.{Ptr}
+use Rattle.ir_types.specs.declared.names.Name.{Name}
 use Rattle.ir_core.specs.declared.functions.Instr.{Instr}
 use Rattle.ir_core.specs.declared.functions.Instr.TheVariants as line
 use Rattle.ir_core.specs.declared.functions.Term.{Term}
 use Rattle.ir_core.specs.declared.functions.Term.TheVariants.{Ret, RetVoid, Br, CondBr, Switch, Unreachable}
-use Rattle.ir_core.specs.declared.functions.Param.{Param}
 use Rattle.ir_core.specs.declared.functions.Block.{Block}
 use Rattle.ir_core.specs.declared.functions.Function.{Function}
 use Rattle.ir_core.specs.declared.modules.Module.{Module}
@@ -16,20 +20,20 @@ use Rattle.ir_values.specs.declared.operations.Outcome.{Outcome}
 use Rattle.ir_values.specs.declared.operations.Outcome.TheVariants.{Gives, Trap}
 use Rattle.ir_values.specs.Constants.{Scope}
 use Rattle.block_memory.specs.Memory.{Memory}
-use Rattle.block_memory.specs.declared.items.Shown.{Shown}
 use Rattle.ir_machine.specs.declared.items.Item.{Item}
+use Rattle.ir_machine.specs.declared.inputs.Input.{Input}
+use Rattle.ir_machine.specs.declared.inputs.InputPath.{InputPath}
 use Rattle.ir_machine.specs.declared.items.Item.TheVariants.{Wrong}
 use Rattle.ir_core.specs.Types.{kind_of}
 use Rattle.ir_core.specs.Expressions.{type_of}
 use Rattle.ir_machine.specs.Registers.{Registers, no_registers, set, read, operand_value, outcome}
-use Rattle.ir_machine.specs.State.{Frame, World, no_world, scope_of, State, Running, Over}
-use Rattle.ir_machine.specs.Machine.{Asks, Does, Made, Follows, asks, at_block, at_entry, entered, resolve, return_step, start, started, stored_by, term_step, without_own, ShowsFrom}
+use Rattle.ir_machine.specs.State.{Frame, Pending, World, scope_of, State, Running, Waiting, Over}
+use Rattle.ir_machine.specs.Machine.{Asks, Does, Made, Follows, asks, at_block, function_named, passed, return_step, stored_by, term_step, waiting_for, without_own, ShowsFrom}
+use Rattle.ir_machine.specs.Starting.{at_entry, handed, misfit, start, started, started_unless, world_at_start}
 use Rattle.ir_machine.specs.Refinement.{MayShowFrom, EndTheRun}
-use Rattle.ir_machine.specs.Laws.{EndsByReturn, Leads, RunsAreSteps, Fit, OneBlockRunsEnd, FirstsAreShown, StartsAreKept, RefinedRunsAreShown}
-use Rattle.ir_machine.specs.Stepping.{Left, left_made}
-use Rattle.ir_machine.proofs.Leaving.{found_in}
-use Rattle.ir_machine.proofs.Trees.{AllDo, all_do_made, all_do_show}
-use Rattle.ir_machine.proofs.NeverStuck.{none_is_stuck, ends_are_shown}
+use Rattle.ir_machine.specs.Laws.{EndsByReturn, EntersNone, Leads, RunsAreSteps, OneBlockRunsEnd, FirstsAreShown, StartsAreKept, RefinedRunsAreShown}
+use Rattle.ir_machine.proofs.Trees.{AllDo, all_do_call, all_do_made, all_do_show}
+use Rattle.ir_machine.proofs.NeverStuck.{CanReply, can_reply, none_is_stuck, ends_are_shown}
 use Rattle.ir_machine.proofs.Runs.{step_on, shows_more}
 
 abbrev StepsShow : Module → ℕ → State → List Item → Type 0
@@ -66,8 +70,14 @@ EndsFrom m s = (n : ℕ) × (items : List Item) × ShowsFrom m n s items × EndT
 last_step : (m : Module) (s : State) (made : Made) → Follows (asks m s) made → made.after ≡ Over → EndsFrom m s
 last_step m s made f over = (1, made.items ++ [], step_on m 0 s made [] f refl, subst (λ (items : List Item). EndTheRun items) (sym (append-nil made.items)) ((ends_are_shown m s made f).0 over))
 
-later : (m : Module) (s t : State) → Follows (asks m s) (record { told = []; items = []; after = t }) → EndsFrom m t → EndsFrom m s
-later m s t f h = (suc h.0, h.1, step_on m h.0 s (record { told = []; items = []; after = t }) h.1 f h.2, h.3)
+-- a step before
+later : (m : Module) (s : State) (made : Made) → Follows (asks m s) made → EndsFrom m made.after → EndsFrom m s
+later m s made f h = (
+  suc h.0,
+  made.items ++ h.1,
+  step_on m h.0 s made h.1 f h.2,
+  (made.items ++ h.3.0, h.3.1, ap (λ (items : List Item). made.items ++ items) h.3.2 ∙ sym (append_assoc made.items h.3.0 (h.3.1 ∷ [])), h.3.3),
+)
 
 abbrev IsOver : List Item → State → Type 0
 IsOver items after = after ≡ Over
@@ -93,15 +103,25 @@ wrong_end m s is = last_step m s (record { told = []; items = Wrong ∷ []; afte
 
 -- and where it goes on to a state from which it ends
 quiet_end : (m : Module) (s t : State) → asks m s ≡ Does [] t → EndsFrom m t → EndsFrom m s
-quiet_end m s t is h = later m s t (subst (λ (tree : Asks). Follows tree (record { told = []; items = []; after = t })) (sym is) refl) h
+quiet_end m s t is h = later m s (record { told = []; items = []; after = t }) (subst (λ (tree : Asks). Follows tree (record { told = []; items = []; after = t })) (sym is) refl) h
 
-ends_from : (m : Module) (lines : List Instr) (frame : Frame) (world : World) → EndsByReturn frame.term → EndsFrom m (left_in frame lines world)
-ends_from m [] frame world returns =
+-- the run is over, or waits for the outside
+abbrev IsOverOrWaits : Pending → List Item → State → Type 0
+IsOverOrWaits p items after = (after ≡ Over) ⊎ ((world : World) × (after ≡ Waiting p [] world))
+
+abbrev EntersNoneIn : Module → List Instr → Type 0
+EntersNoneIn m lines = AllByRecursion (EntersNone m) lines
+
+none_found : {T : Type 0} (o : Option T) (x : T) → o ≡ None → o ≡ Some x → ⊥
+none_found o x none some = let e : None ≡ Some x = sym none ∙ some in cc
+
+ends_from : (m : Module) (lines : List Instr) (frame : Frame) (world : World) → EndsByReturn frame.term → EntersNoneIn m lines → EndsFrom m (left_in frame lines world)
+ends_from m [] frame world returns calls =
     let made : (made : Made) × Follows (asks m (left_in frame [] world)) made = none_is_stuck m (left_in frame [] world) (λ e. cc) in
     last_step m (left_in frame [] world) made.0 made.1
     (all_do_made IsOver (asks m (left_in frame [] world)) made.0 (returns_over (scope_of m) frame.term (record frame { lines = [] }) world returns) made.1)
-ends_from m (line.Calm b ∷ lines) frame world returns = by_outcome (outcome (scope_of m) (read frame.registers) world.memory b.right) refl
-    (λ registers. ends_from m lines (record frame { registers = registers }) world returns)
+ends_from m (line.Calm b ∷ lines) frame world returns calls = by_outcome (outcome (scope_of m) (read frame.registers) world.memory b.right) refl
+    (λ registers. ends_from m lines (record frame { registers = registers }) world returns calls.1)
   where
     by_outcome : (o : Outcome) → outcome (scope_of m) (read frame.registers) world.memory b.right ≡ o
         → ((registers : Registers) → EndsFrom m (left_in (record frame { registers = registers }) lines world)) → EndsFrom m (left_in frame (line.Calm b ∷ lines) world)
@@ -109,35 +129,51 @@ ends_from m (line.Calm b ∷ lines) frame world returns = by_outcome (outcome (s
         quiet_end m (left_in frame (line.Calm b ∷ lines) world) (left_in (record frame { registers = set frame.registers b.name (kind_of (type_of b.right)) v }) lines world)
         (rw e refl) (rest (set frame.registers b.name (kind_of (type_of b.right)) v))
     by_outcome Trap e rest = wrong_end m (left_in frame (line.Calm b ∷ lines) world) (rw e refl)
-ends_from m (line.Alloca a ∷ lines) frame world returns =
-    let made : Left = left_made (scope_of m) a (found_in frame world) in
-    let behind : Frame = record frame { registers = made.registers; own = made.own } in
-    quiet_end m (left_in frame (line.Alloca a ∷ lines) world) (left_in behind lines made.world) refl (ends_from m lines behind made.world returns)
-ends_from m (line.Store s ∷ lines) frame world returns = by_memory (stored_by (scope_of m) s frame.registers world.memory) refl
-    (λ memory. ends_from m lines frame (record world { memory = memory }) returns)
+ends_from m (line.Alloca a ∷ lines) frame world returns calls =
+    quiet_end m (left_in frame (line.Alloca a ∷ lines) world) _ refl
+    (ends_from m lines (record frame { registers = set frame.registers a.name (Some Ptr) (value.Ptr (length world.memory) (pos 0)); own = frame.own ++ length world.memory ∷ [] }) _ returns calls.1)
+ends_from m (line.Store s ∷ lines) frame world returns calls = by_memory (stored_by (scope_of m) s frame.registers world.memory) refl
+    (λ memory. ends_from m lines frame (record world { memory = memory }) returns calls.1)
   where
     by_memory : (o : Option Memory) → stored_by (scope_of m) s frame.registers world.memory ≡ o
         → ((memory : Memory) → EndsFrom m (left_in frame lines (record world { memory = memory }))) → EndsFrom m (left_in frame (line.Store s ∷ lines) world)
     by_memory (Some memory) e rest = quiet_end m (left_in frame (line.Store s ∷ lines) world) (left_in frame lines (record world { memory = memory })) (rw e refl) (rest memory)
     by_memory None e rest = wrong_end m (left_in frame (line.Store s ∷ lines) world) (rw e refl)
-ends_from m (line.Call c ∷ lines) frame world returns = wrong_end m (left_in frame (line.Call c ∷ lines) world) refl
+ends_from m (line.Call c ∷ lines) frame world returns calls =
+    let step : (made : Made) × Follows (asks m (left_in frame (line.Call c ∷ lines) world)) made = none_is_stuck m (left_in frame (line.Call c ∷ lines) world) (λ e. cc) in
+    by_step step.0 step.1
+    (all_do_made (IsOverOrWaits (waiting_for c (record frame { lines = lines }))) (asks m (left_in frame (line.Call c ∷ lines) world)) step.0
+    (all_do_call (IsOverOrWaits (waiting_for c (record frame { lines = lines }))) m c (record frame { lines = lines }) [] world (inl refl)
+    (λ g b bs named blocks. absurd (none_found (function_named c.callee m.functions) g calls.0 named))
+    (λ none declared ss names. inr (record world { names = names }, refl))) step.1)
+    (λ registers after. ends_from m lines (record frame { registers = registers }) after returns calls.1)
+  where
+    waiting_ends : (after : World) → ((registers : Registers) (after : World) → EndsFrom m (left_in (record frame { registers = registers }) lines after))
+        → EndsFrom m (Waiting (waiting_for c (record frame { lines = lines })) [] after)
+    waiting_ends after rest =
+        let replied : CanReply m (waiting_for c (record frame { lines = lines })) [] after = can_reply m (waiting_for c (record frame { lines = lines })) [] after in
+        later m (Waiting (waiting_for c (record frame { lines = lines })) [] after) _ replied.3 (rest _ after)
 
-fit_enters : (ps : List Param) (args : List Shown) (registers : Registers) → Fit ps args → (after : Registers) × (entered no_world ps args registers ≡ Some after)
-fit_enters [] [] registers fit = (registers, refl)
-fit_enters (p ∷ ps) (a ∷ args) registers fit =
-    let rest = fit_enters ps args (set registers p.name (kind_of p.ty) (resolve no_world a)) fit.1 in
-    (rest.0, rw (fit.0) rest.1)
-fit_enters [] (a ∷ args) registers fit = absurd fit
-fit_enters (p ∷ ps) [] registers fit = absurd fit
+    by_step : (made : Made) → Follows (asks m (left_in frame (line.Call c ∷ lines) world)) made → IsOverOrWaits (waiting_for c (record frame { lines = lines })) made.items made.after
+        → ((registers : Registers) (after : World) → EndsFrom m (left_in (record frame { registers = registers }) lines after)) → EndsFrom m (left_in frame (line.Call c ∷ lines) world)
+    by_step made f (inl over) rest = last_step m (left_in frame (line.Call c ∷ lines) world) made f over
+    by_step made f (inr waits) rest =
+        later m (left_in frame (line.Call c ∷ lines) world) made f (subst (EndsFrom m) (sym waits.1) (waiting_ends waits.0 rest))
+
+-- a function of one block starts there, on input that fits
+starts_there : (m : Module) (x : Name) (f : Function) (b : Block) (input : Input) → function_named x m.functions ≡ Some f → f.blocks ≡ b ∷ [] → misfit (scope_of m) f.params input ≡ None
+    → start m x input ≡ at_entry (world_at_start (scope_of m) input) f (b ∷ []) input.args
+starts_there m x f b input named blocks fit =
+    ap (λ (o : Option Function). option_and_then (λ g. started (scope_of m) g input) o) named
+    ∙ ap (λ (o : Option InputPath). started_unless o (world_at_start (scope_of m) input) f input.args) fit
+    ∙ ap (λ (bs : List Block). at_entry (world_at_start (scope_of m) input) f bs input.args) blocks
 
 pub one_block_runs_end : OneBlockRunsEnd
-one_block_runs_end m x f b input named blocks phis term fit =
-    let registers = fit_enters f.params input.args no_registers fit in
-    let starts : start m x input ≡ Some (Running (at_block f b registers.0 []) [] no_world) =
-    ap (λ (o : Option Function). option_and_then (λ g. started no_world g input) o) named ∙ ap (λ (bs : List Block). at_entry no_world f bs (entered no_world f.params input.args no_registers)) blocks
-    ∙ ap (λ (o : Option Registers). at_entry no_world f (b ∷ []) o) registers.1 in
-    let ends : EndsFrom m (Running (at_block f b registers.0 []) [] no_world) = ends_from m b.body (at_block f b registers.0 []) no_world term in
-    (ends.0, ends.1, subst (λ (o : Option State). MatchOption o ⊥ (λ s. ShowsFrom m ends.0 s ends.1)) (sym starts) ends.2, ends.3)
+one_block_runs_end m x f b input named blocks phis term calls fit =
+    let world : World = world_at_start (scope_of m) input in
+    let frame : Frame = at_block f b (passed f.params (handed world f.params input.args) no_registers) [] in
+    let ends : EndsFrom m (left_in frame b.body world) = ends_from m b.body frame world term calls in
+    (ends.0, ends.1, subst (λ (o : Option State). MatchOption o ⊥ (λ s. ShowsFrom m ends.0 s ends.1)) (sym (starts_there m x f b input named blocks fit)) ends.2, ends.3)
 
 pub firsts_are_shown : FirstsAreShown
 firsts_are_shown m s x items (inl h) = (h.0, x, items, h.1, inl refl)

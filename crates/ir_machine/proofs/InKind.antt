@@ -23,7 +23,6 @@ use Rattle.ir_core.specs.declared.expressions.Element.{Element}
 use Rattle.ir_core.specs.declared.expressions.Expr.{Expr}
 use Rattle.ir_core.specs.declared.expressions.Expr.TheVariants as expr
 use Rattle.ir_core.specs.declared.functions.Entry.{Entry}
-use Rattle.ir_core.specs.declared.functions.Param.{Param}
 use Rattle.ir_core.specs.declared.functions.Phi.{Phi}
 use Rattle.ir_values.specs.declared.operations.Outcome.{Outcome}
 use Rattle.ir_values.specs.Addresses.{GivenIndex, IsIndex, gep_outcome}
@@ -50,7 +49,7 @@ use Rattle.ir_core.specs.Typing.{index_of}
 use Rattle.ir_core.specs.Expressions.{type_of}
 use Rattle.ir_machine.specs.Registers.{Registers, no_registers, read, set, AreInKind, align_or, constant_at, register_value, atom_value, operand_value, binary_at, icmp_at, cast_at, element_from, index_value, is_stated, selects, size_at, outcome}
 use Rattle.ir_machine.specs.State.{World}
-use Rattle.ir_machine.specs.Machine.{entry_from, entry_value, phi_value, with_phis, fits_kind, entered, is_offset, is_ranged, is_value_of, resolve}
+use Rattle.ir_machine.specs.Machine.{entry_from, entry_value, phi_value, with_phis, is_offset, is_ranged, is_value_of, resolve}
 use Rattle.ir_machine.proofs.Runs.{set_in_kind}
 use Rattle.ir_values.proofs.ConstantWalks.{are_integers}
 use Rattle.ir_machine.proofs.Stated.{base_kind, element_kind, indices_are_integers}
@@ -230,27 +229,6 @@ resolved_in_kind Ptr world (shown.Bare address) range is = ltb-true address (2 ^
 -- a value that the outside gives is of the kind
 pub given_in_kind : (k : Kind) (world : World) (s : Shown) → is_value_of k world s ≡ true → IsInKind k (resolve world s)
 given_in_kind k world s h = resolved_in_kind k world s (left_true (is_ranged s) (is_some (picked k world.names s)) h) (right_true (is_ranged s) (is_some (picked k world.names s)) h)
-
-pub argument_in_kind : (k : Option Kind) (world : World) (a : Shown) → fits_kind k world a ≡ true → IsInKindOf k (resolve world a)
-argument_in_kind None world a h = tt
-argument_in_kind (Some k) world a h = given_in_kind k world a h
-
-abbrev pub EntersInKind : Option Registers → Type 0
-EntersInKind None = Unit {0}
-EntersInKind (Some registers) = AreInKind registers
-
-fitting_in_kind : (fits : Bool) (entering : Option Registers) → (fits ≡ true → EntersInKind entering) → EntersInKind (cond fits entering None)
-fitting_in_kind true entering h = h refl
-fitting_in_kind false entering h = tt
-
-pub entered_in_kind : (world : World) (ps : List Param) (args : List Shown) (registers : Registers) → AreInKind registers → EntersInKind (entered world ps args registers)
-entered_in_kind world [] [] registers h = h
-entered_in_kind world [] (a ∷ args) registers h = tt
-entered_in_kind world (p ∷ ps) [] registers h = tt
-entered_in_kind world (p ∷ ps) (a ∷ args) registers h =
-    fitting_in_kind (fits_kind (kind_of p.ty) world a) (entered world ps args (set registers p.name (kind_of p.ty) (resolve world a)))
-    (λ e. entered_in_kind world ps args (set registers p.name (kind_of p.ty) (resolve world a))
-    (set_in_kind registers p.name (kind_of p.ty) (resolve world a) h (argument_in_kind (kind_of p.ty) world a e)))
 
 pub file_atom_in_kind : (scope : Scope) (registers : Registers) (t : Ty) (a : Atom Name) → AreInKind registers → IsInKindOf (kind_of t) (atom_value scope (read registers) t a)
 file_atom_in_kind scope registers t a h = atom_value_in_kind scope (read registers) (λ j x. h x j) t a

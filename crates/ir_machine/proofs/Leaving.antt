@@ -1,60 +1,20 @@
--- What lines leave, by which their steps are told; and blocks that end.
+-- Blocks that end.
 use Rattle.std.proofs.Common.{◌≡◌, ℕ, zero, suc, ◌<◌, ◌≤◌, ◌+◌, ◌&&◌, cond, not, List, [], ◌∷◌, length, get_or, drop, Option, None, Some, refl, ap, ◌∙◌, arith}
 use Rattle.std.specs.Prelude.{ℤ, nat_lt}
 use Rattle.std.specs.List.{list_any}
 use Rattle.std.specs.Option.{is_some}
-use Rattle.ir_core.specs.declared.functions.Instr.{Instr}
-use Rattle.ir_core.specs.declared.functions.Instr.TheVariants as line
 use Rattle.ir_core.specs.declared.values.Kind.{Kind}
 use Rattle.ir_core.specs.declared.values.Kind.TheVariants.{Int, Ptr}
 use Rattle.ir_core.specs.declared.values.Value.{Value}
 use Rattle.ir_core.specs.declared.values.Value.TheVariants as value
-use Rattle.ir_core.specs.Expressions.{type_of}
-use Rattle.ir_core.specs.Types.{kind_of}
-use Rattle.ir_types.specs.declared.names.Name.{Name}
-use Rattle.ir_values.specs.declared.operations.Outcome.{Outcome}
-use Rattle.ir_values.specs.declared.operations.Outcome.TheVariants.{Gives, Trap}
-use Rattle.ir_values.specs.Constants.{Scope}
 use Rattle.block_memory.specs.declared.items.Choice.TheVariants as choice
 use Rattle.block_memory.specs.declared.items.Shown.{Shown}
 use Rattle.block_memory.specs.Memory.{Cell, Memory, ended, updated}
 use Rattle.block_memory.specs.Names.{Showing, fresh, is_bound_to, under_next}
 use Rattle.ir_machine.specs.declared.items.Item.TheVariants.{Turn, Returned, Wrong}
-use Rattle.ir_machine.specs.Machine.{Asks, Ask, Does, Chosen, Told, FreshByte, all_ended, chosen_by, line_step, return_step, set_to, show, show_undef, shown_as, stored_by, with_memory, without_own, wrong}
-use Rattle.ir_machine.specs.Registers.{outcome, read}
-use Rattle.ir_machine.specs.State.{Frame, Pending, World, Over, Running}
-use Rattle.ir_machine.specs.Stepping.{Left, left_by, left_with, line_left}
+use Rattle.ir_machine.specs.Machine.{Asks, Ask, Does, Chosen, Told, FreshByte, all_ended, chosen_by, return_step, show, show_undef, shown_as, without_own}
+use Rattle.ir_machine.specs.State.{World, Over}
 use Rattle.ir_machine.proofs.Standing.{drop_at}
-
--- ---- a line's step
-
--- the frame goes on with what is left, or is wrong
-abbrev pub goes_behind : Option Left → Frame → List Pending → Asks
-goes_behind None frame rest = wrong
-goes_behind (Some left) frame rest = Does [] (Running (record frame { registers = left.registers; own = left.own }) rest left.world)
-
--- what a frame finds
-abbrev pub found_in : Frame → World → Left
-found_in frame world = record { registers = frame.registers; own = frame.own; world = world }
-
-calm_leaves : (k : Option Kind) (x : Name) (o : Outcome) (frame : Frame) (rest : List Pending) (world : World)
-    → set_to k x o frame rest world ≡ goes_behind (left_by k x o (found_in frame world)) frame rest
-calm_leaves k x (Gives v) frame rest world = refl
-calm_leaves k x Trap frame rest world = refl
-
-store_leaves : (o : Option Memory) (frame : Frame) (rest : List Pending) (world : World)
-    → with_memory o frame rest world ≡ goes_behind (left_with o (found_in frame world)) frame rest
-store_leaves None frame rest world = refl
-store_leaves (Some memory) frame rest world = refl
-
--- a line's step, told by what it leaves
-pub line_leaves : (scope : Scope) (i : Instr) (frame : Frame) (rest : List Pending) (world : World)
-    → line_step scope i frame rest world ≡ goes_behind (line_left scope i (found_in frame world)) frame rest
-line_leaves scope (line.Calm l) frame rest world =
-    calm_leaves (kind_of (type_of l.right)) l.name (outcome scope (read frame.registers) world.memory l.right) frame rest world
-line_leaves scope (line.Alloca a) frame rest world = refl
-line_leaves scope (line.Store s) frame rest world = store_leaves (stored_by scope s frame.registers world.memory) frame rest world
-line_leaves scope (line.Call c) frame rest world = refl
 
 -- ---- blocks
 

@@ -12,6 +12,8 @@ use Rattle.ir_core.specs.declared.values.Kind.TheVariants.{Int, Ptr}
 use Rattle.ir_core.specs.declared.values.Byte.{Byte}
 use Rattle.ir_core.specs.declared.values.Byte.TheVariants as byte
 use Rattle.ir_core.specs.declared.functions.Block.{Block}
+use Rattle.ir_core.specs.declared.functions.Call.{Call}
+use Rattle.ir_core.specs.declared.functions.Function.{Function}
 use Rattle.ir_core.specs.declared.functions.Case.{Case}
 use Rattle.ir_core.specs.declared.functions.Instr.{Instr}
 use Rattle.ir_core.specs.declared.functions.Instr.TheVariants as line
@@ -29,16 +31,16 @@ use Rattle.block_memory.specs.declared.items.ShownByte.{ShownByte}
 use Rattle.block_memory.specs.Memory.{Memory}
 use Rattle.block_memory.specs.Names.{Showing, name_of}
 use Rattle.ir_machine.specs.declared.items.Item.{Item}
-use Rattle.ir_machine.specs.declared.items.Item.TheVariants.{Turn, EnvRead, EnvWrite, EnvNew, Replied, Returned, Wrong}
+use Rattle.ir_machine.specs.declared.items.Item.TheVariants.{Turn, Called, EnvRead, EnvWrite, EnvNew, Replied, Returned, Wrong}
 use Rattle.ir_core.specs.Types.{kind_of}
 use Rattle.ir_core.specs.Expressions.{type_of}
 use Rattle.ir_machine.specs.Registers.{read, operand_value, outcome}
 use Rattle.ir_machine.specs.State.{Frame, Pending, World, scope_of, State, Running, Waiting, Over}
-use Rattle.ir_machine.specs.Machine.{Asks, Does, Ask, Never, Chosen, Told, FreshByte, Made, Follows, act, asks, block_named, branch, byte_reached, chosen_by, entering, gone, gone_to, is_act, is_among, is_byte_pick, is_label, is_reply, jump, label_told, picked_byte, read_byte, reply, resumed, show, show_byte, show_part, show_undef, shown_as, set_to, frame_step, term_step, return_step, return_void, stored_by, with_memory, without_own}
+use Rattle.ir_machine.specs.Machine.{Asks, Does, Ask, Never, Chosen, Told, FreshByte, Made, Follows, act, arguments_of, asks, begun, block_named, branch, byte_reached, call_step, called, chosen_by, entering, function_named, gone, gone_to, is_act, is_among, is_byte_pick, is_declared, is_label, is_reply, jump, label_told, picked_byte, read_byte, reply, resolve, resumed, show, show_all, show_byte, show_part, show_undef, shown_as, set_to, frame_step, term_step, return_step, return_void, stored_by, waiting_for, with_memory, without_own, wrong}
 use Rattle.ir_machine.specs.Choices.{Lacks, NoStep, answer, RunsAnswer}
 use Rattle.ir_machine.specs.Refinement.{IsEnd, EndTheRun, NoneIsStuck, EndsAreShown}
 use Rattle.ir_types.specs.NameLaws.{same_name_refl}
-use Rattle.ir_machine.proofs.Trees.{AllDo, all_do_act, all_do_branch, all_do_jump, all_do_made, all_do_show, all_do_set_to, all_do_stored}
+use Rattle.ir_machine.proofs.Trees.{AllDo, all_do_act, all_do_branch, all_do_call, all_do_jump, all_do_made, all_do_show, all_do_set_to, all_do_stored}
 
 abbrev CanStep : Asks → Type 0
 CanStep tree = (made : Made) × Follows tree made
@@ -122,13 +124,30 @@ store_can_step : (o : Option Memory) (frame : Frame) (rest : List Pending) (worl
 store_can_step (Some memory) frame rest world = does_step [] _
 store_can_step None frame rest world = does_step (Wrong ∷ []) Over
 
-frame_can_step : (scope : Scope) (lines : List Instr) (frame : Frame) (rest : List Pending) (world : World) → CanStep (frame_step scope lines frame rest world)
-frame_can_step scope (line.Calm b ∷ left) frame rest world =
-    set_can_step (kind_of (type_of b.right)) b.name (outcome scope (read frame.registers) world.memory b.right) (record frame { lines = left }) rest world
-frame_can_step scope (line.Alloca a ∷ left) frame rest world = does_step [] _
-frame_can_step scope (line.Store s ∷ left) frame rest world = store_can_step (stored_by scope s frame.registers world.memory) (record frame { lines = left }) rest world
-frame_can_step scope (line.Call c ∷ left) frame rest world = does_step (Wrong ∷ []) Over
-frame_can_step scope [] frame rest world = term_can_step scope frame.term frame rest world
+all_can_step : (vs : List (Option Kind × Value)) (world : World) (next : List Shown → World → Asks) → ((ss : List Shown) (after : World) → CanStep (next ss after)) → CanStep (show_all vs world next)
+all_can_step [] world next good = good [] world
+all_can_step (v ∷ vs) world next good = show_can_step v.0 v.1 world wrong _ (does_step (Wrong ∷ []) Over) (λ s after. all_can_step vs after _ (λ ss last. good (s ∷ ss) last))
+
+begun_can_step : (g : Function) (bs : List Block) (vs : List (Option Kind × Value)) (rest : List Pending) (world : World) → CanStep (begun g bs vs rest world)
+begun_can_step g [] vs rest world = does_step (Wrong ∷ []) Over
+begun_can_step g (b ∷ bs) vs rest world = does_step (Turn ∷ []) _
+
+called_can_step : (o : Option Function) (declared : Bool) (x : Name) (vs : List (Option Kind × Value)) (p : Pending) (rest : List Pending) (world : World) → CanStep (called o declared x vs p rest world)
+called_can_step (Some g) declared x vs p rest world = begun_can_step g g.blocks vs (p ∷ rest) world
+called_can_step None true x vs p rest world = all_can_step vs world _ (λ ss after. does_step (Called x ss ∷ []) _)
+called_can_step None false x vs p rest world = does_step (Wrong ∷ []) Over
+
+call_can_step : (m : Module) (c : Call) (frame : Frame) (rest : List Pending) (world : World) → CanStep (call_step m c frame rest world)
+call_can_step m c frame rest world =
+    called_can_step (function_named c.callee m.functions) (is_declared c.callee m.declarations) c.callee (arguments_of (scope_of m) frame.registers c.arguments) (waiting_for c frame) rest world
+
+frame_can_step : (m : Module) (lines : List Instr) (frame : Frame) (rest : List Pending) (world : World) → CanStep (frame_step m lines frame rest world)
+frame_can_step m (line.Calm b ∷ left) frame rest world =
+    set_can_step (kind_of (type_of b.right)) b.name (outcome (scope_of m) (read frame.registers) world.memory b.right) (record frame { lines = left }) rest world
+frame_can_step m (line.Alloca a ∷ left) frame rest world = does_step [] _
+frame_can_step m (line.Store s ∷ left) frame rest world = store_can_step (stored_by (scope_of m) s frame.registers world.memory) (record frame { lines = left }) rest world
+frame_can_step m (line.Call c ∷ left) frame rest world = call_can_step m c (record frame { lines = left }) rest world
+frame_can_step m [] frame rest world = term_can_step (scope_of m) frame.term frame rest world
 
 -- a call may be answered: by nothing, by 0 or by address 0
 answer_fits : (k : Option Kind) (world : World) → (s : Option Shown) × (is_reply k world s ≡ true)
@@ -136,21 +155,24 @@ answer_fits None world = (None, refl)
 answer_fits (Some (Int width)) world = (Some (shown.Num 0), rw (zero_fits width) refl)
 answer_fits (Some Ptr) world = (Some (shown.Bare 0), rw (zero_fits 64) refl)
 
-reply_can_step : (s : Option Shown) (p : Pending) (ps : List Pending) (world : World) → CanStep (reply s p ps world)
-reply_can_step None p ps world = does_step _ _
-reply_can_step (Some s) p ps world = does_step _ _
+-- a reply that fits is a step, behind which the frame goes on
+abbrev pub CanReply : Module → Pending → List Pending → World → Type 0
+CanReply m p ps world = (s : Option Shown) × (k : Option Kind) × (v : Value)
+    × Follows (asks m (Waiting p ps world)) (record { told = Told (choice.Reply s) ∷ []; items = Replied s ∷ []; after = Running (resumed p k v) ps world })
 
-wait_can_step : (p : Pending) (ps : List Pending) (world : World) → CanStep (Ask (is_act p world) (λ c. act c p ps world))
-wait_can_step p ps world =
-    let fits : (s : Option Shown) × (is_reply p.kind world s ≡ true) = answer_fits p.kind world in
-    let more : CanStep (reply fits.0 p ps world) = reply_can_step fits.0 p ps world in (
-      record { told = Told (choice.Reply fits.0) ∷ more.0.told; items = more.0.items; after = more.0.after },
-      (Told (choice.Reply fits.0), more.0, fits.1, more.1, refl),
-    )
+pub can_reply : (m : Module) (p : Pending) (ps : List Pending) (world : World) → CanReply m p ps world
+can_reply m p ps world = by_answer (answer_fits p.kind world)
+  where
+    by_answer : (s : Option Shown) × (is_reply p.kind world s ≡ true) → CanReply m p ps world
+    by_answer (None, fits) = (None, None, value.Poison, (Told (choice.Reply None), record { told = []; items = _; after = _ }, fits, refl, refl))
+    by_answer (Some s, fits) = (Some s, p.kind, resolve world s, (Told (choice.Reply (Some s)), record { told = []; items = _; after = _ }, fits, refl, refl))
+
+wait_can_step : (m : Module) (p : Pending) (ps : List Pending) (world : World) → CanStep (asks m (Waiting p ps world))
+wait_can_step m p ps world = let replied : CanReply m p ps world = can_reply m p ps world in (_, replied.3)
 
 pub none_is_stuck : NoneIsStuck
-none_is_stuck m (Running frame rest world) h = frame_can_step (scope_of m) frame.lines frame rest world
-none_is_stuck m (Waiting p rest world) h = wait_can_step p rest world
+none_is_stuck m (Running frame rest world) h = frame_can_step m frame.lines frame rest world
+none_is_stuck m (Waiting p rest world) h = wait_can_step m p rest world
 none_is_stuck m Over h = absurd (h refl)
 
 -- a step leads to the end of the run exactly where it shows it
@@ -201,18 +223,20 @@ term_shows_end scope (CondBr c) frame rest world = all_do_branch ShowsItsEnd (op
 term_shows_end scope (Switch s) frame rest world = all_do_branch ShowsItsEnd (operand_value scope (read frame.registers) s.value) _ _ (jump scope frame rest world) wrong_ends (jump_shows_end scope frame rest world)
 term_shows_end scope Unreachable frame rest world = wrong_ends
 
-frame_shows_end : (scope : Scope) (lines : List Instr) (frame : Frame) (rest : List Pending) (world : World) → AllDo ShowsItsEnd (frame_step scope lines frame rest world)
-frame_shows_end scope (line.Calm b ∷ left) frame rest world =
-    all_do_set_to ShowsItsEnd (kind_of (type_of b.right)) b.name (outcome scope (read frame.registers) world.memory b.right) (record frame { lines = left }) rest world
+frame_shows_end : (m : Module) (lines : List Instr) (frame : Frame) (rest : List Pending) (world : World) → AllDo ShowsItsEnd (frame_step m lines frame rest world)
+frame_shows_end m (line.Calm b ∷ left) frame rest world =
+    all_do_set_to ShowsItsEnd (kind_of (type_of b.right)) b.name (outcome (scope_of m) (read frame.registers) world.memory b.right) (record frame { lines = left }) rest world
     (λ v e. goes_on [] _ rest world (no_end [] refl)) (ends (Wrong ∷ []) [] Wrong refl tt)
-frame_shows_end scope (line.Alloca a ∷ left) frame rest world = goes_on [] _ rest _ (no_end [] refl)
-frame_shows_end scope (line.Store s ∷ left) frame rest world =
-    all_do_stored ShowsItsEnd (stored_by scope s frame.registers world.memory) (record frame { lines = left }) rest world (λ memory. goes_on [] _ rest _ (no_end [] refl)) wrong_ends
-frame_shows_end scope (line.Call c ∷ left) frame rest world = wrong_ends
-frame_shows_end scope [] frame rest world = term_shows_end scope frame.term frame rest world
+frame_shows_end m (line.Alloca a ∷ left) frame rest world = goes_on [] _ rest _ (no_end [] refl)
+frame_shows_end m (line.Store s ∷ left) frame rest world =
+    all_do_stored ShowsItsEnd (stored_by (scope_of m) s frame.registers world.memory) (record frame { lines = left }) rest world (λ memory. goes_on [] _ rest _ (no_end [] refl)) wrong_ends
+frame_shows_end m (line.Call c ∷ left) frame rest world = all_do_call ShowsItsEnd m c (record frame { lines = left }) rest world wrong_ends
+    (λ g b bs named blocks. goes_on (Turn ∷ []) _ _ world turn_is_no_end)
+    (λ none declared ss names. waits_on (Called c.callee ss ∷ []) _ rest _ (one_is_no_end (Called c.callee ss) (λ e. e)))
+frame_shows_end m [] frame rest world = term_shows_end (scope_of m) frame.term frame rest world
 
 step_shows_end : (m : Module) (s : State) → AllDo ShowsItsEnd (asks m s)
-step_shows_end m (Running frame rest world) = frame_shows_end (scope_of m) frame.lines frame rest world
+step_shows_end m (Running frame rest world) = frame_shows_end m frame.lines frame rest world
 step_shows_end m (Waiting p rest world) = λ c fits. all_do_act ShowsItsEnd p rest world wrong_ends
     (λ s k v. goes_on (Replied s ∷ []) (resumed p k v) rest world (one_is_no_end (Replied s) (λ e. e)))
     (λ x offset s after. waits_on (EnvRead x offset s ∷ []) p rest after (one_is_no_end (EnvRead x offset s) (λ e. e)))
@@ -290,13 +314,30 @@ store_always : (o : Option Memory) (frame : Frame) (rest : List Pending) (world 
 store_always (Some memory) frame rest world = tt
 store_always None frame rest world = tt
 
-frame_always : (scope : Scope) (lines : List Instr) (frame : Frame) (rest : List Pending) (world : World) → AlwaysSteps (frame_step scope lines frame rest world)
-frame_always scope (line.Calm b ∷ left) frame rest world =
-    set_always (kind_of (type_of b.right)) b.name (outcome scope (read frame.registers) world.memory b.right) (record frame { lines = left }) rest world
-frame_always scope (line.Alloca a ∷ left) frame rest world = tt
-frame_always scope (line.Store s ∷ left) frame rest world = store_always (stored_by scope s frame.registers world.memory) (record frame { lines = left }) rest world
-frame_always scope (line.Call c ∷ left) frame rest world = tt
-frame_always scope [] frame rest world = term_always scope frame.term frame rest world
+all_always : (vs : List (Option Kind × Value)) (world : World) (next : List Shown → World → Asks) → ((ss : List Shown) (after : World) → AlwaysSteps (next ss after)) → AlwaysSteps (show_all vs world next)
+all_always [] world next good = good [] world
+all_always (v ∷ vs) world next good = show_always v.0 v.1 world wrong _ tt (λ s after. all_always vs after _ (λ ss last. good (s ∷ ss) last))
+
+begun_always : (g : Function) (bs : List Block) (vs : List (Option Kind × Value)) (rest : List Pending) (world : World) → AlwaysSteps (begun g bs vs rest world)
+begun_always g [] vs rest world = tt
+begun_always g (b ∷ bs) vs rest world = tt
+
+called_always : (o : Option Function) (declared : Bool) (x : Name) (vs : List (Option Kind × Value)) (p : Pending) (rest : List Pending) (world : World) → AlwaysSteps (called o declared x vs p rest world)
+called_always (Some g) declared x vs p rest world = begun_always g g.blocks vs (p ∷ rest) world
+called_always None true x vs p rest world = all_always vs world _ (λ ss after. tt)
+called_always None false x vs p rest world = tt
+
+call_always : (m : Module) (c : Call) (frame : Frame) (rest : List Pending) (world : World) → AlwaysSteps (call_step m c frame rest world)
+call_always m c frame rest world =
+    called_always (function_named c.callee m.functions) (is_declared c.callee m.declarations) c.callee (arguments_of (scope_of m) frame.registers c.arguments) (waiting_for c frame) rest world
+
+frame_always : (m : Module) (lines : List Instr) (frame : Frame) (rest : List Pending) (world : World) → AlwaysSteps (frame_step m lines frame rest world)
+frame_always m (line.Calm b ∷ left) frame rest world =
+    set_always (kind_of (type_of b.right)) b.name (outcome (scope_of m) (read frame.registers) world.memory b.right) (record frame { lines = left }) rest world
+frame_always m (line.Alloca a ∷ left) frame rest world = tt
+frame_always m (line.Store s ∷ left) frame rest world = store_always (stored_by (scope_of m) s frame.registers world.memory) (record frame { lines = left }) rest world
+frame_always m (line.Call c ∷ left) frame rest world = call_always m c (record frame { lines = left }) rest world
+frame_always m [] frame rest world = term_always (scope_of m) frame.term frame rest world
 
 part_always : (name : Option ℕ) (block : ℕ) (offset : ℤ) (place : ℕ) (world : World) (next : ShownByte → World → Asks) → ((s : ShownByte) (after : World) → AlwaysSteps (next s after))
     → AlwaysSteps (show_part name block offset place world next)
@@ -331,7 +372,7 @@ act_always (Told (choice.New align bytes)) p ps world fits = tt
 act_always c p ps world fits = cc
 
 step_always : (m : Module) (s : State) → s ≢ Over → AlwaysSteps (asks m s)
-step_always m (Running frame rest world) h = frame_always (scope_of m) frame.lines frame rest world
+step_always m (Running frame rest world) h = frame_always m frame.lines frame rest world
 step_always m (Waiting p rest world) h = λ c fits. act_always c p rest world fits
 step_always m Over h = absurd (h refl)
 

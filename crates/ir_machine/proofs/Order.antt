@@ -5,7 +5,8 @@ use Rattle.ir_core.specs.declared.modules.Module.{Module}
 use Rattle.ir_machine.specs.declared.items.Item.{Item}
 use Rattle.ir_machine.specs.declared.items.Item.TheVariants.{Wrong}
 use Rattle.ir_machine.specs.State.{State}
-use Rattle.ir_machine.specs.Machine.{start, ShowsFrom}
+use Rattle.ir_machine.specs.Machine.{ShowsFrom}
+use Rattle.ir_machine.specs.Starting.{start}
 use Rattle.ir_machine.specs.Refinement.{MayShowFrom, IsReflexive, IsTransitive}
 use Rattle.ir_machine.proofs.WrongLast.{run_ends}
 

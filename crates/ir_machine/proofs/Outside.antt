@@ -34,6 +34,7 @@ bytes_are_written : (m : Module) (frame : Frame) → BytesAreWritten m frame
 bytes_are_written m frame = record {
   number = refl;
   a_part = refl;
+  by_name = refl;
   of_nothing = refl;
   no_byte = refl;
   no_such_name = refl;

@@ -25,10 +25,12 @@ use Rattle.ir_values.proofs.ConstantWalks.{of_number, of_undef, worth_number, wo
 use Rattle.block_memory.specs.declared.items.Shown.TheVariants as shown
 use Rattle.ir_machine.specs.declared.items.Item.{Item}
 use Rattle.ir_machine.specs.declared.items.Item.TheVariants.{Turn, Wrong}
-use Rattle.ir_machine.specs.declared.items.Input.{Input}
+use Rattle.ir_machine.specs.declared.inputs.Input.{Input}
+use Rattle.ir_machine.specs.declared.inputs.InputPath.{InputPath}
 use Rattle.ir_machine.specs.Registers.{Registers, no_registers, set, read, atom_value}
-use Rattle.ir_machine.specs.State.{no_world, scope_of, State, Running}
-use Rattle.ir_machine.specs.Machine.{Follows, asks, at_block, at_entry, entered, start, started, ShowsFrom}
+use Rattle.ir_machine.specs.State.{World, no_scope, no_world, scope_of, State, Running}
+use Rattle.ir_machine.specs.Machine.{Follows, asks, at_block, passed, ShowsFrom}
+use Rattle.ir_machine.specs.Starting.{given, handed, misfit, start, started, started_unless, world_at_start}
 use Rattle.ir_machine.specs.Refinement.{MayShowFrom, Refines}
 use Rattle.ir_machine.specs.Examples.{block, defining, returning, taking, wrapping, wrapping_line, number, undef}
 use Rattle.ir_machine.specs.Laws.{ConstantsRefineByValue, NumbersAreKept, NumbersStayDefined, UndefIsAnyNumber, PoisonIsNoNumber, WrongIsRefined, ArgumentsAreSeen}
@@ -40,8 +42,8 @@ abbrev pub alone : Name → List Param → Name → List Instr → Atom Name →
 alone f params b lines result = plain_function (ty.Int 32) f params (block b lines result ∷ [])
 
 -- in the function, at a block's start
-abbrev pub entering : Function → Name → List Instr → Atom Name → Registers → State
-entering f b lines result registers = Running (at_block f (block b lines result) registers []) [] no_world
+abbrev pub entering : Function → Name → List Instr → Atom Name → Registers → World → State
+entering f b lines result registers world = Running (at_block f (block b lines result) registers []) [] world
 
 -- the functions of the examples
 abbrev returner : Name → Name → Atom Name → Function
@@ -66,21 +68,26 @@ refines_from source target f input s t p q h n items shows =
 
 -- and when it holds of two modules of one function each
 pub refines_by : (f : Name) (params : List Param) (b c : Name) (ls ks : List Instr) (u v : Atom Name)
-    → ((registers : Registers) → RunsLike (defining f params b ls u) (entering (alone f params b ls u) b ls u registers) (defining f params c ks v) (entering (alone f params c ks v) c ks v registers))
+    → ((registers : Registers) (world : World) → RunsLike (defining f params b ls u) (entering (alone f params b ls u) b ls u registers world)
+    (defining f params c ks v) (entering (alone f params c ks v) c ks v registers world))
     → Refines (defining f params b ls u) (defining f params c ks v)
 refines_by f params b c ls ks u v h x input n items = by_name (same_name f x)
   where
-    by_registers : (o : Option Registers) → MatchOption (at_entry no_world (alone f params c ks v) (block c ks v ∷ []) o) ⊥ (λ s. ShowsFrom (defining f params c ks v) n s items)
-        → MatchOption (at_entry no_world (alone f params b ls u) (block b ls u ∷ []) o) ⊥ (λ s. MayShowFrom (defining f params b ls u) s items)
-    by_registers None shows = absurd shows
-    by_registers (Some registers) shows = h registers n items shows
+    at : World
+    at = world_at_start no_scope input
 
-    by_name : (same : Bool) → MatchOption (option_and_then (λ g. started no_world g input) (cond same (Some (alone f params c ks v)) None)) ⊥ (λ s. ShowsFrom (defining f params c ks v) n s items)
-        → MatchOption (option_and_then (λ g. started no_world g input) (cond same (Some (alone f params b ls u)) None)) ⊥ (λ s. MayShowFrom (defining f params b ls u) s items)
-    by_name true shows = by_registers (entered no_world params input.args no_registers) shows
+    by_misfit : (o : Option InputPath) → MatchOption (started_unless o at (alone f params c ks v) input.args) ⊥ (λ s. ShowsFrom (defining f params c ks v) n s items)
+        → MatchOption (started_unless o at (alone f params b ls u) input.args) ⊥ (λ s. MayShowFrom (defining f params b ls u) s items)
+    by_misfit (Some place) shows = absurd shows
+    by_misfit None shows = h (passed params (handed at params input.args) no_registers) at n items shows
+
+    by_name : (same : Bool) → MatchOption (option_and_then (λ g. started no_scope g input) (cond same (Some (alone f params c ks v)) None)) ⊥ (λ s. ShowsFrom (defining f params c ks v) n s items)
+        → MatchOption (option_and_then (λ g. started no_scope g input) (cond same (Some (alone f params b ls u)) None)) ⊥ (λ s. MayShowFrom (defining f params b ls u) s items)
+    by_name true shows = by_misfit (misfit no_scope params input) shows
     by_name false shows = absurd shows
 
-starts : (f b : Name) (lines : List Instr) (result : Atom Name) → start (defining f [] b lines result) f (record { args = [] }) ≡ Some (entering (alone f [] b lines result) b lines result no_registers)
+starts : (f b : Name) (lines : List Instr) (result : Atom Name)
+    → start (defining f [] b lines result) f (given []) ≡ Some (entering (alone f [] b lines result) b lines result no_registers no_world)
 starts f b lines result = rw (same_name_refl f) refl
 
 -- what a constant is worth at i32 in a module
@@ -102,11 +109,11 @@ undef_worth m =
 
 pub constants_refine : ConstantsRefineByValue
 constants_refine f b c d = (
-  λ h. less_defined (returning f b (Constant c)) (returning f b (Constant d)) (entering (returner f b (Constant c)) b [] (Constant c) no_registers) (entering (returner f b (Constant d)) b [] (Constant d) no_registers) (worth (returning f b (Constant c)) c) (worth (returning f b (Constant d)) d) refl refl
+  λ h. less_defined no_world (returning f b (Constant c)) (returning f b (Constant d)) (entering (returner f b (Constant c)) b [] (Constant c) no_registers no_world) (entering (returner f b (Constant d)) b [] (Constant d) no_registers no_world) (worth (returning f b (Constant c)) c) (worth (returning f b (Constant d)) d) refl refl
       (worth_in_kind (returning f b (Constant c)) c) (worth_in_kind (returning f b (Constant d)) d)
-      (refines_from (returning f b (Constant c)) (returning f b (Constant d)) f (record { args = [] }) (entering (returner f b (Constant c)) b [] (Constant c) no_registers) (entering (returner f b (Constant d)) b [] (Constant d) no_registers) (starts f b [] (Constant c)) (starts f b [] (Constant d)) h),
-  λ less. refines_by f [] b b [] [] (Constant c) (Constant d) (λ registers.
-      simulates (returning f b (Constant c)) (returning f b (Constant d)) (entering (returner f b (Constant c)) b [] (Constant c) registers) (entering (returner f b (Constant d)) b [] (Constant d) registers) (worth (returning f b (Constant c)) c) (worth (returning f b (Constant d)) d) refl refl
+      (refines_from (returning f b (Constant c)) (returning f b (Constant d)) f (given []) (entering (returner f b (Constant c)) b [] (Constant c) no_registers no_world) (entering (returner f b (Constant d)) b [] (Constant d) no_registers no_world) (starts f b [] (Constant c)) (starts f b [] (Constant d)) h),
+  λ less. refines_by f [] b b [] [] (Constant c) (Constant d) (λ registers world.
+      simulates world (returning f b (Constant c)) (returning f b (Constant d)) (entering (returner f b (Constant c)) b [] (Constant c) registers world) (entering (returner f b (Constant d)) b [] (Constant d) registers world) (worth (returning f b (Constant c)) c) (worth (returning f b (Constant d)) d) refl refl
       (worth_in_kind (returning f b (Constant d)) d) less),
 )
 
@@ -142,69 +149,69 @@ undef_is_any_number f b =
 abbrev wrapped : Name → Registers → Registers
 wrapped y registers = set registers y (Some (Int 32)) value.Poison
 
-wraps : (m : Module) (f b y : Name) (registers : Registers) → Returns m (entering (wrapper f b y) b [] (Register y) (wrapped y registers)) value.Poison
-wraps m f b y registers = rw (same_name_refl y) refl
+wraps : (m : Module) (f b y : Name) (registers : Registers) (world : World) → Returns m world (entering (wrapper f b y) b [] (Register y) (wrapped y registers) world) value.Poison
+wraps m f b y registers world = rw (same_name_refl y) refl
 
-wraps_at : (f b y : Name) (registers : Registers) → Follows (asks (wrapping f b y) (entering (wrapper f b y) b (wrapping_line y ∷ []) (Register y) registers))
-    (record { told = []; items = []; after = entering (wrapper f b y) b [] (Register y) (wrapped y registers) })
-wraps_at f b y registers = simp (of_number, worth_number) refl
+wraps_at : (f b y : Name) (registers : Registers) (world : World) → Follows (asks (wrapping f b y) (entering (wrapper f b y) b (wrapping_line y ∷ []) (Register y) registers world))
+    (record { told = []; items = []; after = entering (wrapper f b y) b [] (Register y) (wrapped y registers) world })
+wraps_at f b y registers world = simp (of_number, worth_number) refl
 
 -- what the wrapping module may show: whatever begins with a turn
-wrapping_turns : (f b y : Name) (registers : Registers) (rest : List Item) → MayShowFrom (wrapping f b y) (entering (wrapper f b y) b (wrapping_line y ∷ []) (Register y) registers) (Turn ∷ rest)
-wrapping_turns f b y registers rest =
-    may_step_on (wrapping f b y) (entering (wrapper f b y) b (wrapping_line y ∷ []) (Register y) registers)
-    (record { told = []; items = []; after = entering (wrapper f b y) b [] (Register y) (wrapped y registers) }) (Turn ∷ rest) (wraps_at f b y registers)
-    (may_show_turn (wrapping f b y) (entering (wrapper f b y) b [] (Register y) (wrapped y registers)) rest (wraps (wrapping f b y) f b y registers))
+wrapping_turns : (f b y : Name) (registers : Registers) (world : World) (rest : List Item) → MayShowFrom (wrapping f b y) (entering (wrapper f b y) b (wrapping_line y ∷ []) (Register y) registers world) (Turn ∷ rest)
+wrapping_turns f b y registers world rest =
+    may_step_on (wrapping f b y) (entering (wrapper f b y) b (wrapping_line y ∷ []) (Register y) registers world)
+    (record { told = []; items = []; after = entering (wrapper f b y) b [] (Register y) (wrapped y registers) world }) (Turn ∷ rest) (wraps_at f b y registers world)
+    (may_show_turn world (wrapping f b y) (entering (wrapper f b y) b [] (Register y) (wrapped y registers) world) rest (wraps (wrapping f b y) f b y registers world))
 
-wrapping_wrong : (f b y : Name) (registers : Registers) → ShowsFrom (wrapping f b y) 2 (entering (wrapper f b y) b (wrapping_line y ∷ []) (Register y) registers) (Turn ∷ Wrong ∷ [])
-wrapping_wrong f b y registers =
-    step_on (wrapping f b y) 1 (entering (wrapper f b y) b (wrapping_line y ∷ []) (Register y) registers)
-    (record { told = []; items = []; after = entering (wrapper f b y) b [] (Register y) (wrapped y registers) }) (Turn ∷ Wrong ∷ []) (wraps_at f b y registers)
-    (returns_shown (wrapping f b y) (entering (wrapper f b y) b [] (Register y) (wrapped y registers)) value.Poison (wraps (wrapping f b y) f b y registers) (Turn ∷ Wrong ∷ []) refl)
+wrapping_wrong : (f b y : Name) (registers : Registers) (world : World) → ShowsFrom (wrapping f b y) 2 (entering (wrapper f b y) b (wrapping_line y ∷ []) (Register y) registers world) (Turn ∷ Wrong ∷ [])
+wrapping_wrong f b y registers world =
+    step_on (wrapping f b y) 1 (entering (wrapper f b y) b (wrapping_line y ∷ []) (Register y) registers world)
+    (record { told = []; items = []; after = entering (wrapper f b y) b [] (Register y) (wrapped y registers) world }) (Turn ∷ Wrong ∷ []) (wraps_at f b y registers world)
+    (returns_shown world (wrapping f b y) (entering (wrapper f b y) b [] (Register y) (wrapped y registers) world) value.Poison (wraps (wrapping f b y) f b y registers world) (Turn ∷ Wrong ∷ []) refl)
 
 abbrev at_seven : Name → Name → State
-at_seven f b = entering (returner f b (number 7)) b [] (number 7) no_registers
+at_seven f b = entering (returner f b (number 7)) b [] (number 7) no_registers no_world
 
 abbrev at_sum : Name → Name → Name → State
-at_sum f b y = entering (wrapper f b y) b (wrapping_line y ∷ []) (Register y) no_registers
+at_sum f b y = entering (wrapper f b y) b (wrapping_line y ∷ []) (Register y) no_registers no_world
 
-never_seven : (Turn ∷ Wrong ∷ [] ≡ []) ⊎ IsReturn (value.Num 7) (Turn ∷ Wrong ∷ []) → ⊥
+never_seven : (Turn ∷ Wrong ∷ [] ≡ []) ⊎ IsReturn no_world (value.Num 7) (Turn ∷ Wrong ∷ []) → ⊥
 never_seven (inl e) = cc
 never_seven (inr e) = cc
 
 pub poison_is_no_number : PoisonIsNoNumber
-poison_is_no_number f b y h = never_seven (may_return (returning f b (number 7)) (at_seven f b) (value.Num 7) (simp (of_number, worth_number) refl) (λ e. cc) (Turn ∷ Wrong ∷ [])
-    (refines_from (returning f b (number 7)) (wrapping f b y) f (record { args = [] }) (at_seven f b) (at_sum f b y) (starts f b [] (number 7)) (starts f b (wrapping_line y ∷ []) (Register y))
-    h 2 (Turn ∷ Wrong ∷ []) (wrapping_wrong f b y no_registers)))
+poison_is_no_number f b y h = never_seven (may_return no_world (returning f b (number 7)) (at_seven f b) (value.Num 7) (simp (of_number, worth_number) refl) (λ e. cc) (Turn ∷ Wrong ∷ [])
+    (refines_from (returning f b (number 7)) (wrapping f b y) f (given []) (at_seven f b) (at_sum f b y) (starts f b [] (number 7)) (starts f b (wrapping_line y ∷ []) (Register y))
+    h 2 (Turn ∷ Wrong ∷ []) (wrapping_wrong f b y no_registers no_world)))
 
 pub wrong_is_refined : WrongIsRefined
-wrong_is_refined f b y result = refines_by f [] b b (wrapping_line y ∷ []) [] (Register y) result (λ registers n items shows.
-    turned registers items (returns_only (returning f b result) (entering (returner f b result) b [] result registers) (atom_value (scope_of (returning f b result)) (read registers) (ty.Int 32) result) refl n items shows))
+wrong_is_refined f b y result = refines_by f [] b b (wrapping_line y ∷ []) [] (Register y) result (λ registers world n items shows.
+    turned registers world items (returns_only world (returning f b result) (entering (returner f b result) b [] result registers world) (atom_value (scope_of (returning f b result)) (read registers) (ty.Int 32) result) refl n items shows))
   where
-    turned : (registers : Registers) (items : List Item) → (items ≡ []) ⊎ IsReturn (atom_value (scope_of (returning f b result)) (read registers) (ty.Int 32) result) items
-        → MayShowFrom (wrapping f b y) (entering (wrapper f b y) b (wrapping_line y ∷ []) (Register y) registers) items
-    turned registers items (inl e) = subst (λ (l : List Item). MayShowFrom (wrapping f b y) (entering (wrapper f b y) b (wrapping_line y ∷ []) (Register y) registers) l) (sym e)
-        (may_show_nothing (wrapping f b y) (entering (wrapper f b y) b (wrapping_line y ∷ []) (Register y) registers))
-    turned registers items (inr r) =
-        let turns = return_turns (atom_value (scope_of (returning f b result)) (read registers) (ty.Int 32) result) items r in
-        subst (λ (l : List Item). MayShowFrom (wrapping f b y) (entering (wrapper f b y) b (wrapping_line y ∷ []) (Register y) registers) l) (sym turns.1)
-        (wrapping_turns f b y registers turns.0)
+    turned : (registers : Registers) (world : World) (items : List Item) → (items ≡ []) ⊎ IsReturn world (atom_value (scope_of (returning f b result)) (read registers) (ty.Int 32) result) items
+        → MayShowFrom (wrapping f b y) (entering (wrapper f b y) b (wrapping_line y ∷ []) (Register y) registers world) items
+    turned registers world items (inl e) = subst (λ (l : List Item). MayShowFrom (wrapping f b y) (entering (wrapper f b y) b (wrapping_line y ∷ []) (Register y) registers world) l) (sym e)
+        (may_show_nothing (wrapping f b y) (entering (wrapper f b y) b (wrapping_line y ∷ []) (Register y) registers world))
+    turned registers world items (inr r) =
+        let turns = return_turns world (atom_value (scope_of (returning f b result)) (read registers) (ty.Int 32) result) items r in
+        subst (λ (l : List Item). MayShowFrom (wrapping f b y) (entering (wrapper f b y) b (wrapping_line y ∷ []) (Register y) registers world) l) (sym turns.1)
+        (wrapping_turns f b y registers world turns.0)
 
 -- the registers on entry with that argument
 abbrev taken : Name → ℕ → Registers
 taken x n = set no_registers x (Some (Int 32)) (value.Num n)
 
-returns_argument : (m : Module) (f x b : Name) (n : ℕ) → Returns m (entering (taker f x b (Register x)) b [] (Register x) (taken x n)) (value.Num n)
+returns_argument : (m : Module) (f x b : Name) (n : ℕ) → Returns m no_world (entering (taker f x b (Register x)) b [] (Register x) (taken x n) no_world) (value.Num n)
 returns_argument m f x b n = rw (same_name_refl x) refl
 
 argument_kept : (f x b : Name) (c : Const) (n : ℕ) → n < 2 ^ 32 → Refines (taking f x b (Register x)) (taking f x b (Constant c))
-    → start (taking f x b (Register x)) f (record { args = shown.Num n ∷ [] }) ≡ Some (entering (taker f x b (Register x)) b [] (Register x) (taken x n))
-    → start (taking f x b (Constant c)) f (record { args = shown.Num n ∷ [] }) ≡ Some (entering (taker f x b (Constant c)) b [] (Constant c) (taken x n))
+    → start (taking f x b (Register x)) f (given (shown.Num n ∷ [])) ≡ Some (entering (taker f x b (Register x)) b [] (Register x) (taken x n) no_world)
+    → start (taking f x b (Constant c)) f (given (shown.Num n ∷ [])) ≡ Some (entering (taker f x b (Constant c)) b [] (Constant c) (taken x n) no_world)
     → worth (taking f x b (Constant c)) c ≡ value.Num n
 argument_kept f x b c n fits h p q =
-    less_defined (taking f x b (Register x)) (taking f x b (Constant c)) (entering (taker f x b (Register x)) b [] (Register x) (taken x n)) (entering (taker f x b (Constant c)) b [] (Constant c) (taken x n))
+    less_defined no_world (taking f x b (Register x)) (taking f x b (Constant c)) (entering (taker f x b (Register x)) b [] (Register x) (taken x n) no_world) (entering (taker f x b (Constant c)) b [] (Constant c) (taken x n) no_world)
     (value.Num n) (worth (taking f x b (Constant c)) c) (returns_argument (taking f x b (Register x)) f x b n) refl fits (worth_in_kind (taking f x b (Constant c)) c)
-    (refines_from (taking f x b (Register x)) (taking f x b (Constant c)) f (record { args = shown.Num n ∷ [] }) (entering (taker f x b (Register x)) b [] (Register x) (taken x n)) (entering (taker f x b (Constant c)) b [] (Constant c) (taken x n)) p q h)
+    (refines_from (taking f x b (Register x)) (taking f x b (Constant c)) f (given (shown.Num n ∷ [])) (entering (taker f x b (Register x)) b [] (Register x) (taken x n) no_world) (entering (taker f x b (Constant c)) b [] (Constant c) (taken x n) no_world) p q h)
 
 pub arguments_are_seen : ArgumentsAreSeen
 arguments_are_seen f x b c h =

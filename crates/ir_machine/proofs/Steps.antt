@@ -1,120 +1,231 @@
--- The steps that the code makes are steps of the machine.
-use Rattle.std.proofs.Common.{◌≡◌, ℕ, ◌<◌, ◌≤◌, ◌+◌, List, [], ◌∷◌, length, get_or, drop, Option, None, Some, Result, Ok, Err, IfOk, refl, sym, ap, ◌∙◌, subst}
-use Rattle.std.specs.Prelude.{slice_get, IsErr, IsErrOf, OnErr, is_err}
-use Rattle.ir_core.specs.declared.functions.Instr.{Instr}
+-- Frames at their places, and the states of runs over them.
+use Rattle.std.proofs.Common.{◌≡◌, ℕ, ◌+◌, Bool, true, false, List, [], ◌∷◌, ◌++◌, Option, None, Some, Ok, refl, sym, ap, ◌∙◌, add-one}
+use Rattle.std.specs.Prelude.{slice_get}
+use Rattle.std.specs.Option.{option_and_then, option_map}
 use Rattle.ir_core.specs.declared.functions.Block.{Block}
+use Rattle.ir_core.specs.declared.functions.Call.{Call}
 use Rattle.ir_core.specs.declared.functions.Function.{Function}
+use Rattle.ir_core.specs.declared.functions.Instr.TheVariants as line
 use Rattle.ir_core.specs.declared.modules.Module.{Module}
-use Rattle.block_memory.specs.declared.items.Choice.{Choice}
-use Rattle.ir_machine.specs.declared.items.Item.{Item}
-use Rattle.ir_machine.specs.declared.items.Item.TheVariants.{Turn, Called, EnvRead, EnvWrite, EnvNew, Replied, Returned, Wrong}
+use Rattle.ir_core.specs.declared.values.Kind.{Kind}
+use Rattle.ir_core.specs.declared.values.Value.{Value}
+use Rattle.ir_core.specs.Types.{kind_of}
+use Rattle.ir_machine.specs.declared.machine.KeptFrame.{KeptFrame}
 use Rattle.ir_machine.specs.declared.machine.Place.{Place}
+use Rattle.ir_machine.specs.declared.machine.Progress.TheVariants as progress
 use Rattle.ir_machine.specs.declared.machine.RunState.{RunState}
 use Rattle.ir_machine.specs.declared.machine.Stepped.{Stepped}
-use Rattle.ir_machine.specs.declared.machine.StepEnd.{StepEnd}
-use Rattle.ir_machine.specs.declared.machine.StepEnd.TheVariants as end
-use Rattle.ir_machine.specs.declared.machine.Progress.{Progress}
-use Rattle.ir_machine.specs.declared.machine.Progress.TheVariants as progress
+use Rattle.ir_machine.specs.declared.items.Item.TheVariants.{Turn}
 use Rattle.ir_machine.specs.Registers.{Registers}
-use Rattle.ir_machine.specs.State.{World, scope_of, State, Over}
-use Rattle.ir_machine.specs.Machine.{Asks, Does, asks, term_step}
-use Rattle.ir_machine.specs.Choices.{Did, Lacks, answer, TakesAsked}
-use Rattle.ir_machine.specs.Places.{at_end, state_at, state_of, in_block, next_line, progress_of, registers_in, world_in}
-use Rattle.ir_machine.specs.Stepping.{DoesLine, Left, line_left}
-use Rattle.ir_machine.proofs.Leaving.{goes_behind, line_leaves}
-use Rattle.ir_machine.proofs.Standing.{asks_line, frame_over, term_asks, stands}
+use Rattle.ir_machine.specs.State.{Frame, Pending, World, Running}
+use Rattle.ir_machine.specs.Machine.{resumed, return_step, set_into, waiting_for, without_own}
+use Rattle.ir_machine.specs.Places.{at_line, block_at, call_before, call_of, frame_of, line_before, next_line, pending_of, registers_in, running_state, state_on, waiting_on, waiting_state, world_in}
+use Rattle.ir_machine.specs.Stepping.{IsAsBefore, IsOnTop, JustDoes, behind_line, state_under}
 
-module _ (m : Module) (place : Option Place) (p : Place) (registers : Registers) (own : List ℕ) (world : World) (f : Function) (b : Block)
-    (at : place ≡ Some p) (some : slice_get m.functions p.function ≡ Some f) (block : slice_get f.blocks p.block ≡ Some b) where
-  abbrev StepsTo : List Choice → Stepped → State → Type 0
-  StepsTo script stepped state =
-      (answer (asks m (state_at m place registers own world)) script ≡ Did stepped.items state script) × (stepped.progress ≡ progress_of stepped.items state)
+-- ---- frames
 
-  here : state_at m place registers own world ≡ state_at m (Some p) registers own world
-  here = ap (λ (o : Option Place). state_at m o registers own world) at
+-- the frame at a place, of these registers and blocks
+abbrev pub framed : Module → Place → Registers → List ℕ → Option Frame
+framed m p registers own =
+    option_and_then (λ (f : Function). option_map (λ b. at_line f b p.line registers own) (slice_get f.blocks p.block)) (slice_get m.functions p.function)
 
-  -- what the line at the place leaves
-  abbrev left_by_line : Instr → Option Left
-  left_by_line i = line_left (scope_of m) i (record { registers = registers; own = own; world = world })
+pub frame_there : (m : Module) (p : Place) (registers : Registers) (own : List ℕ) (f : Function) (b : Block) → slice_get m.functions p.function ≡ Some f
+    → slice_get f.blocks p.block ≡ Some b → framed m p registers own ≡ Some (at_line f b p.line registers own)
+frame_there m p registers own f b some block =
+    ap (option_and_then (λ (f : Function). option_map (λ b. at_line f b p.line registers own) (slice_get f.blocks p.block))) some
+    ∙ ap (option_map (λ b. at_line f b p.line registers own)) block
 
-  abbrev behind : Option Left → Asks
-  behind o = goes_behind o (frame_over f b (drop (p.line + 1) b.body) registers own) []
+-- with other registers it is the same but for them
+pub frame_with : (m : Module) (p : Place) (registers : Registers) (own : List ℕ) (g : Registers → Registers) (frame : Frame) → framed m p registers own ≡ Some frame
+    → framed m p (g registers) own ≡ Some (record frame { registers = g frame.registers })
+frame_with m p registers own g frame is = by_function (slice_get m.functions p.function) is
+  where
+    in_block : (f : Function) (o : Option Block) → option_map (λ b. at_line f b p.line registers own) o ≡ Some frame
+        → option_map (λ b. at_line f b p.line (g registers) own) o ≡ Some (record frame { registers = g frame.registers })
+    in_block f None e = absurd (cc)
+    in_block f (Some b) e =
+        let same : at_line f b p.line registers own ≡ frame = cc in
+        ap (λ (x : Frame). Some (record x { registers = g x.registers })) same
 
-  asked : (i : Instr) → p.line < length b.body → i ≡ get_or b.body p.line i → asks m (state_at m place registers own world) ≡ behind (left_by_line i)
-  asked i within is = ap (asks m) here ∙ asks_line m p registers own world f b some block i within is
-      ∙ line_leaves (scope_of m) i (frame_over f b (drop (p.line + 1) b.body) registers own) [] world
+    by_function : (o : Option Function) → option_and_then (λ (f : Function). option_map (λ b. at_line f b p.line registers own) (slice_get f.blocks p.block)) o ≡ Some frame
+        → option_and_then (λ (f : Function). option_map (λ b. at_line f b p.line (g registers) own) (slice_get f.blocks p.block)) o ≡ Some (record frame { registers = g frame.registers })
+    by_function None e = absurd (cc)
+    by_function (Some f) e = in_block f (slice_get f.blocks p.block) e
 
-  done_by : (o : Option Left) → asks m (state_at m place registers own world) ≡ behind o → (r : Result Stepped StepEnd) (after : RunState) (script : List Choice)
-      → DoesLine p world o r after → IfOk r (λ stepped. StepsTo script stepped (state_of m after))
-  done_by None is (Ok stepped) after script wrong =
-      let over : state_of m after ≡ Over = ap (λ (o : Option Place). state_at m o (registers_in after.registers) after.own.items (world_in after.world)) wrong.2 in
-      let does : asks m (state_at m place registers own world) ≡ Does stepped.items (state_of m after) = is ∙ cc (wrong.0, over) in (
-        ap (λ (tree : Asks). answer tree script) does,
-        cc (wrong.1, ap (λ (items : List Item). progress_of items Over) wrong.0, ap (λ (s : State). progress_of stepped.items s) over),
-      )
-  done_by (Some left) is (Ok stepped) after script did =
-      let reached : state_of m after ≡ in_block f (Some b) (p.line + 1) left.registers left.own left.world =
-      cc (did.2, did.3, did.4, did.5) ∙ stands m (next_line p) left.registers left.own left.world f b some block in
-      let does : asks m (state_at m place registers own world) ≡ Does stepped.items (state_of m after) = is ∙ cc (did.0, reached) in (
-        ap (λ (tree : Asks). answer tree script) does,
-        did.1 ∙ ap (λ (s : State). progress_of stepped.items s) (sym reached),
-      )
-  done_by o is (Err e) after script h = tt
+frame_same : (m : Module) (before after : KeptFrame) → IsAsBefore before after → frame_of m after ≡ frame_of m before
+frame_same m before after same =
+    ap (λ (p : Place). framed m p (registers_in after.registers) after.own.items) same.0
+    ∙ ap (λ (registers : Registers). framed m before.place registers after.own.items) same.1
+    ∙ ap (λ (own : List ℕ). framed m before.place (registers_in before.registers) own) same.2
 
-  -- a line that the code has done is a step
-  pub line_done : (i : Instr) → p.line < length b.body → i ≡ get_or b.body p.line i → (r : Result Stepped StepEnd) (after : RunState) (script : List Choice)
-      → DoesLine p world (left_by_line i) r after → IfOk r (λ stepped. StepsTo script stepped (state_of m after))
-  line_done i within is r after script h = done_by (left_by_line i) (asked i within is) r after script h
+-- what waits at a place behind a call
+abbrev pub pended : Module → Place → Option Frame → Option Pending
+pended m p frame = option_and_then (λ c. option_map (waiting_for c) frame) (call_before m p)
 
-  asks_nothing : (o : Option Left) (script : List Choice) → TakesAsked (behind o) script script
-  asks_nothing None script = ([], refl, refl)
-  asks_nothing (Some left) script = ([], refl, refl)
+pub pending_same : (m : Module) (before after : KeptFrame) → IsAsBefore before after → pending_of m after ≡ pending_of m before
+pending_same m before after same =
+    ap (λ (p : Place). pended m p (frame_of m after)) same.0 ∙ ap (λ (o : Option Frame). pended m before.place o) (frame_same m before after same)
 
-  -- a line takes no choice
-  pub line_tells : (i : Instr) → p.line < length b.body → i ≡ get_or b.body p.line i → (script : List Choice) → TakesAsked (asks m (state_at m place registers own world)) script script
-  line_tells i within is script = subst (λ (tree : Asks). TakesAsked tree script script) (sym (asked i within is)) (asks_nothing (left_by_line i) script)
+-- ---- frames that wait
 
-  pub end_asked : length b.body ≤ p.line
-      → term_step (scope_of m) b.term (at_end f b registers own) [] world ≡ asks m (state_at m place registers own world)
-  end_asked past = sym (ap (asks m) here ∙ term_asks m p registers own world f b some block past)
+-- what is above the others is told last
+pub waiting_last : (m : Module) (xs : List KeptFrame) (k : KeptFrame) (ps : List Pending)
+    → waiting_on m (xs ++ k ∷ []) ps ≡ option_and_then (λ below. option_map (λ p. p ∷ below) (pending_of m k)) (waiting_on m xs ps)
+waiting_last m [] k ps = by_pending (pending_of m k)
+  where
+    by_pending : (o : Option Pending) → option_and_then (λ p. Some (p ∷ ps)) o ≡ option_map (λ p. p ∷ ps) o
+    by_pending None = refl
+    by_pending (Some p) = refl
+waiting_last m (x ∷ xs) k ps = by_pending (λ p. waiting_last m xs k (p ∷ ps)) (pending_of m x)
+  where
+    by_pending : ((p : Pending) → waiting_on m (xs ++ k ∷ []) (p ∷ ps) ≡ option_and_then (λ below. option_map (λ p. p ∷ below) (pending_of m k)) (waiting_on m xs (p ∷ ps)))
+        → (o : Option Pending) → option_and_then (λ p. waiting_on m (xs ++ k ∷ []) (p ∷ ps)) o
+        ≡ option_and_then (λ below. option_map (λ p. p ∷ below) (pending_of m k)) (option_and_then (λ p. waiting_on m xs (p ∷ ps)) o)
+    by_pending more None = refl
+    by_pending more (Some p) = more p
 
--- one part of what holds of the value of an Ok
-pub if_ok_first : {T E : Type 0} (P Q : T → Type 0) (r : Result T E) → IfOk r (λ x. P x × Q x) → IfOk r P
-if_ok_first P Q (Ok x) h = h.0
-if_ok_first P Q (Err e) h = tt
+pub waiting_more : (m : Module) (xs : List KeptFrame) (k : KeptFrame) (p : Pending) (rest : List Pending) → waiting_on m xs [] ≡ Some rest → pending_of m k ≡ Some p
+    → waiting_on m (xs ++ k ∷ []) [] ≡ Some (p ∷ rest)
+waiting_more m xs k p rest below top = waiting_last m xs k [] ∙ rw (below, top) refl
 
-pub if_ok_second : {T E : Type 0} (P Q : T → Type 0) (r : Result T E) → IfOk r (λ x. P x × Q x) → IfOk r Q
-if_ok_second P Q (Ok x) h = h.1
-if_ok_second P Q (Err e) h = tt
+pub waiting_less : (m : Module) (xs : List KeptFrame) (k : KeptFrame) (p : Pending) (rest : List Pending) → waiting_on m (xs ++ k ∷ []) [] ≡ Some (p ∷ rest)
+    → (waiting_on m xs [] ≡ Some rest) × (pending_of m k ≡ Some p)
+waiting_less m xs k p rest is = by_below (waiting_on m xs []) (pending_of m k) refl refl (sym (waiting_last m xs k []) ∙ is)
+  where
+    by_below : (o : Option (List Pending)) (q : Option Pending) → waiting_on m xs [] ≡ o → pending_of m k ≡ q
+        → option_and_then (λ below. option_map (λ p. p ∷ below) q) o ≡ Some (p ∷ rest) → (waiting_on m xs [] ≡ Some rest) × (pending_of m k ≡ Some p)
+    by_below None q below top e = absurd (cc)
+    by_below (Some ps) None below top e = absurd (cc)
+    by_below (Some ps) (Some q) below top e =
+        let same : q ∷ ps ≡ p ∷ rest = cc in
+        let first : q ≡ p = cc in
+        let more : ps ≡ rest = cc in
+        (below ∙ ap Some more, top ∙ ap Some first)
 
--- a run that is over doesn't go on
-pub over_never_goes : (items : List Item) (q : Progress) → q ≡ progress_of items Over → q ≡ progress.Goes → ⊥
-over_never_goes [] q e goes = cc
-over_never_goes (Wrong ∷ items) q e goes = cc
-over_never_goes (Turn ∷ items) q e goes = over_never_goes items q e goes
-over_never_goes (Returned s ∷ items) q e goes = over_never_goes items q e goes
-over_never_goes (Called x args ∷ items) q e goes = over_never_goes items q e goes
-over_never_goes (EnvRead x offset s ∷ items) q e goes = over_never_goes items q e goes
-over_never_goes (EnvWrite x offset s ∷ items) q e goes = over_never_goes items q e goes
-over_never_goes (EnvNew align bytes ∷ items) q e goes = over_never_goes items q e goes
-over_never_goes (Replied s ∷ items) q e goes = over_never_goes items q e goes
+pub waiting_same : (m : Module) (xs : List KeptFrame) (before after : KeptFrame) → IsAsBefore before after → waiting_on m (xs ++ after ∷ []) [] ≡ waiting_on m (xs ++ before ∷ []) []
+waiting_same m xs before after same = waiting_last m xs after []
+    ∙ ap (λ (o : Option Pending). option_and_then (λ below. option_map (λ p. p ∷ below) o) (waiting_on m xs [])) (pending_same m before after same)
+    ∙ sym (waiting_last m xs before [])
 
-pub goes_on_from : {E : Type 0} (r : Result Stepped E) (state : State) → IfOk r (λ stepped. stepped.progress ≡ progress_of stepped.items state)
-    → IfOk r (λ stepped. stepped.progress ≡ progress.Goes → state ≡ Over → ⊥)
-goes_on_from (Ok stepped) state h = λ goes over. over_never_goes stepped.items stepped.progress (h ∙ ap (λ (s : State). progress_of stepped.items s) over) goes
-goes_on_from (Err e) state h = tt
+-- ---- a call that waits gets its result
 
--- a step that is made lacks no choice
-pub lacks_fails : {E : Type 0} (r : Result Stepped E) (tree : Asks) (state : State) (before after left : List Choice)
-    → IfOk r (λ stepped. answer tree before ≡ Did stepped.items state after) → answer tree before ≡ Lacks left → IsErr r
-lacks_fails (Ok stepped) tree state before after left did lacks = absurd (cc)
-lacks_fails (Err e) tree state before after left did lacks = refl
+pub gets_result : (m : Module) (c : Call) (before after : KeptFrame) (k : Option Kind) (v : Value) (p : Pending) → call_before m before.place ≡ Some c
+    → after.place ≡ before.place → registers_in after.registers ≡ set_into (registers_in before.registers) c.name (kind_of c.result) k v → after.own.items ≡ before.own.items
+    → pending_of m before ≡ Some p → frame_of m after ≡ Some (resumed p k v)
+gets_result m c before after k v p call place registers own waits = by_frame (frame_of m before) refl (ap (option_and_then (λ c. option_map (waiting_for c) (frame_of m before))) (sym call) ∙ waits)
+  where
+    given : Registers → Registers
+    given old = set_into old c.name (kind_of c.result) k v
 
-pub memory_only : {T : Type 0} (r : Result T StepEnd) → (IsErr r → IsErrOf r end.Memory) → IsErrOf r end.NoChoice → ⊥
-memory_only r memory e = let none : r ≡ Err end.Memory = memory (ap is_err e) in cc
+    moved : frame_of m after ≡ framed m before.place (given (registers_in before.registers)) before.own.items
+    moved = ap (λ (p : Place). framed m p (registers_in after.registers) after.own.items) place
+        ∙ ap (λ (registers : Registers). framed m before.place registers after.own.items) registers
+        ∙ ap (λ (own : List ℕ). framed m before.place (given (registers_in before.registers)) own) own
 
-pub as_it_was : {T E : Type 0} (r : Result T E) (m : Module) (after before : RunState) → OnErr r (after.place ≡ before.place)
-    → OnErr r (registers_in after.registers ≡ registers_in before.registers) → OnErr r (after.own.items ≡ before.own.items) → OnErr r (after.world ≡ before.world)
-    → OnErr r (state_of m after ≡ state_of m before)
-as_it_was (Ok x) m after before same_place same_registers same_own same_world = tt
-as_it_was (Err e) m after before same_place same_registers same_own same_world = cc (same_place, same_registers, same_own, ap world_in same_world)
+    by_frame : (o : Option Frame) → frame_of m before ≡ o → option_map (waiting_for c) o ≡ Some p → frame_of m after ≡ Some (resumed p k v)
+    by_frame None is e = absurd (cc)
+    by_frame (Some frame) is e =
+        let same : waiting_for c frame ≡ p = cc in
+        moved ∙ frame_with m before.place (registers_in before.registers) before.own.items given frame is ∙ ap (λ (p : Pending). Some (resumed p k v)) same
+
+-- where none waits for that result, all stays
+pub kind_waited : (m : Module) (c : Call) (before : KeptFrame) (p : Pending) → call_before m before.place ≡ Some c → pending_of m before ≡ Some p → p.kind ≡ kind_of c.result
+kind_waited m c before p call waits = by_frame (frame_of m before) (ap (option_and_then (λ c. option_map (waiting_for c) (frame_of m before))) (sym call) ∙ waits)
+  where
+    by_frame : (o : Option Frame) → option_map (waiting_for c) o ≡ Some p → p.kind ≡ kind_of c.result
+    by_frame None e = absurd (cc)
+    by_frame (Some frame) e =
+        let same : waiting_for c frame ≡ p = cc in
+        ap (λ (p : Pending). p.kind) (sym same)
+
+pub none_waits : (m : Module) (before : KeptFrame) (p : Pending) → call_before m before.place ≡ None → pending_of m before ≡ Some p → ⊥
+none_waits m before p call waits =
+    let none : None ≡ Some p = ap (option_and_then (λ c. option_map (waiting_for c) (frame_of m before))) (sym call) ∙ waits in
+    cc
+
+-- ---- states
+
+module _ (m : Module) (top : KeptFrame) (kept : RunState) where
+  pub state_runs : (rest : List Pending) → kept.waits ≡ false → waiting_on m kept.below.items [] ≡ Some rest
+      → state_under m top kept ≡ running_state (frame_of m top) rest (world_in kept.world)
+  state_runs rest runs below = ap (λ (w : Bool). state_on m (Some top) w (world_in kept.world) (waiting_on m kept.below.items [])) runs
+      ∙ ap (λ (o : Option (List Pending)). state_on m (Some top) false (world_in kept.world) o) below
+
+  pub state_waits : (rest : List Pending) → kept.waits ≡ true → waiting_on m kept.below.items [] ≡ Some rest
+      → state_under m top kept ≡ waiting_state (pending_of m top) rest (world_in kept.world)
+  state_waits rest waits below = ap (λ (w : Bool). state_on m (Some top) w (world_in kept.world) (waiting_on m kept.below.items [])) waits
+      ∙ ap (λ (o : Option (List Pending)). state_on m (Some top) true (world_in kept.world) o) below
+
+-- the same frames and the same world are the same state
+pub under_same : (m : Module) (top after : KeptFrame) (kept then : RunState) → IsAsBefore top after → then.waits ≡ kept.waits → world_in then.world ≡ world_in kept.world
+    → waiting_on m then.below.items [] ≡ waiting_on m kept.below.items [] → state_under m after then ≡ state_under m top kept
+under_same m top after kept then same waits world below = by_waits then.waits
+    ∙ ap (λ (w : Bool). state_on m (Some top) w (world_in then.world) (waiting_on m then.below.items [])) waits
+    ∙ ap (λ (w : World). state_on m (Some top) kept.waits w (waiting_on m then.below.items [])) world
+    ∙ ap (λ (o : Option (List Pending)). state_on m (Some top) kept.waits (world_in kept.world) o) below
+  where
+    by_below : (w : Bool) (o : Option (List Pending)) → state_on m (Some after) w (world_in then.world) o ≡ state_on m (Some top) w (world_in then.world) o
+    by_below true None = refl
+    by_below false None = refl
+    by_below true (Some rest) = ap (λ (o : Option Pending). waiting_state o rest (world_in then.world)) (pending_same m top after same)
+    by_below false (Some rest) = ap (λ (o : Option Frame). running_state o rest (world_in then.world)) (frame_same m top after same)
+
+    by_waits : (w : Bool) → state_on m (Some after) w (world_in then.world) (waiting_on m then.below.items []) ≡ state_on m (Some top) w (world_in then.world) (waiting_on m then.below.items [])
+    by_waits w = by_below w (waiting_on m then.below.items [])
+
+-- ---- a frame on top, and what follows its line
+
+module _ (m : Module) (f : Function) (b : Block) (top : KeptFrame) (kept : RunState) (rest : List Pending) (on : IsOnTop m f b top kept rest) where
+  -- behind its line
+  pub stands_behind : (after : KeptFrame) (then : RunState) → after.place ≡ next_line top.place → then.waits ≡ kept.waits → then.below.items ≡ kept.below.items
+      → state_under m after then ≡ Running (at_line f b (top.place.line + 1) (registers_in after.registers) after.own.items) rest (world_in then.world)
+  stands_behind after then place waits below =
+      state_runs m after then rest (waits ∙ on.runs) (ap (λ (l : List KeptFrame). waiting_on m l []) below ∙ on.below)
+      ∙ ap (λ (o : Option Frame). running_state o rest (world_in then.world))
+      (ap (λ (p : Place). framed m p (registers_in after.registers) after.own.items) place
+      ∙ frame_there m (next_line top.place) (registers_in after.registers) after.own.items f b on.function on.block)
+
+  pub stands_there : state_under m top kept ≡ Running (at_line f b top.place.line (registers_in top.registers) top.own.items) rest (world_in kept.world)
+  stands_there = state_runs m top kept rest on.runs on.below
+      ∙ ap (λ (o : Option Frame). running_state o rest (world_in kept.world)) (frame_there m top.place (registers_in top.registers) top.own.items f b on.function on.block)
+
+  block_there : block_at m top.place ≡ Some b
+  block_there = ap (option_and_then (λ (f : Function). slice_get f.blocks top.place.block)) on.function ∙ on.block
+
+  -- behind a call it waits for that
+  pub waits_behind : (c : Call) → slice_get b.body top.place.line ≡ Some (line.Call c) → (after : KeptFrame) → after.place ≡ next_line top.place
+      → registers_in after.registers ≡ registers_in top.registers → after.own.items ≡ top.own.items
+      → pending_of m after ≡ Some (waiting_for c (behind_line f b top))
+  waits_behind c at after place registers own =
+      let moved : frame_of m after ≡ Some (behind_line f b top) =
+      ap (λ (p : Place). framed m p (registers_in after.registers) after.own.items) place
+      ∙ ap (λ (registers : Registers). framed m (next_line top.place) registers after.own.items) registers
+      ∙ ap (λ (own : List ℕ). framed m (next_line top.place) (registers_in top.registers) own) own
+      ∙ frame_there m (next_line top.place) (registers_in top.registers) top.own.items f b on.function on.block in
+      let call : call_before m (next_line top.place) ≡ Some c =
+      ap (λ (o : Option Block). option_and_then call_of (option_and_then (λ (b : Block). line_before b.body (top.place.line + 1)) o)) block_there
+      ∙ ap (λ (n : ℕ). option_and_then call_of (line_before b.body n)) (add-one top.place.line)
+      ∙ ap (option_and_then call_of) at in
+      ap (λ (p : Place). pended m p (frame_of m after)) place ∙ ap (λ (o : Option Frame). pended m (next_line top.place) o) moved
+      ∙ ap (option_and_then (λ c. option_map (waiting_for c) (Some (behind_line f b top)))) call
+
+-- ---- returns
+
+-- The frame below goes on with what is returned.
+pub goes_back : {E : Type 0} (m : Module) (top : KeptFrame) (kept then : RunState) (caller after : KeptFrame) (p : Pending) (rest : List Pending) (k : Option Kind) (v : Value) (stepped : Stepped)
+    → kept.waits ≡ false → waiting_on m kept.below.items [] ≡ Some (p ∷ rest)
+    → kept.below.items ≡ then.below.items ++ caller ∷ [] → (pending_of m caller ≡ Some p → frame_of m after ≡ Some (resumed p k v))
+    → then.waits ≡ kept.waits → world_in then.world ≡ without_own top.own.items (world_in kept.world)
+    → stepped.items ≡ Turn ∷ [] → stepped.progress ≡ progress.Goes
+    → JustDoes {E = E} (return_step k v (p ∷ rest) (without_own top.own.items (world_in kept.world))) (state_under m after then) (Ok stepped)
+goes_back m top kept then caller after p rest k v stepped runs below popped resumes waits world items goes =
+    let less = waiting_less m then.below.items caller p rest (ap (λ (l : List KeptFrame). waiting_on m l []) (sym popped) ∙ below) in
+    let stands : state_under m after then ≡ Running (resumed p k v) rest (without_own top.own.items (world_in kept.world)) =
+    state_runs m after then rest (waits ∙ runs) less.0 ∙ rw (resumes less.1, world) refl in
+    record { made = rw (items, goes, stands) refl; progress = rw (items, goes, stands) refl }
+
+-- Where it can't, it is put back.
+pub put_back : (m : Module) (top : KeptFrame) (kept then : RunState) (below : List KeptFrame) (caller after : KeptFrame) → kept.below.items ≡ below ++ caller ∷ [] → then.below.items ≡ below ++ after ∷ []
+    → IsAsBefore caller after → then.waits ≡ kept.waits → world_in then.world ≡ world_in kept.world → state_under m top then ≡ state_under m top kept
+put_back m top kept then below caller after popped pushed same waits world = under_same m top top kept then (refl, refl, refl) waits world
+    (ap (λ (l : List KeptFrame). waiting_on m l []) pushed ∙ waiting_same m below caller after same ∙ ap (λ (l : List KeptFrame). waiting_on m l []) (sym popped))

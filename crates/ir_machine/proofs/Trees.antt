@@ -1,6 +1,9 @@
 -- What holds of everything that a step may do.
-use Rattle.std.proofs.Common.{◌≡◌, ℕ, ℤ, true, List, [], ◌∷◌, Option, None, Some, refl, sym, subst}
+use Rattle.std.proofs.Common.{◌≡◌, ℕ, ℤ, Bool, true, false, List, [], ◌∷◌, Option, None, Some, refl, sym, subst}
 use Rattle.ir_core.specs.declared.functions.Block.{Block}
+use Rattle.ir_core.specs.declared.functions.Call.{Call}
+use Rattle.ir_core.specs.declared.functions.Function.{Function}
+use Rattle.ir_core.specs.declared.modules.Module.{Module}
 use Rattle.ir_types.specs.declared.names.Name.{Name}
 use Rattle.ir_core.specs.declared.values.Byte.{Byte}
 use Rattle.ir_core.specs.declared.values.Byte.TheVariants as byte
@@ -14,12 +17,12 @@ use Rattle.block_memory.specs.declared.items.Choice.TheVariants as choice
 use Rattle.block_memory.specs.declared.items.Shown.{Shown}
 use Rattle.block_memory.specs.declared.items.ShownByte.{ShownByte}
 use Rattle.block_memory.specs.Memory.{Memory}
-use Rattle.block_memory.specs.Names.{Showing, name_of, shown_of}
+use Rattle.block_memory.specs.Names.{Names, Showing, name_of, shown_of}
 use Rattle.ir_machine.specs.declared.items.Item.{Item}
-use Rattle.ir_machine.specs.declared.items.Item.TheVariants.{Turn, EnvRead, EnvWrite, EnvNew, Replied, Wrong}
-use Rattle.ir_machine.specs.Registers.{set}
-use Rattle.ir_machine.specs.State.{Frame, Pending, World, State, Running, Waiting, Over}
-use Rattle.ir_machine.specs.Machine.{Asks, Does, Ask, Never, Chosen, Told, FreshByte, Made, Follows, act, at_block, block_named, branch, byte_reached, chosen_by, entering, gone, gone_to, jump, label_told, picked_byte, read_byte, reply, resolve, resumed, set_to, show, show_byte, show_part, show_undef, shown_as, with_memory, with_phis}
+use Rattle.ir_machine.specs.declared.items.Item.TheVariants.{Turn, Called, EnvRead, EnvWrite, EnvNew, Replied, Wrong}
+use Rattle.ir_machine.specs.Registers.{no_registers, set}
+use Rattle.ir_machine.specs.State.{Frame, Pending, World, State, Running, Waiting, Over, scope_of}
+use Rattle.ir_machine.specs.Machine.{Asks, Does, Ask, Never, Chosen, Told, FreshByte, Made, Follows, act, arguments_of, at_block, begun, block_named, branch, byte_reached, call_step, called, chosen_by, entering, function_named, gone, gone_to, is_declared, jump, label_told, passed, picked_byte, read_byte, reply, resolve, resumed, set_to, show, show_all, show_byte, show_part, show_undef, shown_as, waiting_for, with_memory, with_phis, wrong}
 
 -- whatever is chosen, the items shown and the state after are related so
 abbrev pub AllDo : (List Item → State → Type 0) → Asks → Type 0
@@ -33,23 +36,36 @@ all_do_made P (Ask fits next) made h f =
     subst (λ (o : Made). P o.items o.after) (sym f.4) (all_do_made P (next f.0) f.1 (h f.0 f.2) f.3)
 all_do_made P Never made h f = absurd f
 
+-- What is shown may bind names, and changes nothing else.
 pub all_do_shown : (P : List Item → State → Type 0) (o : Option Showing) (world : World) (next : Shown → World → Asks)
-    → ((s : Shown) (after : World) → AllDo P (next s after)) → AllDo P (shown_as o world next)
+    → ((s : Shown) (names : Names) → AllDo P (next s (record world { names = names }))) → AllDo P (shown_as o world next)
 all_do_shown P None world next h = tt
-all_do_shown P (Some showing) world next h = h showing.0 (record world { names = showing.1 })
+all_do_shown P (Some showing) world next h = h showing.0 showing.1
 
 all_do_undef : (P : List Item → State → Type 0) (k : Option Kind) (world : World) (bad : Asks) (next : Shown → World → Asks)
-    → AllDo P bad → ((s : Shown) (after : World) → AllDo P (next s after)) → AllDo P (show_undef k world bad next)
+    → AllDo P bad → ((s : Shown) (names : Names) → AllDo P (next s (record world { names = names }))) → AllDo P (show_undef k world bad next)
 all_do_undef P None world bad next b h = b
 all_do_undef P (Some k) world bad next b h = λ c e. all_do_shown P (chosen_by k world c) world next h
 
+pub all_do_named : (P : List Item → State → Type 0) (k : Option Kind) (v : Value) (world : World) (bad : Asks) (next : Shown → World → Asks)
+    → AllDo P bad → ((s : Shown) (names : Names) → AllDo P (next s (record world { names = names }))) → AllDo P (show k v world bad next)
+all_do_named P k value.Poison world bad next b h = b
+all_do_named P k value.Undef world bad next b h = all_do_undef P k world bad next b h
+all_do_named P k (value.Num n) world bad next b h = all_do_shown P (shown_of world.names (value.Num n)) world next h
+all_do_named P k (value.Ptr block offset) world bad next b h = all_do_shown P (shown_of world.names (value.Ptr block offset)) world next h
+all_do_named P k (value.Bare address) world bad next b h = all_do_shown P (shown_of world.names (value.Bare address)) world next h
+
+-- in whatever world
 pub all_do_show : (P : List Item → State → Type 0) (k : Option Kind) (v : Value) (world : World) (bad : Asks) (next : Shown → World → Asks)
     → AllDo P bad → ((s : Shown) (after : World) → AllDo P (next s after)) → AllDo P (show k v world bad next)
-all_do_show P k value.Poison world bad next b h = b
-all_do_show P k value.Undef world bad next b h = all_do_undef P k world bad next b h
-all_do_show P k (value.Num n) world bad next b h = all_do_shown P (shown_of world.names (value.Num n)) world next h
-all_do_show P k (value.Ptr block offset) world bad next b h = all_do_shown P (shown_of world.names (value.Ptr block offset)) world next h
-all_do_show P k (value.Bare address) world bad next b h = all_do_shown P (shown_of world.names (value.Bare address)) world next h
+all_do_show P k v world bad next b h = all_do_named P k v world bad next b (λ s names. h s (record world { names = names }))
+
+-- arguments, one after the other
+pub all_do_show_all : (P : List Item → State → Type 0) (vs : List (Option Kind × Value)) (world : World) (next : List Shown → World → Asks)
+    → P (Wrong ∷ []) Over → ((ss : List Shown) (names : Names) → AllDo P (next ss (record world { names = names }))) → AllDo P (show_all vs world next)
+all_do_show_all P [] world next bad h = h [] world.names
+all_do_show_all P (v ∷ vs) world next bad h =
+    all_do_named P v.0 v.1 world wrong _ bad (λ s names. all_do_show_all P vs (record world { names = names }) _ bad (λ ss last. h (s ∷ ss) last))
 
 -- what follows a branch, wherever it goes
 all_do_gone_to : (P : List Item → State → Type 0) (o : Option Name) (next : Name → Asks) → ((x : Name) → AllDo P (next x)) → AllDo P (gone_to o next)
@@ -89,6 +105,30 @@ pub all_do_stored : (P : List Item → State → Type 0) (o : Option Memory) (fr
 all_do_stored P (Some memory) frame rest world h b = h memory
 all_do_stored P None frame rest world h b = b
 
+-- What holds of undefined behaviour, of the first block of a callee that the module defines, and of a call for which the outside is waited for
+-- holds of a call.
+module _ (P : List Item → State → Type 0) (m : Module) (c : Call) (frame : Frame) (rest : List Pending) (world : World) (bad : P (Wrong ∷ []) Over)
+    (enters : (g : Function) (b : Block) (bs : List Block) → function_named c.callee m.functions ≡ Some g → g.blocks ≡ b ∷ bs
+    → P (Turn ∷ []) (Running (at_block g b (passed g.params (arguments_of (scope_of m) frame.registers c.arguments) no_registers) []) (waiting_for c frame ∷ rest) world))
+    (waits : function_named c.callee m.functions ≡ None → is_declared c.callee m.declarations ≡ true → (ss : List Shown) (names : Names)
+    → P (Called c.callee ss ∷ []) (Waiting (waiting_for c frame) rest (record world { names = names }))) where
+  abbrev all_passed : List (Option Kind × Value)
+  all_passed = arguments_of (scope_of m) frame.registers c.arguments
+
+  all_do_begun : (g : Function) → function_named c.callee m.functions ≡ Some g → (bs : List Block) → g.blocks ≡ bs
+      → AllDo P (begun g bs all_passed (waiting_for c frame ∷ rest) world)
+  all_do_begun g named [] blocks = bad
+  all_do_begun g named (b ∷ bs) blocks = enters g b bs named blocks
+
+  all_do_called : (o : Option Function) → function_named c.callee m.functions ≡ o → (declared : Bool) → is_declared c.callee m.declarations ≡ declared
+      → AllDo P (called o declared c.callee all_passed (waiting_for c frame) rest world)
+  all_do_called (Some g) named declared is = all_do_begun g named g.blocks refl
+  all_do_called None named true is = all_do_show_all P all_passed world _ bad (waits named is)
+  all_do_called None named false is = bad
+
+  pub all_do_call : AllDo P (call_step m c frame rest world)
+  all_do_call = all_do_called (function_named c.callee m.functions) refl (is_declared c.callee m.declarations) refl
+
 -- a byte that the outside reads
 all_do_part : (P : List Item → State → Type 0) (name : Option ℕ) (block : ℕ) (offset : ℤ) (place : ℕ) (world : World) (next : ShownByte → World → Asks)
     → ((s : ShownByte) (after : World) → AllDo P (next s after)) → AllDo P (show_part name block offset place world next)
@@ -101,9 +141,9 @@ all_do_picked P (Told (choice.PickByte s)) world next h = h s world
 all_do_picked P (FreshByte bound offset place) world next h = h _ _
 all_do_picked P (Told c) world next h = tt
 
-all_do_byte : (P : List Item → State → Type 0) (b : Byte) (world : World) (next : ShownByte → World → Asks)
-    → P (Wrong ∷ []) Over → ((s : ShownByte) (after : World) → AllDo P (next s after)) → AllDo P (show_byte b world next)
-all_do_byte P byte.Poison world next bad h = bad
+pub all_do_byte : (P : List Item → State → Type 0) (b : Byte) (world : World) (next : ShownByte → World → Asks)
+    → (b ≡ byte.Poison → P (Wrong ∷ []) Over) → ((s : ShownByte) (after : World) → AllDo P (next s after)) → AllDo P (show_byte b world next)
+all_do_byte P byte.Poison world next bad h = bad refl
 all_do_byte P (byte.Num n) world next bad h = h _ world
 all_do_byte P (byte.Frag block offset place) world next bad h = all_do_part P (name_of world.names block) block offset place world next h
 all_do_byte P byte.Undef world next bad h = λ c e. all_do_picked P c world next h
@@ -121,7 +161,7 @@ module _ (P : List Item → State → Type 0) (p : Pending) (ps : List Pending) 
   all_do_read : (x : ℕ) (offset : ℤ) (b : Option Byte)
       → AllDo P (read_byte b (λ b. show_byte b world (λ s after. Does (EnvRead x offset s ∷ []) (Waiting p ps after))))
   all_do_read x offset None = tt
-  all_do_read x offset (Some b) = all_do_byte P b world _ bad (λ s after. reads x offset s after)
+  all_do_read x offset (Some b) = all_do_byte P b world _ (λ e. bad) (λ s after. reads x offset s after)
 
   pub all_do_act : (c : Chosen) → AllDo P (act c p ps world)
   all_do_act (Told (choice.Reply s)) = all_do_reply s

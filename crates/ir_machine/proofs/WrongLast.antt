@@ -11,15 +11,16 @@ use Rattle.ir_core.specs.declared.functions.Term.{Term}
 use Rattle.ir_core.specs.declared.functions.Term.TheVariants.{Ret, RetVoid, Br, CondBr, Switch, Unreachable}
 use Rattle.ir_core.specs.declared.modules.Module.{Module}
 use Rattle.ir_machine.specs.declared.items.Item.{Item}
-use Rattle.ir_machine.specs.declared.items.Item.TheVariants.{Turn, EnvRead, EnvWrite, EnvNew, Replied, Returned, Wrong}
+use Rattle.ir_machine.specs.declared.items.Item.TheVariants.{Turn, Called, EnvRead, EnvWrite, EnvNew, Replied, Returned, Wrong}
 use Rattle.ir_core.specs.Types.{kind_of}
 use Rattle.ir_core.specs.Expressions.{type_of}
 use Rattle.ir_values.specs.Constants.{Scope}
 use Rattle.ir_machine.specs.Registers.{read, operand_value, outcome}
 use Rattle.ir_machine.specs.State.{Frame, Pending, World, scope_of, State, Running, Waiting, Over}
-use Rattle.ir_machine.specs.Machine.{Made, asks, start, ShowsFrom, frame_step, jump, term_step, return_step, return_void, stored_by, without_own}
+use Rattle.ir_machine.specs.Machine.{Made, asks, ShowsFrom, frame_step, jump, term_step, return_step, return_void, stored_by, without_own}
+use Rattle.ir_machine.specs.Starting.{start}
 use Rattle.ir_machine.specs.Refinement.{WrongIsLast}
-use Rattle.ir_machine.proofs.Trees.{AllDo, all_do_act, all_do_branch, all_do_jump, all_do_made, all_do_show, all_do_set_to, all_do_stored}
+use Rattle.ir_machine.proofs.Trees.{AllDo, all_do_act, all_do_branch, all_do_call, all_do_jump, all_do_made, all_do_show, all_do_set_to, all_do_stored}
 use Rattle.ir_machine.proofs.Runs.{over_shows}
 
 -- undefined behaviour isn't among the items
@@ -89,18 +90,20 @@ term_ends scope (CondBr c) frame rest world = all_do_branch WrongOnlyLast (opera
 term_ends scope (Switch s) frame rest world = all_do_branch WrongOnlyLast (operand_value scope (read frame.registers) s.value) _ _ (jump scope frame rest world) at_once (jump_ends scope frame rest world)
 term_ends scope Unreachable frame rest world = at_once
 
-frame_ends : (scope : Scope) (lines : List Instr) (frame : Frame) (rest : List Pending) (world : World) → AllDo WrongOnlyLast (frame_step scope lines frame rest world)
-frame_ends scope (line.Calm b ∷ left) frame rest world =
-    all_do_set_to WrongOnlyLast (kind_of (type_of b.right)) b.name (outcome scope (read frame.registers) world.memory b.right) (record frame { lines = left }) rest world
+frame_ends : (m : Module) (lines : List Instr) (frame : Frame) (rest : List Pending) (world : World) → AllDo WrongOnlyLast (frame_step m lines frame rest world)
+frame_ends m (line.Calm b ∷ left) frame rest world =
+    all_do_set_to WrongOnlyLast (kind_of (type_of b.right)) b.name (outcome (scope_of m) (read frame.registers) world.memory b.right) (record frame { lines = left }) rest world
     (λ v e. inl calm_none) (inr (refl, ends_here))
-frame_ends scope (line.Alloca a ∷ left) frame rest world = inl calm_none
-frame_ends scope (line.Store s ∷ left) frame rest world =
-    all_do_stored WrongOnlyLast (stored_by scope s frame.registers world.memory) (record frame { lines = left }) rest world (λ memory. inl calm_none) at_once
-frame_ends scope (line.Call c ∷ left) frame rest world = at_once
-frame_ends scope [] frame rest world = term_ends scope frame.term frame rest world
+frame_ends m (line.Alloca a ∷ left) frame rest world = inl calm_none
+frame_ends m (line.Store s ∷ left) frame rest world =
+    all_do_stored WrongOnlyLast (stored_by (scope_of m) s frame.registers world.memory) (record frame { lines = left }) rest world (λ memory. inl calm_none) at_once
+frame_ends m (line.Call c ∷ left) frame rest world = all_do_call WrongOnlyLast m c (record frame { lines = left }) rest world at_once
+    (λ g b bs named blocks. inl (calm_more Turn [] turn_other calm_none))
+    (λ none declared ss names. inl (calm_more (Called c.callee ss) [] (λ e. cc) calm_none))
+frame_ends m [] frame rest world = term_ends (scope_of m) frame.term frame rest world
 
 pub step_ends : (m : Module) (s : State) → AllDo WrongOnlyLast (asks m s)
-step_ends m (Running frame rest world) = frame_ends (scope_of m) frame.lines frame rest world
+step_ends m (Running frame rest world) = frame_ends m frame.lines frame rest world
 step_ends m (Waiting p rest world) = λ c fits. all_do_act WrongOnlyLast p rest world at_once
     (λ s k v. inl (calm_more (Replied s) [] (λ e. cc) calm_none))
     (λ x offset s after. inl (calm_more (EnvRead x offset s) [] (λ e. cc) calm_none))

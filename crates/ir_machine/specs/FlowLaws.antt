@@ -8,6 +8,7 @@ use Rattle.ir_core.specs.declared.values.Kind.TheVariants.{Int}
 use Rattle.ir_core.specs.declared.values.Value.TheVariants.{Num, Poison}
 use Rattle.ir_values.specs.Constants.{Scope}
 use Rattle.block_memory.specs.declared.items.Choice.TheVariants.{Go, Pick}
+use Rattle.ir_machine.specs.Starting.{given}
 use Rattle.ir_machine.specs.declared.items.Item.TheVariants.{Turn, Returned, Wrong}
 use Rattle.block_memory.specs.declared.items.Shown.TheVariants as shown
 use Rattle.ir_machine.specs.Choices.{Lacks, answer}
@@ -21,7 +22,7 @@ use Rattle.ir_machine.specs.State.{Frame, Pending, World, Running}
 
 -- a jump shows its turn, and what a phi gives is there behind it
 abbrev pub JumpsAreTurns : Type 0
-JumpsAreTurns = Shows passing (Number 0) (record { args = [] }) 2 (Turn ∷ Turn ∷ Returned (Some (shown.Num 7)) ∷ [])
+JumpsAreTurns = Shows passing (Number 0) (given []) 2 (Turn ∷ Turn ∷ Returned (Some (shown.Num 7)) ∷ [])
 
 -- On the edge back each of the two phis holds what the other held.
 abbrev pub PhisAreTakenAtOnce : Type 0

@@ -1,6 +1,7 @@
 -- Registers as the code keeps them.
-use Rattle.std.specs.Prelude.{ℤ, cond, List, [], ◌∷◌, Option, None, Some}
+use Rattle.std.specs.Prelude.{ℤ, List, Option, None, Some}
 use Rattle.std.specs.Coded.{Unit-prop, le_prop}
+use Rattle.std.specs.Map.{lookup}
 use mathlib.Core.HLevel.{⊥_prop, Π_prop}
 use Rattle.ir_types.specs.declared.names.Name.{Name}
 use Rattle.ir_core.specs.declared.values.Value.{Value}
@@ -9,22 +10,20 @@ use Rattle.ir_core.specs.declared.values.Kind.{Kind}
 use Rattle.ir_core.specs.declared.values.Kind.TheVariants as kind
 use Rattle.ir_types.specs.Same.{same_name}
 use Rattle.ir_values.specs.Values.{IsInKind, IsOffset}
-use Rattle.ir_machine.specs.declared.registers.Assigned.{Assigned}
-use Rattle.ir_machine.specs.Registers.{Held, Registers, no_registers, read, AreInKind}
+use Rattle.ir_machine.specs.Registers.{Held, Registers, read, AreInKind}
 
 abbrev pub held_of : Option (Kind × Value) → Option Held
 held_of None = None
 held_of (Some p) = Some (record { kind = p.0; value = p.1 })
 
--- each register holds what its first entry says
-abbrev pub kept_registers : List Assigned → Registers
-kept_registers [] = no_registers
-kept_registers (e ∷ es) = λ x. cond (same_name e.name x) (held_of e.held) (kept_registers es x)
+-- what an entry of a name says
+abbrev pub entry_held : Option (Option (Kind × Value)) → Option Held
+entry_held None = None
+entry_held (Some held) = held_of held
 
--- the first entry of that name holds something else, or there is one more entry
-abbrev pub put : Name → Option (Kind × Value) → List Assigned → List Assigned
-put x held [] = record { name = x; held = held } ∷ []
-put x held (e ∷ es) = cond (same_name e.name x) (record e { held = held } ∷ es) (e ∷ put x held es)
+-- each register holds what its entry says
+abbrev pub kept_registers : List (Name × Option (Kind × Value)) → Registers
+kept_registers es = λ x. entry_held (lookup (same_name x) es)
 
 IsOffset-prop : (z : ℤ) → IsProp (IsOffset z)
 IsOffset-prop z x y = λ i. record { sfits = le_prop x.sfits y.sfits i }

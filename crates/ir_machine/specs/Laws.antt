@@ -1,5 +1,6 @@
 -- Laws that hold the definitions of running and refining to what they mean.
 use Rattle.std.specs.Prelude.{◌≡◌, ◌↔◌, ◌⊎◌, ◌≤◌, ℕ, zero, suc, pos, negsuc, true, false, List, [], ◌∷◌, ◌++◌, None, Some}
+use Rattle.std.specs.List.{AllByRecursion}
 use Rattle.ir_types.specs.declared.names.Name.{Name}
 use Rattle.ir_core.specs.declared.values.Value.{Value}
 use Rattle.ir_core.specs.declared.values.Value.TheVariants as value
@@ -11,9 +12,10 @@ use Rattle.ir_core.specs.declared.expressions.Expr.{Expr}
 use Rattle.ir_core.specs.declared.operands.Const.{Const}
 use Rattle.ir_core.specs.declared.operands.Atom.{Atom}
 use Rattle.ir_core.specs.declared.operands.Atom.TheVariants.{Constant, Register}
+use Rattle.ir_core.specs.declared.functions.Instr.{Instr}
+use Rattle.ir_core.specs.declared.functions.Instr.TheVariants as line
 use Rattle.ir_core.specs.declared.functions.Term.{Term}
 use Rattle.ir_core.specs.declared.functions.Term.TheVariants.{Ret, RetVoid, Br, CondBr, Switch, Unreachable}
-use Rattle.ir_core.specs.declared.functions.Param.{Param}
 use Rattle.ir_core.specs.declared.functions.Block.{Block}
 use Rattle.ir_core.specs.declared.functions.Function.{Function}
 use Rattle.ir_core.specs.declared.modules.Module.{Module}
@@ -24,12 +26,11 @@ use Rattle.ir_machine.specs.declared.items.Item.{Item}
 use Rattle.ir_machine.specs.declared.items.Item.TheVariants.{Turn, Returned, Wrong}
 use Rattle.ir_values.specs.Constants.{Scope, constant_value, scope_of}
 use Rattle.block_memory.specs.Memory.{Memory}
-use Rattle.block_memory.specs.declared.items.Shown.{Shown}
-use Rattle.ir_machine.specs.declared.items.Input.{Input}
-use Rattle.ir_core.specs.Types.{kind_of}
+use Rattle.ir_machine.specs.declared.inputs.Input.{Input}
 use Rattle.ir_machine.specs.Registers.{outcome}
-use Rattle.ir_machine.specs.State.{State, no_world}
-use Rattle.ir_machine.specs.Machine.{Made, Follows, asks, ShowsFrom, function_named, fits_kind, start}
+use Rattle.ir_machine.specs.State.{State}
+use Rattle.ir_machine.specs.Machine.{Made, Follows, asks, ShowsFrom, function_named}
+use Rattle.ir_machine.specs.Starting.{given, misfit, start}
 use Rattle.ir_machine.specs.Refinement.{Shows, MayShowFrom, Refines, EndTheRun}
 use Rattle.ir_machine.specs.Examples.{adding, beside_pair, comparing, converting, dividing, index, memory_of_pair, null, number, pair, part_from, part_of_pair, stating, undef, returning, returning_nothing, selecting, taking, wrapping}
 
@@ -66,7 +67,7 @@ ArgumentsAreSeen = (f x b : Name) (c : Const) → Refines (taking f x b (Registe
 -- these items are what a run shows of its one step, if it makes it
 abbrev pub AreShownAtOnce : Module → Name → List Item → Type 0
 AreShownAtOnce m f items =
-    (n : ℕ) (seen : List Item) → Shows m f (record { args = [] }) (suc n) seen ↔ ((seen ≡ []) ⊎ (seen ≡ items))
+    (n : ℕ) (seen : List Item) → Shows m f (given []) (suc n) seen ↔ ((seen ≡ []) ⊎ (seen ≡ items))
 
 -- a line that traps shows undefined behaviour, and the run is over
 abbrev pub TrapsAreWrong : Type 0
@@ -132,13 +133,6 @@ abbrev pub RunsAreSteps : Type 0
 RunsAreSteps = (m : Module) (f : Name) (input : Input) (n : ℕ) (items : List Item)
     → Shows m f input n items ↔ ((s t : State) × (k : ℕ) × (start m f input ≡ Some s) × (k ≤ n) × Leads m k s items t)
 
--- one number of its kind for each parameter
-abbrev pub Fit : List Param → List Shown → Type 0
-Fit [] [] = Unit {0}
-Fit (p ∷ ps) (a ∷ args) = (fits_kind (kind_of p.ty) no_world a ≡ true) × Fit ps args
-Fit [] (a ∷ args) = ⊥
-Fit (p ∷ ps) [] = ⊥
-
 -- the terminator returns
 abbrev pub EndsByReturn : Term → Type 0
 EndsByReturn (Ret operand) = Unit {0}
@@ -148,10 +142,18 @@ EndsByReturn (CondBr c) = ⊥
 EndsByReturn (Switch s) = ⊥
 EndsByReturn Unreachable = ⊥
 
--- On fitting input a function of one block, without a phi and with `ret` at its end, ends some run.
+-- the line calls no function that the module defines
+abbrev pub EntersNone : Module → Instr → Type 0
+EntersNone m (line.Call c) = function_named c.callee m.functions ≡ None
+EntersNone m (line.Calm l) = Unit {0}
+EntersNone m (line.Alloca a) = Unit {0}
+EntersNone m (line.Store s) = Unit {0}
+
+-- On fitting input a function of one block, without a phi and with `ret` at its end, that calls the outside alone, ends some run.
 abbrev pub OneBlockRunsEnd : Type 0
 OneBlockRunsEnd = (m : Module) (x : Name) (f : Function) (b : Block) (input : Input)
-    → function_named x m.functions ≡ Some f → f.blocks ≡ b ∷ [] → b.phis ≡ [] → EndsByReturn b.term → Fit f.params input.args
+    → function_named x m.functions ≡ Some f → f.blocks ≡ b ∷ [] → b.phis ≡ [] → EndsByReturn b.term → AllByRecursion (EntersNone m) b.body
+    → misfit (scope_of m) f.params input ≡ None
     → (n : ℕ) × (items : List Item) × Shows m x input n items × EndTheRun items
 
 -- what may be shown begins as some run does, or some run begins with undefined behaviour

@@ -4,6 +4,7 @@ pub mod Registers
 pub mod State
 pub mod Choices
 pub mod Showing
+pub mod Acting
 pub mod Kept
 pub mod Places
 pub mod Examples
@@ -15,4 +16,13 @@ pub mod FlowLaws
 pub mod Reached
 pub mod Reads
 pub mod Lost
+pub mod Keeps
+pub mod KeepLaws
+pub mod KeepExamples
 pub mod SlotLaws
+pub mod Scalars
+pub mod Starting
+pub mod Walks
+pub mod CallExamples
+pub mod CallLaws
+pub mod StartLaws

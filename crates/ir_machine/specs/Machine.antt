@@ -11,6 +11,8 @@ use Rattle.ir_core.specs.declared.values.Byte.{Byte}
 use Rattle.ir_core.specs.declared.values.Byte.TheVariants as byte
 use Rattle.ir_core.specs.declared.values.Kind.{Kind}
 use Rattle.ir_core.specs.declared.functions.Alloca.{Alloca}
+use Rattle.ir_core.specs.declared.functions.Argument.{Argument}
+use Rattle.ir_core.specs.declared.functions.Call.{Call}
 use Rattle.ir_core.specs.declared.functions.Instr.{Instr}
 use Rattle.ir_core.specs.declared.functions.Instr.TheVariants as line
 use Rattle.ir_core.specs.declared.functions.Store.{Store}
@@ -22,6 +24,7 @@ use Rattle.ir_core.specs.declared.functions.Param.{Param}
 use Rattle.ir_core.specs.declared.functions.Phi.{Phi}
 use Rattle.ir_core.specs.declared.functions.Block.{Block}
 use Rattle.ir_core.specs.declared.functions.Function.{Function}
+use Rattle.ir_core.specs.declared.modules.Declaration.{Declaration}
 use Rattle.ir_core.specs.declared.modules.Module.{Module}
 use Rattle.ir_core.specs.declared.values.Kind.TheVariants as kind
 use Rattle.ir_types.specs.Named.{size_of}
@@ -39,12 +42,11 @@ use Rattle.block_memory.specs.declared.items.ShownByte.TheVariants as part
 use Rattle.block_memory.specs.Memory.{Cell, Memory, cell_at, ended, new_cell, stored_of, updated, with_bytes}
 use Rattle.block_memory.specs.Names.{Names, Showing, chosen, is_unnamed, name_of, picked, resolved, shown_of}
 use Rattle.ir_machine.specs.declared.items.Item.{Item}
-use Rattle.ir_machine.specs.declared.items.Item.TheVariants.{Turn, EnvRead, EnvWrite, EnvNew, Replied, Returned, Wrong}
-use Rattle.ir_machine.specs.declared.items.Input.{Input}
+use Rattle.ir_machine.specs.declared.items.Item.TheVariants.{Turn, Called, EnvRead, EnvWrite, EnvNew, Replied, Returned, Wrong}
 use Rattle.ir_core.specs.Functions.{successors_of}
 use Rattle.ir_core.specs.Types.{kind_of, number_at}
 use Rattle.ir_machine.specs.Registers.{Registers, no_registers, held_at, holding, read, set, align_or, atom_value, operand_value, outcome}
-use Rattle.ir_machine.specs.State.{Frame, Pending, World, no_world, scope_of, State, Running, Waiting, Over}
+use Rattle.ir_machine.specs.State.{Frame, Pending, World, scope_of, State, Running, Waiting, Over}
 
 -- What a tree is told where it asks: a choice; or, of an undef byte that the outside reads, that it is this part of a pointer to the next
 -- name, which is bound to this block or to nothing. No choice says that.
@@ -120,20 +122,74 @@ stored_by scope s registers memory =
     let value = operand_value scope (read registers) in
     stored_of memory (kind_of s.value.ty) (value s.value) (value s.pointer) (align_or scope.types s.value.ty s.align)
 
--- The frame stands after the line. A call is undefined behaviour until calls are there; no module that `check` reads has one.
-abbrev pub line_step : Scope → Instr → Frame → List Pending → World → Asks
-line_step scope (line.Calm l) frame rest world =
-    set_to (kind_of (type_of l.right)) l.name (outcome scope (read frame.registers) world.memory l.right) frame rest world
-line_step scope (line.Alloca a) frame rest world = made_block scope a frame rest world
-line_step scope (line.Store s) frame rest world = with_memory (stored_by scope s frame.registers world.memory) frame rest world
-line_step scope (line.Call c) frame rest world = wrong
-
--- ---- returns
+-- ---- calls
 
 -- a value of a kind as it is read at another: poison where the two differ, or there is none to read it at
 abbrev pub at_kind : Option Kind → Option Kind → Value → Value
 at_kind None k v = value.Poison
 at_kind (Some j) k v = held_at j (holding k v)
+
+-- the start of a block
+abbrev pub at_block : Function → Block → Registers → List ℕ → Frame
+at_block f b registers own = record { function = f; block = b.name; lines = b.body; term = b.term; registers = registers; own = own }
+
+-- the first definition of that name
+abbrev pub function_named : Name → List Function → Option Function
+function_named x fs = find (λ f. same_name f.name x) fs
+
+-- the module declares a function of that name
+abbrev pub is_declared : Name → List Declaration → Bool
+is_declared x ds = list_any (λ d. same_name d.name x) ds
+
+-- what is passed: values, each with the kind of its type
+abbrev pub arguments_of : Scope → Registers → List Argument → List (Option Kind × Value)
+arguments_of scope registers args = map (λ a. (kind_of a.operand.ty, operand_value scope (read registers) a.operand)) args
+
+-- Each parameter holds what is passed for it, read at its own kind. One for which nothing is passed isn't set.
+abbrev pub passed : List Param → List (Option Kind × Value) → Registers → Registers
+passed [] vs registers = registers
+passed (p ∷ ps) [] registers = registers
+passed (p ∷ ps) (v ∷ vs) registers = passed ps vs (set registers p.name (kind_of p.ty) (at_kind (kind_of p.ty) v.0 v.1))
+
+-- The callee stands at the start of its first block, and its caller waits. A function without a block is none that can be called.
+abbrev pub begun : Function → List Block → List (Option Kind × Value) → List Pending → World → Asks
+begun g [] vs waiting world = wrong
+begun g (b ∷ bs) vs waiting world = Does (Turn ∷ []) (Running (at_block g b (passed g.params vs no_registers) []) waiting world)
+
+-- Arguments are shown from the left, each in the world after those before it. The first poison is undefined behaviour.
+abbrev pub show_all : List (Option Kind × Value) → World → (List Shown → World → Asks) → Asks
+show_all [] world next = next [] world
+show_all (v ∷ vs) world next = show v.0 v.1 world wrong (λ s after. show_all vs after (λ ss last. next (s ∷ ss) last))
+
+-- the outside is called by its name, with what is shown, and the caller waits
+abbrev pub called_outside : Name → List (Option Kind × Value) → Pending → List Pending → World → Asks
+called_outside x vs p rest world = show_all vs world (λ ss after. Does (Called x ss ∷ []) (Waiting p rest after))
+
+-- The first function of that name that the module defines is entered. One that it only declares is of the outside; what it doesn't name at
+-- all can't be called.
+abbrev pub called : Option Function → Bool → Name → List (Option Kind × Value) → Pending → List Pending → World → Asks
+called (Some g) declared x vs p rest world = begun g g.blocks vs (p ∷ rest) world
+called None true x vs p rest world = called_outside x vs p rest world
+called None false x vs p rest world = wrong
+
+-- the frame, which stands behind the call, waits for it
+abbrev pub waiting_for : Call → Frame → Pending
+waiting_for c frame = record { into = c.name; kind = kind_of c.result; frame = frame }
+
+abbrev pub call_step : Module → Call → Frame → List Pending → World → Asks
+call_step m c frame rest world =
+    called (function_named c.callee m.functions) (is_declared c.callee m.declarations) c.callee
+    (arguments_of (scope_of m) frame.registers c.arguments) (waiting_for c frame) rest world
+
+-- the frame stands after the line
+abbrev pub line_step : Module → Instr → Frame → List Pending → World → Asks
+line_step m (line.Calm l) frame rest world =
+    set_to (kind_of (type_of l.right)) l.name (outcome (scope_of m) (read frame.registers) world.memory l.right) frame rest world
+line_step m (line.Alloca a) frame rest world = made_block (scope_of m) a frame rest world
+line_step m (line.Store s) frame rest world = with_memory (stored_by (scope_of m) s frame.registers world.memory) frame rest world
+line_step m (line.Call c) frame rest world = call_step m c frame rest world
+
+-- ---- returns
 
 -- the register that is named is set, at the call's kind; after a call of no kind it isn't set
 abbrev pub set_into : Registers → Option Name → Option Kind → Option Kind → Value → Registers
@@ -163,10 +219,6 @@ return_void [] world = Does (Turn ∷ Returned None ∷ []) Over
 return_void (p ∷ ps) world = Does (Turn ∷ []) (Running (resumed p None value.Poison) ps world)
 
 -- ---- jumps
-
--- the start of a block
-abbrev pub at_block : Function → Block → Registers → List ℕ → Frame
-at_block f b registers own = record { function = f; block = b.name; lines = b.body; term = b.term; registers = registers; own = own }
 
 -- the first block of that name
 abbrev pub block_named : Name → List Block → Option Block
@@ -384,13 +436,13 @@ act c p ps world = Never
 
 -- ---- steps
 
-abbrev pub frame_step : Scope → List Instr → Frame → List Pending → World → Asks
-frame_step scope (i ∷ left) frame rest world = line_step scope i (record frame { lines = left }) rest world
-frame_step scope [] frame rest world = term_step scope frame.term frame rest world
+abbrev pub frame_step : Module → List Instr → Frame → List Pending → World → Asks
+frame_step m (i ∷ left) frame rest world = line_step m i (record frame { lines = left }) rest world
+frame_step m [] frame rest world = term_step (scope_of m) frame.term frame rest world
 
 -- THE step
 abbrev pub asks : Module → State → Asks
-asks m (Running frame rest world) = frame_step (scope_of m) frame.lines frame rest world
+asks m (Running frame rest world) = frame_step m frame.lines frame rest world
 asks m (Waiting p ps world) = Ask (is_act p world) (λ c. act c p ps world)
 asks m Over = Never
 
@@ -412,32 +464,3 @@ abbrev pub ShowsFrom : Module → ℕ → State → List Item → Type 0
 ShowsFrom m zero s items = items ≡ []
 ShowsFrom m (suc n) s items = (items ≡ []) ⊎ ((made : Made) × (rest : List Item) × Follows (asks m s) made
     × (items ≡ made.items ++ rest) × ShowsFrom m n made.after rest)
-
--- the first definition of that name
-abbrev pub function_named : Name → List Function → Option Function
-function_named x fs = find (λ f. same_name f.name x) fs
-
--- The registers on entry: each parameter holds its argument. None where the arguments aren't one of its kind for each.
-abbrev pub fits_kind : Option Kind → World → Shown → Bool
-fits_kind None world s = false
-fits_kind (Some k) world s = is_value_of k world s
-
-abbrev pub entered : World → List Param → List Shown → Registers → Option Registers
-entered world [] [] registers = Some registers
-entered world (p ∷ ps) (a ∷ args) registers =
-    cond (fits_kind (kind_of p.ty) world a) (entered world ps args (set registers p.name (kind_of p.ty) (resolve world a))) None
-entered world [] (a ∷ args) registers = None
-entered world (p ∷ ps) [] registers = None
-
-abbrev pub at_entry : World → Function → List Block → Option Registers → Option State
-at_entry world f (b ∷ bs) (Some registers) = Some (Running (at_block f b registers []) [] world)
-at_entry world f [] registers = None
-at_entry world f (b ∷ bs) None = None
-
-abbrev pub started : World → Function → Input → Option State
-started world f input = at_entry world f f.blocks (entered world f.params input.args no_registers)
-
--- Where a run of that function on that input starts: nowhere without the function, or where the input doesn't fit it. There is no memory,
--- until a run has globals.
-abbrev pub start : Module → Name → Input → Option State
-start m x input = option_and_then (λ f. started no_world f input) (function_named x m.functions)

@@ -42,7 +42,11 @@ known = named (Some 0 ∷ [])
 abbrev pub loose : World
 loose = named (Some 0 ∷ None ∷ [])
 
--- the same where block 0 has ended
+-- name 0 is block 1's, and name 1 block 0's
+abbrev pub crossed : World
+crossed = named (Some 1 ∷ Some 0 ∷ [])
+
+-- the first where block 0 has ended
 abbrev pub over : World
 over = record known { memory = record four_bytes { live = false } ∷ one_byte ∷ [] }
 
@@ -101,6 +105,8 @@ pub record BytesAreWritten (m : Module) (frame : Frame) : Type 0 where
   pub number : told m i8 frame known (Write 0 (pos 0) (part.Num 5) ∷ []) ≡ waits (EnvWrite 0 (pos 0) (part.Num 5)) i8 frame (first_byte (byte.Num 5) known)
   pub a_part : told m i8 frame known (Write 0 (pos 0) (part.Frag 0 (pos 4) 1) ∷ [])
       ≡ waits (EnvWrite 0 (pos 0) (part.Frag 0 (pos 4) 1)) i8 frame (first_byte (byte.Frag 0 (pos 4) 1) known)
+  pub by_name : told m i8 frame crossed (Write 1 (pos 0) (part.Frag 0 (pos 4) 1) ∷ [])
+      ≡ waits (EnvWrite 1 (pos 0) (part.Frag 0 (pos 4) 1)) i8 frame (first_byte (byte.Frag 1 (pos 4) 1) crossed)
   pub of_nothing : told m i8 frame loose (Write 0 (pos 0) (part.Frag 1 (pos 4) 1) ∷ [])
       ≡ waits (EnvWrite 0 (pos 0) (part.Frag 1 (pos 4) 1)) i8 frame (first_byte byte.Undef loose)
   pub no_byte : told m i8 frame known (Write 0 (pos 0) (part.Num 256) ∷ []) ≡ lacking

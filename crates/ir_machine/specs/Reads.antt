@@ -1,5 +1,5 @@
 -- What definedness is worth to the runs of a module: no register is read that isn't set.
-use Rattle.std.specs.Prelude.{◌≡◌, List, [], ◌∷◌, Some, IsSome}
+use Rattle.std.specs.Prelude.{◌≡◌, List, [], ◌∷◌, Option, Some, IsSome}
 use Rattle.std.specs.List.{AllByRecursion}
 use Rattle.ir_core.specs.declared.functions.Block.{Block}
 use Rattle.ir_core.specs.declared.functions.Entry.{Entry}
@@ -7,16 +7,17 @@ use Rattle.ir_core.specs.declared.functions.Instr.{Instr}
 use Rattle.ir_core.specs.declared.modules.Module.{Module}
 use Rattle.ir_core.specs.declared.functions.Phi.{Phi}
 use Rattle.ir_types.specs.declared.names.Name.{Name}
+use Rattle.ir_core.specs.declared.values.Kind.{Kind}
+use Rattle.ir_core.specs.declared.values.Value.{Value}
 use Rattle.ir_core.specs.declared.operands.Atom.{Atom}
 use Rattle.ir_core.specs.declared.operands.Atom.TheVariants.{Constant, Register}
 use Rattle.ir_core.specs.declared.operands.Operand.{Operand}
 use Rattle.ir_core.specs.Functions.{operands_at_end, operands_of, successors_of}
-use Rattle.ir_core.specs.Integers.{IsOverIntegers}
 use Rattle.ir_core.specs.WellFormed.{IsWellFormed}
-use Rattle.ir_machine.specs.Machine.{block_named, entry_from}
+use Rattle.ir_machine.specs.Machine.{block_named, entry_from, resumed}
 use Rattle.ir_machine.specs.Reached.{IsReached}
 use Rattle.ir_machine.specs.Registers.{Registers}
-use Rattle.ir_machine.specs.State.{Frame, State, Running, Waiting, Over}
+use Rattle.ir_machine.specs.State.{Frame, Pending, State, Running, Waiting, Over}
 
 -- a register is set; a constant needs none
 abbrev pub IsSet : Registers → Atom Name → Type 0
@@ -36,11 +37,16 @@ abbrev pub NextReadsSet : List Instr → Frame → Type 0
 NextReadsSet (l ∷ left) frame = AreSet frame.registers (operands_of l)
 NextReadsSet [] frame = AreSet frame.registers (operands_at_end frame.term) × AllByRecursion (PhisReadSet frame) (successors_of frame.term)
 
+-- where a call that waits goes on, whatever it is answered
+abbrev pub ReadsSetBehind : Pending → Type 0
+ReadsSetBehind p = (k : Option Kind) (v : Value) → NextReadsSet p.frame.lines (resumed p k v)
+
 abbrev pub ReadsSet : State → Type 0
-ReadsSet (Running frame rest world) = NextReadsSet frame.lines frame
-ReadsSet (Waiting p rest world) = Unit {0}
+ReadsSet (Running frame rest world) = NextReadsSet frame.lines frame × AllByRecursion ReadsSetBehind rest
+ReadsSet (Waiting p rest world) = ReadsSetBehind p × AllByRecursion ReadsSetBehind rest
 ReadsSet Over = Unit {0}
 
--- In each state that a run of a well-formed module over integers alone comes to, the registers are set that its next step reads.
+-- In each state that a run of a well-formed module comes to, the registers are set that the next step of a frame reads, also of one that
+-- waits, once it goes on.
 abbrev pub ReadsAreSet : Type 0
-ReadsAreSet = (m : Module) (s : State) → IsWellFormed m → IsOverIntegers m → IsReached m s → ReadsSet s
+ReadsAreSet = (m : Module) (s : State) → IsWellFormed m → IsReached m s → ReadsSet s

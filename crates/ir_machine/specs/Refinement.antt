@@ -4,9 +4,10 @@ use Rattle.ir_types.specs.declared.names.Name.{Name}
 use Rattle.ir_core.specs.declared.modules.Module.{Module}
 use Rattle.ir_machine.specs.declared.items.Item.{Item}
 use Rattle.ir_machine.specs.declared.items.Item.TheVariants.{Turn, Called, EnvRead, EnvWrite, EnvNew, Replied, Returned, Wrong}
-use Rattle.ir_machine.specs.declared.items.Input.{Input}
+use Rattle.ir_machine.specs.declared.inputs.Input.{Input}
 use Rattle.ir_machine.specs.State.{State, Over}
-use Rattle.ir_machine.specs.Machine.{Made, Follows, asks, start, ShowsFrom}
+use Rattle.ir_machine.specs.Machine.{Made, Follows, asks, ShowsFrom}
+use Rattle.ir_machine.specs.Starting.{start}
 
 -- Some run of at most n steps, from the start of that function on that input, shows exactly these items.
 abbrev pub Shows : Module → Name → Input → ℕ → List Item → Type 0

@@ -21,7 +21,8 @@ use Rattle.ir_machine.specs.declared.items.Item.{Item}
 use Rattle.ir_machine.specs.declared.items.Item.TheVariants.{Turn, Returned, Wrong}
 use Rattle.ir_machine.specs.Examples.{index, number}
 use Rattle.ir_machine.specs.FlowExamples.{alone, block, function}
-use Rattle.ir_machine.specs.Machine.{Asks, Does, Ask, Never, asks, at_block, start}
+use Rattle.ir_machine.specs.Machine.{Asks, Does, Ask, Never, asks, at_block}
+use Rattle.ir_machine.specs.Starting.{given, start}
 use Rattle.ir_machine.specs.Registers.{no_registers, set}
 use Rattle.ir_machine.specs.State.{Frame, State, Over, Running}
 
@@ -84,7 +85,7 @@ behind n of from k = line.Calm (record {
 abbrev pub ran_over : List Instr → Ty → ℕ → ℕ → Ran
 ran_over lines of result steps =
     let m = alone (function (Int 32) (record (block 1 [] (Ret (record { ty = of; atom = Register (Number result) }))) { body = lines } ∷ [])) in
-    option_and_then (ran m steps) (start m (Number 0) (record { args = [] }))
+    option_and_then (ran m steps) (start m (Number 0) (given []))
 
 -- the run has returned this number
 abbrev pub returned : ℕ → Ran

@@ -1,11 +1,11 @@
-ghost use Rattle.std.specs.Prelude.{◌≡◌, List, OnErr};
+ghost use Rattle.std.specs.Prelude.{◌≡◌, List, OnErr, length, take};
 ghost use Rattle.block_memory.specs.declared.items.Choice.{Choice};
 ghost use Rattle.block_memory.specs.declared.items.Shown.{Shown};
 ghost use Rattle.ir_machine.specs.State.{World};
 ghost use Rattle.ir_machine.specs.Machine as machine;
 ghost use Rattle.ir_machine.specs.Choices.{TakesNext};
 ghost use Rattle.ir_machine.specs.Places.{world_in};
-ghost use Rattle.ir_machine.specs.Showing.{ShowingAnswers};
+ghost use Rattle.ir_machine.specs.Showing.{ShowingAnswers, ShowingLeads};
 
 use crate::KeptWorld;
 use block_memory::{Choice, ShowEnd, Shown};
@@ -31,6 +31,10 @@ fn show_undef<C: Chooser>(
     ensures answers { (poison : machine.Asks) (next : Shown → World → machine.Asks)
         → ShowingAnswers result (machine.show_undef kind (world_in world.old) poison next)
         (C.script chooser.old) poison next (world_in world.new) (C.script chooser.new) }
+    ensures leads { (poison : machine.Asks) (next : Shown → World → machine.Asks)
+        → ShowingLeads result (machine.show_undef kind (world_in world.old) poison next)
+        (C.script chooser.old) poison next (world_in world.new) (C.script chooser.new) }
+    ensures kept { take (length world.old.names) world.new.names ≡ world.old.names }
     ensures memory { world.new.blocks ≡ world.old.blocks }
     ensures same { OnErr result (world.new ≡ world.old) }
 {
@@ -53,6 +57,10 @@ pub(crate) fn show<C: Chooser>(
     ensures answers { (poison : machine.Asks) (next : Shown → World → machine.Asks)
         → ShowingAnswers result (machine.show kind value (world_in world.old) poison next)
         (C.script chooser.old) poison next (world_in world.new) (C.script chooser.new) }
+    ensures leads { (poison : machine.Asks) (next : Shown → World → machine.Asks)
+        → ShowingLeads result (machine.show kind value (world_in world.old) poison next)
+        (C.script chooser.old) poison next (world_in world.new) (C.script chooser.new) }
+    ensures kept { take (length world.old.names) world.new.names ≡ world.old.names }
     ensures memory { world.new.blocks ≡ world.old.blocks }
     ensures same { OnErr result (world.new ≡ world.old) }
 {

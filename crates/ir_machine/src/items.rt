@@ -22,9 +22,3 @@ pub enum Item {
     /// Undefined behaviour. It is the last item of a run.
     Wrong,
 }
-
-/// What a run is started on: one argument for each parameter.
-#[derive(Drop)]
-pub struct Input {
-    pub args: Seq<Shown>,
-}

@@ -9,7 +9,7 @@ ghost use Rattle.ir_core.specs.declared.values.Value.TheVariants.{Num};
 ghost use Rattle.ir_values.specs.Values.{IsInKindOf};
 ghost use Rattle.ir_machine.specs.Machine as machine;
 ghost use Rattle.ir_machine.specs.Machine.{Asks, Ask};
-ghost use Rattle.ir_machine.specs.State.{World, scope_of};
+ghost use Rattle.ir_machine.specs.State.{Pending, World, scope_of};
 ghost use Rattle.ir_machine.specs.Places.{at_end, registers_in};
 ghost use Rattle.ir_machine.specs.Stepping.{TellsLabel, lands};
 
@@ -88,9 +88,9 @@ pub(crate) fn jump(
     to: &Name,
     registers: &RegisterFile,
 ) -> Result<Option<Landing>, AllocError>
-    ensures lands { (own : List ℕ) (world : World) → IfOk result (λ landing.
-        machine.jump (scope_of «module».now) (at_end function.now block.now (registers_in registers.now) own) [] world to.now
-        ≡ lands function.now own world landing) }
+    ensures lands { (own : List ℕ) (rest : List Pending) (world : World) → IfOk result (λ landing.
+        machine.jump (scope_of «module».now) (at_end function.now block.now (registers_in registers.now) own) rest world to.now
+        ≡ lands function.now own rest world landing) }
     ensures within { IfOk result (λ landing. IfSome landing (λ l. l.block < length function.now.blocks)) }
 {
     let blocks = function.blocks.as_slice();

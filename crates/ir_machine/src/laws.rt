@@ -3,7 +3,7 @@ ghost use Rattle.ir_machine.specs.OutsideLaws.{ActsAreThese, ReturnsEndTheirBloc
 ghost use Rattle.ir_machine.specs.SlotLaws.{AccessesMayTrap, SlotsAreMemory, SlotsEndWithTheirFrames};
 ghost use Rattle.ir_machine.specs.Reached.{NothingIsLost, StartsAreReached, StepsAreReached};
 ghost use Rattle.ir_machine.specs.Reads.{ReadsAreSet};
-ghost use Rattle.ir_machine.specs.Lost.{LostJumpsAreTold, UnsetIsTold};
+ghost use Rattle.ir_machine.specs.Lost.{LostCallsAreTold, LostJumpsAreTold, UnsetIsTold};
 ghost use Rattle.ir_machine.specs.FlowLaws.{JumpsAreTurns, PhisAreTakenAtOnce, FirstEntriesAreTaken, PhisWithoutEntriesArePoison, BranchesGo, SwitchesGo, EndsAreWrong};
 
 /// Empty on purpose: its contract is the law.
@@ -83,7 +83,7 @@ pub fn refined_runs_are_shown()
 
 /// Empty on purpose: its contract is the law.
 ///
-/// A function of one block that has no phi and returns ends some run on each input that fits it.
+/// A function of one block that has no phi and returns, and calls the outside alone, ends some run on each input that fits it.
 pub fn one_block_runs_end()
     ensures { OneBlockRunsEnd }
 {}
@@ -106,8 +106,8 @@ pub fn examples_of_control_flow()
 
 /// Empty on purpose: its contract is the law.
 ///
-/// In a module that has shape each jump finds its block, and each phi there its entry. Where it is well-formed, and over integers alone, no
-/// register is read that isn't set.
+/// In a module that has shape each jump finds its block, each phi there its entry, and each call what it calls. Where it is well-formed, no
+/// register is read that isn't set, also behind a call that waits.
 pub fn well_formed_runs_go_on()
     ensures found { NothingIsLost }
     ensures set { ReadsAreSet }
@@ -124,10 +124,11 @@ pub fn runs_reach_what_they_lead_to()
 
 /// Empty on purpose: its contract is the law.
 ///
-/// A jump to no block is lost, and so is one to a block whose phi has no entry for the block that is left. A register that isn't set is one
-/// that a step may not read: in a line, in a terminator or in a phi on the edge.
-#[tactic(auto, using(crate::proofs::Lost::lost_jumps_are_told, crate::proofs::Lost::unset_is_told))]
+/// A jump to no block is lost, and so is one to a block whose phi has no entry for the block that is left; a call of what isn't there is, too.
+/// A register that isn't set is one that a step may not read: in a line, in a terminator or in a phi on the edge, nor behind a call that
+/// doesn't set it.
 pub fn lost_states_are_told()
     ensures jumps { LostJumpsAreTold }
+    ensures calls { LostCallsAreTold }
     ensures reads { UnsetIsTold }
 {}

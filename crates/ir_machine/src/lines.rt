@@ -1,22 +1,23 @@
 //! What a line of a block does.
-ghost use Rattle.std.specs.Prelude.{◌≡◌, ◌<◌, ◌*◌, [], ◌∷◌, None, IfOk, IfSome, OnErr, IsErr, IsErrOf};
-ghost use Rattle.ir_core.specs.declared.functions.Instr.TheVariants as instr;
+ghost use Rattle.std.specs.Prelude.{◌≡◌, ◌<◌, ◌*◌, [], ◌∷◌, Some, IfOk, IfSome, OnErr};
 ghost use Rattle.ir_machine.specs.declared.items.Item.TheVariants as item;
 ghost use Rattle.ir_machine.specs.declared.machine.Progress.TheVariants as progress;
+ghost use Rattle.ir_core.specs.Expressions.{type_of};
+ghost use Rattle.ir_core.specs.Types.{kind_of};
 ghost use Rattle.ir_types.specs.Named as lies;
 ghost use Rattle.ir_machine.specs.Registers as registers;
 ghost use Rattle.ir_machine.specs.Machine as machine;
 ghost use Rattle.ir_machine.specs.State.{scope_of};
 ghost use Rattle.ir_machine.specs.Places as places;
-ghost use Rattle.ir_machine.specs.Places.{registers_in, world_in};
-ghost use Rattle.ir_machine.specs.Stepping.{DoesLine, left_in, line_left};
+ghost use Rattle.ir_machine.specs.Places.{registers_in};
+ghost use Rattle.ir_machine.specs.Stepping.{DoesLine, IsAsBefore, left_by, left_in, left_made, left_with};
 
 use crate::jumping::number_at;
 use crate::operands::{operand_value, outcome};
-use crate::{Item, Place, Progress, RunState, StepEnd, Stepped};
+use crate::{Item, KeptFrame, KeptWorld, Place, Progress, Stepped};
 use contents::Seq;
-use ir_core::{Alloca, BitType, Calm, Instr, Kind, Module, Store, Ty, Value, kind_of};
-use ir_types::{NamedTypes, SizeFault, align_of, fits_block};
+use ir_core::{Alloca, BitType, Calm, Kind, Module, Store, Ty, Value, kind_of};
+use ir_types::{NamedTypes, SizeFault, align_of, fits_block, is_sized};
 use ir_values::Outcome;
 use std::alloc::{AllocError, Global};
 
@@ -28,18 +29,13 @@ pub(crate) fn one_item(alloc: Global, first: Item) -> Result<Seq<Item>, AllocErr
     Ok(items)
 }
 
-/// The run is wrong, and over.
-pub(crate) fn go_wrong(alloc: Global, state: &mut RunState) -> Result<Stepped, AllocError>
+/// A step that is undefined behaviour.
+pub(crate) fn go_wrong(alloc: Global) -> Result<Stepped, AllocError>
     ensures items { IfOk result (λ stepped. stepped.items ≡ item.Wrong ∷ []) }
     ensures progress { IfOk result (λ stepped. stepped.progress ≡ progress.IsWrong) }
-    ensures over { IfOk result (λ stepped. state.new.place ≡ None) }
-    ensures world { state.new.world ≡ state.old.world }
-    ensures same { OnErr result (state.new ≡ state.old) }
 {
-    let items = one_item(alloc, Item::Wrong)?;
-    state.place = None;
     Ok(Stepped {
-        items,
+        items: one_item(alloc, Item::Wrong)?,
         progress: Progress::IsWrong,
     })
 }
@@ -55,7 +51,7 @@ fn quiet(alloc: Global) -> Stepped
     }
 }
 
-fn next_line(place: Place) -> Place
+pub(crate) fn next_line(place: Place) -> Place
     requires { place.line < usize.MAX }
     ensures { result ≡ places.next_line place }
 {
@@ -66,18 +62,8 @@ fn next_line(place: Place) -> Place
     }
 }
 
-fn is_sized(types: &NamedTypes, ty: &Ty) -> bool
-    ensures { result ≡ lies.is_sized types.now ty.now }
-{
-    match fits_block(types, ty, 1) {
-        Ok(_) => true,
-        Err(SizeFault::TooLarge) => true,
-        Err(SizeFault::Unsized) => false,
-    }
-}
-
 /// The alignment of an access or of a block: its type's, where none is stated.
-fn align_or(types: &NamedTypes, ty: &Ty, stated: Option<u32>) -> u64
+pub(crate) fn align_or(types: &NamedTypes, ty: &Ty, stated: Option<u32>) -> u64
     ensures { result ≡ registers.align_or types.now ty.now stated }
 {
     match stated {
@@ -112,122 +98,92 @@ fn size_made(types: &NamedTypes, line: &Alloca) -> Option<u64>
     }
 }
 
-/// A line that does nothing but set its register is done: the run stands after it, or is wrong.
-fn do_calm(
+/// A line that does nothing but set its register is done: the frame stands after it, or the line is wrong.
+pub(crate) fn do_calm(
     alloc: Global,
     module: &Module,
     line: &Calm,
-    place: Place,
-    state: &mut RunState,
-) -> Result<Stepped, StepEnd>
-    requires room { place.line < usize.MAX }
-    ensures done { DoesLine place (world_in state.old.world) (line_left (scope_of «module».now) (instr.Calm line.now) (left_in state.old)) result state.new }
-    ensures same_place { OnErr result (state.new.place ≡ state.old.place) }
-    ensures same_registers { OnErr result (registers_in state.new.registers ≡ registers_in state.old.registers) }
-    ensures same_own { OnErr result (state.new.own.items ≡ state.old.own.items) }
-    ensures same_world { OnErr result (state.new.world ≡ state.old.world) }
-    ensures memory { IsErr result → IsErrOf result StepEnd.Memory }
+    frame: &mut KeptFrame,
+    world: &KeptWorld,
+) -> Result<Stepped, AllocError>
+    requires room { frame.old.place.line < usize.MAX }
+    ensures done { DoesLine frame.old.place
+        (left_by (kind_of (type_of line.now.right)) line.now.name
+        (registers.outcome (scope_of «module».now) (registers.read (registers_in frame.old.registers)) world.now.blocks line.now.right)
+        (left_in frame.old world.now)) result frame.new world.now }
+    ensures same { OnErr result (IsAsBefore frame.old frame.new) }
 {
     let bit = BitType::new();
-    match outcome(module, &state.registers, &state.world, &line.right) {
+    match outcome(module, &frame.registers, world, &line.right) {
         Outcome::Gives(value) => {
-            state
-                .registers
-                .set(alloc, &line.name, kind_of(line.right.ty(&bit)), value)?;
-            state.place = Some(next_line(place));
+            let kind = kind_of(line.right.ty(&bit));
+            frame.registers.set(alloc, &line.name, kind, value)?;
+            frame.place = next_line(frame.place);
             Ok(quiet(alloc))
         }
-        Outcome::Trap => Ok(go_wrong(alloc, state)?),
+        Outcome::Trap => go_wrong(alloc),
     }
 }
 
 /// A line that makes a block is done. Where memory is refused, all is as before.
-fn do_alloca(
+pub(crate) fn do_alloca(
     alloc: Global,
     module: &Module,
     line: &Alloca,
-    place: Place,
-    state: &mut RunState,
-) -> Result<Stepped, StepEnd>
-    requires room { place.line < usize.MAX }
-    ensures done { DoesLine place (world_in state.old.world) (line_left (scope_of «module».now) (instr.Alloca line.now) (left_in state.old)) result state.new }
-    ensures same_place { OnErr result (state.new.place ≡ state.old.place) }
-    ensures same_registers { OnErr result (registers_in state.new.registers ≡ registers_in state.old.registers) }
-    ensures same_own { OnErr result (state.new.own.items ≡ state.old.own.items) }
-    ensures same_world { OnErr result (state.new.world ≡ state.old.world) }
-    ensures memory { IsErr result → IsErrOf result StepEnd.Memory }
+    frame: &mut KeptFrame,
+    world: &mut KeptWorld,
+) -> Result<Stepped, AllocError>
+    requires room { frame.old.place.line < usize.MAX }
+    ensures done { DoesLine frame.old.place (Some (left_made (scope_of «module».now) line.now (left_in frame.old world.old))) result frame.new world.new }
+    ensures same { OnErr result (IsAsBefore frame.old frame.new) }
+    ensures same_world { OnErr result (world.new ≡ world.old) }
 {
     let Some(size) = size_made(&module.types, line) else {
-        return Err(StepEnd::Memory);
+        return Err(AllocError);
     };
     let align = align_or(&module.types, &line.of, line.align);
-    let block = state.world.blocks.count();
-    let mut registers = state.registers.copied(alloc)?;
-    registers.set(alloc, &line.name, Some(Kind::Ptr), Value::Ptr(block, 0))?;
-    let Ok(()) = state.own.push(block) else {
-        return Err(StepEnd::Memory);
+    let block = world.blocks.count();
+    frame.own.push(block)?;
+    let Ok(_) = world.blocks.new_block(size, align, &[]) else {
+        frame.own.pop();
+        return Err(AllocError);
     };
-    let Ok(_) = state.world.blocks.new_block(size, align, &[]) else {
-        state.own.pop();
-        return Err(StepEnd::Memory);
+    let address = Value::Ptr(block, 0);
+    let Ok(()) = frame
+        .registers
+        .set(alloc, &line.name, Some(Kind::Ptr), address)
+    else {
+        world.blocks.drop_last();
+        frame.own.pop();
+        return Err(AllocError);
     };
-    state.registers = registers;
-    state.place = Some(next_line(place));
+    frame.place = next_line(frame.place);
     Ok(quiet(alloc))
 }
 
-/// A line that stores a value is done; where it isn't allowed the run is wrong, and memory stays.
-fn do_store(
+/// A line that stores a value is done; where it isn't allowed it is wrong, and memory stays.
+pub(crate) fn do_store(
     alloc: Global,
     module: &Module,
     line: &Store,
-    place: Place,
-    state: &mut RunState,
-) -> Result<Stepped, StepEnd>
-    requires room { place.line < usize.MAX }
-    ensures done { DoesLine place (world_in state.old.world) (line_left (scope_of «module».now) (instr.Store line.now) (left_in state.old)) result state.new }
-    ensures same_place { OnErr result (state.new.place ≡ state.old.place) }
-    ensures same_registers { OnErr result (registers_in state.new.registers ≡ registers_in state.old.registers) }
-    ensures same_own { OnErr result (state.new.own.items ≡ state.old.own.items) }
-    ensures same_world { OnErr result (state.new.world ≡ state.old.world) }
-    ensures memory { IsErr result → IsErrOf result StepEnd.Memory }
+    frame: &mut KeptFrame,
+    world: &mut KeptWorld,
+) -> Result<Stepped, AllocError>
+    requires room { frame.old.place.line < usize.MAX }
+    ensures done { DoesLine frame.old.place
+        (left_with (machine.stored_by (scope_of «module».now) line.now (registers_in frame.old.registers) world.old.blocks)
+        (left_in frame.old world.old)) result frame.new world.new }
+    ensures same { OnErr result (IsAsBefore frame.old frame.new) }
+    ensures same_world { OnErr result (world.new ≡ world.old) }
 {
-    let value = operand_value(module, &state.registers, &line.value);
-    let pointer = operand_value(module, &state.registers, &line.pointer);
+    let value = operand_value(module, &frame.registers, &line.value);
+    let pointer = operand_value(module, &frame.registers, &line.pointer);
     let align = align_or(&module.types, &line.value.ty, line.align);
-    match state
-        .world
-        .blocks
-        .store(&line.value.ty, &value, &pointer, align)
-    {
+    match world.blocks.store(&line.value.ty, &value, &pointer, align) {
         Ok(()) => {
-            state.place = Some(next_line(place));
+            frame.place = next_line(frame.place);
             Ok(quiet(alloc))
         }
-        Err(_) => Ok(go_wrong(alloc, state)?),
-    }
-}
-
-/// A line is done, and the run stands after it; or the run is wrong. A call is undefined behaviour until calls are there.
-pub(crate) fn do_line(
-    alloc: Global,
-    module: &Module,
-    line: &Instr,
-    place: Place,
-    state: &mut RunState,
-) -> Result<Stepped, StepEnd>
-    requires room { place.line < usize.MAX }
-    ensures done { DoesLine place (world_in state.old.world) (line_left (scope_of «module».now) line.now (left_in state.old)) result state.new }
-    ensures same_place { OnErr result (state.new.place ≡ state.old.place) }
-    ensures same_registers { OnErr result (registers_in state.new.registers ≡ registers_in state.old.registers) }
-    ensures same_own { OnErr result (state.new.own.items ≡ state.old.own.items) }
-    ensures same_world { OnErr result (state.new.world ≡ state.old.world) }
-    ensures memory { IsErr result → IsErrOf result StepEnd.Memory }
-{
-    match line {
-        Instr::Calm(calm) => do_calm(alloc, module, calm, place, state),
-        Instr::Alloca(alloca) => do_alloca(alloc, module, alloca, place, state),
-        Instr::Store(store) => do_store(alloc, module, store, place, state),
-        Instr::Call(_) => Ok(go_wrong(alloc, state)?),
+        Err(_) => go_wrong(alloc),
     }
 }

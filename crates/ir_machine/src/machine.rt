@@ -1,8 +1,8 @@
-use crate::Item;
 use crate::registers::RegisterFile;
+use crate::{InputPath, Item};
 use block_memory::{Blocks, Names};
 use contents::Seq;
-use ir_core::BlockId;
+use ir_core::{Block, BlockId, Function, Module};
 
 /// Where a run stands: function and block of the module, and the line of the block's body, or its terminator
 /// past the last line.
@@ -20,12 +20,21 @@ pub struct KeptWorld {
     pub(crate) names: Names,
 }
 
-/// The state of a run of a module: its place, none once it is over, the registers, the blocks that its frame made, and the world.
+/// An activation of a function: its place, its registers, and the blocks that its allocas made. One that waits stands behind its call.
 #[derive(Drop)]
-pub struct RunState {
-    pub(crate) place: Option<Place>,
+pub struct KeptFrame {
+    pub(crate) place: Place,
     pub(crate) registers: RegisterFile,
     pub(crate) own: Vec<BlockId>,
+}
+
+/// The state of a run of a module: the frame on top, none once the run is over; those that wait below it, the last above the others;
+/// whether the one on top waits too, for the outside; and the world.
+#[derive(Drop)]
+pub struct RunState {
+    pub(crate) top: Option<KeptFrame>,
+    pub(crate) below: Vec<KeptFrame>,
+    pub(crate) waits: bool,
     pub(crate) world: KeptWorld,
 }
 
@@ -56,7 +65,24 @@ pub enum StepEnd {
 #[derive(Drop, Clone, Copy)]
 pub enum StartEnd {
     NoFunction,
-    /// The input hasn't one argument of its kind for each parameter.
-    InputUnfit,
+    /// The input doesn't fit, first at that place.
+    InputUnfit(InputPath),
     Memory,
+}
+
+/// Where the frame on top stands: the module, a function of it, and a block of that.
+pub(crate) struct Here<'a> {
+    pub(crate) whole: &'a Module,
+    pub(crate) function: &'a Function,
+    pub(crate) block: &'a Block,
+}
+
+impl<'a> Drop for Here<'a> {
+    fn drop(self) {
+        let Here {
+            whole: _,
+            function: _,
+            block: _,
+        } = self;
+    }
 }

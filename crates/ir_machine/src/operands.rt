@@ -21,6 +21,7 @@ use ir_types::align_of;
 use ir_typing::{is_due, pointed_by_operands, points_to};
 use ir_values::{
     Indices, Outcome, address_of, constant_value, eval_binary, eval_cast, eval_icmp, eval_select,
+    width_of,
 };
 
 /// What an atom is worth at the type, beside the module.
@@ -228,15 +229,6 @@ fn is_stated(types: &NamedTypes, element: &Element<Name>) -> bool
             pointed_by_operands(types, &element.of, element.indices.as_slice()),
             &element.to,
         )
-}
-
-fn width_of(ty: &Ty) -> u32
-    ensures { result ≡ constants.width_of ty.now }
-{
-    match ty {
-        Ty::Int(width) => *width,
-        _ => 0,
-    }
 }
 
 /// The indices of an address, each worth what its operand is.

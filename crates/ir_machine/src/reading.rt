@@ -2,16 +2,16 @@ ghost use Rattle.std.specs.Prelude.{◌≡◌, IfOk, OnOk, OnErr};
 ghost use Rattle.ir_values.specs.Values.{IsInKind, IsInKindOf};
 ghost use Rattle.ir_values.specs.Values as values;
 ghost use Rattle.ir_machine.specs.Registers as meaning;
-ghost use Rattle.ir_machine.specs.Kept as kept;
 ghost use Rattle.ir_machine.specs.Kept.{held_of};
 ghost use Rattle.ir_machine.specs.Places.{registers_in};
 
-use crate::registers::{Assigned, RegisterFile};
+use crate::registers::RegisterFile;
 use contents::Exact;
-use ir_core::{Kind, Name, Value, same_name};
+use indexmap::IndexMap;
+use ir_core::{Kind, Name, Value};
 use std::alloc::{AllocError, Global};
 
-fn same_kind(a: &Kind, b: &Kind) -> bool
+pub(crate) fn same_kind(a: &Kind, b: &Kind) -> bool
     ensures { result ≡ values.same_kind a.now b.now }
 {
     match (a, b) {
@@ -46,35 +46,12 @@ fn holding(kind: Option<Kind>, value: Value) -> Option<(Kind, Value)>
     }
 }
 
-#[tactic(auto, using(crate::proofs::Entries::put_found, crate::proofs::Entries::put_more, crate::proofs::Entries::put_last))]
-fn put(
-    entries: &mut Vec<Assigned>,
-    alloc: Global,
-    name: &Name,
-    held: Option<(Kind, Value)>,
-) -> Result<(), AllocError>
-    ensures ok { OnOk result (entries.new.items ≡ kept.put name.now held entries.old.items) }
-    ensures err { OnErr result (entries.new.items ≡ entries.old.items) }
-{
-    for i in 0..entries.len() {
-        if same_name(&entries[i].name, name) {
-            entries[i].held = held;
-            return Ok(());
-        }
-    }
-    entries.push(Assigned {
-        name: name.copy(alloc)?,
-        held,
-    })?;
-    Ok(())
-}
-
 impl RegisterFile {
     pub(crate) fn empty(alloc: Global) -> RegisterFile
         ensures { registers_in result ≡ meaning.no_registers }
     {
         RegisterFile {
-            entries: Vec::new(alloc),
+            held: IndexMap::new(alloc),
         }
     }
 
@@ -82,26 +59,25 @@ impl RegisterFile {
     pub(crate) fn copied(&self, alloc: Global) -> Result<RegisterFile, AllocError>
         ensures { IfOk result (λ file. registers_in file ≡ registers_in self.now) }
     {
-        let mut entries = Vec::new(alloc);
-        for entry in &self.entries {
-            entries.push(Assigned {
-                name: entry.name.copy(alloc)?,
-                held: entry.held,
-            })?;
+        let mut held = IndexMap::with_capacity(alloc, self.held.len())?;
+        let mut at = self.held.len();
+        while at > 0 {
+            at -= 1;
+            if let Some((name, value)) = self.held.get_index(at) {
+                held.insert(name.copy(alloc)?, *value)?;
+            }
         }
-        Ok(RegisterFile { entries })
+        Ok(RegisterFile { held })
     }
 
     pub(crate) fn read(&self, kind: &Kind, name: &Name) -> Value
         ensures value { result ≡ meaning.read (registers_in self.now) kind.now name.now }
         ensures in_kind { IsInKind kind.now result }
     {
-        for entry in &self.entries {
-            if same_name(&entry.name, name) {
-                return held_at(kind, &entry.held);
-            }
+        match self.held.get(name) {
+            Some(held) => held_at(kind, held),
+            None => Value::Poison,
         }
-        Value::Poison
     }
 
     pub(crate) fn set(
@@ -116,7 +92,7 @@ impl RegisterFile {
             (registers_in self.new ≡ meaning.set (registers_in self.old) name.now kind value) }
         ensures err { OnErr result (registers_in self.new ≡ registers_in self.old) }
     {
-        put(&mut self.entries, alloc, name, holding(kind, value))?;
+        self.held.insert(name.copy(alloc)?, holding(kind, value))?;
         Ok(())
     }
 }

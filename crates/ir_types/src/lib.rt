@@ -25,5 +25,5 @@ pub use named_types::NamedTypes;
 pub use names::{Name, Sigil};
 pub use same::{same_name, same_ty, tests_are_equality};
 pub use shared::Shared;
-pub use sizes::{SizeFault, align_of, field_offset, fits_block, size_of};
+pub use sizes::{SizeFault, align_of, field_offset, fits_block, is_sized, size_of};
 pub use ty::Ty;

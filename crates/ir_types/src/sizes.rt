@@ -72,3 +72,14 @@ pub fn field_offset(types: &NamedTypes, ty: &Ty, field: u32) -> u64
 {
     u64::from(types.offset(fields_in(types, ty), field))
 }
+
+/// Whether the type has a size.
+pub fn is_sized(types: &NamedTypes, ty: &Ty) -> bool
+    ensures { result ≡ lies.is_sized types.now ty.now }
+{
+    match fits_block(types, ty, 1) {
+        Ok(_) => true,
+        Err(SizeFault::TooLarge) => true,
+        Err(SizeFault::Unsized) => false,
+    }
+}

@@ -19,7 +19,7 @@ use ir_core::{
     CastOp, Const, GlobalVar, Module, Name, NamedTypes, Ty, TypedConst, Value, converts, fits,
     is_first_class, is_integer, is_pointer, same_name, same_ty,
 };
-use ir_types::{SizeFault, fits_block, size_of};
+use ir_types::{is_sized, size_of};
 use ir_typing::{is_due, pointed_by_constants, points_to};
 
 /// What a constant is worth at a type, beside a module. Numbers, undef and null are told without a look at the module.
@@ -108,16 +108,6 @@ fn contents_of<'a>(globals: &'a [GlobalVar], name: &Name) -> Option<&'a Ty>
     None
 }
 
-fn is_sized(types: &NamedTypes, ty: &Ty) -> bool
-    ensures { result ≡ named.is_sized types.now ty.now }
-{
-    match fits_block(types, ty, 1) {
-        Ok(_) => true,
-        Err(SizeFault::TooLarge) => true,
-        Err(SizeFault::Unsized) => false,
-    }
-}
-
 /// Whether a base and indices make an address of the type.
 fn leads_to(types: &NamedTypes, of: &Ty, parts: &[TypedConst], ty: &Ty) -> bool
     ensures { result ≡ told.leads_to types.now of.now parts.now ty.now }
@@ -180,7 +170,8 @@ fn size_behind(module: &Module, base: &Value) -> u64
     }
 }
 
-fn width_of(ty: &Ty) -> u32
+/// The width of an integer type, in bits, and 0 of another.
+pub fn width_of(ty: &Ty) -> u32
     ensures { result ≡ meaning.width_of ty.now }
 {
     match ty {

@@ -19,7 +19,7 @@ mod selections;
 
 pub use addresses::{address_of, eval_gep};
 pub use comparisons::eval_icmp;
-pub use constants::constant_value;
+pub use constants::{constant_value, width_of};
 pub use conversions::eval_cast;
 pub use indices::Indices;
 pub use kinds_kept::{

@@ -10,7 +10,9 @@ use ir_core::{
     Atom, BinOp, Binary, Bits, Block, Calm, Const, Expr, Extensions, Flags, Function, Instr,
     Linkage, Module, Name, NamedTypes, Operand, Param, Term, Ty,
 };
-use ir_machine::{Chooser, Input, Item, Progress, RunState, StartEnd, StepEnd, start, step};
+use ir_machine::{
+    Chooser, Input, InputPath, Item, Progress, RunState, StartEnd, StepEnd, start, step,
+};
 use std::alloc::{AllocError, Global};
 
 /// Tells one choice, or none.
@@ -113,7 +115,11 @@ fn input_of(alloc: Global, numbers: &[u64]) -> Result<Input, AllocError> {
     for number in numbers {
         args.push(Shown::Num(*number))?;
     }
-    Ok(Input { args })
+    Ok(Input {
+        args,
+        blocks: Seq::new(alloc),
+        externals: Seq::new(alloc),
+    })
 }
 
 /// What a run shows, or why it doesn't start or go on.
@@ -124,7 +130,8 @@ enum Seen {
     Wrong,
     NoChoice,
     NoFunction,
-    InputUnfit,
+    Arguments,
+    Argument(usize),
     Memory,
     Other,
 }
@@ -132,7 +139,9 @@ enum Seen {
 fn start_end(end: StartEnd) -> Seen {
     match end {
         StartEnd::NoFunction => Seen::NoFunction,
-        StartEnd::InputUnfit => Seen::InputUnfit,
+        StartEnd::InputUnfit(InputPath::Arguments) => Seen::Arguments,
+        StartEnd::InputUnfit(InputPath::Argument(at)) => Seen::Argument(at),
+        StartEnd::InputUnfit(_) => Seen::Other,
         StartEnd::Memory => Seen::Memory,
     }
 }
@@ -271,8 +280,8 @@ fn returns_are_shown(rt: HostRuntime) {
 fn arguments_that_do_not_fit_are_told(rt: HostRuntime) {
     let alloc = rt.alloc();
     assert!(rt; sample_starts(alloc, [255].as_slice()) == Seen::Started);
-    assert!(rt; sample_starts(alloc, [256].as_slice()) == Seen::InputUnfit);
-    assert!(rt; sample_starts(alloc, [].as_slice()) == Seen::InputUnfit);
-    assert!(rt; sample_starts(alloc, [1, 2].as_slice()) == Seen::InputUnfit);
+    assert!(rt; sample_starts(alloc, [256].as_slice()) == Seen::Argument(0));
+    assert!(rt; sample_starts(alloc, [].as_slice()) == Seen::Arguments);
+    assert!(rt; sample_starts(alloc, [1, 2].as_slice()) == Seen::Arguments);
     assert!(rt; absent_function_starts(alloc, [255].as_slice()) == Seen::NoFunction);
 }

@@ -1,4 +1,4 @@
-use Rattle.std.proofs.Common.{◌∙◌, List, map, sym, subst}
+use Rattle.std.proofs.Common.{◌∙◌, refl, List, map, sym, subst}
 use Rattle.std.specs.List.{AllByRecursion}
 use Rattle.ir_types.specs.declared.names.Name.{Name}
 use Rattle.ir_core.specs.declared.operands.Operand.{Operand}
@@ -26,3 +26,8 @@ returns-clause-in_kind c =
     let indices = map (index_value (scope_of c.args.«module».now) (read (registers_in c.args.registers.now))) c.as_slice.result.now in
     subst (λ v. GivesInKind (kind_of e.to) (Gives v)) (sym c.address_of.ensures)
     (address_in_kind types e c.operand_value-base.result c.size_at-size.result indices (sym c.is_stated.ensures ∙ c.if-not-is_stated.false))
+
+pub returns-clause-value : goal.returns-clause-value
+returns-clause-value c =
+    let stated = sym c.is_stated.ensures ∙ c.if-not-is_stated.false in
+    rw (stated, c.address_of.ensures, c.size_at-size.ensures, c.operand_value-base.ensures.value, c.as_slice.ensures) refl
