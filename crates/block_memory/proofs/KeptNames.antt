@@ -1,9 +1,11 @@
 -- First names stay those that are kept, as names come and go.
-use Rattle.std.proofs.Common.{◌≡◌, ◌∙◌, ℕ, ◌<◌, suc, Bool, true, false, ◌||◌, cond, nat_eq, List, [], ◌∷◌, ◌++◌, length, Option, None, Some, is_some, refl, sym, ap, eq-eqb, eqb-true, arith}
+use Rattle.std.proofs.Common.{◌≡◌, ◌∙◌, ℕ, ◌<◌, ◌≤◌, ◌+◌, ◌-◌, suc, Bool, true, false, ◌||◌, cond, nat_eq, nat_lt, List, [], ◌∷◌, ◌++◌, length, Option, None, Some, is_some, refl, sym, ap, eq-eqb, eqb-true, arith}
 use Rattle.std.specs.List.{list_any}
 use Rattle.std.specs.Map.{lookup}
 use Rattle.std.specs.Option.{option_eq, option_map}
-use Rattle.block_memory.specs.FirstNames.{AreFirst}
+use Rattle.std.proofs.lemmas.Bool.{lt-ltb}
+use Rattle.std.proofs.lemmas.List.Sums.{count_by-le-length, sum_by-cons, sum_by_push}
+use Rattle.block_memory.specs.FirstNames.{AreFirst, is_loose, loose_count}
 use Rattle.block_memory.specs.Names.{Names, is_bound_to, name_of}
 
 abbrev or_last : Option ℕ → Bool → ℕ → Option ℕ
@@ -119,3 +121,30 @@ is_that (Some k) n h = ap Some (eqb-true k n h)
 pub is_not_that : (o : Option ℕ) (n : ℕ) → option_eq nat_eq o (Some n) ≡ false → o ≡ Some n → ⊥
 is_not_that None n h e = cc
 is_not_that (Some k) n h e = let same : k ≡ n = cc in let is : nat_eq k n ≡ true = eq-eqb k n same in cc
+
+-- ---- how many names are bound to nothing
+
+abbrev of_loose : Option ℕ → ℕ
+of_loose bound = cond (is_loose bound) 1 0
+
+pub loose_behind : (names : Names) → loose_count (names ++ None ∷ []) ≡ loose_count names + 1
+loose_behind names = sum_by_push of_loose names None
+
+pub bound_behind : (names : Names) (b : ℕ) → loose_count (names ++ Some b ∷ []) ≡ loose_count names
+bound_behind names b = let more : loose_count (names ++ Some b ∷ []) ≡ loose_count names + 0 = sum_by_push of_loose names (Some b) in omega (arith, more)
+
+pub loose_gone : (names : Names) (n : ℕ) → n ≡ loose_count (names ++ None ∷ []) → n - 1 ≡ loose_count names
+loose_gone names n is = let more = loose_behind names in omega (arith, is, more)
+
+pub bound_gone : (names : Names) (b n : ℕ) → n ≡ loose_count (names ++ Some b ∷ []) → n ≡ loose_count names
+bound_gone names b n is = is ∙ bound_behind names b
+
+pub loose_within : (names : Names) → loose_count names ≤ length names
+loose_within names = count_by-le-length is_loose names
+
+pub any_loose : (names : Names) → nat_lt 0 (loose_count names) ≡ list_any is_loose names
+any_loose [] = refl
+any_loose (None ∷ names) = let more : loose_count (None ∷ names) ≡ 1 + loose_count names = sum_by-cons of_loose None names in lt-ltb 0 (loose_count (None ∷ names)) (omega (arith, more))
+any_loose (Some b ∷ names) =
+    let more : loose_count (Some b ∷ names) ≡ 0 + loose_count names = sum_by-cons of_loose (Some b) names in
+    let same : loose_count (Some b ∷ names) ≡ loose_count names = omega (arith, more) in ap (nat_lt 0) same ∙ any_loose names

@@ -10,7 +10,7 @@ use Rattle.ir_core.specs.declared.values.Byte.{Byte}
 use Rattle.ir_core.specs.declared.values.Byte.TheVariants as byte
 use Rattle.ir_values.specs.declared.operations.Outcome.TheVariants.{Gives, Trap}
 use Rattle.block_memory.proofs.BytesAgain.{bytes_length}
-use Rattle.block_memory.proofs.Accesses.{Accesses, fits_there, take_length, put_length}
+use Rattle.block_memory.proofs.Accesses.{Accesses, fits_there, take_length}
 
 pub cell_get : (m : Memory) (b : ℕ) → slice_get m b ≡ cell_at m b
 cell_get [] b = refl
@@ -126,9 +126,6 @@ pub not_at : (m : Memory) (b : ℕ) → length m ≤ b → cell_at m b ≡ None
 not_at [] b h = refl
 not_at (c ∷ cs) zero h = absurd (omega arith)
 not_at (c ∷ cs) (suc b) h = not_at cs b (omega arith)
-
-pub put_keeps_length : (xs : List Byte) (o : ℕ) (new : List Byte) → length (put xs o new) ≡ length xs
-put_keeps_length xs o new = put_length xs o new
 
 pub changed_at : (f : Cell → Cell) (m : Memory) (b : ℕ) (x : Cell) → b < length m → x ≡ get_or m b x → set m b (f x) ≡ updated f m b
 changed_at f m b x h e = sym (set_there f m b x (found_at m b x h e))

@@ -3,7 +3,7 @@ ghost use Rattle.std.specs.List.{list_any};
 ghost use Rattle.std.specs.Option.{option_copied};
 ghost use Rattle.ir_core.specs.declared.values.Value.TheVariants.{Poison, Undef};
 ghost use Rattle.block_memory.specs.Names as meaning;
-ghost use Rattle.block_memory.specs.FirstNames.{AreFirst};
+ghost use Rattle.block_memory.specs.FirstNames.{AreFirst, loose_count};
 ghost use Rattle.std.specs.Coded.{codes};
 ghost use Rattle.block_memory.specs.declared.names.ShowEnd.TheVariants as end;
 
@@ -27,14 +27,21 @@ pub enum ShowEnd {
 /// The names, from 0 on, each bound to one block or to nothing.
 pub struct Names {
     bound: Vec<Option<BlockId>>,
+    /// How many are bound to nothing.
+    loose: usize,
     /// The first name of each block that has one, so that it is found without a walk.
     first: IndexMap<BlockId, u64>,
+    ghost counted: { loose ≡ loose_count bound.items },
     ghost found: { AreFirst bound.items first.entries } by { Prim.hlevel codes },
 }
 
 impl Drop for Names {
     fn drop(self) {
-        let Names { bound: _, first: _ } = self;
+        let Names {
+            bound: _,
+            loose: _,
+            first: _,
+        } = self;
     }
 }
 
@@ -51,6 +58,7 @@ impl Names {
     {
         Names {
             bound: Vec::new(alloc),
+            loose: 0,
             first: IndexMap::new(alloc),
         }
     }
@@ -72,6 +80,7 @@ impl Names {
         self.bound.reserve(1)?;
         let Some(own) = block else {
             self.bound.push_reserved(None);
+            self.loose += 1;
             return Ok(name);
         };
         if self.first.contains_key(&own) {
@@ -101,6 +110,7 @@ impl Names {
             return;
         };
         let Some(block) = last else {
+            self.loose -= 1;
             return;
         };
         if self.first.get(&block).copied() == Some(self.bound.len() as u64) {
@@ -123,10 +133,11 @@ impl Names {
     }
 
     /// Whether a name is bound to nothing.
+    #[tactic(auto, using(crate::proofs::KeptNames::any_loose))]
     pub fn has_loose(&self) -> bool
         ensures { result ≡ list_any (λ bound. not (is_some bound)) self.now }
     {
-        self.bound.iter().any(|bound| bound.is_none())
+        self.loose > 0
     }
 
     /// The value that a name has at an offset: undef where it is bound to nothing.

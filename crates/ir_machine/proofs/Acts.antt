@@ -20,6 +20,7 @@ use Rattle.ir_machine.specs.Acting.{Answered, ByteAnswers, answer_to}
 use Rattle.ir_machine.specs.Choices.{Answer, Did, Lacks, answer, Leaves, TakesAsked, TakesNext}
 use Rattle.ir_machine.specs.Machine.{Asks, Ask, Does, act, byte_reached, given_byte, is_act, is_byte_of, read_byte, show_byte, with_named}
 use Rattle.ir_machine.specs.State.{Pending, State, Waiting, World, no_world}
+use Rattle.ir_machine.proofs.Starts.{filled_whole}
 use Rattle.ir_machine.proofs.Telling.{answers_take_asked}
 
 -- ---- a byte that is read, where memory is refused
@@ -42,10 +43,6 @@ pub new_answers : (w : World) (align : ℕ) (bytes : List ShownByte) → list_al
     → answer_to (choice.New align bytes) p ps w left ≡ Did (EnvNew align bytes ∷ []) (Waiting p ps (with_named align bytes w)) left
 new_answers w align bytes h p ps left = ap (λ (t : Bool). cond t (Did (EnvNew align bytes ∷ []) (Waiting p ps (with_named align bytes w)) left) (Lacks left)) h
 
-filled_all : (bytes : List Byte) → filled (length bytes) bytes ≡ bytes
-filled_all [] = refl
-filled_all (b ∷ bytes) = ap (λ xs. b ∷ xs) (filled_all bytes)
-
 given_alike : (w : World) (b : ShownByte) → given_byte (record no_world { names = w.names }) b ≡ given_byte w b
 given_alike w (part.Num n) = refl
 given_alike w (part.Frag x offset place) = refl
@@ -57,7 +54,7 @@ pub made_named : (w : World) (align size block : ℕ) (bytes : List ShownByte) (
 made_named w align size block bytes given memory names is long number cells bound =
     let cell : record { align = align; live = true; bytes = map (given_byte w) bytes } ≡ new_cell size align given =
     ap (λ (bs : List Byte). record { align = align; live = true; bytes = bs })
-    (sym (ap (λ n. filled n given) long ∙ filled_all given ∙ is ∙ (λ i. map (λ b. given_alike w b i) bytes))) in
+    (sym (ap (λ n. filled n given) long ∙ filled_whole given ∙ is ∙ (λ i. map (λ b. given_alike w b i) bytes))) in
     (λ i. record { memory = w.memory ++ cell i ∷ []; names = w.names ++ Some (number_back i) ∷ [] })
     ∙ (λ i. record { memory = sym cells i; names = sym bound i })
   where

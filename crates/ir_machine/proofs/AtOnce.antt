@@ -85,7 +85,7 @@ lines_give_these scope reading memory = record {
   select_of_two = refl;
 }
 
-pointers : (a b : Ty) → same_ty (Ptr a) (Ptr b) ≡ same_ty a b
+pub pointers : (a b : Ty) → same_ty (Ptr a) (Ptr b) ≡ same_ty a b
 pointers a b = sym (same_pointers a b)
 
 pub addresses_give_these : AddressesGiveThese

@@ -51,6 +51,7 @@ arguments_are_shown_in_order = record {
   undef_first = simp (outs-Void, of_number, of_undef, worth_number, worth_undef) refl;
   undef_told = simp (outs-Void, of_number, of_undef, worth_number, worth_undef) refl;
   undef_mistold = simp (outs-Void, of_number, of_undef, worth_number, worth_undef) refl;
+  answered_early = simp (outs-Void, of_undef, worth_undef) refl;
   two_undefs = simp (outs-Void, of_undef, worth_undef) refl;
   second_lacks = simp (outs-Void, of_undef, worth_undef) refl;
   one_name = simp (outs-Ptr, outs-Void, of_undef, worth_undef) refl;

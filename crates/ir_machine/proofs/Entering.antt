@@ -7,7 +7,6 @@ use Rattle.ir_core.specs.declared.functions.Function.{Function}
 use Rattle.ir_core.specs.declared.modules.Module.{Module}
 use Rattle.ir_core.specs.declared.values.Kind.{Kind}
 use Rattle.ir_core.specs.declared.values.Value.{Value}
-use Rattle.ir_core.specs.declared.values.Value.TheVariants as value
 use Rattle.ir_types.specs.declared.names.Name.{Name}
 use Rattle.block_memory.specs.declared.items.Choice.{Choice}
 use Rattle.block_memory.specs.declared.items.Shown.{Shown}
@@ -17,8 +16,8 @@ use Rattle.ir_machine.specs.declared.machine.Place.{Place}
 use Rattle.ir_machine.specs.declared.machine.Progress.TheVariants as progress
 use Rattle.ir_machine.specs.declared.machine.RunState.{RunState}
 use Rattle.ir_machine.specs.declared.machine.Stepped.{Stepped}
-use Rattle.ir_machine.specs.Machine.{Asks, Does, arguments_of, at_block, begun, call_step, called, called_outside, function_named, is_declared, passed, show, show_all, waiting_for, wrong}
-use Rattle.ir_machine.specs.Choices.{Lacks, Leaves, TakesAsked, answer}
+use Rattle.ir_machine.specs.Machine.{Asks, Does, arguments_of, at_block, begun, call_step, called, called_outside, function_named, is_declared, passed, waiting_for, wrong}
+use Rattle.ir_machine.specs.Choices.{Lacks, TakesAsked, answer}
 use Rattle.ir_machine.specs.Showing.{ShowsAll}
 use Rattle.block_memory.specs.declared.names.ShowEnd.{ShowEnd}
 use Rattle.block_memory.specs.declared.names.ShowEnd.TheVariants as end
@@ -27,6 +26,7 @@ use Rattle.ir_machine.specs.Registers.{Registers, no_registers}
 use Rattle.ir_machine.specs.State.{Frame, Pending, World, State, Running, Waiting, Over, scope_of}
 use Rattle.ir_machine.specs.Stepping.{Answers, IsAtCall, JustDoes, behind_line, state_under}
 use Rattle.ir_machine.proofs.Branching.{IsDone, done_answers, wrong_does}
+use Rattle.ir_machine.proofs.Showings.{all_leave}
 use Rattle.ir_machine.proofs.Steps.{frame_there, framed, state_runs, state_waits, waiting_more, waits_behind}
 use Rattle.std.proofs.lemmas.Option.{slice_get-get_or}
 
@@ -121,21 +121,6 @@ same_at xs i x y within is at =
     cc
 
 -- ---- told nothing, arguments that are shown ask for nothing but what they lack
-
-show_leaves : (k : Option Kind) (v : Value) (world : World) (next : Shown → World → Asks) → ((s : Shown) (w : World) → Leaves (answer (next s w) []) [])
-    → Leaves (answer (show k v world wrong next) []) []
-show_leaves k value.Poison world next leaves = refl
-show_leaves None value.Undef world next leaves = refl
-show_leaves (Some k) value.Undef world next leaves = refl
-show_leaves k (value.Num n) world next leaves = leaves _ _
-show_leaves k (value.Ptr block offset) world next leaves = leaves _ _
-show_leaves k (value.Bare address) world next leaves = leaves _ _
-
-pub all_leave : (vs : List (Option Kind × Value)) (world : World) (next : List Shown → World → Asks) → ((ss : List Shown) (w : World) → Leaves (answer (next ss w) []) [])
-    → Leaves (answer (show_all vs world next) []) []
-all_leave [] world next leaves = leaves [] world
-all_leave (v ∷ vs) world next leaves = show_leaves v.0 v.1 world (λ s after. show_all vs after (λ ss last. next (s ∷ ss) last))
-    (λ s after. all_leave vs after (λ ss last. next (s ∷ ss) last) (λ ss last. leaves (s ∷ ss) last))
 
 pub outside_takes_none : (x : Name) (vs : List (Option Kind × Value)) (p : Pending) (rest : List Pending) (world : World) (script : List Choice)
     → TakesAsked (called_outside x vs p rest world) script script

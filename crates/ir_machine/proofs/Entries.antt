@@ -1,6 +1,7 @@
 -- Registers as they are kept, and what setting one makes of them.
-use Rattle.std.proofs.Common.{◌≡◌, ◌∙◌, ℕ, zero, suc, Bool, true, false, cond, List, [], ◌∷◌, length, drop, slice_get, Option, Some, refl, sym, ap, subst}
+use Rattle.std.proofs.Common.{◌≡◌, ◌∙◌, ℕ, zero, suc, Bool, true, false, cond, List, [], ◌∷◌, length, drop, slice_get, Option, Some, refl, sym, ap, subst, arith}
 use Rattle.std.specs.Map.{lookup}
+use Rattle.std.proofs.Math.ListN.{drop_of_length-le}
 use Rattle.ir_types.specs.declared.names.Name.{Name}
 use Rattle.ir_types.specs.NameLaws.{name_equivalence}
 use Rattle.ir_types.specs.Same.{same_name}
@@ -47,11 +48,7 @@ abbrev pub AreCopied : Entries → Entries → ℕ → Type 0
 AreCopied copy es i = (q : Name) → lookup (same_name q) copy ≡ lookup (same_name q) (drop i es)
 
 pub none_copied : (es : Entries) → AreCopied [] es (length es)
-none_copied es q = sym (ap (lookup (same_name q)) (drop_all es))
-  where
-    drop_all : (es : Entries) → drop (length es) es ≡ []
-    drop_all [] = refl
-    drop_all (e ∷ es) = drop_all es
+none_copied es q = sym (ap (lookup (same_name q)) (drop_of_length-le es {i = length es} (omega arith)))
 
 pub more_copied : (copy new es : Entries) (i j : ℕ) (name x : Name) (held : Option (Kind × Value)) → slice_get es i ≡ Some (name, held) → j ≡ suc i → x ≡ name
     → AreCopied copy es j → Puts copy new x held → AreCopied new es i

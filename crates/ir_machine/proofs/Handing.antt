@@ -19,7 +19,7 @@ passed_next scope old ps args i p a v registers within is inside at worth =
     ∙ ap (λ (l : List Argument). passed (p ∷ drop (i + 1) ps) (arguments_of scope old l) registers) (drop_at args i a inside at)
     ∙ ap (λ (v : Value). passed (drop (i + 1) ps) (arguments_of scope old (drop (i + 1) args)) (set registers p.name (kind_of p.ty) (at_kind (kind_of p.ty) (kind_of a.operand.ty) v))) (sym worth)
 
-none_passed : (ps : List Param) (registers : Registers) → passed ps [] registers ≡ registers
+pub none_passed : (ps : List Param) (registers : Registers) → passed ps [] registers ≡ registers
 none_passed [] registers = refl
 none_passed (p ∷ ps) registers = refl
 

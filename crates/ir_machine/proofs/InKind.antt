@@ -209,7 +209,7 @@ offset_in_range (negsuc n) h =
     let low : n ≤ 2 ^ 63 - 1 = leb-true n (2 ^ 63 - 1) (left_true (int_le (negsuc (2 ^ 63 - 1)) (negsuc n)) (int_lt (negsuc n) (pos (2 ^ 63))) h) in
     record { sfits = omega arith }
 
-bound_in_kind : (bound : Option (Option ℕ)) (offset : ℤ) → IsOffset offset → IsInKind Ptr (named_value bound offset)
+pub bound_in_kind : (bound : Option (Option ℕ)) (offset : ℤ) → IsOffset offset → IsInKind Ptr (named_value bound offset)
 bound_in_kind None offset range = tt
 bound_in_kind (Some None) offset range = tt
 bound_in_kind (Some (Some b)) offset range = range

@@ -39,7 +39,7 @@ pub all_joined : {A : Type 0} (P : A → Type 0) (xs ys : List A) → AllByRecur
 all_joined P [] ys h k = k
 all_joined P (x ∷ xs) ys h k = (h.0, all_joined P xs ys h.1 k)
 
-all_in : {A : Type 0} (P : A → Type 0) (xs : List A) → AllByRecursion P xs → (x : A) → Contains xs x → P x
+pub all_in : {A : Type 0} (P : A → Type 0) (xs : List A) → AllByRecursion P xs → (x : A) → Contains xs x → P x
 all_in P [] h x there = absurd (omega (arith, there.1))
 all_in P (y ∷ ys) h x (zero, inside, is) = subst P is h.0
 all_in P (y ∷ ys) h x (suc k, inside, is) = all_in P ys h.1 x (k, omega (arith, inside), is)

@@ -1,5 +1,5 @@
 -- Where a run of a well-formed module starts, what is kept is so.
-use Rattle.std.proofs.Common.{◌≡◌, ℕ, zero, suc, ◌<◌, ◌≤◌, ◌+◌, Bool, true, false, not, nat_eq, List, [], ◌∷◌, ◌++◌, length, map, replicate, Option, None, Some, find, refl, sym, ap, subst, ◌∙◌, arith, slice_get}
+use Rattle.std.proofs.Common.{◌≡◌, ℕ, zero, suc, ◌<◌, ◌+◌, Bool, true, false, not, nat_eq, List, [], ◌∷◌, ◌++◌, length, map, Option, None, Some, find, refl, sym, ap, subst, ◌∙◌, arith, slice_get}
 use Rattle.std.specs.List.{AllByRecursion, Contains, list_any, range_with_len}
 use Rattle.std.specs.Option.{is_some, option_and_then}
 use Rattle.std.proofs.lemmas.List.{length-map, length-replicate}
@@ -15,7 +15,6 @@ use Rattle.ir_core.specs.declared.functions.Param.{Param}
 use Rattle.ir_core.specs.declared.modules.GlobalVar.{GlobalVar}
 use Rattle.ir_core.specs.declared.modules.Init.{Init}
 use Rattle.ir_core.specs.declared.modules.Module.{Module}
-use Rattle.ir_core.specs.declared.values.Byte.{Byte}
 use Rattle.ir_core.specs.declared.values.Byte.TheVariants as byte
 use Rattle.ir_core.specs.declared.values.Kind.{Kind}
 use Rattle.ir_core.specs.declared.values.Value.{Value}
@@ -23,9 +22,6 @@ use Rattle.ir_core.specs.Order.{AreNew}
 use Rattle.ir_core.specs.WellFormed.{HasShape}
 use Rattle.ir_values.specs.Constants.{Scope}
 use Rattle.block_memory.specs.declared.items.Shown.{Shown}
-use Rattle.block_memory.specs.declared.items.ShownByte.{ShownByte}
-use Rattle.block_memory.specs.declared.items.ShownByte.TheVariants as part
-use Rattle.block_memory.specs.Bytes.{IsByte}
 use Rattle.block_memory.specs.Memory.{Cell, Memory, cell_at}
 use Rattle.block_memory.specs.NameLaws.{AreApart}
 use Rattle.block_memory.specs.Names.{Names, is_bound_to}
@@ -33,41 +29,23 @@ use Rattle.ir_machine.specs.declared.inputs.External.{External}
 use Rattle.ir_machine.specs.declared.inputs.Input.{Input}
 use Rattle.ir_machine.specs.declared.inputs.InputBlock.{InputBlock}
 use Rattle.ir_machine.specs.declared.inputs.InputPath.{InputPath}
-use Rattle.ir_machine.specs.declared.inputs.InputPath.TheVariants as path
 use Rattle.ir_machine.specs.KeepLaws.{StartsHaveIt}
 use Rattle.ir_machine.specs.Keeps.{AreKept, IsAmong, IsByteAmong, IsKept, IsLive, IsMade, IsNameAmong, count_at_start}
-use Rattle.ir_machine.specs.Machine.{at_block, function_named, is_byte_of, passed}
+use Rattle.ir_machine.specs.Machine.{at_block, function_named, passed}
 use Rattle.ir_machine.specs.Registers.{align_or, no_registers}
-use Rattle.ir_machine.specs.Starting.{at_entry, block_misfit, byte_given, bytes_misfit, external_bytes, external_misfit, external_named, first_of, global_bytes, global_cell, handed, input_cell, is_external, is_named_byte, misfit, names_at_start, started, started_unless, unless, world_at_start}
-use Rattle.ir_machine.specs.State.{Running, State, World, no_world, scope_of}
+use Rattle.ir_machine.specs.Starting.{at_entry, byte_given, external_bytes, external_named, global_bytes, global_cell, handed, input_cell, is_external, misfit, names_at_start, started, started_unless, world_at_start}
+use Rattle.ir_machine.specs.State.{Running, State, World, scope_of}
 use Rattle.ir_machine.proofs.Finding.{found_inside}
-use Rattle.ir_machine.proofs.HeldConstants.{IsGoodByte, each_mapped, initial_good}
+use Rattle.ir_machine.proofs.HeldConstants.{IsGoodByte}
 use Rattle.ir_machine.proofs.Holding.{passed_among}
 use Rattle.ir_machine.proofs.InKind.{no_registers_in_kind}
-use Rattle.ir_machine.proofs.Keeping.{all_joined, all_on, push_on}
-use Rattle.ir_machine.proofs.KeptSteps.{given_among, given_is_byte, resolve_among}
+use Rattle.ir_machine.proofs.Keeping.{all_in, all_on, push_on}
+use Rattle.ir_machine.proofs.KeptSteps.{resolve_among}
 use Rattle.ir_machine.proofs.Passing.{IsFitting, IsPassable, fitting, handed_in_kind, passed_in_kind}
-use Rattle.ir_machine.proofs.Worlds.{or_none, unless_none}
 use Rattle.ir_machine.proofs.Setting.{found_passes, new_apart}
+use Rattle.ir_machine.proofs.Worlds.{IsOfGlobal, all_names, all_of_globals, memory_good, starts_of_bytes}
 
 -- ---- lists
-
-all_mapped : {A B : Type 0} (P : B → Type 0) (f : A → B) (xs : List A) → AllByRecursion (λ x. P (f x)) xs → AllByRecursion P (map f xs)
-all_mapped P f [] h = tt
-all_mapped P f (x ∷ xs) h = (h.0, all_mapped P f xs h.1)
-
-all_inside : {A : Type 0} (P : A → Type 0) (xs : List A) → AllByRecursion P xs → (x : A) → Contains xs x → P x
-all_inside P [] h x there = absurd (omega (arith, there.1))
-all_inside P (y ∷ ys) h x (zero, inside, is) = subst P is h.0
-all_inside P (y ∷ ys) h x (suc k, inside, is) = all_inside P ys h.1 x (k, omega (arith, inside), is)
-
-all_copies : (Q : Byte → Type 0) (n : ℕ) (b : Byte) → Q b → AllByRecursion Q (replicate n b)
-all_copies Q zero b h = tt
-all_copies Q (suc n) b h = (h, all_copies Q n b h)
-
-long_joined : {A : Type 0} (xs ys : List A) → length (xs ++ ys) ≡ length xs + length ys
-long_joined [] ys = omega arith
-long_joined (x ∷ xs) ys = let more = long_joined xs ys in omega (arith, more)
 
 cell_mapped : {A : Type 0} (f : A → Cell) (xs : List A) (ys : Memory) (k : ℕ) (x : A) → slice_get xs k ≡ Some x → cell_at (map f xs ++ ys) k ≡ Some (f x)
 cell_mapped f [] ys k x is = absurd (cc)
@@ -105,18 +83,7 @@ apart_in_order : (from n : ℕ) → AreApart (map Some (range_with_len from n))
 apart_in_order from zero = tt
 apart_in_order from (suc n) = (free_before from (from + 1) n (omega arith), apart_in_order (from + 1) n)
 
-names_below : (from n many : ℕ) → from + n ≤ many → AllByRecursion (IsNameAmong (λ b. b < many)) (map Some (range_with_len from n))
-names_below from zero many long = tt
-names_below from (suc n) many long = (omega (arith, long), names_below (from + 1) n many (omega (arith, long)))
-
--- ---- what fits
-
-all_fit : {A : Type 0} (P : A → Type 0) (one : ℕ → A → Option InputPath) → ((at : ℕ) (x : A) → one at x ≡ None → P x)
-    → (at : ℕ) (xs : List A) → first_of one at xs ≡ None → AllByRecursion P xs
-all_fit P one fit at [] h = tt
-all_fit P one fit at (x ∷ xs) h =
-    let parts = or_none (one at x) (first_of one (suc at) xs) h in
-    (fit at x parts.0, all_fit P one fit (suc at) xs parts.1)
+-- ---- what is passed
 
 module _ (world : World) where
   handed_among : (among : ℕ → Type 0) → AllByRecursion (IsNameAmong among) world.names → (ps : List Param) (args : List Shown)
@@ -184,59 +151,6 @@ module _ (m : Module) (shape : HasShape m) (input : Input) (params : List Param)
   fits_all : IsFitting scope input params
   fits_all = fitting scope input params fit
 
-  long : length world.memory ≡ count
-  long =
-      let joined = long_joined (map (global_cell scope input) scope.globals) (map (input_cell scope input) input.blocks) in
-      let globals = length-map scope.globals (global_cell scope input) in
-      let blocks = length-map input.blocks (input_cell scope input) in
-      omega (arith, joined, globals, blocks)
-
-  all_names : AllByRecursion (IsNameAmong made) names
-  all_names = names_below 0 count (length world.memory) (omega (arith, long))
-
-  -- bytes that are given
-  given_good : (s : ShownByte) → is_named_byte names s ≡ true → IsGoodByte made (byte_given scope input s)
-  given_good s h = (given_is_byte (record no_world { names = names }) s (named_byte s h), given_among made (record no_world { names = names }) s all_names)
-    where
-      named_byte : (s : ShownByte) → is_named_byte names s ≡ true → is_byte_of (record no_world { names = names }) s ≡ true
-      named_byte (part.Num n) h = h
-      named_byte (part.Frag x offset place) h = h
-
-  given_bytes : (place : ℕ → InputPath) (bytes : List ShownByte) → bytes_misfit names place bytes ≡ None → AllByRecursion (IsGoodByte made) (map (byte_given scope input) bytes)
-  given_bytes place bytes h =
-      all_mapped (IsGoodByte made) (byte_given scope input) bytes
-      (all_fit (λ s. IsGoodByte made (byte_given scope input s)) (λ j s. unless (is_named_byte names s) (place j))
-      (λ j s fits. given_good s (unless_none (is_named_byte names s) (place j) fits)) 0 bytes h)
-
-  -- what an external global is given
-  pub record IsOfGlobal (e : External) : Type 0 where
-    pub global : is_external scope.types (length e.bytes) (find (λ (g : GlobalVar). same_name g.name e.name) scope.globals) ≡ true
-    pub bytes : AllByRecursion (IsGoodByte made) (map (byte_given scope input) e.bytes)
-
-  of_external : (at : ℕ) (e : External) → external_misfit scope names at e ≡ None → IsOfGlobal e
-  of_external at e h =
-      let parts = or_none _ (bytes_misfit names (path.ExternalByte at) e.bytes) h in
-      record { global = unless_none _ (path.External at) parts.0; bytes = given_bytes (path.ExternalByte at) e.bytes parts.1 }
-
-  all_of_globals : AllByRecursion IsOfGlobal input.externals
-  all_of_globals = all_fit IsOfGlobal (external_misfit scope names) of_external 0 input.externals fits_all.externals
-
-  external_good : (g : GlobalVar) (o : Option External) → external_named g.name input.externals ≡ o → AllByRecursion (IsGoodByte made) (external_bytes scope input (size_of scope.types g.ty) o)
-  external_good g None is = all_copies (IsGoodByte made) (size_of scope.types g.ty) (byte.Num 0) (omega arith, tt)
-  external_good g (Some e) is = (all_inside IsOfGlobal input.externals all_of_globals e (found_inside (λ (e : External). same_name e.name g.name) input.externals e is)).bytes
-
-  global_good : (g : GlobalVar) (o : Option Init) → AllByRecursion (IsGoodByte made) (global_bytes scope input g o)
-  global_good g (Some i) = initial_good made scope (λ k below. (let so = below in omega (arith, so, long))) g.ty i
-  global_good g None = external_good g (external_named g.name input.externals) refl
-
-  memory_good : AllByRecursion (λ (c : Cell). AllByRecursion (IsGoodByte made) c.bytes) world.memory
-  memory_good =
-      all_joined (λ (c : Cell). AllByRecursion (IsGoodByte made) c.bytes) (map (global_cell scope input) scope.globals) (map (input_cell scope input) input.blocks)
-      (each_mapped (λ (c : Cell). AllByRecursion (IsGoodByte made) c.bytes) (global_cell scope input) (λ g. global_good g g.init) scope.globals)
-      (all_mapped (λ (c : Cell). AllByRecursion (IsGoodByte made) c.bytes) (input_cell scope input) input.blocks
-      (all_fit (λ (b : InputBlock). AllByRecursion (IsGoodByte made) (map (byte_given scope input) b.bytes)) (block_misfit names)
-      (λ at b h. given_bytes (path.BlockByte at) b.bytes h) 0 input.blocks fits_all.blocks))
-
   -- sizes
   external_size : (k : ℕ) (g : GlobalVar) (e : External) (o : Option GlobalVar) → slice_get scope.globals k ≡ Some g → find (λ (h : GlobalVar). same_name h.name e.name) scope.globals ≡ o → e.name ≡ g.name
       → is_external scope.types (length e.bytes) o ≡ true → length e.bytes ≡ size_of scope.types g.ty
@@ -253,7 +167,7 @@ module _ (m : Module) (shape : HasShape m) (input : Input) (params : List Param)
       let inside = found_inside (λ (e : External). same_name e.name g.name) input.externals e is in
       let named : e.name ≡ g.name = same_name_true e.name g.name (found_passes (λ (e : External). same_name e.name g.name) input.externals e is) in
       length-map e.bytes (byte_given scope input)
-      ∙ external_size k g e (find (λ (h : GlobalVar). same_name h.name e.name) scope.globals) got refl named (all_inside IsOfGlobal input.externals all_of_globals e inside).global
+      ∙ external_size k g e (find (λ (h : GlobalVar). same_name h.name e.name) scope.globals) got refl named (all_in (IsOfGlobal scope input) input.externals (all_of_globals scope input fits_all.externals) e inside).global
 
   global_long : (k : ℕ) (g : GlobalVar) (o : Option Init) → slice_get scope.globals k ≡ Some g → length (global_bytes scope input g o) ≡ size_of scope.types g.ty
   global_long k g (Some i) got = length-map-range_with_len _ 0 (size_of scope.types g.ty)
@@ -282,15 +196,13 @@ module _ (m : Module) (shape : HasShape m) (input : Input) (params : List Param)
   world_kept : AreKept scope input [] world
   world_kept = record {
     registers = tt;
-    bytes =
-        all_on (λ (c : Cell). AllByRecursion (IsGoodByte made) c.bytes) (λ (c : Cell). AllByRecursion IsByte c.bytes)
-        (λ c h. all_on (IsGoodByte made) IsByte (λ b k. k.0) c.bytes h) world.memory memory_good;
+    bytes = starts_of_bytes scope input fits_all.externals fits_all.blocks;
     held = record {
       registers = tt;
       bytes =
           all_on (λ (c : Cell). AllByRecursion (IsGoodByte made) c.bytes) (λ (c : Cell). AllByRecursion (IsByteAmong made) c.bytes)
-          (λ c h. all_on (IsGoodByte made) (IsByteAmong made) (λ b k. k.1) c.bytes h) world.memory memory_good;
-      names = all_names;
+          (λ c h. all_on (IsGoodByte made) (IsByteAmong made) (λ b k. k.1) c.bytes h) world.memory (memory_good scope input fits_all.externals fits_all.blocks);
+      names = all_names scope input;
     };
     own = tt;
     apart = tt;
@@ -306,7 +218,7 @@ module _ (m : Module) (shape : HasShape m) (input : Input) (params : List Param)
       subst (λ (ps : List Param). AllByRecursion IsPassable (handed world ps input.args)) (sym are) (handed_in_kind world 0 params input.args fits_all.arguments) in
       push_on scope input (at_block f b (passed f.params (handed world f.params input.args) no_registers) []) [] world refl
       (passed_in_kind f.params (handed world f.params input.args) no_registers kinds no_registers_in_kind)
-      (passed_among made f.params (handed world f.params input.args) no_registers (handed_among world made all_names f.params input.args) (λ x. tt))
+      (passed_among made f.params (handed world f.params input.args) no_registers (handed_among world made (all_names scope input) f.params input.args) (λ x. tt))
       world_kept
 
 -- ---- the start

@@ -33,7 +33,7 @@ use Rattle.ir_values.specs.declared.operations.Outcome.{Outcome}
 use Rattle.ir_values.specs.declared.operations.Outcome.TheVariants.{Gives}
 use Rattle.ir_values.specs.Constants.{Scope, constant_value}
 use Rattle.ir_values.specs.Operations.{GivesInKind}
-use Rattle.ir_values.specs.Values.{IsInKind, IsInKindOf}
+use Rattle.ir_values.specs.Values.{IsInKind, IsInKindOf, IsOffset}
 use Rattle.block_memory.specs.declared.items.Choice.TheVariants as choice
 use Rattle.block_memory.specs.declared.items.Shown.{Shown}
 use Rattle.block_memory.specs.declared.items.Shown.TheVariants as shown
@@ -42,7 +42,7 @@ use Rattle.block_memory.specs.declared.items.ShownByte.TheVariants as given
 use Rattle.block_memory.specs.Bytes.{IsByte, IsRanged, byte_count, bytes_of}
 use Rattle.block_memory.specs.Memory.{Cell, Memory, can_access, cell_at, filled, new_cell, overwritten, stored_of, updated, with_bytes}
 use Rattle.block_memory.specs.NameLaws.{AreApart}
-use Rattle.block_memory.specs.Names.{Names, Showing, bound_value, chosen, is_bound_to, is_unnamed, name_of, resolved, shown_of}
+use Rattle.block_memory.specs.Names.{Names, Showing, bound_value, chosen, is_bound_to, is_unnamed, name_of, named_value, resolved, shown_of}
 use Rattle.block_memory.proofs.NamesShown.{names_stay_apart, shown_next}
 use Rattle.block_memory.proofs.ReadValues.{bytes_are_bytes, kind_ranged}
 use Rattle.ir_machine.specs.declared.inputs.Input.{Input}
@@ -59,7 +59,6 @@ use Rattle.ir_machine.proofs.InKind.{given_in_kind, no_registers_in_kind, offset
 use Rattle.ir_machine.proofs.Keeping.{LeavesGrown, NamesKept, OfBytes, all_ended_bytes, all_ended_lives, all_joined, all_on, chosen_grows, ended_long, got_all, grown_kept, length_more, live_made, loose_apart, memory_on, more_lives, name_grows, names_kept, names_on, next_apart, own_on, pop_on, push_on, top_on, unmade_unnamed, unmade_unowned, unnamed_made, updated_long, written_bytes, written_lives}
 use Rattle.ir_machine.proofs.Passing.{IsPassable, passed_in_kind, read_at_kind}
 use Rattle.ir_machine.proofs.Runs.{set_in_kind}
-use Rattle.ir_machine.proofs.Worlds.{named_ranged}
 use Rattle.ir_machine.proofs.Trees.{AllDo, all_do_branch, all_do_jump, all_do_made, all_do_set_to, all_do_show}
 
 -- ---- kinds of what is passed
@@ -219,6 +218,12 @@ part_is_byte (value.Num n) place h = tt
 part_is_byte (value.Bare n) place h = tt
 part_is_byte value.Undef place h = tt
 part_is_byte value.Poison place h = tt
+
+-- a name's address has an offset in range
+named_ranged : (bound : Option (Option ℕ)) (offset : ℤ) → IsOffset offset → IsRanged (named_value bound offset)
+named_ranged None offset range = tt
+named_ranged (Some None) offset range = tt
+named_ranged (Some (Some b)) offset range = range
 
 pub given_is_byte : (world : World) (s : ShownByte) → is_byte_of world s ≡ true → IsByte (given_byte world s)
 given_is_byte world (given.Num n) h = ltb-true n 256 h

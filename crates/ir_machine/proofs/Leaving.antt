@@ -14,6 +14,7 @@ use Rattle.block_memory.specs.Names.{Showing, fresh, is_bound_to, under_next}
 use Rattle.ir_machine.specs.declared.items.Item.TheVariants.{Turn, Returned, Wrong}
 use Rattle.ir_machine.specs.Machine.{Asks, Ask, Does, Chosen, Told, FreshByte, all_ended, chosen_by, return_step, show, show_undef, shown_as, without_own}
 use Rattle.ir_machine.specs.State.{World, Over}
+use Rattle.ir_machine.proofs.Keeping.{ended_long}
 use Rattle.ir_machine.proofs.Standing.{drop_at}
 
 -- ---- blocks
@@ -28,16 +29,6 @@ pub ended_next : (own : List ℕ) (i b : ℕ) (memory : Memory) → i < length o
     → all_ended (drop i own) memory ≡ all_ended (drop (i + 1) own) (updated ended memory b)
 ended_next own i b memory within is = ap (λ (l : List ℕ). all_ended l memory) (drop_at own i b within is)
 
--- as many blocks are there as before
-ended_at_length : (memory : Memory) (b : ℕ) → length (updated ended memory b) ≡ length memory
-ended_at_length [] b = refl
-ended_at_length (c ∷ cs) zero = refl
-ended_at_length (c ∷ cs) (suc b) = ap (λ (n : ℕ). suc n) (ended_at_length cs b)
-
-ended_length : (own : List ℕ) (memory : Memory) → length (all_ended own memory) ≡ length memory
-ended_length [] memory = refl
-ended_length (b ∷ bs) memory = ended_length bs (updated ended memory b) ∙ ended_at_length memory b
-
 -- ---- showing looks at no block
 
 fresh_same : (k : Kind) (own : List ℕ) (world : World) (bound : Option ℕ) (offset : ℤ)
@@ -45,7 +36,7 @@ fresh_same : (k : Kind) (own : List ℕ) (world : World) (bound : Option ℕ) (o
 fresh_same (Int width) own world bound offset = refl
 fresh_same Ptr own world None offset = refl
 fresh_same Ptr own world (Some b) offset =
-    ap (λ (n : ℕ). cond (nat_lt b n && not (list_any (is_bound_to b) world.names)) (Some (under_next world.names (Some b) offset)) None) (ended_length own world.memory)
+    ap (λ (n : ℕ). cond (nat_lt b n && not (list_any (is_bound_to b) world.names)) (Some (under_next world.names (Some b) offset)) None) (ended_long own world.memory)
 
 chosen_same : (k : Kind) (own : List ℕ) (world : World) (c : Chosen) → chosen_by k (without_own own world) c ≡ chosen_by k world c
 chosen_same k own world (Told (choice.Fresh bound offset)) = fresh_same k own world bound offset

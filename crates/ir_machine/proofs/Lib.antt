@@ -48,3 +48,4 @@ pub mod Handing
 pub mod Entering
 pub mod Behind
 pub mod Resting
+pub mod Firsts

@@ -36,6 +36,7 @@ bytes_are_written m frame = record {
   a_part = refl;
   by_name = refl;
   of_nothing = refl;
+  no_place = refl;
   no_byte = refl;
   no_such_name = refl;
   past_the_end = refl;
@@ -45,6 +46,8 @@ bytes_are_written m frame = record {
 blocks_are_made : (m : Module) (frame : Frame) → BlocksAreMade m frame
 blocks_are_made m frame = record {
   block = refl;
+  odd_alignment = refl;
+  no_alignment = refl;
   its_own_name = refl;
 }
 

@@ -12,11 +12,11 @@ use Rattle.ir_core.specs.declared.values.Value.TheVariants as value
 use Rattle.ir_core.specs.declared.functions.Param.{Param}
 use Rattle.ir_core.specs.Types.{fits, kind_of}
 use Rattle.ir_values.specs.Constants.{Scope}
-use Rattle.ir_values.specs.Values.{IsInKind, IsInKindOf, IsOffset, same_kind}
+use Rattle.ir_values.specs.Values.{IsInKind, IsInKindOf, same_kind}
 use Rattle.ir_values.proofs.KindLaws.{poison_in_kind, same_kind_true}
 use Rattle.block_memory.specs.declared.items.Shown.{Shown}
 use Rattle.block_memory.specs.declared.items.Shown.TheVariants as shown
-use Rattle.block_memory.specs.Names.{Names, named_value}
+use Rattle.block_memory.specs.Names.{Names}
 use Rattle.ir_machine.specs.declared.inputs.Input.{Input}
 use Rattle.ir_machine.specs.declared.inputs.InputPath.{InputPath}
 use Rattle.ir_machine.specs.declared.inputs.InputPath.TheVariants as path
@@ -24,9 +24,9 @@ use Rattle.ir_machine.specs.Registers.{Registers, AreInKind, set}
 use Rattle.ir_machine.specs.State.{World}
 use Rattle.ir_machine.specs.Machine.{at_kind, is_offset, passed, resolve}
 use Rattle.ir_machine.specs.Starting.{argument_misfit, arguments_misfit, block_misfit, external_misfit, first_of, handed, misfit, names_at_start, number_misfit}
-use Rattle.ir_machine.proofs.InKind.{offset_in_range}
+use Rattle.ir_machine.proofs.InKind.{bound_in_kind, offset_in_range}
 use Rattle.ir_machine.proofs.Runs.{set_in_kind}
-use Rattle.ir_machine.proofs.Worlds.{or_none, unless_none}
+use Rattle.ir_machine.proofs.Unfitting.{or_none, unless_none}
 
 -- a value, behind the kind that it is of
 abbrev pub IsPassable : Option Kind × Value → Type 0
@@ -35,7 +35,7 @@ IsPassable v = IsInKindOf v.0 v.1
 -- ---- an input that fits
 
 -- an argument that fits is of its kind
-argument_in_kind : (world : World) (k : Option Kind) (a : Shown) (at : ℕ) → argument_misfit world.names k a at ≡ None → IsInKindOf k (resolve world a)
+pub argument_in_kind : (world : World) (k : Option Kind) (a : Shown) (at : ℕ) → argument_misfit world.names k a at ≡ None → IsInKindOf k (resolve world a)
 argument_in_kind world None a at fit = tt
 argument_in_kind world (Some (Int width)) (shown.Num n) at fit = ltb-true n (2 ^ width) (unless_none (fits n width) (path.Argument at) fit)
 argument_in_kind world (Some (Int width)) (shown.Name x offset) at fit = absurd (cc)
@@ -43,12 +43,7 @@ argument_in_kind world (Some (Int width)) (shown.Bare address) at fit = absurd (
 argument_in_kind world (Some Ptr) (shown.Num n) at fit = absurd (cc)
 argument_in_kind world (Some Ptr) (shown.Name x offset) at fit =
     let there = nat_lt x (length world.names) in
-    bound (slice_get world.names x) (offset_in_range offset (left_true (is_offset offset) there (unless_none (is_offset offset && there) (path.ArgumentName at) fit)))
-  where
-    bound : (o : Option (Option ℕ)) → IsOffset offset → IsInKind Ptr (named_value o offset)
-    bound None range = tt
-    bound (Some None) range = tt
-    bound (Some (Some b)) range = range
+    bound_in_kind (slice_get world.names x) offset (offset_in_range offset (left_true (is_offset offset) there (unless_none (is_offset offset && there) (path.ArgumentName at) fit)))
 argument_in_kind world (Some Ptr) (shown.Bare address) at fit = ltb-true address (2 ^ 64) (unless_none (nat_lt address (2 ^ 64)) (path.Argument at) fit)
 
 pub handed_in_kind : (world : World) (at : ℕ) (ps : List Param) (args : List Shown) → arguments_misfit world.names at ps args ≡ None

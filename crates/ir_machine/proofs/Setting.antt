@@ -55,8 +55,8 @@ use Rattle.ir_machine.specs.Starting.{at_entry, handed, misfit, number_misfit, s
 use Rattle.ir_machine.specs.Reads.{AreSet, IsSet, NextReadsSet, PhisReadSet, ReadsAreSet, ReadsSet, ReadsSetBehind}
 use Rattle.ir_machine.specs.Registers.{Held, Registers, no_registers, operand_value, outcome, read, set}
 use Rattle.ir_machine.specs.State.{Frame, Pending, World, scope_of, State, Running, Waiting, Over}
-use Rattle.ir_machine.proofs.Finding.{StandsIn, all_at, block_stands, found_inside, lines_left, name_there, past_line}
-use Rattle.ir_machine.proofs.Worlds.{or_none, unless_none}
+use Rattle.ir_machine.proofs.Finding.{StandsIn, all_at, all_behind, block_stands, found_inside, lines_left, name_there, past_line}
+use Rattle.ir_machine.proofs.Unfitting.{or_none, unless_none}
 use Rattle.ir_machine.proofs.Trees.{AllDo, all_do_call, all_do_jump, all_do_act, all_do_made, all_do_set_to, all_do_show, all_do_stored}
 
 -- ---- lists
@@ -84,18 +84,10 @@ all_left : {A : Type 0} (P : A → Type 0) (xs ys : List A) → AllByRecursion P
 all_left P [] ys all = tt
 all_left P (x ∷ xs) ys all = (all.0, all_left P xs ys all.1)
 
-all_right : {A : Type 0} (P : A → Type 0) (xs ys : List A) → AllByRecursion P (xs ++ ys) → AllByRecursion P ys
-all_right P [] ys all = all
-all_right P (x ∷ xs) ys all = all_right P xs ys all.1
-
 all_of : {A B : Type 0} (P : B → Type 0) (f : A → List B) (xs : List A) (x : A) → AllByRecursion P (flat_map f xs) → Contains xs x → AllByRecursion P (f x)
 all_of P f [] x all there = absurd (omega (arith, there.1))
 all_of P f (y ∷ ys) x all (zero, inside, is) = subst (λ z. AllByRecursion P (f z)) is (all_left P (f y) (flat_map f ys) all)
-all_of P f (y ∷ ys) x all (suc k, inside, is) = all_of P f ys x (all_right P (f y) (flat_map f ys) all) (k, omega (arith, inside), is)
-
-all_so : {A : Type 0} (P Q : A → Type 0) → ((x : A) → P x → Q x) → (xs : List A) → AllByRecursion P xs → AllByRecursion Q xs
-all_so P Q f [] all = tt
-all_so P Q f (x ∷ xs) all = (f x all.0, all_so P Q f xs all.1)
+all_of P f (y ∷ ys) x all (suc k, inside, is) = all_of P f ys x (all_behind P (f y) (flat_map f ys) all) (k, omega (arith, inside), is)
 
 -- ---- registers that are set
 
@@ -157,7 +149,7 @@ module _ (m : Module) (well : IsWellFormed m) (f : Function) (inside : Contains 
   param_kinds = all_left HasKind (params_of f) (flat_map registers_of f.blocks) typed_kinds
 
   kinds_of : (b : Block) → Contains f.blocks b → AllByRecursion HasKind (registers_of b)
-  kinds_of b there = all_of HasKind registers_of f.blocks b (all_right HasKind (params_of f) (flat_map registers_of f.blocks) typed_kinds) there
+  kinds_of b there = all_of HasKind registers_of f.blocks b (all_behind HasKind (params_of f) (flat_map registers_of f.blocks) typed_kinds) there
 
 -- ---- where a frame stands, and what is defined there
 
@@ -197,7 +189,7 @@ block_ready m well f b taken registers own function inside ahead sets =
       known = taken ++ names_in (phi_registers b.phis);
       sets = sets;
       uses = ahead [] tt;
-      kinds = all_right HasKind (phi_registers b.phis) (set_by b.body) (kinds_of m well f function b inside);
+      kinds = all_behind HasKind (phi_registers b.phis) (set_by b.body) (kinds_of m well f function b inside);
       in_all = append_assoc taken (names_in (phi_registers b.phis)) (names_in (set_by b.body)) ∙ ap (λ (l : List Name). taken ++ l) (sym (map-append (λ (r : Name × Ty). r.0) (phi_registers b.phis) (set_by b.body)));
     }
 

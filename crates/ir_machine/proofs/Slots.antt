@@ -1,15 +1,10 @@
 -- The examples over memory compute.
-use Rattle.std.proofs.Common.{◌≡◌, refl, sym}
-use Rattle.ir_types.specs.declared.ty.Ty.{Ty, Ptr}
-use Rattle.ir_types.specs.Same.{same_ty}
+use Rattle.std.proofs.Common.{refl}
 use Rattle.ir_types.specs.declared.ty.Ty.TheViews.{outs-Ptr}
 use Rattle.ir_types.proofs.Monotone as layout
-use Rattle.ir_typing.proofs.ShapeKinds.Pointers.{same_pointers}
 use Rattle.ir_values.proofs.ConstantWalks.{of_number, worth_number}
 use Rattle.ir_machine.specs.SlotLaws.{AccessesMayTrap, SlotsAreMemory, SlotsEndWithTheirFrames}
-
-pointers : (a b : Ty) → same_ty (Ptr a) (Ptr b) ≡ same_ty a b
-pointers a b = sym (same_pointers a b)
+use Rattle.ir_machine.proofs.AtOnce.{pointers}
 
 pub slots_are_memory : SlotsAreMemory
 slots_are_memory = record {

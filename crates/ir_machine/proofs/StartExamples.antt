@@ -46,6 +46,7 @@ initialisers_are_bytes = record {
     same_ty_refl,
     outs-Struct,
   ) refl;
+  of_two_globals = simp (values.of_const, scalars.at_ptr, layout.at_ptr, constants.of_global, constants.worth_global, same_ty_refl) refl;
   null = simp (values.of_const, scalars.at_ptr, layout.at_ptr, constants.of_null, constants.worth_null, outs-Ptr) refl;
   undef_array = simp (values.of_const, scalars.at_int, scalars.at_array, layout.at_int, layout.at_array) refl;
   poison = simp (values.of_const, scalars.at_int, layout.at_int, constants.of_number, constants.worth_number) refl;

@@ -1,5 +1,5 @@
 -- How a run starts.
-use Rattle.std.proofs.Common.{◌≡◌, ◌≢◌, ◌<◌, ◌≤◌, ◌+◌, ◌^◌, ℕ, zero, suc, ℤ, Bool, true, false, ◌&&◌, nat_lt, List, [], ◌∷◌, ◌++◌, length, map, replicate, get_or, drop, Option, None, Some, ltb-true, refl, sym, ap, ap₂, ◌∙◌, subst, add-one, arith}
+use Rattle.std.proofs.Common.{◌≡◌, ◌≢◌, ◌<◌, ◌≤◌, ◌+◌, ℕ, zero, suc, true, false, List, [], ◌∷◌, ◌++◌, length, map, replicate, get_or, drop, Option, None, Some, refl, sym, ap, ap₂, ◌∙◌, subst, add-one, arith}
 use Rattle.std.specs.Prelude.{slice_get, IfSome}
 use Rattle.std.specs.List.{range_with_len}
 use Rattle.std.specs.Option.{option_and_then, option_map, option_or}
@@ -8,7 +8,7 @@ use Rattle.std.proofs.lemmas.List.FromFn.{map-range_with_len_more}
 use Rattle.std.proofs.lemmas.Option.{slice_get-get_or}
 use Rattle.std.proofs.Math.ListN.{drop_of_length-le}
 use Rattle.ir_types.specs.declared.names.Name.{Name}
-use Rattle.ir_types.specs.NameLaws.{left_true, same_nat_refl}
+use Rattle.ir_types.specs.NameLaws.{same_nat_refl}
 use Rattle.ir_types.specs.Same.{same_name}
 use Rattle.ir_core.specs.declared.functions.Block.{Block}
 use Rattle.ir_core.specs.declared.functions.Function.{Function}
@@ -17,30 +17,27 @@ use Rattle.ir_core.specs.declared.values.Byte.{Byte}
 use Rattle.ir_core.specs.declared.values.Kind.{Kind}
 use Rattle.ir_core.specs.declared.values.Kind.TheVariants as kind
 use Rattle.ir_core.specs.declared.values.Value.{Value}
-use Rattle.ir_core.specs.declared.values.Value.TheVariants as value
 use Rattle.ir_core.specs.Types.{fits, kind_of}
-use Rattle.ir_values.specs.Values.{IsInKindOf, IsOffset}
 use Rattle.block_memory.specs.declared.items.Shown.{Shown}
-use Rattle.block_memory.specs.declared.items.Shown.TheVariants as shown
 use Rattle.block_memory.specs.declared.items.ShownByte.{ShownByte}
 use Rattle.block_memory.specs.Memory.{Memory, filled, new_cell}
-use Rattle.block_memory.specs.Names.{Names, named_value, resolved}
+use Rattle.block_memory.specs.Names.{Names}
 use Rattle.ir_values.specs.Constants.{Scope}
 use Rattle.ir_core.specs.declared.modules.GlobalVar.{GlobalVar}
 use Rattle.ir_core.specs.declared.modules.Module.{Module}
 use Rattle.ir_machine.specs.declared.inputs.Input.{Input}
 use Rattle.ir_machine.specs.declared.inputs.InputBlock.{InputBlock}
 use Rattle.ir_machine.specs.declared.inputs.InputPath.{InputPath}
-use Rattle.ir_machine.specs.declared.inputs.InputPath.TheVariants as path
-use Rattle.ir_machine.specs.State.{Frame, Over, Running, State, World, no_world, scope_of}
+use Rattle.ir_machine.specs.State.{Frame, Over, Running, State, World, scope_of}
 use Rattle.ir_machine.specs.Registers.{Registers, align_or, no_registers, set}
-use Rattle.ir_machine.specs.Machine.{at_block, at_kind, function_named, is_offset, passed, resolve}
-use Rattle.ir_machine.specs.Starting.{argument_misfit, arguments_misfit, at_entry, block_misfit, external_misfit, first_of, global_bytes, global_cell, handed, misfit, names_at_start, number_misfit, start, started, started_unless, unless, world_at_start}
+use Rattle.ir_machine.specs.Machine.{at_block, at_kind, function_named, passed, resolve}
+use Rattle.ir_machine.specs.Starting.{argument_misfit, arguments_misfit, at_entry, global_bytes, global_cell, handed, misfit, start, started, started_unless, world_at_start}
 use Rattle.ir_machine.specs.Places.{at_line, frame_in, frame_of, registers_in, running_state, state_on}
 use Rattle.ir_machine.specs.declared.machine.KeptFrame.{KeptFrame}
 use Rattle.ir_machine.specs.Walks.{cell_given}
-use Rattle.ir_machine.proofs.InKind.{offset_in_range}
+use Rattle.ir_machine.proofs.Handing.{none_passed}
 use Rattle.ir_machine.proofs.Standing.{drop_at}
+use Rattle.ir_machine.proofs.Unfitting.{or_none}
 
 pub named_here : (x : Name) (fs : List Function) (i : ℕ) (f : Function) → i < length fs → f ≡ get_or fs i f → same_name f.name x ≡ true
     → function_named x (drop i fs) ≡ slice_get fs i
@@ -122,38 +119,6 @@ global_next scope input old new whole xs i g bytes align within is told aligned 
 
 -- ---- registers
 
-module _ (names : Names) (at : ℕ) where
-  unless_true : (b : Bool) (p : InputPath) → unless b p ≡ None → b ≡ true
-  unless_true true p e = refl
-  unless_true false p e = cc
-
-  number_in_kind : (k : Option Kind) (n : ℕ) → argument_misfit names k (shown.Num n) at ≡ None → IsInKindOf k (value.Num n)
-  number_in_kind None n e = tt
-  number_in_kind (Some (kind.Int width)) n e = ltb-true n (2 ^ width) (unless_true (fits n width) (path.Argument at) e)
-  number_in_kind (Some kind.Ptr) n e = cc
-
-  bare_in_kind : (k : Option Kind) (address : ℕ) → argument_misfit names k (shown.Bare address) at ≡ None → IsInKindOf k (value.Bare address)
-  bare_in_kind None address e = tt
-  bare_in_kind (Some (kind.Int width)) address e = cc
-  bare_in_kind (Some kind.Ptr) address e = ltb-true address (2 ^ 64) (unless_true (nat_lt address (2 ^ 64)) (path.Argument at) e)
-
-  bound_in_kind : (o : Option (Option ℕ)) (offset : ℤ) → IsOffset offset → IsInKindOf (Some kind.Ptr) (named_value o offset)
-  bound_in_kind None offset small = tt
-  bound_in_kind (Some None) offset small = tt
-  bound_in_kind (Some (Some b)) offset small = small
-
-  name_in_kind : (k : Option Kind) (x : ℕ) (offset : ℤ) → argument_misfit names k (shown.Name x offset) at ≡ None → IsInKindOf k (resolved names x offset)
-  name_in_kind None x offset e = tt
-  name_in_kind (Some (kind.Int width)) x offset e = cc
-  name_in_kind (Some kind.Ptr) x offset e =
-      bound_in_kind (slice_get names x) offset
-      (offset_in_range offset (left_true (is_offset offset) (nat_lt x (length names)) (unless_true (is_offset offset && nat_lt x (length names)) (path.ArgumentName at) e)))
-
-  pub argument_in_kind : (k : Option Kind) (s : Shown) → argument_misfit names k s at ≡ None → IsInKindOf k (resolve (record no_world { names = names }) s)
-  argument_in_kind k (shown.Num n) e = number_in_kind k n e
-  argument_in_kind k (shown.Name x offset) e = name_in_kind k x offset e
-  argument_in_kind k (shown.Bare address) e = bare_in_kind k address e
-
 set_at_own : (registers : Registers) (x : Name) (k : Option Kind) (v : Value) → set registers x k (at_kind k k v) ≡ set registers x k v
 set_at_own registers x None v = refl
 set_at_own registers x (Some (kind.Int width)) v = rw (same_nat_refl width) refl
@@ -166,10 +131,6 @@ pub passed_next : (world : World) (ps : List Param) (args : List Shown) (i : ℕ
 passed_next world ps args i p a registers wp ip wa ia =
     rw (drop_at ps i p wp ip, drop_at args i a wa ia) (ap (passed (drop (i + 1) ps) (handed world (drop (i + 1) ps) (drop (i + 1) args))) (set_at_own registers p.name (kind_of p.ty) (resolve world a)))
 
-no_more : (ps : List Param) (registers : Registers) → passed ps [] registers ≡ registers
-no_more [] registers = refl
-no_more (p ∷ ps) registers = refl
-
 nothing_handed : (world : World) (ps : List Param) → handed world ps [] ≡ []
 nothing_handed world [] = refl
 nothing_handed world (p ∷ ps) = refl
@@ -177,19 +138,11 @@ nothing_handed world (p ∷ ps) = refl
 pub passed_none : (world : World) (ps : List Param) (args : List Shown) (i : ℕ) (registers : Registers) → length args ≤ i
     → passed (drop i ps) (handed world (drop i ps) (drop i args)) registers ≡ registers
 passed_none world ps args i registers past =
-    rw (drop_of_length-le args past, nothing_handed world (drop i ps)) (no_more (drop i ps) registers)
+    rw (drop_of_length-le args past, nothing_handed world (drop i ps)) (none_passed (drop i ps) registers)
 
 pub passed_all : (world : World) (ps : List Param) (args : List Shown) (i : ℕ) (registers : Registers) → length ps ≤ i
     → passed (drop i ps) (handed world (drop i ps) (drop i args)) registers ≡ registers
 passed_all world ps args i registers past = rw (drop_of_length-le ps past) refl
-
-none_first : {A : Type 0} (a b : Option A) → option_or a b ≡ None → a ≡ None
-none_first None b e = refl
-none_first (Some x) b e = cc
-
-none_second : {A : Type 0} (a b : Option A) → option_or a b ≡ None → b ≡ None
-none_second None b e = e
-none_second (Some x) b e = cc
 
 module _ (names : Names) (ps : List Param) (args : List Shown) (i : ℕ) (p : Param) (a : Shown)
     (wp : i < length ps) (ip : p ≡ get_or ps i p) (wa : i < length args) (ia : a ≡ get_or args i a)
@@ -198,10 +151,10 @@ module _ (names : Names) (ps : List Param) (args : List Shown) (i : ℕ) (p : Pa
   both = sym (rw (drop_at ps i p wp ip, drop_at args i a wa ia) refl) ∙ e
 
   pub argument_fits : argument_misfit names (kind_of p.ty) a i ≡ None
-  argument_fits = none_first _ _ both
+  argument_fits = (or_none _ _ both).0
 
   pub arguments_fit : arguments_misfit names (i + 1) (drop (i + 1) ps) (drop (i + 1) args) ≡ None
-  arguments_fit = ap (λ n. arguments_misfit names n (drop (i + 1) ps) (drop (i + 1) args)) (add-one i) ∙ none_second _ _ both
+  arguments_fit = ap (λ n. arguments_misfit names n (drop (i + 1) ps) (drop (i + 1) args)) (add-one i) ∙ (or_none _ _ both).1
 
 -- ---- the start
 
@@ -250,14 +203,6 @@ some_runs m input (Some f) s e = unless_runs (misfit (scope_of m) f.params input
 
 pub starts_running : (m : Module) (x : Name) (input : Input) (s : State) → start m x input ≡ Some s → s ≢ Over
 starts_running m x input s e = some_runs m input (function_named x m.functions) s e
-
--- the arguments of an input that fits do
-pub arguments_of_fitting : (scope : Scope) (params : List Param) (input : Input) → misfit scope params input ≡ None
-    → arguments_misfit (names_at_start scope input) 0 params input.args ≡ None
-arguments_of_fitting scope params input e =
-    none_first (arguments_misfit (names_at_start scope input) 0 params input.args)
-    (option_or (first_of (block_misfit (names_at_start scope input)) 0 input.blocks) (first_of (external_misfit scope (names_at_start scope input)) 0 input.externals))
-    (none_second (number_misfit params input.args) _ e)
 
 -- ---- what `start` tells
 

@@ -151,6 +151,7 @@ pub record ArgumentsAreShownInOrder : Type 0 where
   pub undef_first : ran_out (argument (Int 8) undef ∷ argument (Int 8) (number 256) ∷ []) 1 [] ≡ None
   pub undef_told : ran_out (argument (Int 8) undef ∷ argument (Int 8) (number 256) ∷ []) 1 (Pick (shown.Num 3) ∷ []) ≡ went_wrong
   pub undef_mistold : ran_out (argument (Int 8) undef ∷ argument (Int 8) (number 256) ∷ []) 1 (Pick (shown.Num 256) ∷ []) ≡ None
+  pub answered_early : ran_out (argument (Int 8) undef ∷ []) 1 (Reply None ∷ []) ≡ None
   pub two_undefs : ran_out (argument (Int 8) undef ∷ argument (Int 8) undef ∷ []) 3 (Pick (shown.Num 3) ∷ Pick (shown.Num 4) ∷ Reply None ∷ [])
       ≡ shown_out (shown.Num 3 ∷ shown.Num 4 ∷ [])
   pub second_lacks : ran_out (argument (Int 8) undef ∷ argument (Int 8) undef ∷ []) 1 (Pick (shown.Num 3) ∷ []) ≡ None

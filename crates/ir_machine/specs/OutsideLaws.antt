@@ -109,6 +109,8 @@ pub record BytesAreWritten (m : Module) (frame : Frame) : Type 0 where
       ≡ waits (EnvWrite 1 (pos 0) (part.Frag 0 (pos 4) 1)) i8 frame (first_byte (byte.Frag 1 (pos 4) 1) crossed)
   pub of_nothing : told m i8 frame loose (Write 0 (pos 0) (part.Frag 1 (pos 4) 1) ∷ [])
       ≡ waits (EnvWrite 0 (pos 0) (part.Frag 1 (pos 4) 1)) i8 frame (first_byte byte.Undef loose)
+  pub no_place : told m i8 frame known (Write 0 (pos 0) (part.Frag 0 (pos 4) 8) ∷ [])
+      ≡ waits (EnvWrite 0 (pos 0) (part.Frag 0 (pos 4) 8)) i8 frame (first_byte (byte.Frag 0 (pos 4) 8) known)
   pub no_byte : told m i8 frame known (Write 0 (pos 0) (part.Num 256) ∷ []) ≡ lacking
   pub no_such_name : told m i8 frame known (Write 0 (pos 0) (part.Frag 1 (pos 4) 1) ∷ []) ≡ lacking
   pub past_the_end : told m i8 frame known (Write 0 (pos 4) (part.Num 5) ∷ []) ≡ lacking
@@ -121,6 +123,11 @@ pub record BlocksAreMade (m : Module) (frame : Frame) : Type 0 where
         memory = four_bytes ∷ one_byte ∷ record { align = 8; live = true; bytes = byte.Num 1 ∷ byte.Frag 0 (pos 0) 0 ∷ [] } ∷ [];
         names = Some 0 ∷ Some 2 ∷ [];
       })
+  -- an alignment that is no power of two, and none
+  pub odd_alignment : told m i8 frame known (New 3 [] ∷ [])
+      ≡ waits (EnvNew 3 []) i8 frame (record { memory = four_bytes ∷ one_byte ∷ record { align = 3; live = true; bytes = [] } ∷ []; names = Some 0 ∷ Some 2 ∷ [] })
+  pub no_alignment : told m i8 frame known (New 0 [] ∷ [])
+      ≡ waits (EnvNew 0 []) i8 frame (record { memory = four_bytes ∷ one_byte ∷ record { align = 0; live = true; bytes = [] } ∷ []; names = Some 0 ∷ Some 2 ∷ [] })
   pub its_own_name : told m i8 frame known (New 8 (part.Frag 1 (pos 0) 0 ∷ []) ∷ []) ≡ lacking
 
 pub record CallsAreAnswered (m : Module) (frame : Frame) : Type 0 where

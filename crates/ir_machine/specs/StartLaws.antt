@@ -62,11 +62,15 @@ bytes = initial_bytes constants.scope
 abbrev pub beside_pair : Scope
 beside_pair = record { types = record { name = Number 1; fields = Some (Int 8 ∷ Int 32 ∷ []) } ∷ []; globals = [] }
 
+-- @1 = external global i16  @1 = external global i8
+abbrev pub beside_two : Scope
+beside_two = record { types = []; globals = global 1 (Int 16) ∷ global 1 (Int 8) ∷ [] }
+
 -- a byte, 3 bytes that are nothing's, and 4 bytes of zero
 abbrev pub zero_pair : List Byte
 zero_pair = numbers (0 ∷ []) (byte.Undef ∷ byte.Undef ∷ byte.Undef ∷ numbers (0 ∷ 0 ∷ 0 ∷ 0 ∷ []) [])
 
--- 258 is 1 * 256 + 2, and its least byte comes first; 65537 is 1 * 256 * 256 + 1, and i17 has 3 bytes, which lie in 4.
+-- The first of two globals of one name counts. 258 is 1 * 256 + 2, and its least byte comes first; 65537 is 1 * 256 * 256 + 1, and i17 has 3 bytes, which lie in 4.
 pub record InitialisersAreBytes : Type 0 where
   pub fields : bytes pair (init.Struct ((Int 8, of_number 1) ∷ (Int 32, of_number 258) ∷ []))
       ≡ numbers (1 ∷ []) (byte.Undef ∷ byte.Undef ∷ byte.Undef ∷ numbers (2 ∷ 1 ∷ 0 ∷ 0 ∷ []) [])
@@ -76,6 +80,7 @@ pub record InitialisersAreBytes : Type 0 where
   pub odd : bytes (Int 17) (of_number 65537) ≡ numbers (1 ∷ 0 ∷ 1 ∷ []) (byte.Undef ∷ [])
   pub elements : bytes (Array 2 (Int 16)) (init.Array ((Int 16, of_number 1) ∷ (Int 16, of_number 2) ∷ [])) ≡ numbers (1 ∷ 0 ∷ 2 ∷ 0 ∷ []) []
   pub address : bytes (Struct (Ptr (Int 32) ∷ [])) (init.Struct ((Ptr (Int 32), Const second) ∷ [])) ≡ parts_of 1 (pos 4)
+  pub of_two_globals : initial_bytes beside_two (Ptr (Int 16)) (Const (constant.Global (Number 1))) ≡ parts_of 0 (pos 0)
   pub null : bytes (Ptr (Int 8)) (Const constant.Null) ≡ numbers (0 ∷ 0 ∷ 0 ∷ 0 ∷ 0 ∷ 0 ∷ 0 ∷ 0 ∷ []) []
   pub undef_array : bytes (Array 2 (Int 16)) (Const constant.Undef) ≡ byte.Undef ∷ byte.Undef ∷ byte.Undef ∷ byte.Undef ∷ []
   pub poison : bytes (Int 8) (of_number 256) ≡ byte.Poison ∷ []

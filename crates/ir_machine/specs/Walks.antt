@@ -1,9 +1,13 @@
--- How the code walks a type, an initialiser and bytes.
-use Rattle.std.specs.Prelude.{◌+◌, ◌-◌, ℕ, true, cond, List, [], ◌∷◌, ◌++◌, map}
+-- How the code walks a type, an initialiser and bytes, and what it finds by its name.
+use Rattle.std.specs.Prelude.{◌≡◌, ◌+◌, ◌-◌, ℕ, Bool, true, cond, List, [], ◌∷◌, ◌++◌, map, Option, None, Some}
 use Rattle.std.specs.List.{flat_map}
+use Rattle.std.specs.Map.{lookup}
 use Rattle.ir_types.specs.declared.named.NamedTy.{NamedTy}
+use Rattle.ir_types.specs.declared.names.Name.{Name}
 use Rattle.ir_types.specs.declared.ty.Ty.{Ty}
 use Rattle.ir_types.specs.Named.{size_of}
+use Rattle.ir_types.specs.Same.{same_name}
+use Rattle.ir_core.specs.declared.modules.GlobalVar.{GlobalVar}
 use Rattle.ir_core.specs.declared.modules.Init.{Init}
 use Rattle.ir_core.specs.declared.values.Byte.{Byte}
 use Rattle.ir_core.specs.declared.values.Value.{Value}
@@ -12,6 +16,7 @@ use Rattle.ir_values.specs.Values.{HasWidth}
 use Rattle.block_memory.specs.declared.items.ShownByte.{ShownByte}
 use Rattle.block_memory.specs.Bytes.{byte_at}
 use Rattle.block_memory.specs.Memory.{Cell}
+use Rattle.ir_machine.specs.declared.inputs.External.{External}
 use Rattle.ir_machine.specs.declared.inputs.InputBlock.{InputBlock}
 use Rattle.ir_machine.specs.declared.scalars.Scalar.{Scalar}
 use Rattle.ir_machine.specs.declared.scalars.Stretch.{Stretch}
@@ -56,3 +61,26 @@ overlaid held place (b ∷ bytes) = byte_over held place b ∷ overlaid held (pl
 -- a block of the input, by what its bytes are
 abbrev pub cell_given : (ShownByte → Byte) → InputBlock → Cell
 cell_given byte b = record { align = b.align; live = true; bytes = map byte b.bytes }
+
+-- ---- what is found by its name
+
+abbrev pub global_name : GlobalVar → Name
+global_name g = g.name
+
+abbrev pub external_name : External → Name
+external_name e = e.name
+
+abbrev pub is_named : {A : Type 0} → (A → Name) → Name → A → Bool
+is_named name x a = same_name (name a) x
+
+-- where the first of that name stands, in a list whose first stands at a place
+abbrev pub first_place : {A : Type 0} → (A → Name) → Name → ℕ → List A → Option ℕ
+first_place name x at [] = None
+first_place name x at (a ∷ more) = cond (is_named name x a) (Some at) (first_place name x (at + 1) more)
+
+-- each name has the place of its first, where there is one
+abbrev pub AreFirstFrom : {A : Type 0} → (A → Name) → ℕ → List A → List (Name × ℕ) → Type 0
+AreFirstFrom name at xs places = (x : Name) → lookup (same_name x) places ≡ first_place name x at xs
+
+abbrev pub AreFirst : {A : Type 0} → (A → Name) → List A → List (Name × ℕ) → Type 0
+AreFirst name xs places = AreFirstFrom name 0 xs places

@@ -8,6 +8,7 @@ mod call_laws;
 mod calling;
 mod choosing;
 mod ends;
+mod first_named;
 mod given;
 mod inputs;
 mod items;

@@ -1,17 +1,18 @@
 //! Where an input doesn't fit.
-ghost use Rattle.std.specs.Prelude.{◌≡◌, ℕ, find, IfOk};
+ghost use Rattle.std.specs.Prelude.{◌≡◌, ℕ, IfOk};
 ghost use Rattle.std.specs.Option.{option_copied, option_map};
-ghost use Rattle.ir_types.specs.Same as same;
-ghost use Rattle.ir_core.specs.declared.modules.GlobalVar.{GlobalVar};
 ghost use Rattle.ir_machine.specs.declared.inputs.InputPath.{InputPath};
 ghost use Rattle.ir_machine.specs.State.{scope_of};
 ghost use Rattle.ir_machine.specs.Starting as starting;
+ghost use Rattle.ir_machine.specs.Walks as walks;
 
+use crate::first_named::{first_globals, global_named};
 use crate::scalars::size_told;
 use crate::{External, Input, InputBlock, InputPath};
 use block_memory::{Names, Shown, ShownByte};
-use ir_core::{GlobalVar, Kind, Module, Name, NamedTypes, Param, fits, kind_of, same_name};
-use std::alloc::AllocError;
+use indexmap::IndexMap;
+use ir_core::{GlobalVar, Kind, Module, Name, NamedTypes, Param, fits, kind_of};
+use std::alloc::{AllocError, Global};
 
 fn unless(fitting: bool, place: InputPath) -> Option<InputPath>
     ensures { result ≡ starting.unless fitting place }
@@ -97,17 +98,6 @@ fn blocks_misfit(names: &Names, blocks: &[InputBlock]) -> Option<InputPath>
     None
 }
 
-fn global_named<'a>(globals: &'a [GlobalVar], name: &Name) -> Option<&'a GlobalVar>
-    ensures { option_copied result ≡ find (λ (g : GlobalVar). same.same_name g.name name.now) globals.now }
-{
-    for global in globals {
-        if same_name(&global.name, name) {
-            return Some(global);
-        }
-    }
-    None
-}
-
 fn is_external(
     types: &NamedTypes,
     size: u64,
@@ -128,13 +118,15 @@ fn is_external(
 
 fn external_misfit(
     module: &Module,
+    firsts: &IndexMap<Name, usize>,
     names: &Names,
     at: usize,
     external: &External,
 ) -> Result<Option<InputPath>, AllocError>
+    requires firsts { walks.AreFirst walks.global_name «module».now.globals firsts.now.entries }
     ensures { IfOk result (λ misfit. misfit ≡ starting.external_misfit (scope_of «module».now) names.now at external.now) }
 {
-    let global = global_named(module.globals.as_slice(), &external.name);
+    let global = global_named(module.globals.as_slice(), firsts, &external.name);
     if !is_external(&module.types, external.bytes.len() as u64, global)? {
         return Ok(Some(InputPath::External(at)));
     }
@@ -146,6 +138,7 @@ fn external_misfit(
 
 #[tactic(auto, using(crate::proofs::Unfitting::first_later, crate::proofs::Unfitting::first_here))]
 fn externals_misfit(
+    alloc: Global,
     module: &Module,
     names: &Names,
     externals: &[External],
@@ -153,8 +146,9 @@ fn externals_misfit(
     ensures { IfOk result
         (λ misfit. misfit ≡ starting.first_of (starting.external_misfit (scope_of «module».now) names.now) 0 externals.now) }
 {
+    let firsts = first_globals(alloc, module.globals.as_slice())?;
     for at in 0..externals.len() {
-        let misfit = external_misfit(module, names, at, &externals[at])?;
+        let misfit = external_misfit(module, &firsts, names, at, &externals[at])?;
         if misfit.is_some() {
             return Ok(misfit);
         }
@@ -164,6 +158,7 @@ fn externals_misfit(
 
 /// What doesn't fit first, if there is anything. A global of more than 2^31 bytes counts as memory that is refused.
 pub(crate) fn misfit(
+    alloc: Global,
     module: &Module,
     names: &Names,
     params: &[Param],
@@ -183,5 +178,5 @@ pub(crate) fn misfit(
     if misfit.is_some() {
         return Ok(misfit);
     }
-    externals_misfit(module, names, input.externals.as_slice())
+    externals_misfit(alloc, module, names, input.externals.as_slice())
 }

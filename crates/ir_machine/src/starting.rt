@@ -1,6 +1,5 @@
 ghost use Rattle.std.specs.Prelude.{◌≡◌, ◌≢◌, ◌↔◌, ◌<◌, ◌++◌, [], Some, None, map, replicate, slice_get, length, IfErr, IfOk, IfSome, IsErr, IsErrOf, MatchOption, OnOk};
 ghost use Rattle.std.specs.List.{range_with_len};
-ghost use Rattle.std.specs.Option.{option_copied};
 ghost use Rattle.ir_core.specs.declared.values.Byte.TheVariants.{Num};
 ghost use Rattle.ir_values.specs.Values.{IsInKindOf};
 ghost use Rattle.ir_machine.specs.declared.inputs.InputPath.{InputPath};
@@ -12,13 +11,15 @@ ghost use Rattle.ir_machine.specs.Starting as starting;
 ghost use Rattle.ir_machine.specs.Walks as walks;
 ghost use Rattle.ir_machine.specs.Places.{registers_in, state_of, world_in};
 
+use crate::first_named::{external_named, first_externals};
 use crate::given::{bytes_given, resolve};
 use crate::lines::align_or;
 use crate::misfits::misfit;
 use crate::registers::RegisterFile;
 use crate::scalars::{initial_bytes, size_told};
-use crate::{External, Input, InputBlock, KeptFrame, KeptWorld, Place, RunState, StartEnd};
+use crate::{Input, InputBlock, KeptFrame, KeptWorld, Place, RunState, StartEnd};
 use block_memory::{Blocks, Names, Shown};
+use indexmap::IndexMap;
 use ir_core::{Byte, Function, GlobalVar, Kind, Module, Name, Param, Value, kind_of, same_name};
 use std::alloc::{AllocError, Global};
 
@@ -74,33 +75,23 @@ fn zero_bytes(alloc: Global, size: u64) -> Result<Vec<Byte>, AllocError>
     Ok(zeros)
 }
 
-/// The first that the input gives to a global of that name.
-fn external_named<'a>(externals: &'a [External], name: &Name) -> Option<&'a External>
-    ensures { option_copied result ≡ starting.external_named name.now externals.now }
-{
-    for external in externals {
-        if same_name(&external.name, name) {
-            return Some(external);
-        }
-    }
-    None
-}
-
 fn global_bytes(
     alloc: Global,
     module: &Module,
     names: &Names,
+    firsts: &IndexMap<Name, usize>,
     input: &Input,
     global: &GlobalVar,
 ) -> Result<Vec<Byte>, AllocError>
     requires names { names.now ≡ starting.names_at_start (scope_of «module».now) input.now }
+    requires firsts { walks.AreFirst walks.external_name input.now.externals firsts.now.entries }
     ensures { IfOk result
         (λ bytes. bytes.items ≡ starting.global_bytes (scope_of «module».now) input.now global.now global.now.init) }
 {
     if let Some(init) = &global.init {
         return initial_bytes(alloc, module, &global.ty, init);
     }
-    match external_named(input.externals.as_slice(), &global.name) {
+    match external_named(input.externals.as_slice(), firsts, &global.name) {
         Some(external) => bytes_given(alloc, names, external.bytes.as_slice()),
         None => zero_bytes(alloc, size_told(&module.types, &global.ty)?),
     }
@@ -118,8 +109,9 @@ fn put_globals(
     ensures { OnOk result (blocks.new
         ≡ blocks.old ++ map (starting.global_cell (scope_of «module».now) input.now) «module».now.globals) }
 {
+    let firsts = first_externals(alloc, input.externals.as_slice())?;
     for global in module.globals.as_slice() {
-        let bytes = global_bytes(alloc, module, names, input, global)?;
+        let bytes = global_bytes(alloc, module, names, &firsts, input, global)?;
         let align = align_or(&module.types, &global.ty, global.align);
         blocks.new_block(bytes.len() as u64, align, &bytes)?;
     }
@@ -161,7 +153,7 @@ fn world_at_start(
 // ---- registers
 
 /// The value that an argument of a parameter's kind is.
-#[tactic(auto, using(crate::proofs::Starts::argument_in_kind))]
+#[tactic(auto, using(crate::proofs::Passing::argument_in_kind))]
 fn argument_value(world: &KeptWorld, kind: Option<Kind>, at: usize, argument: Shown) -> Value
     requires fit { starting.argument_misfit world.now.names kind argument at ≡ None }
     ensures value { result ≡ machine.resolve (world_in world.now) argument }
@@ -219,7 +211,7 @@ pub fn start(
     };
     let function = &module.functions.as_slice()[at];
     let names = names_at_start(alloc, module, input)?;
-    if let Some(place) = misfit(module, &names, function.params.as_slice(), input)? {
+    if let Some(place) = misfit(alloc, module, &names, function.params.as_slice(), input)? {
         return Err(StartEnd::InputUnfit(place));
     }
     let world = world_at_start(alloc, module, names, input)?;
