@@ -1,13 +1,12 @@
 -- Courses: what is good is valid, what a good check is made of, and what an aligned line comes to.
-use Rattle.std.proofs.Common.{◌≡◌, ◌∙◌, ◌++◌, ◌||◌, ℕ, nat_lt, Bool, true, false, cond, List, Option, None, Some, refl, sym, ap}
+use Rattle.std.proofs.Common.{◌≡◌, ◌∙◌, ◌++◌, ◌||◌, ℕ, nat_lt, Bool, true, false, cond, List, [], ◌∷◌, Option, None, Some, refl, sym, ap}
+use Rattle.std.specs.Option.{is_none}
 use Rattle.std.proofs.lemmas.List.Folds.{list_any-append}
 use Rattle.ir_types.specs.declared.names.Name.{Name}
+use Rattle.ir_types.specs.declared.named.NamedTy.{NamedTy}
 use Rattle.ir_core.specs.Limits.{fact_limit}
-use Rattle.ir_core.specs.declared.functions.Calm.{Calm}
 use Rattle.ir_core.specs.declared.functions.Instr.{Instr}
-use Rattle.ir_core.specs.declared.functions.Instr.TheVariants as line
-use Rattle.ir_core.specs.declared.expressions.Reg.TheVariants.{Now}
-use Rattle.erhl_assert.specs.declared.facts.Fact.TheVariants.{LessDef}
+use Rattle.erhl_assert.specs.declared.facts.Fact.{Fact}
 use Rattle.erhl_assert.specs.declared.facts.Assertion.{Assertion}
 use Rattle.erhl_assert.specs.declared.facts.Side.{Side}
 use Rattle.erhl_assert.specs.declared.facts.Side.TheVariants.{Src, Tgt}
@@ -15,12 +14,13 @@ use Rattle.erhl_assert.specs.declared.verdict.Reason.{Reason}
 use Rattle.erhl_assert.specs.declared.verdict.Spot.{Spot}
 use Rattle.erhl_assert.specs.declared.verdict.Verdict.{Verdict}
 use Rattle.erhl_assert.specs.declared.verdict.Verdict.TheVariants as verdict
-use Rattle.erhl_assert.specs.Facts.{with_fact, expr_names, without_naming}
+use Rattle.erhl_assert.specs.Facts.{with_facts, on_side}
+use Rattle.erhl_assert.specs.Kills.{all_killed}
 use Rattle.erhl_assert.specs.Alignment.{Line}
-use Rattle.erhl_assert.specs.Postcondition.{right_side, left_side, facts_after, diff_after, after_line}
+use Rattle.erhl_assert.specs.Postcondition.{line_kills, line_adds, facts_after, diff_after, after_line}
 use Rattle.erhl_assert.specs.Course.{Ends, Refuses, Gives, Course, gives, refuses, after_ends, and_then, tested, Judged, Good, Bad, with_sizes, placed_end, placed, then_also, sizes_of, verdict_of, are_too_many, within, judged_answer, answer_at, IsGood}
 use Rattle.erhl_assert.specs.Allowed.{line_fault}
-use Rattle.erhl_assert.specs.Growth.{adds, forgetting, over_calm, over_side, over_allowed, over_line}
+use Rattle.erhl_assert.specs.Growth.{with_conclusion, adds_all, over_side, over_allowed, over_line}
 
 pub bad_is_not_good : (sizes : List ℕ) (block : Name) (where_ : Spot) (why : Reason) → IsGood (Bad sizes block where_ why) → ⊥
 bad_is_not_good sizes block where_ why h = let e = h.1 in cc
@@ -139,77 +139,75 @@ pub no_fault : {A : Type 0} (o : Option Reason) (a b : A) → (tested o a).ends 
 no_fault None a b h = (refl, cc)
 no_fault (Some r) a b h = absurd (cc)
 
--- the facts after the line of one side
-abbrev pub known_after : Side → Option Instr → Assertion → Assertion
-known_after Src o known = record known { src = facts_after o known.src }
-known_after Tgt o known = record known { tgt = facts_after o known.tgt }
+-- the facts of a side with each of these in turn
+abbrev pub with_all : Side → List Fact → Assertion → Assertion
+with_all Src fs known = record known { src = with_facts fs known.src }
+with_all Tgt fs known = record known { tgt = with_facts fs known.tgt }
 
-calm_ends : (side : Side) (l : Calm) (known : Assertion) → (over_calm side l known).ends ≡ Gives (known_after side (Some (line.Calm l)) known)
-calm_ends Src l known =
-    let kept = without_naming (Now l.name) known.src in
-    let above = LessDef (left_side l) (right_side l) in
-    let below = LessDef (right_side l) (left_side l) in
-    elim (expr_names (Now l.name) (right_side l)) as (λ b.
-    (cond b (gives (forgetting Src (Now l.name) known)) (and_then (adds Src above (forgetting Src (Now l.name) known)) (adds Src below))).ends
-    ≡ Gives (record known { src = cond b kept (with_fact below (with_fact above kept)) })) [ true ↦ refl | false ↦ refl ]
-calm_ends Tgt l known =
-    let kept = without_naming (Now l.name) known.tgt in
-    let above = LessDef (left_side l) (right_side l) in
-    let below = LessDef (right_side l) (left_side l) in
-    elim (expr_names (Now l.name) (right_side l)) as (λ b.
-    (cond b (gives (forgetting Tgt (Now l.name) known)) (and_then (adds Tgt above (forgetting Tgt (Now l.name) known)) (adds Tgt below))).ends
-    ≡ Gives (record known { tgt = cond b kept (with_fact below (with_fact above kept)) })) [ true ↦ refl | false ↦ refl ]
+pub adds_all_ends : (side : Side) (fs : List Fact) (known : Assertion) → (adds_all side fs known).ends ≡ Gives (with_all side fs known)
+adds_all_ends Src [] known = refl
+adds_all_ends Tgt [] known = refl
+adds_all_ends Src (f ∷ fs) known = adds_all_ends Src fs (with_conclusion Src f known)
+adds_all_ends Tgt (f ∷ fs) known = adds_all_ends Tgt fs (with_conclusion Tgt f known)
+
+-- the facts after the line of one side
+abbrev pub known_after : List NamedTy → Bool → Side → Option Instr → Assertion → Assertion
+known_after types one_sided side o known = on_side side (facts_after types one_sided o) known
 
 ends_within : {A : Type 0} (b : Bool) (e : Ends A) (a : A) → cond b None (Some e) ≡ Some (Gives a) → e ≡ Gives a
 ends_within true e a h = absurd (cc)
 ends_within false e a h = cc
 
-diff_kept : (side : Side) (o : Option Instr) (known after : Assertion) → Gives (known_after side o known) ≡ Gives after → after.diff ≡ known.diff
-diff_kept Src o known after h = cc
-diff_kept Tgt o known after h = cc
+diff_kept : (side : Side) (change : List Fact → List Fact) (known after : Assertion) → Gives (on_side side change known) ≡ Gives after → after.diff ≡ known.diff
+diff_kept Src change known after h = cc
+diff_kept Tgt change known after h = cc
+
+side_ends : (types : List NamedTy) (one_sided : Bool) (side : Side) (o : Option Instr) (known : Assertion)
+    → (over_side types one_sided side o known).ends ≡ Gives (known_after types one_sided side o known)
+side_ends types one_sided Src None known = refl
+side_ends types one_sided Tgt None known = refl
+side_ends types one_sided Src (Some l) known = adds_all_ends Src (line_adds types one_sided l) (on_side Src (all_killed (line_kills l)) known)
+side_ends types one_sided Tgt (Some l) known = adds_all_ends Tgt (line_adds types one_sided l) (on_side Tgt (all_killed (line_kills l)) known)
 
 -- the registers that may differ stay as facts are added
-pub calm_keeps_diff : (side : Side) (l : Calm) (known after : Assertion) → within (over_calm side l known) ≡ Some (Gives after) → after.diff ≡ known.diff
-calm_keeps_diff side l known after h =
-    diff_kept side (Some (line.Calm l)) known after
-    (sym (calm_ends side l known) ∙ ends_within (are_too_many (over_calm side l known).sizes) (over_calm side l known).ends after h)
-
-side_ends : (side : Side) (o : Option Instr) (known : Assertion) → (over_side side o known).ends ≡ Gives (known_after side o known)
-side_ends Src None known = refl
-side_ends Tgt None known = refl
-side_ends side (Some (line.Calm l)) known = calm_ends side l known
-side_ends Src (Some i) known = refl
-side_ends Tgt (Some i) known = refl
+pub side_keeps_diff : (types : List NamedTy) (one_sided : Bool) (side : Side) (o : Option Instr) (known after : Assertion)
+    → within (over_side types one_sided side o known) ≡ Some (Gives after) → after.diff ≡ known.diff
+side_keeps_diff types one_sided side o known after h =
+    let course : Course Assertion = over_side types one_sided side o known in
+    diff_kept side (facts_after types one_sided o) known after
+    (sym (side_ends types one_sided side o known) ∙ ends_within (are_too_many course.sizes) course.ends after h)
 
 pub then_ends : {A B : Type 0} (c : Course A) (a : A) (next : A → Course B) → c.ends ≡ Gives a → (and_then c next).ends ≡ (next a).ends
 then_ends c a next h = ap (λ e. (after_ends c.sizes e next).ends) h
 
 -- over an aligned line that is allowed a course comes to what is known after it
-pub allowed_ends : (l : Line) (known : Assertion) → (over_allowed l known).ends ≡ Gives (after_line known l)
-allowed_ends l known =
-    let half = known_after Src l.source known in
+pub allowed_ends : (types : List NamedTy) (l : Line) (known : Assertion) → (over_allowed types l known).ends ≡ Gives (after_line types known l)
+allowed_ends types l known =
+    let source : Assertion → Course Assertion = over_side types (is_none l.target) Src l.source in
+    let target : Assertion → Course Assertion = over_side types (is_none l.source) Tgt l.target in
+    let half : Assertion = known_after types (is_none l.target) Src l.source known in
     let last : Assertion → Course Assertion = λ after. gives (record after { diff = diff_after known l.source l.target }) in
-    then_ends (over_side Src l.source known) half (λ k. and_then (over_side Tgt l.target k) last) (side_ends Src l.source known)
-    ∙ then_ends (over_side Tgt l.target half) (known_after Tgt l.target half) last (side_ends Tgt l.target half)
+    then_ends (source known) half (λ k. and_then (target k) last) (side_ends types (is_none l.target) Src l.source known)
+    ∙ then_ends (target half) (known_after types (is_none l.source) Tgt l.target half) last (side_ends types (is_none l.source) Tgt l.target half)
 
-module _ (l : Line) (known : Assertion) where
+module _ (types : List NamedTy) (l : Line) (known : Assertion) where
   abbrev over_tested : Option Reason → Course Assertion
-  over_tested o = and_then (tested o known) (over_allowed l)
+  over_tested o = and_then (tested o known) (over_allowed types l)
 
-  pub line_allowed : line_fault known l ≡ None → over_line l known ≡ over_allowed l known
+  pub line_allowed : line_fault known l ≡ None → over_line types l known ≡ over_allowed types l known
   line_allowed h = ap over_tested h
 
   -- one that isn't allowed is refused before anything is added
-  pub line_refused : (r : Reason) → line_fault known l ≡ Some r → over_line l known ≡ refuses r
+  pub line_refused : (r : Reason) → line_fault known l ≡ Some r → over_line types l known ≡ refuses r
   line_refused r h = ap over_tested h
 
-  pub line_ends : line_fault known l ≡ None → (over_line l known).ends ≡ Gives (after_line known l)
-  line_ends h = ap (λ (c : Course Assertion). c.ends) (line_allowed h) ∙ allowed_ends l known
+  pub line_ends : line_fault known l ≡ None → (over_line types l known).ends ≡ Gives (after_line types known l)
+  line_ends h = ap (λ (c : Course Assertion). c.ends) (line_allowed h) ∙ allowed_ends types l known
 
   -- what a line gives is known after it, and the line is allowed
-  pub line_gives : (after : Assertion) → (over_line l known).ends ≡ Gives after → (line_fault known l ≡ None) × (after ≡ after_line known l)
+  pub line_gives : (after : Assertion) → (over_line types l known).ends ≡ Gives after → (line_fault known l ≡ None) × (after ≡ after_line types known l)
   line_gives after h =
-      let parts = gives_parts (tested (line_fault known l) known) (over_allowed l) after h in
+      let parts = gives_parts (tested (line_fault known l) known) (over_allowed types l) after h in
       let test = no_fault (line_fault known l) known parts.0 parts.1 in
-      let e : Gives after ≡ Gives (after_line known l) = sym h ∙ line_ends test.0 in
+      let e : Gives after ≡ Gives (after_line types known l) = sym h ∙ line_ends test.0 in
       (test.0, cc)

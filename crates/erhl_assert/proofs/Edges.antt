@@ -1,5 +1,6 @@
 -- What is known where facts are added one at a time: of a hint's lists, and over an edge.
-use Rattle.std.proofs.Common.{◌≡◌, ◌∙◌, List, [], ◌∷◌, map, refl, sym}
+use Rattle.std.proofs.Common.{◌≡◌, ◌∙◌, List, [], ◌∷◌, refl, sym}
+use Rattle.std.specs.List.{filter_map}
 use Rattle.erhl_assert.specs.declared.facts.Fact.{Fact}
 use Rattle.erhl_assert.specs.declared.facts.Assertion.{Assertion}
 use Rattle.erhl_assert.specs.declared.facts.Side.{Side}
@@ -8,18 +9,7 @@ use Rattle.erhl_assert.specs.Facts.{with_facts, each_once}
 use Rattle.erhl_assert.specs.Edges.{Edge, without_old, as_old, phi_facts, diff_over, after_edge}
 use Rattle.erhl_assert.specs.Course.{Gives, Course, gives, and_then}
 use Rattle.erhl_assert.specs.Growth.{with_conclusion, adds_all, put_in, without_phis, over_edge}
-use Rattle.erhl_assert.proofs.Courses.{then_ends}
-
--- the facts of a side with each of these in turn
-abbrev pub with_all : Side → List Fact → Assertion → Assertion
-with_all Src fs known = record known { src = with_facts fs known.src }
-with_all Tgt fs known = record known { tgt = with_facts fs known.tgt }
-
-pub adds_all_ends : (side : Side) (fs : List Fact) (known : Assertion) → (adds_all side fs known).ends ≡ Gives (with_all side fs known)
-adds_all_ends Src [] known = refl
-adds_all_ends Tgt [] known = refl
-adds_all_ends Src (f ∷ fs) known = adds_all_ends Src fs (with_conclusion Src f known)
-adds_all_ends Tgt (f ∷ fs) known = adds_all_ends Tgt fs (with_conclusion Tgt f known)
+use Rattle.erhl_assert.proofs.Courses.{adds_all_ends, then_ends, with_all}
 
 -- of a hint's lists each fact is known once
 pub put_in_ends : (lists : Assertion) → (put_in lists).ends ≡ Gives (each_once lists)
@@ -37,10 +27,10 @@ module _ (e : Edge) (known : Assertion) where
   kept = without_old known
 
   abbrev half : Assertion
-  half = with_all Src (map as_old kept.src) kept
+  half = with_all Src (filter_map as_old kept.src) kept
 
   abbrev copied : Assertion
-  copied = with_all Tgt (map as_old kept.tgt) half
+  copied = with_all Tgt (filter_map as_old kept.tgt) half
 
   abbrev more : Assertion
   more = with_all Src (phi_facts e.from e.source) (without_phis e copied)
@@ -55,12 +45,12 @@ module _ (e : Edge) (known : Assertion) where
   with_source k = and_then (adds_all Src (phi_facts e.from e.source) (without_phis e k)) with_target
 
   abbrev with_copies : Assertion → Course Assertion
-  with_copies k = and_then (adds_all Tgt (map as_old kept.tgt) k) with_source
+  with_copies k = and_then (adds_all Tgt (filter_map as_old kept.tgt) k) with_source
 
   pub edge_ends : (over_edge e known).ends ≡ Gives (after_edge known e)
   edge_ends =
-      then_ends (adds_all Src (map as_old kept.src) kept) half with_copies (adds_all_ends Src (map as_old kept.src) kept)
-      ∙ then_ends (adds_all Tgt (map as_old kept.tgt) half) copied with_source (adds_all_ends Tgt (map as_old kept.tgt) half)
+      then_ends (adds_all Src (filter_map as_old kept.src) kept) half with_copies (adds_all_ends Src (filter_map as_old kept.src) kept)
+      ∙ then_ends (adds_all Tgt (filter_map as_old kept.tgt) half) copied with_source (adds_all_ends Tgt (filter_map as_old kept.tgt) half)
       ∙ then_ends (adds_all Src (phi_facts e.from e.source) (without_phis e copied)) more with_target (adds_all_ends Src (phi_facts e.from e.source) (without_phis e copied))
       ∙ then_ends (adds_all Tgt (phi_facts e.from e.target) more) (with_all Tgt (phi_facts e.from e.target) more) last (adds_all_ends Tgt (phi_facts e.from e.target) more)
 

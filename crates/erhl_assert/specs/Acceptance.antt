@@ -138,7 +138,7 @@ abbrev pub lines_judged : Beside → AlignedBlock → ℕ → List Line → Asse
 lines_judged w b k [] known =
     placed b.source.name (spot.Line k) (after_steps w (steps_at k (hint_of_block w b).steps) known) (end_judged w b k)
 lines_judged w b k (l ∷ ls) known =
-    placed b.source.name (spot.Line k) (and_then (after_steps w (steps_at k (hint_of_block w b).steps) known) (over_line l)) (lines_judged w b (k + 1) ls)
+    placed b.source.name (spot.Line k) (and_then (after_steps w (steps_at k (hint_of_block w b).steps) known) (over_line w.scope.types l)) (lines_judged w b (k + 1) ls)
 
 -- a block, from what the hint claims at its start
 abbrev pub block_judged : Beside → AlignedBlock → Judged

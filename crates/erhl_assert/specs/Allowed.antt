@@ -44,7 +44,7 @@ can_trap (Element e) = false
 can_trap (Load l) = true
 
 -- One operator, with its predicate or conversion, and the same stated types: `add nuw i8 %x, 1` and `add i8 %y, %z` are so,
--- `icmp eq i8 %x, 1` and `icmp ne i8 %x, 1` aren't. Flags play no part. An element or a load, which no text that `check` reads has, isn't so beside
+-- `icmp eq i8 %x, 1` and `icmp ne i8 %x, 1` aren't. Flags play no part. An address or a load isn't so beside
 -- another.
 abbrev pub same_operator : {R S : Type 0} → Expr R → Expr S → Bool
 same_operator (Plain a) (Plain b) = same_ty a.ty b.ty
@@ -68,8 +68,8 @@ abbrev pub right_fault : Assertion → Expr Name → Expr Name → Option Reason
 right_fault known s t =
     cond (can_trap t) (cond (same_operator s t) (first_unmatched known (operands_in s) (operands_in t)) (Some TargetMayTrap)) None
 
--- Why an aligned line isn't allowed. A line of the source alone is; one of the target alone is where it can't trap. No text that
--- `check` reads has an alloca, a store or a call, and none is allowed.
+-- Why an aligned line isn't allowed. A line of the source alone is; one of the target alone is where it can't trap. An alloca,
+-- a store or a call isn't allowed, on whichever side.
 abbrev pub line_fault_of : Assertion → Option Instr → Option Instr → Option Reason
 line_fault_of known None None = None
 line_fault_of known (Some (line.Calm s)) None = None

@@ -1,7 +1,7 @@
 -- What is known on an edge, behind the phis of the block that it enters, from what was known at the end of the block that it leaves
 -- (Crellvm: old registers stand for those before the edge).
 use Rattle.std.specs.Prelude.{Bool, true, false, ◌&&◌, not, filter, find, List, [], ◌++◌, map, Option, None, Some}
-use Rattle.std.specs.List.{list_any, flat_map}
+use Rattle.std.specs.List.{list_any, filter_map, flat_map}
 use Rattle.ir_types.specs.declared.names.Name.{Name}
 use Rattle.ir_core.specs.declared.operands.Atom.TheVariants as atom
 use Rattle.ir_types.specs.declared.ty.Ty.{Ty}
@@ -16,9 +16,11 @@ use Rattle.ir_core.specs.Expressions.{Expr0, map_atom, map_expr}
 use Rattle.ir_types.specs.Same.{same_name, same_ty}
 use Rattle.ir_machine.specs.Machine.{block_named, entry_from}
 use Rattle.erhl_assert.specs.declared.facts.Fact.{Fact}
-use Rattle.erhl_assert.specs.declared.facts.Fact.TheVariants.{LessDef}
+use Rattle.erhl_assert.specs.declared.facts.Fact.TheVariants.{LessDef, Unique, Private, NoAlias, Ok}
+use Rattle.erhl_assert.specs.declared.fact_set.Kill.{Kill}
 use Rattle.erhl_assert.specs.declared.facts.Assertion.{Assertion}
 use Rattle.erhl_assert.specs.Facts.{without, with_facts, both_ways}
+use Rattle.erhl_assert.specs.Kills.{all_killed, unique_of}
 use Rattle.erhl_assert.specs.Matched.{atoms_matched}
 
 -- an edge: the block that it leaves, and the phis of the block that it enters, on the source and on the target
@@ -51,8 +53,13 @@ old_of (Now x) = Old x
 old_of (Old x) = Old x
 old_of (Ghost x) = Ghost x
 
-abbrev pub as_old : Fact → Fact
-as_old (LessDef a b) = LessDef (map_expr old_of a) (map_expr old_of b)
+-- What was true before an edge of expressions is true on it of what they were then. `unique` and `private` speak of registers of now alone.
+abbrev pub as_old : Fact → Option Fact
+as_old (LessDef a b) = Some (LessDef (map_expr old_of a) (map_expr old_of b))
+as_old (NoAlias a b) = Some (NoAlias (map_expr old_of a) (map_expr old_of b))
+as_old (Ok e t align) = Some (Ok (map_expr old_of e) t align)
+as_old (Unique r) = None
+as_old (Private r) = None
 
 -- nothing is known of old registers
 abbrev pub without_old : Assertion → Assertion
@@ -81,14 +88,26 @@ phi_fact p (Some e) = both_ways (register_at p.ty (Now p.name)) (expr.Plain (rec
 abbrev pub phi_facts : Name → List Phi → List Fact
 phi_facts from ps = flat_map (λ (p : Phi). phi_fact p (entry_from from p.entries)) ps
 
+abbrev pub entry_kill : Option Entry → List Kill
+entry_kill None = []
+entry_kill (Some e) = unique_of e.value
+
+-- what a phi is given on the edge gets a second holder
+abbrev pub phi_kills : Name → List Phi → List Kill
+phi_kills from ps = flat_map (λ (p : Phi). entry_kill (entry_from from p.entries)) ps
+
 -- ---- facts
 
--- First the facts that name old registers go. Then the others are copied, with registers as they are now made old. Then those that name a
--- register of a phi go, and the phis' facts come.
+-- the facts that name a register of a phi go, and that a phi's operand is unique
+abbrev pub past_phis : Name → List Phi → List Fact → List Fact
+past_phis from ps fs = all_killed (phi_kills from ps) (without (is_of_phi ps) fs)
+
+-- First the facts that name old registers go. Then the others are copied, with registers as they are now made old. Then those go that the phis
+-- take away, and the phis' facts come.
 abbrev pub facts_over : Name → List Phi → List Fact → List Fact
 facts_over from ps fs =
     let kept = without is_old fs in
-    with_facts (phi_facts from ps) (without (is_of_phi ps) (with_facts (map as_old kept) kept))
+    with_facts (phi_facts from ps) (past_phis from ps (with_facts (filter_map as_old kept) kept))
 
 -- ---- registers that may differ
 

@@ -1,20 +1,19 @@
 -- How facts grow, one at a time: where a fact is added, over an aligned line, and over an edge.
-use Rattle.std.specs.Prelude.{ℕ, ◌+◌, cond, List, [], ◌∷◌, length, map, Option, None, Some}
-use Rattle.ir_core.specs.declared.functions.Calm.{Calm}
+use Rattle.std.specs.Prelude.{ℕ, ◌+◌, Bool, cond, List, [], ◌∷◌, length, Option, None, Some}
+use Rattle.std.specs.List.{filter_map}
+use Rattle.std.specs.Option.{is_none}
+use Rattle.ir_types.specs.declared.named.NamedTy.{NamedTy}
 use Rattle.ir_core.specs.declared.functions.Instr.{Instr}
-use Rattle.ir_core.specs.declared.functions.Instr.TheVariants as line
-use Rattle.ir_core.specs.declared.expressions.Reg.{Reg}
-use Rattle.ir_core.specs.declared.expressions.Reg.TheVariants.{Now}
 use Rattle.erhl_assert.specs.declared.facts.Fact.{Fact}
-use Rattle.erhl_assert.specs.declared.facts.Fact.TheVariants.{LessDef}
 use Rattle.erhl_assert.specs.declared.facts.Assertion.{Assertion}
 use Rattle.erhl_assert.specs.declared.facts.Side.{Side}
 use Rattle.erhl_assert.specs.declared.facts.Side.TheVariants.{Src, Tgt}
-use Rattle.erhl_assert.specs.Facts.{has_fact, with_fact, expr_names, without, without_naming}
+use Rattle.erhl_assert.specs.Facts.{has_fact, with_fact, on_side}
+use Rattle.erhl_assert.specs.Kills.{all_killed}
 use Rattle.erhl_assert.specs.Alignment.{Line}
-use Rattle.erhl_assert.specs.Postcondition.{right_side, left_side, diff_after}
+use Rattle.erhl_assert.specs.Postcondition.{line_kills, line_adds, diff_after}
 use Rattle.erhl_assert.specs.Allowed.{line_fault}
-use Rattle.erhl_assert.specs.Edges.{Edge, without_old, as_old, is_of_phi, phi_facts, diff_over}
+use Rattle.erhl_assert.specs.Edges.{Edge, without_old, as_old, past_phis, phi_facts, diff_over}
 use Rattle.erhl_assert.specs.Course.{Course, Gives, gives, and_then, tested}
 
 -- how many facts are known, of both sides together
@@ -45,44 +44,32 @@ adds_all side (f ∷ fs) known = and_then (adds side f known) (adds_all side fs)
 abbrev pub put_in : Assertion → Course Assertion
 put_in lists = and_then (adds_all Src lists.src (record { src = []; tgt = []; diff = lists.diff })) (adds_all Tgt lists.tgt)
 
--- the facts of a side that don't name the register stay
-abbrev pub forgetting : Side → Reg → Assertion → Assertion
-forgetting Src r known = record known { src = without_naming r known.src }
-forgetting Tgt r known = record known { tgt = without_naming r known.tgt }
-
--- For x = e on a side: the facts that name x go, and then x >= e and e >= x are added, where x isn't in e.
-abbrev pub over_calm : Side → Calm → Assertion → Course Assertion
-over_calm side l known =
-    let kept = forgetting side (Now l.name) known in
-    cond (expr_names (Now l.name) (right_side l)) (gives kept)
-    (and_then (adds side (LessDef (left_side l) (right_side l)) kept) (adds side (LessDef (right_side l) (left_side l))))
-
-abbrev pub over_side : Side → Option Instr → Assertion → Course Assertion
-over_side side None known = gives known
-over_side side (Some (line.Calm l)) known = over_calm side l known
-over_side side (Some i) known = gives known
+-- Over a line on a side, which is of this side alone or of both: first what it kills goes, then what it adds comes.
+abbrev pub over_side : List NamedTy → Bool → Side → Option Instr → Assertion → Course Assertion
+over_side types one_sided side None known = gives known
+over_side types one_sided side (Some l) known = adds_all side (line_adds types one_sided l) (on_side side (all_killed (line_kills l)) known)
 
 -- Over an aligned line that is allowed: first the source's facts, then the target's, and at last the registers that may differ. So the
 -- source's are added while those of the target that go are still there. What it gives is `after_line`.
-abbrev pub over_allowed : Line → Assertion → Course Assertion
-over_allowed l known =
-    and_then (over_side Src l.source known) (λ half.
-    and_then (over_side Tgt l.target half) (λ after. gives (record after { diff = diff_after known l.source l.target })))
+abbrev pub over_allowed : List NamedTy → Line → Assertion → Course Assertion
+over_allowed types l known =
+    and_then (over_side types (is_none l.target) Src l.source known) (λ half.
+    and_then (over_side types (is_none l.source) Tgt l.target half) (λ after. gives (record after { diff = diff_after known l.source l.target })))
 
 -- Over an aligned line: one that isn't allowed is refused before anything is added. Beside no line of the source, `%x = udiv i8 1, %y` is.
-abbrev pub over_line : Line → Assertion → Course Assertion
-over_line l known = and_then (tested (line_fault known l) known) (over_allowed l)
+abbrev pub over_line : List NamedTy → Line → Assertion → Course Assertion
+over_line types l known = and_then (tested (line_fault known l) known) (over_allowed types l)
 
--- the facts that name a register of a phi of their side go
+-- on each side what its phis take away goes
 abbrev pub without_phis : Edge → Assertion → Assertion
-without_phis e known = record known { src = without (is_of_phi e.source) known.src; tgt = without (is_of_phi e.target) known.tgt }
+without_phis e known = record known { src = past_phis e.from e.source known.src; tgt = past_phis e.from e.target known.tgt }
 
 -- Over an edge, before its steps: the copies are added while their originals are all there, and then, behind those that go, the facts of
 -- phis; each time first the source's. What it gives is `after_edge`.
 abbrev pub over_edge : Edge → Assertion → Course Assertion
 over_edge e known =
     let kept = without_old known in
-    and_then (adds_all Src (map as_old kept.src) kept) (λ half.
-    and_then (adds_all Tgt (map as_old kept.tgt) half) (λ copied.
+    and_then (adds_all Src (filter_map as_old kept.src) kept) (λ half.
+    and_then (adds_all Tgt (filter_map as_old kept.tgt) half) (λ copied.
     and_then (adds_all Src (phi_facts e.from e.source) (without_phis e copied)) (λ more.
     and_then (adds_all Tgt (phi_facts e.from e.target) more) (λ after. gives (record after { diff = diff_over e known })))))

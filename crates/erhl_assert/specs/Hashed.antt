@@ -9,7 +9,7 @@ use Rattle.ir_core.specs.declared.expressions.Expr.TheVariants.{Plain, Binary, I
 use Rattle.ir_core.specs.Expressions.{Expr0}
 use Rattle.ir_types.specs.Hashed.{hashed_name}
 use Rattle.erhl_assert.specs.declared.facts.Fact.{Fact}
-use Rattle.erhl_assert.specs.declared.facts.Fact.TheVariants.{LessDef}
+use Rattle.erhl_assert.specs.declared.facts.Fact.TheVariants.{LessDef, Unique, Private, NoAlias, Ok}
 use Rattle.erhl_assert.specs.Named.{name_of}
 
 abbrev pub hashed_atom : Atom Reg → HashWrites
@@ -28,3 +28,7 @@ hashed_expr (Load e) = hashed_atom e.pointer.atom
 
 abbrev pub hashed_fact : Fact → HashWrites
 hashed_fact (LessDef a b) = hashed_expr a ++ hashed_expr b
+hashed_fact (Unique r) = hashed_name (name_of r)
+hashed_fact (Private r) = hashed_name (name_of r)
+hashed_fact (NoAlias a b) = hashed_expr a ++ hashed_expr b
+hashed_fact (Ok e t align) = hashed_expr e ++ u64 align

@@ -9,6 +9,8 @@ pub mod Globals
 pub mod Growth
 pub mod Hashed
 pub mod Held
+pub mod Holding
+pub mod Kills
 pub mod Matched
 pub mod Named
 pub mod Postcondition

@@ -31,10 +31,12 @@ of_plain p e = false
 -- p of the operand c of a fact that says a is less defined than c
 abbrev pub from_fact : (Operand Reg → Bool) → Operand Reg → Fact → Bool
 from_fact p a (LessDef x y) = same_expr same_reg x (Plain a) && of_plain p y
+from_fact p a f = false
 
 -- p of the operand c of a fact that says c is less defined than b
 abbrev pub into_fact : (Operand Reg → Bool) → Operand Reg → Fact → Bool
 into_fact p b (LessDef x y) = same_expr same_reg y (Plain b) && of_plain p x
+into_fact p b f = false
 
 -- p of a itself, or of some c that a is known to be less defined than
 abbrev pub some_from : (Operand Reg → Bool) → Operand Reg → List Fact → Bool

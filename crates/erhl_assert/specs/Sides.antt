@@ -1,18 +1,23 @@
 -- What a fact speaks of: one side's state. And when the states of two sides are related.
-use Rattle.std.specs.Prelude.{◌≡◌, ℕ, Bool, true, false, List, []}
+use Rattle.std.specs.Prelude.{◌≡◌, ◌<◌, ℕ, pos, Bool, true, false, List, [], length, slice_get, Some}
 use Rattle.std.specs.List.{list_any}
 use Rattle.ir_core.specs.declared.values.Value.{Value}
+use Rattle.ir_core.specs.declared.values.Value.TheVariants.{Ptr}
 use Rattle.ir_core.specs.declared.values.Kind.{Kind}
 use Rattle.ir_types.specs.declared.names.Name.{Name}
+use Rattle.ir_types.specs.Named.{size_of}
+use Rattle.ir_core.specs.declared.modules.GlobalVar.{GlobalVar}
 use Rattle.ir_core.specs.declared.expressions.Reg.{Reg}
 use Rattle.ir_core.specs.declared.expressions.Reg.TheVariants.{Now, Old, Ghost}
 use Rattle.ir_core.specs.Same.{same_reg}
 use Rattle.ir_core.specs.Expressions.{Expr0}
 use Rattle.ir_values.specs.declared.operations.Outcome.{Outcome}
-use Rattle.ir_values.specs.Constants.{Scope}
+use Rattle.ir_values.specs.Constants.{Scope, global_at}
 use Rattle.ir_values.specs.Related.{IsRelated, Pairing}
 use Rattle.block_memory.specs.Laws.{IsOfBytes}
-use Rattle.ir_machine.specs.Registers.{Registers, AreInKind, no_registers, read, outcome}
+use Rattle.block_memory.specs.NameLaws.{AreApart}
+use Rattle.ir_machine.specs.Keeps.{IsLive}
+use Rattle.ir_machine.specs.Registers.{Registers, AreInKind, align_or, no_registers, read, outcome}
 use Rattle.ir_machine.specs.State.{World}
 
 -- the registers of the frame that runs, their values before the edge that is being crossed, and those that the proof alone has
@@ -46,12 +51,18 @@ side_of scope registers own world = record {
   paired = all_paired;
 }
 
--- each value lies in its kind, and each byte of memory in its range
-pub record IsSideInKind (side : SideState) : Type 0 where
+-- The side is as it should be, however it was come to: each value lies in its kind, and each byte of memory in its range; block k is of global k,
+-- and has the name k; it is live, of the global's size and alignment, where the global's name leads to it, as in a well-formed module each does;
+-- and no block has two names.
+pub record IsFine (side : SideState) : Type 0 where
   pub now : AreInKind side.files.now
   pub old : AreInKind side.files.old
   pub ghost : AreInKind side.files.ghost
   pub bytes : IsOfBytes side.world.memory
+  pub globals : (k : ℕ) (g : GlobalVar) → slice_get side.scope.globals k ≡ Some g → global_at 0 side.scope.globals g.name ≡ Ptr k (pos 0)
+      → IsLive side.world.memory k (align_or side.scope.types g.ty g.align) (size_of side.scope.types g.ty)
+  pub named : (k : ℕ) → k < length side.scope.globals → slice_get side.world.names k ≡ Some (Some k)
+  pub once : AreApart side.world.names
 
 abbrev pub read_reg : SideState → Kind → Reg → Value
 read_reg side k (Now x) = read side.files.now k x

@@ -14,13 +14,13 @@ use Rattle.ir_core.specs.Types.{converts, is_width}
 use Rattle.ir_machine.specs.Registers.{selects}
 pub use Rattle.ir_core.specs.Types.{constant_fits}
 
--- the type is one of numbers: i1 to i64 are; no text that `check` reads states a pointer type, which has values too
+-- the type is one of numbers: i1 to i64 are
 abbrev pub has_values : Ty → Bool
 has_values (Int width) = is_width width
 has_values t = false
 
 -- The expression has a type. `add i8 %x, 300` has one, though no i8 is 300; `add exact i8 %x, 1`, `zext i16 %x to i8` and `select i8 %c, ..`
--- have none. No text that `check` reads has an element or a load.
+-- have none. Nor has an expression over pointers, an address or a load, so no rule or step speaks of one.
 abbrev pub has_type : Expr0 → Bool
 has_type (Plain o) = has_values o.ty
 has_type (Binary b) = has_values b.ty && may_have b.op b.flags

@@ -7,22 +7,32 @@ ghost use Rattle.ir_core.specs.declared.operands.Operand.{Operand};
 ghost use Rattle.ir_core.specs.Same.{same_reg};
 ghost use Rattle.ir_core.specs.Expressions.{atom_has};
 ghost use Rattle.erhl_assert.specs.Named.{name_of};
-ghost use Rattle.erhl_assert.specs.Facts.{has_fact, with_fact, expr_names, fact_names, killed};
+ghost use Rattle.erhl_assert.specs.Facts.{has_fact, with_fact, expr_names, fact_names};
+ghost use Rattle.erhl_assert.specs.Kills.{killed};
 
 use crate::Fact;
-use ir_core::{Atom, Expr, Expr0, Name, Operand, Reg, same_reg};
+use ir_core::{Atom, Expr, Expr0, Name, Operand, Reg, Ty, same_reg};
 use std::alloc::{AllocError, Global};
 
 /// What takes facts out of a set.
 pub enum Kill {
     /// Those that name the register.
     Naming(Reg),
+    /// That nothing else points into the block of that register.
+    Unique(Reg),
+    /// Those of loads that a store of the type through the address may change.
+    Stored(Operand<Reg>, Ty),
+    /// Those of loads that a call may change.
+    Called,
 }
 
 impl Drop for Kill {
     fn drop(self) {
         match self {
             Kill::Naming(_) => {}
+            Kill::Unique(_) => {}
+            Kill::Stored(_, _) => {}
+            Kill::Called => {}
         }
     }
 }
@@ -106,7 +116,11 @@ pub fn fact_names(register: &Reg, fact: &Fact) -> bool
     ensures { result ≡ fact_names register.now fact.now }
 {
     match fact {
-        Fact::LessDef(a, b) => expr_names(register, a) || expr_names(register, b),
+        Fact::LessDef(a, b) | Fact::NoAlias(a, b) => {
+            expr_names(register, a) || expr_names(register, b)
+        }
+        Fact::Unique(other) | Fact::Private(other) => same_reg(register, other),
+        Fact::Ok(address, _, _) => expr_names(register, address),
     }
 }
 

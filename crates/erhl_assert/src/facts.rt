@@ -1,9 +1,9 @@
-ghost use Rattle.std.specs.Prelude.{◌≡◌};
+ghost use Rattle.std.specs.Prelude.{◌≡◌, IfOk};
 ghost use Rattle.ir_types.specs.Same.{IsEquality};
 ghost use Rattle.erhl_assert.specs.Facts.{same_fact};
 
 use contents::{Exact, Seq};
-use ir_core::{Expr0, Reg};
+use ir_core::{Expr0, Reg, Ty};
 use std::alloc::{AllocError, Global};
 
 /// An expression of the logic.
@@ -20,12 +20,25 @@ pub enum Side {
 pub enum Fact {
     /// The first expression is less defined than the second: its value refines to the second's (`ge`).
     LessDef(Expr0, Expr0),
+    /// Where the register of now holds a pointer into a block, nothing else that lasts holds one: no other register of now, none of
+    /// another frame, no byte and no name (`unique`).
+    Unique(Reg),
+    /// Where the register of now holds a pointer into a block, the frame made that block, and the other side has none for it (`private`).
+    Private(Reg),
+    /// The two aren't both pointers into one block (`noalias`).
+    NoAlias(Expr0, Expr0),
+    /// An access of the type, at the alignment in bytes, through the expression doesn't trap (`ok`).
+    Ok(Expr0, Ty, u64),
 }
 
 impl Drop for Fact {
     fn drop(self) {
         match self {
             Fact::LessDef(_, _) => {}
+            Fact::Unique(_) => {}
+            Fact::Private(_) => {}
+            Fact::NoAlias(_, _) => {}
+            Fact::Ok(_, _, _) => {}
         }
     }
 }
@@ -55,17 +68,46 @@ impl Exact for Fact {
     fn is(&self, other: &Fact) -> bool {
         match (self, other) {
             (Fact::LessDef(a, b), Fact::LessDef(c, d)) => a.is(c) && b.is(d),
+            (Fact::Unique(r), Fact::Unique(s)) => r.is(s),
+            (Fact::Private(r), Fact::Private(s)) => r.is(s),
+            (Fact::NoAlias(a, b), Fact::NoAlias(c, d)) => a.is(c) && b.is(d),
+            (Fact::Ok(a, t, m), Fact::Ok(b, s, n)) => a.is(b) && t.is(s) && m.is(n),
+            _ => false,
         }
     }
 
     fn copy(&self, alloc: Global) -> Result<Fact, AllocError> {
-        match self {
+        Ok(match self {
             Fact::LessDef(a, b) => {
-                let a = a.copy(alloc)?;
-                Ok(Fact::LessDef(a, b.copy(alloc)?))
+                let (a, b) = two_copies(alloc, a, b)?;
+                Fact::LessDef(a, b)
             }
-        }
+            Fact::Unique(register) => Fact::Unique(register.copy(alloc)?),
+            Fact::Private(register) => Fact::Private(register.copy(alloc)?),
+            Fact::NoAlias(a, b) => {
+                let (a, b) = two_copies(alloc, a, b)?;
+                Fact::NoAlias(a, b)
+            }
+            Fact::Ok(address, ty, align) => {
+                let (address, ty) = access_copy(alloc, address, ty)?;
+                Fact::Ok(address, ty, *align)
+            }
+        })
     }
+}
+
+fn two_copies(alloc: Global, a: &Expr0, b: &Expr0) -> Result<(Expr0, Expr0), AllocError>
+    ensures { IfOk result (λ pair. pair ≡ (a.now, b.now)) }
+{
+    let a = a.copy(alloc)?;
+    Ok((a, b.copy(alloc)?))
+}
+
+fn access_copy(alloc: Global, address: &Expr0, ty: &Ty) -> Result<(Expr0, Ty), AllocError>
+    ensures { IfOk result (λ pair. pair ≡ (address.now, ty.now)) }
+{
+    let address = address.copy(alloc)?;
+    Ok((address, ty.copy(alloc)?))
 }
 
 #[tactic(auto, using(crate::proofs::SameFact::same_fact_true, crate::proofs::SameFact::same_fact_refl))]

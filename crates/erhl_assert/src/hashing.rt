@@ -72,8 +72,16 @@ impl Hash for Fact {
     ghost respects_eq = { λ a b same. ap hashed_fact (same_fact_true a b same) };
 
     fn hash<H: Hasher>(&self, state: &mut H) {
-        let Fact::LessDef(a, b) = self;
-        feed_expr(a, state);
-        feed_expr(b, state);
+        match self {
+            Fact::LessDef(a, b) | Fact::NoAlias(a, b) => {
+                feed_expr(a, state);
+                feed_expr(b, state);
+            }
+            Fact::Unique(register) | Fact::Private(register) => bare_name(register).hash(state),
+            Fact::Ok(address, _, align) => {
+                feed_expr(address, state);
+                align.hash(state);
+            }
+        }
     }
 }

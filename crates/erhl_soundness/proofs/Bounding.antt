@@ -1,14 +1,16 @@
 -- What a course comes to has no more facts than the greatest of its sizes, or than were known before.
-use Rattle.std.proofs.Common.{ℕ, suc, ◌+◌, ◌≤◌, Bool, true, false, not, cond, filter, List, [], ◌∷◌, ◌++◌, length, map, Option, None, Some, subst, arith}
-use Rattle.std.specs.List.{AllByRecursion}
+use Rattle.std.proofs.Common.{ℕ, suc, ◌+◌, ◌≤◌, Bool, true, false, not, cond, filter, List, [], ◌∷◌, ◌++◌, length, Option, None, Some, subst, arith}
+use Rattle.std.specs.List.{AllByRecursion, filter_map, list_all}
+use Rattle.std.specs.Option.{is_none}
 use Rattle.std.proofs.lemmas.Bool.{cond_both}
-use Rattle.ir_core.specs.declared.functions.Calm.{Calm}
+use Rattle.ir_types.specs.declared.named.NamedTy.{NamedTy}
+use Rattle.ir_types.specs.declared.names.Name.{Name}
 use Rattle.ir_core.specs.declared.functions.Instr.{Instr}
-use Rattle.ir_core.specs.declared.functions.Instr.TheVariants as line
+use Rattle.ir_core.specs.declared.functions.Phi.{Phi}
 use Rattle.ir_core.specs.declared.expressions.Reg.{Reg}
-use Rattle.ir_core.specs.declared.expressions.Reg.TheVariants.{Now}
+use Rattle.erhl_assert.specs.declared.fact_set.Kill.{Kill}
+use Rattle.erhl_assert.specs.declared.fact_set.Kill.TheVariants as kill
 use Rattle.erhl_assert.specs.declared.facts.Fact.{Fact}
-use Rattle.erhl_assert.specs.declared.facts.Fact.TheVariants.{LessDef}
 use Rattle.erhl_assert.specs.declared.facts.Assertion.{Assertion}
 use Rattle.erhl_assert.specs.declared.facts.Side.{Side}
 use Rattle.erhl_assert.specs.declared.facts.Side.TheVariants.{Src, Tgt}
@@ -19,13 +21,14 @@ use Rattle.erhl_assert.specs.declared.verdict.Reason.{Reason}
 use Rattle.erhl_assert.specs.declared.verdict.Reason.TheVariants.{RuleUnfit}
 use Rattle.ir_core.specs.Expressions.{Expr0}
 use Rattle.ir_core.specs.Same.{same_reg}
-use Rattle.erhl_assert.specs.Facts.{has_fact, expr_names, fact_names, fact_has, without}
-use Rattle.erhl_assert.specs.Edges.{Edge, is_old, without_old, as_old, is_of_phi, phi_facts, diff_over}
+use Rattle.erhl_assert.specs.Facts.{has_fact, fact_names, fact_has, on_side, without}
+use Rattle.erhl_assert.specs.Kills.{all_killed, is_private, is_unique_of, killed, loads_of, spares}
+use Rattle.erhl_assert.specs.Edges.{Edge, is_old, without_old, as_old, is_of_phi, past_phis, phi_facts, phi_kills, diff_over}
 use Rattle.erhl_assert.specs.Alignment.{Line}
 use Rattle.erhl_assert.specs.Allowed.{line_fault}
-use Rattle.erhl_assert.specs.Postcondition.{right_side, left_side, diff_after, without_reg}
+use Rattle.erhl_assert.specs.Postcondition.{diff_after, line_adds, line_kills, without_reg}
 use Rattle.erhl_assert.specs.Course.{Ends, Refuses, Gives, Course, gives, refuses, after_ends, and_then, tested}
-use Rattle.erhl_assert.specs.Growth.{size, facts_of, adds, adds_all, put_in, forgetting, over_calm, over_side, over_allowed, over_line, without_phis, over_edge}
+use Rattle.erhl_assert.specs.Growth.{size, facts_of, adds, adds_all, put_in, over_side, over_allowed, over_line, without_phis, over_edge}
 use Rattle.erhl_assert.specs.Steps.{Meaning, Beside, rule_named, first_missing, concluded, after_rule, choice, as_new, chosen, ghost_fault, same_fault, after_step, after_steps}
 use Rattle.erhl_soundness.specs.Laws.{SizesBoundWhatIsKnown}
 
@@ -77,45 +80,55 @@ module _ (n : ℕ) where
       AtMost (cond b [] ((length known.src + length (cond b known.tgt (known.tgt ++ f ∷ []))) ∷ []))
       → length known.src + length (cond b known.tgt (known.tgt ++ f ∷ [])) ≤ n) [ true ↦ λ all. h | false ↦ λ all. all.0 ]
 
-  forgetting_bounded : (side : Side) (r : Reg) (known : Assertion) → size known ≤ n → size (forgetting side r known) ≤ n
-  forgetting_bounded Src r known h =
-      let fewer : length (filter (λ f. not (fact_names r f)) known.src) ≤ length known.src = filter_shorter (λ f. not (fact_names r f)) known.src in
+  -- kills leave no more
+  kill_shorter : (k : Kill) (fs : List Fact) → length (killed k fs) ≤ length fs
+  kill_shorter (kill.Naming r) fs = filter_shorter (λ f. not (fact_names r f)) fs
+  kill_shorter (kill.Unique r) fs = filter_shorter (λ f. not (is_unique_of r f)) fs
+  kill_shorter (kill.Stored address of) fs = filter_shorter (λ f. list_all (spares fs address) (loads_of f)) fs
+  kill_shorter kill.Called fs = filter_shorter (λ f. list_all (λ p. is_private fs p.atom) (loads_of f)) fs
+
+  kills_shorter : (ks : List Kill) (fs : List Fact) → length (all_killed ks fs) ≤ length fs
+  kills_shorter [] fs = omega arith
+  kills_shorter (k ∷ ks) fs =
+      let first : length (killed k fs) ≤ length fs = kill_shorter k fs in
+      let rest : length (all_killed ks (killed k fs)) ≤ length (killed k fs) = kills_shorter ks (killed k fs) in
+      omega (arith, first, rest)
+
+  all_bounded : (side : Side) (fs : List Fact) (known : Assertion) → size known ≤ n → IsBounded (adds_all side fs known)
+  all_bounded side [] known h = λ all. h
+  all_bounded side (f ∷ fs) known h = and_then_bounded (adds side f known) (adds_all side fs) (adds_bounded side f known h) (λ known' less. all_bounded side fs known' less)
+
+  fewer_bounded : (side : Side) (change : List Fact → List Fact) → ((fs : List Fact) → length (change fs) ≤ length fs) → (known : Assertion) → size known ≤ n
+      → size (on_side side change known) ≤ n
+  fewer_bounded Src change shorter known h =
+      let fewer : length (change known.src) ≤ length known.src = shorter known.src in
       let had : length known.src + length known.tgt ≤ n = h in
-      omega arith
-  forgetting_bounded Tgt r known h =
-      let fewer : length (filter (λ f. not (fact_names r f)) known.tgt) ≤ length known.tgt = filter_shorter (λ f. not (fact_names r f)) known.tgt in
+      omega (arith, fewer, had)
+  fewer_bounded Tgt change shorter known h =
+      let fewer : length (change known.tgt) ≤ length known.tgt = shorter known.tgt in
       let had : length known.src + length known.tgt ≤ n = h in
-      omega arith
+      omega (arith, fewer, had)
 
-  calm_bounded : (side : Side) (l : Calm) (known : Assertion) → size known ≤ n → IsBounded (over_calm side l known)
-  calm_bounded side l known h =
-      let kept = forgetting side (Now l.name) known in
-      let less = forgetting_bounded side (Now l.name) known h in
-      let above = adds side (LessDef (left_side l) (right_side l)) kept in
-      let below = adds side (LessDef (right_side l) (left_side l)) in
-      cond_both (expr_names (Now l.name) (right_side l)) (gives kept) (and_then above below) IsBounded
-      (λ e all. less)
-      (λ e. and_then_bounded above below (adds_bounded side (LessDef (left_side l) (right_side l)) kept less)
-      (λ known' less'. adds_bounded side (LessDef (right_side l) (left_side l)) known' less'))
+  side_bounded : (types : List NamedTy) (one_sided : Bool) (side : Side) (o : Option Instr) (known : Assertion) → size known ≤ n → IsBounded (over_side types one_sided side o known)
+  side_bounded types one_sided side None known h = λ all. h
+  side_bounded types one_sided side (Some l) known h =
+      all_bounded side (line_adds types one_sided l) (on_side side (all_killed (line_kills l)) known) (fewer_bounded side (all_killed (line_kills l)) (kills_shorter (line_kills l)) known h)
 
-  side_bounded : (side : Side) (o : Option Instr) (known : Assertion) → size known ≤ n → IsBounded (over_side side o known)
-  side_bounded side None known h = λ all. h
-  side_bounded side (Some (line.Calm l)) known h = calm_bounded side l known h
-  side_bounded side (Some i) known h = λ all. h
-
-  allowed_bounded : (l : Line) (known : Assertion) → size known ≤ n → IsBounded (over_allowed l known)
-  allowed_bounded l known h =
+  allowed_bounded : (types : List NamedTy) (l : Line) (known : Assertion) → size known ≤ n → IsBounded (over_allowed types l known)
+  allowed_bounded types l known h =
+      let source : Assertion → Course Assertion = over_side types (is_none l.target) Src l.source in
+      let target : Assertion → Course Assertion = over_side types (is_none l.source) Tgt l.target in
       let last : Assertion → Course Assertion = λ after. gives (record after { diff = diff_after known l.source l.target }) in
-      and_then_bounded (over_side Src l.source known) (λ half. and_then (over_side Tgt l.target half) last) (side_bounded Src l.source known h)
-      (λ half less. and_then_bounded (over_side Tgt l.target half) last (side_bounded Tgt l.target half less) (λ after less' all. less'))
+      and_then_bounded (source known) (λ half. and_then (target half) last) (side_bounded types (is_none l.target) Src l.source known h)
+      (λ half less. and_then_bounded (target half) last (side_bounded types (is_none l.source) Tgt l.target half less) (λ after less' all. less'))
 
   tested_bounded : (o : Option Reason) (known : Assertion) → size known ≤ n → IsBounded (tested o known)
   tested_bounded None known h = λ all. h
   tested_bounded (Some r) known h = λ all. tt
 
-  line_bounded : (l : Line) (known : Assertion) → size known ≤ n → IsBounded (over_line l known)
-  line_bounded l known h =
-      and_then_bounded (tested (line_fault known l) known) (over_allowed l) (tested_bounded (line_fault known l) known h) (λ known' less. allowed_bounded l known' less)
+  line_bounded : (types : List NamedTy) (l : Line) (known : Assertion) → size known ≤ n → IsBounded (over_line types l known)
+  line_bounded types l known h =
+      and_then_bounded (tested (line_fault known l) known) (over_allowed types l) (tested_bounded (line_fault known l) known h) (λ known' less. allowed_bounded types l known' less)
 
   concluded_bounded : (o : Option Fact) (step : RuleStep) (known : Assertion) → size known ≤ n → IsBounded (concluded o step known)
   concluded_bounded (Some f) step known h = λ all. tt
@@ -136,9 +149,18 @@ module _ (n : ℕ) where
       let had : length known.src + length known.tgt ≤ n = h in
       omega arith
 
-  all_bounded : (side : Side) (fs : List Fact) (known : Assertion) → size known ≤ n → IsBounded (adds_all side fs known)
-  all_bounded side [] known h = λ all. h
-  all_bounded side (f ∷ fs) known h = and_then_bounded (adds side f known) (adds_all side fs) (adds_bounded side f known h) (λ known' less. all_bounded side fs known' less)
+  past_shorter : (from : Name) (ps : List Phi) (fs : List Fact) → length (past_phis from ps fs) ≤ length fs
+  past_shorter from ps fs =
+      let fewer : length (without (is_of_phi ps) fs) ≤ length fs = filter_shorter (λ f. not (fact_has (is_of_phi ps) f)) fs in
+      let rest : length (past_phis from ps fs) ≤ length (without (is_of_phi ps) fs) = kills_shorter (phi_kills from ps) (without (is_of_phi ps) fs) in
+      omega (arith, fewer, rest)
+
+  phis_bounded : (e : Edge) (known : Assertion) → size known ≤ n → size (without_phis e known) ≤ n
+  phis_bounded e known h =
+      let source : length (past_phis e.from e.source known.src) ≤ length known.src = past_shorter e.from e.source known.src in
+      let target : length (past_phis e.from e.target known.tgt) ≤ length known.tgt = past_shorter e.from e.target known.tgt in
+      let had : length known.src + length known.tgt ≤ n = h in
+      omega (arith, source, target, had)
 
   put_in_bounded : (lists : Assertion) → IsBounded (put_in lists)
   put_in_bounded lists =
@@ -151,11 +173,11 @@ module _ (n : ℕ) where
       let last : Assertion → Course Assertion = λ after. gives (record after { diff = diff_over e known }) in
       let with_target : Assertion → Course Assertion = λ more. and_then (adds_all Tgt (phi_facts e.from e.target) more) last in
       let with_source : Assertion → Course Assertion = λ copied. and_then (adds_all Src (phi_facts e.from e.source) (without_phis e copied)) with_target in
-      and_then_bounded (adds_all Src (map as_old kept.src) kept) (λ half. and_then (adds_all Tgt (map as_old kept.tgt) half) with_source)
-      (all_bounded Src (map as_old kept.src) kept (without_bounded is_old is_old known known.diff h))
-      (λ half less. and_then_bounded (adds_all Tgt (map as_old kept.tgt) half) with_source (all_bounded Tgt (map as_old kept.tgt) half less)
+      and_then_bounded (adds_all Src (filter_map as_old kept.src) kept) (λ half. and_then (adds_all Tgt (filter_map as_old kept.tgt) half) with_source)
+      (all_bounded Src (filter_map as_old kept.src) kept (without_bounded is_old is_old known known.diff h))
+      (λ half less. and_then_bounded (adds_all Tgt (filter_map as_old kept.tgt) half) with_source (all_bounded Tgt (filter_map as_old kept.tgt) half less)
       (λ copied less'. and_then_bounded (adds_all Src (phi_facts e.from e.source) (without_phis e copied)) with_target
-      (all_bounded Src (phi_facts e.from e.source) (without_phis e copied) (without_bounded (is_of_phi e.source) (is_of_phi e.target) copied copied.diff less'))
+      (all_bounded Src (phi_facts e.from e.source) (without_phis e copied) (phis_bounded e copied less'))
       (λ more less''. and_then_bounded (adds_all Tgt (phi_facts e.from e.target) more) last (all_bounded Tgt (phi_facts e.from e.target) more less'') (λ after fewer all. fewer))))
 
   chosen_bounded : (g : Reg) (e : Expr0) (known : Assertion) → size known ≤ n → IsBounded (chosen g e known)
@@ -180,6 +202,6 @@ pub sizes_bound : SizesBoundWhatIsKnown
 sizes_bound = record {
   at_a_start = λ n lists after all ends. subst (EndAtMost n) ends (put_in_bounded n lists all);
   over_steps = λ n w steps known h after all ends. subst (EndAtMost n) ends (steps_bounded n w steps known h all);
-  over_a_line = λ n l known h after all ends. subst (EndAtMost n) ends (line_bounded n l known h all);
+  over_a_line = λ n types l known h after all ends. subst (EndAtMost n) ends (line_bounded n types l known h all);
   over_an_edge = λ n e known h after all ends. subst (EndAtMost n) ends (edge_bounded n e known h all);
 }

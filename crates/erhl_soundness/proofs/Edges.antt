@@ -1,8 +1,8 @@
 -- An edge: old registers are those before it, and phis are set at once from them; then old registers are forgotten where a block begins.
 use Rattle.std.proofs.Common.{◌≡◌, true, false, not, List, [], ◌∷◌, ◌++◌, map, Option, None, Some, refl, sym, ap, subst, subst₂, ◌∙◌, ⊎_elim, nat_eq, ℕ}
 use Rattle.std.specs.Prelude.{filter}
-use Rattle.std.specs.List.{AllByRecursion, Contains, list_any}
-use Rattle.std.proofs.lemmas.Bool.{or_parts, or_from, false≢true, false_from_ne_true, cases_Bool, not_from_false, cond-true, cond-false}
+use Rattle.std.specs.List.{AllByRecursion, Contains, cons_option, filter_map, list_any}
+use Rattle.std.proofs.lemmas.Bool.{not-true, or_parts, or_from, false≢true, false_from_ne_true, cases_Bool, not_from_false, cond-true, cond-false}
 use Rattle.std.proofs.lemmas.List.Elements.{Contains-append_left, Contains-push}
 use Rattle.std.proofs.lemmas.List.Folds.{list_any-append}
 use Rattle.ir_types.specs.declared.names.Name.{Name}
@@ -20,7 +20,8 @@ use Rattle.ir_core.specs.Same.{same_reg}
 use Rattle.ir_core.specs.Types.{kind_of}
 use Rattle.ir_types.specs.NameLaws.{left_true, right_true, same_name_true, same_name_refl}
 use Rattle.ir_types.proofs.SameLaws.{same_ty_true}
-use Rattle.ir_values.specs.declared.operations.Outcome.TheVariants.{Gives}
+use Rattle.ir_values.specs.declared.operations.Outcome.{Outcome}
+use Rattle.ir_values.specs.declared.operations.Outcome.TheVariants.{Gives, Trap}
 use Rattle.ir_values.specs.Related.{IsRelated}
 use Rattle.ir_values.proofs.RelatedValues.{less_related}
 use Rattle.ir_values.specs.Constants.{Scope}
@@ -28,29 +29,30 @@ use Rattle.ir_values.specs.Operations.{IsOutcomeLessDefined}
 use Rattle.ir_machine.specs.Registers.{Held, Registers, no_registers, read, set, holding, held_at, atom_value}
 use Rattle.ir_machine.specs.State.{World}
 use Rattle.ir_machine.specs.Machine.{with_phis, phi_value, entry_value, entry_from}
+use Rattle.ir_machine.proofs.Keeping.{all_on}
 use Rattle.ir_machine.proofs.InKind.{phis_in_kind, no_registers_in_kind}
 use Rattle.erhl_assert.specs.declared.facts.Fact.{Fact}
-use Rattle.erhl_assert.specs.declared.facts.Fact.TheVariants.{LessDef}
+use Rattle.erhl_assert.specs.declared.facts.Fact.TheVariants.{LessDef, Unique, Private, NoAlias, Ok}
 use Rattle.erhl_assert.specs.declared.facts.Assertion.{Assertion}
-use Rattle.erhl_assert.specs.Sides.{SideState, IsSideInKind, read_reg, worth, has_reg, AreRelated, RegisterFiles, no_ghost}
+use Rattle.erhl_assert.specs.Sides.{SideState, IsFine, read_reg, worth, has_reg, AreRelated, RegisterFiles, no_ghost}
 use Rattle.erhl_assert.specs.Facts.{Holds, AssertionHolds, with_facts, fact_has, without, each_once}
-use Rattle.erhl_assert.specs.Edges.{Edge, is_old, old_of, as_old, without_old, sets, is_of_phi, register_at, phi_fact, phi_facts, facts_over, phi_setting, entries_match, phis_match, is_alike, phi_registers, old_too, diff_over, after_edge}
+use Rattle.erhl_assert.specs.Edges.{Edge, is_old, old_of, as_old, without_old, sets, is_of_phi, register_at, entry_kill, phi_fact, phi_facts, phi_kills, past_phis, facts_over, phi_setting, entries_match, phis_match, is_alike, phi_registers, old_too, diff_over, after_edge}
+use Rattle.erhl_assert.specs.Holding.{AreNoAliases, CanAccess, IsNot}
 use Rattle.erhl_assert.specs.Steps.{Beside, first_missing}
-use Rattle.erhl_soundness.specs.Laws.{AreApart, crossed, AnEdgeKeepsWhatHolds}
+use Rattle.erhl_soundness.specs.Laws.{AreApart, AreGlobalsNamed, crossed, AnEdgeKeepsWhatHolds}
 use Rattle.erhl_soundness.proofs.Readings.{outcome_same, outcome_mapped, renamed, atom_mapped, atom_of_none, type_mapped}
-use Rattle.erhl_soundness.proofs.Facts.{StaysThere, premises_hold, both_ways_hold, with_facts_hold, without_holds, without_names_none}
+use Rattle.erhl_soundness.proofs.Facts.{IsNotIt, IsStillAlone, all_passing, all_split, holds_kept, stays_so, premises_hold, both_ways_hold, with_facts_hold, without_holds, without_names_none}
+use Rattle.erhl_soundness.proofs.Kills.{AreLeft, IsLeft, all_left_by, not_unique, same_name_apart}
+use Rattle.erhl_soundness.proofs.Holders.{IsNotGiven, constants_apart, phis_among}
 use Rattle.erhl_soundness.proofs.Matched.{atoms_matched_related}
 use Rattle.erhl_soundness.proofs.Related.{held_related}
 use Rattle.erhl_soundness.proofs.Outside.{outside_filter}
 use Rattle.erhl_soundness.proofs.Definitions.{ArePhisDefined, phis_defined, none_defined}
-use Rattle.erhl_soundness.proofs.Standing.{side, Stand, register_worth}
+use Rattle.erhl_soundness.proofs.Standing.{side, Stand, fine_with, register_worth}
 
 -- the state whose old registers are those that it has now
 abbrev renewed : SideState → SideState
 renewed here = record here { files = record here.files { old = here.files.now } }
-
-abbrev stays_there : (before : SideState) (now old ghost : Registers) → StaysThere before (record before { files = record { now = now; old = old; ghost = ghost } })
-stays_there before now old ghost = record { scope = refl; world = refl }
 
 -- ---- facts and their copies
 module _ (here : SideState) where
@@ -73,24 +75,45 @@ module _ (here : SideState) where
       outcome_mapped here.scope old_of (read_reg there) here.world.memory e
       ∙ outcome_same here.scope (read_reg here) (renamed here.scope old_of (read_reg there)) is_old made_old here.world.memory e h
 
-  copy_holds : (f : Fact) → fact_has is_old f ≡ false → Holds here f → Holds there (as_old f)
+  -- of a copy, if there is one
+  abbrev CopyHolds : Option Fact → Type 0
+  CopyHolds None = Unit {0}
+  CopyHolds (Some f) = Holds there f
+
+  can_access_there : (k : Option Kind) (o : Outcome) (align : ℕ) → CanAccess here k o align → CanAccess there k o align
+  can_access_there None o align h = h
+  can_access_there (Some k) Trap align h = h
+  can_access_there (Some k) (Gives v) align h = h
+
+  copy_holds : (f : Fact) → fact_has is_old f ≡ false → Holds here f → CopyHolds (as_old f)
   copy_holds (LessDef d e) h known =
       let parts = or_parts (expr_has is_old d) (expr_has is_old e) h in (
         ap kind_of (type_mapped old_of d) ∙ known.0 ∙ sym (ap kind_of (type_mapped old_of e)),
         subst₂ IsOutcomeLessDefined (sym (copy_worth d parts.0)) (sym (copy_worth e parts.1)) known.1,
       )
+  copy_holds (NoAlias d e) h known =
+      let parts = or_parts (expr_has is_old d) (expr_has is_old e) h in
+      subst₂ AreNoAliases (sym (copy_worth d parts.0)) (sym (copy_worth e parts.1)) known
+  copy_holds (Ok e t align) h known =
+      subst (λ o. CanAccess there (kind_of t) o align) (sym (copy_worth e h)) (can_access_there (kind_of t) (worth here e) align known)
+  copy_holds (Unique r) h known = tt
+  copy_holds (Private r) h known = tt
+
+  with_copy : (o : Option Fact) (fs : List Fact) → CopyHolds o → AllByRecursion (Holds there) fs → AllByRecursion (Holds there) (cons_option o fs)
+  with_copy None fs h all = all
+  with_copy (Some f) fs h all = (h, all)
 
   copies_hold : (more : List Fact) → AllByRecursion (λ f. fact_has is_old f ≡ false) more → AllByRecursion (Holds here) more
-      → AllByRecursion (Holds there) (map as_old more)
+      → AllByRecursion (Holds there) (filter_map as_old more)
   copies_hold [] apart known = tt
-  copies_hold (f ∷ more) apart known = (copy_holds f apart.0 known.0, copies_hold more apart.1 known.1)
+  copies_hold (f ∷ more) apart known = with_copy (as_old f) (filter_map as_old more) (copy_holds f apart.0 known.0) (copies_hold more apart.1 known.1)
 
   copied_hold : (fs : List Fact) → AllByRecursion (Holds here) fs
-      → AllByRecursion (Holds there) (with_facts (map as_old (without is_old fs)) (without is_old fs))
+      → AllByRecursion (Holds there) (with_facts (filter_map as_old (without is_old fs)) (without is_old fs))
   copied_hold fs all =
-      with_facts_hold there (map as_old (without is_old fs)) (without is_old fs)
-      (copies_hold (without is_old fs) (without_names_none is_old fs) (without_holds is_old here here (stays_there here here.files.now here.files.old here.files.ghost) (λ k r h. refl) fs all))
-      (without_holds is_old here there (stays_there here here.files.now here.files.now here.files.ghost) not_old fs all)
+      with_facts_hold there (filter_map as_old (without is_old fs)) (without is_old fs)
+      (copies_hold (without is_old fs) (without_names_none is_old fs) (without_holds is_old here here (stays_so here here.files) (λ k r h. refl) refl fs all))
+      (without_holds is_old here there (stays_so here there.files) not_old refl fs all)
 
 -- ---- phis that are apart
 
@@ -189,14 +212,64 @@ module _ (from : Name) (before : SideState) where
       all_joined (Holds (crossed from ps before)) (phi_fact p (entry_from from p.entries)) (phi_facts from qs)
       (phi_fact_holds ps p (entry_from from p.entries) set.0) (phi_facts_hold ps qs set.1)
 
-  facts_over_hold : (ps : List Phi) (fs : List Fact) → NoneAgain ps → AllByRecursion (Holds before) fs
-      → AllByRecursion (Holds (crossed from ps before)) (facts_over from ps fs)
-  facts_over_hold ps fs apart all =
-      let kept = without is_old fs in
-      let copied = with_facts (map as_old kept) kept in
-      with_facts_hold (crossed from ps before) (phi_facts from ps) (without (is_of_phi ps) copied)
-      (phi_facts_hold ps ps (all_set before.scope from before.files.now ps before.files.now apart))
-      (without_holds (is_of_phi ps) (renewed before) (crossed from ps before) (record { scope = refl; world = refl }) (not_of_phi ps) copied (copied_hold before fs all))
+  -- ---- what the phis leave
+
+  module _ (named : AreGlobalsNamed before) (ps : List Phi) where
+    abbrev behind : SideState
+    behind = crossed from ps before
+
+    -- phis whose operands are copied into others than this one
+    entry_apart : (x : Name) (o : Option Entry) → AreLeft (renewed before) (entry_kill o) (Unique (Now x)) → (e : Entry) → o ≡ Some e → IsNotIt x e.value
+    entry_apart x None left e is = absurd (cc)
+    entry_apart x (Some d) left e is =
+        let same : d ≡ e = cc in
+        subst (λ (d : Entry). IsNotIt x d.value) same (not_unique (renewed before) x d.value left)
+
+    none_given : (x : Name) (qs : List Phi) → AreLeft (renewed before) (phi_kills from qs) (Unique (Now x)) → AllByRecursion (IsNotGiven x from) qs
+    none_given x [] left = tt
+    none_given x (q ∷ qs) left =
+        let parts = all_split (λ k. IsLeft (renewed before) k (Unique (Now x))) (entry_kill (entry_from from q.entries)) (phi_kills from qs) left in
+        (entry_apart x (entry_from from q.entries) parts.0, none_given x qs parts.1)
+
+    abbrev AloneOver : Fact → Type 0
+    AloneOver = IsStillAlone (is_of_phi ps) (renewed before) behind (stays_so (renewed before) behind.files) (not_of_phi ps)
+
+    alone_over : (f : Fact) → AreLeft (renewed before) (phi_kills from ps) f → AloneOver f
+    alone_over (Unique (Now x)) left =
+        λ b only.
+        phis_among (IsNot b) x before.scope (constants_apart (renewed before) named x b only) before.files.now only.now from ps (none_given x ps left) before.files.now only.now
+    alone_over (Unique (Old x)) left = tt
+    alone_over (Unique (Ghost x)) left = tt
+    alone_over (Private r) left = tt
+    alone_over (LessDef a b) left = tt
+    alone_over (NoAlias a b) left = tt
+    alone_over (Ok e t align) left = tt
+
+    held_over : (x : Name) → is_of_phi ps (Now x) ≡ false → behind.files.now x ≡ before.files.now x
+    held_over x h = unset_by_phis before.scope from before.files.now x ps before.files.now h
+
+    -- what names no register of a phi, and isn't unique of an operand
+    abbrev IsPast : Fact → Type 0
+    IsPast f = Holds (renewed before) f × (fact_has (is_of_phi ps) f ≡ false)
+
+    past_holds : (f : Fact) → IsPast f × AreLeft (renewed before) (phi_kills from ps) f → Holds behind f
+    past_holds f h =
+        holds_kept (is_of_phi ps) (renewed before) behind (stays_so (renewed before) behind.files) (not_of_phi ps) held_over f h.0.1 (alone_over f h.1) h.0.0
+
+    past_hold : (fs : List Fact) → AllByRecursion (Holds (renewed before)) fs → AllByRecursion (Holds behind) (past_phis from ps fs)
+    past_hold fs all =
+        all_on (λ f. IsPast f × AreLeft (renewed before) (phi_kills from ps) f) (Holds behind) past_holds (past_phis from ps fs)
+        (all_left_by (renewed before) named IsPast (λ f h. h.0) (phi_kills from ps) (without (is_of_phi ps) fs)
+        (all_passing (Holds (renewed before)) (λ f. fact_has (is_of_phi ps) f ≡ false) (λ f. not (fact_has (is_of_phi ps) f))
+        (λ f e. not-true (fact_has (is_of_phi ps) f) e) fs all))
+
+    pub facts_over_hold : (fs : List Fact) → NoneAgain ps → AllByRecursion (Holds before) fs → AllByRecursion (Holds behind) (facts_over from ps fs)
+    facts_over_hold fs apart all =
+        let kept = without is_old fs in
+        let copied = with_facts (filter_map as_old kept) kept in
+        with_facts_hold behind (phi_facts from ps) (past_phis from ps copied)
+        (phi_facts_hold ps ps (all_set before.scope from before.files.now ps before.files.now apart))
+        (past_hold copied (copied_hold before fs all))
 
 -- ---- registers that may differ
 
@@ -207,11 +280,6 @@ old_mapped x (Now y ∷ rs) h =
 old_mapped x (Old y ∷ rs) h = let parts = or_parts (same_name x y) (has_reg (Old x) (map old_of rs)) h in old_mapped x rs parts.1
 old_mapped x (Ghost y ∷ rs) h = old_mapped x rs h
 
-same_name_apart : (x y : Name) → same_name x y ≡ false → same_name y x ≡ false
-same_name_apart x y h =
-    false_from_ne_true (same_name y x)
-    (λ e. let same = same_name_true y x e in false≢true (sym h ∙ ap (same_name x) same ∙ same_name_refl x))
-
 unnamed : (x : Name) (ps : List Phi) → has_reg (Now x) (phi_registers ps) ≡ false → list_any (sets x) ps ≡ false
 unnamed x [] h = refl
 unnamed x (p ∷ ps) h =
@@ -219,7 +287,7 @@ unnamed x (p ∷ ps) h =
     or_from (same_name p.name x) (list_any (sets x) ps) (same_name_apart x p.name parts.0) (unnamed x ps parts.1)
 
 module _ (known : Assertion) (e : Edge) (source target : SideState) (scopes : source.scope ≡ target.scope) (holds : AssertionHolds nat_eq no_ghost known source target)
-    (source_apart : NoneAgain e.source) (target_apart : NoneAgain e.target) where
+    (source_named : AreGlobalsNamed source) (target_named : AreGlobalsNamed target) (source_apart : NoneAgain e.source) (target_apart : NoneAgain e.target) where
   abbrev kept : List Reg
   kept = filter (λ r. not (is_old r)) known.diff
 
@@ -287,15 +355,15 @@ module _ (known : Assertion) (e : Edge) (source target : SideState) (scopes : so
 
   pub edge_holds : AssertionHolds nat_eq no_ghost (after_edge known e) (crossed e.from e.source source) (crossed e.from e.target target)
   edge_holds = record {
-    source_facts = facts_over_hold e.from source e.source known.src source_apart holds.source_facts;
-    target_facts = facts_over_hold e.from target e.target known.tgt target_apart holds.target_facts;
+    source_facts = facts_over_hold e.from source source_named e.source known.src source_apart holds.source_facts;
+    target_facts = facts_over_hold e.from target target_named e.target known.tgt target_apart holds.target_facts;
     related = related_over;
   }
 
 -- the law of edges
 pub edge_keeps : AnEdgeKeepsWhatHolds
-edge_keeps known e source target scopes source_apart target_apart holds =
-    edge_holds known e source target scopes holds (apart_once e.source source_apart) (apart_once e.target target_apart)
+edge_keeps known e source target scopes source_named target_named source_apart target_apart holds =
+    edge_holds known e source target scopes holds source_named target_named (apart_once e.source source_apart) (apart_once e.target target_apart)
 
 -- ---- the invariant over an edge
 
@@ -303,9 +371,9 @@ edge_keeps known e source target scopes source_apart target_apart holds =
 abbrev pub jumped : Scope → Name → List Phi → RegisterFiles → RegisterFiles
 jumped scope from ps a = record { now = with_phis scope a.now from ps a.now; old = a.now; ghost = a.ghost }
 
-jumped_in_kind : (scope : Scope) (own : List ℕ) (world : World) (from : Name) (ps : List Phi) (a : RegisterFiles) → IsSideInKind (side scope own world a)
-    → IsSideInKind (side scope own world (jumped scope from ps a))
-jumped_in_kind scope own world from ps a h = record { now = phis_in_kind scope a.now from ps a.now h.now h.now; old = h.now; ghost = h.ghost; bytes = h.bytes }
+jumped_in_kind : (scope : Scope) (own : List ℕ) (world : World) (from : Name) (ps : List Phi) (a : RegisterFiles) → IsFine (side scope own world a)
+    → IsFine (side scope own world (jumped scope from ps a))
+jumped_in_kind scope own world from ps a h = fine_with scope own world a (jumped scope from ps a) h (phis_in_kind scope a.now from ps a.now h.now h.now) h.now h.ghost
 
 pub edge_stands : (w : Beside) (own : List ℕ) (world : World) (known : Assertion) (e : Edge) (a b : RegisterFiles) → Stand w own world known a b
     → NoneAgain e.source → NoneAgain e.target → ArePhisDefined w.source e.source
@@ -315,7 +383,7 @@ edge_stands w own world known e a b stand source_apart target_apart defined = re
   target_in_kind = jumped_in_kind w.scope own world e.from e.target b stand.target_in_kind;
   now_defined = phis_defined w.source w.scope e.from e.source a.now a.now defined stand.now_defined;
   old_defined = stand.now_defined;
-  holds = edge_holds known e (side w.scope own world a) (side w.scope own world b) refl stand.holds source_apart target_apart;
+  holds = edge_holds known e (side w.scope own world a) (side w.scope own world b) refl stand.holds stand.source_in_kind.named stand.target_in_kind.named source_apart target_apart;
 }
 
 -- where a block begins old registers are forgotten
@@ -329,10 +397,10 @@ module _ (scope : Scope) (own : List ℕ) (world : World) (a : RegisterFiles) wh
   forgets k (Ghost x) h = refl
 
   forgotten_facts : (fs : List Fact) → AllByRecursion (Holds (side scope own world a)) fs → AllByRecursion (Holds (side scope own world (forgotten a))) (without is_old fs)
-  forgotten_facts fs all = without_holds is_old (side scope own world a) (side scope own world (forgotten a)) (record { scope = refl; world = refl }) forgets fs all
+  forgotten_facts fs all = without_holds is_old (side scope own world a) (side scope own world (forgotten a)) (stays_so (side scope own world a) (forgotten a)) forgets refl fs all
 
-  forgotten_in_kind : IsSideInKind (side scope own world a) → IsSideInKind (side scope own world (forgotten a))
-  forgotten_in_kind h = record { now = h.now; old = no_registers_in_kind; ghost = h.ghost; bytes = h.bytes }
+  forgotten_in_kind : IsFine (side scope own world a) → IsFine (side scope own world (forgotten a))
+  forgotten_in_kind h = fine_with scope own world a (forgotten a) h h.now no_registers_in_kind h.ghost
 
 -- What the hint claims at a block's start, where it is known on the edge, and no other registers than it says may differ, but for old ones.
 pub arrives : (w : Beside) (own : List ℕ) (world : World) (known wanted : Assertion) (a b : RegisterFiles) → Stand w own world known a b

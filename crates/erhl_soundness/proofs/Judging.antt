@@ -63,14 +63,14 @@ module _ (w : Beside) where
     pub after : Assertion
     pub steps : (steps_of b k known).ends ≡ Gives after
     pub allowed : line_fault after l ≡ None
-    pub rest : IsGood (lines_judged w b (k + 1) ls (after_line after l))
+    pub rest : IsGood (lines_judged w b (k + 1) ls (after_line w.scope.types after l))
 
   pub line_good : (b : AlignedBlock) (k : ℕ) (l : Line) (ls : List Line) (known : Assertion) → IsGood (lines_judged w b k (l ∷ ls) known) → LineIsGood b k l ls known
   line_good b k l ls known good =
       let next = lines_judged w b (k + 1) ls in
-      let parts = good_parts b.source.name (spot.Line k) (and_then (steps_of b k known) (over_line l)) next good in
-      let both = gives_parts (steps_of b k known) (over_line l) parts.0 parts.1 in
-      let line = line_gives l both.0 parts.0 both.2 in
+      let parts = good_parts b.source.name (spot.Line k) (and_then (steps_of b k known) (over_line w.scope.types l)) next good in
+      let both = gives_parts (steps_of b k known) (over_line w.scope.types l) parts.0 parts.1 in
+      let line = line_gives w.scope.types l both.0 parts.0 both.2 in
       record { after = both.0; steps = both.1; allowed = line.0; rest = subst (λ after. IsGood (next after)) line.1 parts.2 }
 
   edges_good : (from : Name) (known : Assertion) (labels : List Name) → IsGood (edges_judged w from known labels)

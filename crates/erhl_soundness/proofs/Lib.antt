@@ -4,6 +4,12 @@ mod Operators
 mod Alike
 mod Outside
 mod Facts
+mod Holders
+mod Kills
+mod Untouched
+mod Made
+mod Stores
+mod Allocas
 mod Lines
 mod Matched
 mod Related
@@ -19,6 +25,10 @@ mod Returning
 mod Terms
 mod Reached
 mod Entering
+mod Worlds
+mod FineSides
+mod MemoryExamples
+mod OneSide
 mod Starts
 mod Modules
 mod Bounding

@@ -23,7 +23,7 @@ use Rattle.ir_values.proofs.KindLaws.{same_kind_true}
 use Rattle.ir_core.specs.Types.{kind_of}
 use Rattle.ir_machine.specs.Registers.{read, constant_at, register_value, atom_value, operand_value}
 use Rattle.erhl_assert.specs.declared.facts.Fact.{Fact}
-use Rattle.erhl_assert.specs.declared.facts.Fact.TheVariants.{LessDef}
+use Rattle.erhl_assert.specs.declared.facts.Fact.TheVariants.{LessDef, Unique, Private, NoAlias, Ok}
 use Rattle.erhl_assert.specs.declared.facts.Assertion.{Assertion}
 use Rattle.erhl_assert.specs.Sides.{SideState, read_reg, has_reg, AreRelated, no_ghost}
 use Rattle.erhl_assert.specs.Facts.{Holds, AssertionHolds}
@@ -54,6 +54,10 @@ module _ (side : SideState) (p : Operand Reg → Bool) where
   above_by_facts a [] h all = absurd (false≢true h)
   above_by_facts a (LessDef x y ∷ fs) h all =
       ⊎_elim (λ e. above_by_fact a x y e all.0) (λ e. above_by_facts a fs e all.1) (or_cases (from_fact p a (LessDef x y)) (list_any (from_fact p a) fs) h)
+  above_by_facts a (Unique r ∷ fs) h all = above_by_facts a fs h all.1
+  above_by_facts a (Private r ∷ fs) h all = above_by_facts a fs h all.1
+  above_by_facts a (NoAlias x y ∷ fs) h all = above_by_facts a fs h all.1
+  above_by_facts a (Ok x t align ∷ fs) h all = above_by_facts a fs h all.1
 
   pub some_above : (a : Operand Reg) (fs : List Fact) → some_from p a fs ≡ true → AllByRecursion (Holds side) fs → SomeAbove side p a
   some_above a fs h all =
@@ -70,6 +74,10 @@ module _ (side : SideState) (p : Operand Reg → Bool) where
   below_by_facts b [] h all = absurd (false≢true h)
   below_by_facts b (LessDef x y ∷ fs) h all =
       ⊎_elim (λ e. below_by_fact b x y e all.0) (λ e. below_by_facts b fs e all.1) (or_cases (into_fact p b (LessDef x y)) (list_any (into_fact p b) fs) h)
+  below_by_facts b (Unique r ∷ fs) h all = below_by_facts b fs h all.1
+  below_by_facts b (Private r ∷ fs) h all = below_by_facts b fs h all.1
+  below_by_facts b (NoAlias x y ∷ fs) h all = below_by_facts b fs h all.1
+  below_by_facts b (Ok x t align ∷ fs) h all = below_by_facts b fs h all.1
 
   pub some_below : (b : Operand Reg) (fs : List Fact) → some_into p b fs ≡ true → AllByRecursion (Holds side) fs → SomeBelow side p b
   some_below b fs h all =

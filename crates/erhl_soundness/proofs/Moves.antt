@@ -27,11 +27,11 @@ use Rattle.erhl_assert.specs.Course.{IsGood}
 use Rattle.erhl_assert.specs.Steps.{Beside, AreSound, steps_at}
 use Rattle.erhl_assert.specs.Acceptance.{hint_of_block, lines_judged}
 use Rattle.erhl_soundness.specs.Laws.{goes_on, LineLeads, Keeps}
-use Rattle.erhl_assert.specs.Sides.{SideState, IsSideInKind, RegisterFiles}
+use Rattle.erhl_assert.specs.Sides.{SideState, IsFine, RegisterFiles}
 use Rattle.erhl_soundness.proofs.Lines.{gives_on}
 use Rattle.erhl_soundness.proofs.Related.{set_by, registers_after, leads_so, source_may, target_may, keeps_so}
 use Rattle.erhl_soundness.proofs.Definitions.{AreDefined, IsLineDefined, AreLinesDefined, set_defined}
-use Rattle.erhl_soundness.proofs.Standing.{side, Stand, with_now, with_ghost}
+use Rattle.erhl_soundness.proofs.Standing.{side, Stand, fine_with, with_now, with_ghost}
 use Rattle.erhl_soundness.proofs.Steps.{steps_lead}
 use Rattle.erhl_soundness.proofs.Judging.{line_good}
 use Rattle.erhl_soundness.proofs.Relation.{Marked, mark_of, with_line, source_lines, target_lines, own_before, own_lines, frame_of, running, LeadsOn, IsPairFine, AreStatesRelated}
@@ -52,14 +52,14 @@ abbrev EntersDefined : Function → Option Registers → Type 0
 EntersDefined f None = Unit {0}
 EntersDefined f (Some registers) = AreDefined f registers
 
-calm_in_kind : (l : Calm) (s : SideState) (o : Outcome) → gives_on s l.right ≡ o → IsSideInKind s
+calm_in_kind : (l : Calm) (s : SideState) (o : Outcome) → gives_on s l.right ≡ o → IsFine s
     → EntersInKind (set_by (kind_of (type_of l.right)) l.name o s.files.now)
 calm_in_kind l s Trap is h = tt
 calm_in_kind l s (Gives v) is h =
     set_in_kind s.files.now l.name (kind_of (type_of l.right)) v h.now
     (subst (GivesInKind (kind_of (type_of l.right))) is (outcome_in_kind s.scope (read s.files.now) (λ k x. h.now x k) s.world.memory h.bytes l.right))
 
-after_in_kind : (i : Option Instr) (s : SideState) → IsSideInKind s → EntersInKind (registers_after i s)
+after_in_kind : (i : Option Instr) (s : SideState) → IsFine s → EntersInKind (registers_after i s)
 after_in_kind None s h = h.now
 after_in_kind (Some (line.Calm l)) s h = calm_in_kind l s (gives_on s l.right) refl h
 after_in_kind (Some i) s h = tt
@@ -86,8 +86,8 @@ module _ (w : Beside) (own : List ℕ) (world : World) (known after : Assertion)
   stand_after None p source_kind target_kind defined keeps = tt
   stand_after (Some s) None source_kind target_kind defined keeps = keeps
   stand_after (Some s) (Some t) source_kind target_kind defined keeps = record {
-    source_in_kind = record { now = source_kind; old = stand.source_in_kind.old; ghost = stand.source_in_kind.ghost; bytes = stand.source_in_kind.bytes };
-    target_in_kind = record { now = target_kind; old = stand.target_in_kind.old; ghost = stand.target_in_kind.ghost; bytes = stand.target_in_kind.bytes };
+    source_in_kind = fine_with w.scope own world a (with_now a s) stand.source_in_kind source_kind stand.source_in_kind.old stand.source_in_kind.ghost;
+    target_in_kind = fine_with w.scope own world b (with_now b t) stand.target_in_kind target_kind stand.target_in_kind.old stand.target_in_kind.ghost;
     now_defined = defined;
     old_defined = stand.old_defined;
     holds = keeps;
@@ -95,14 +95,14 @@ module _ (w : Beside) (own : List ℕ) (world : World) (known after : Assertion)
 
 line_stands : (w : Beside) (own : List ℕ) (world : World) (known : Assertion) (a b : RegisterFiles) → Stand w own world known a b
     → (l : Line) → line_fault known l ≡ None → IsDefinedAt w.source l.source
-    → StandAfter w own world (after_line known l) a b (registers_after l.source (side w.scope own world a)) (registers_after l.target (side w.scope own world b))
+    → StandAfter w own world (after_line w.scope.types known l) a b (registers_after l.source (side w.scope own world a)) (registers_after l.target (side w.scope own world b))
 line_stands w own world known a b stand l allowed defined =
     let source = side w.scope own world a in
     let target = side w.scope own world b in
-    stand_after w own world known (after_line known l) a b stand (registers_after l.source source) (registers_after l.target target)
+    stand_after w own world known (after_line w.scope.types known l) a b stand (registers_after l.source source) (registers_after l.target target)
     (after_in_kind l.source source stand.source_in_kind) (after_in_kind l.target target stand.target_in_kind)
     (after_defined w.source l.source source defined stand.now_defined)
-    (keeps_so known source target (record { scope = refl; world = refl }) stand.holds l.source l.target allowed)
+    (keeps_so known source target (record { scope = refl; world = refl; named = stand.source_in_kind.named }) stand.holds l.source l.target allowed)
 
 -- of aligned lines the first is defined, and so are the others
 pub first_defined : (f : Function) (i : Option Instr) (left : List Instr) → AreLinesDefined f (with_line i left) → IsDefinedAt f i × AreLinesDefined f left
@@ -253,7 +253,7 @@ module _ (first second : Module) (w : Beside) (of_first : scope_of first ≡ w.s
           let parts = first_defined w.source l.source (source_lines ls) defined in
           let source = side w.scope own world a' in
           let target = side w.scope own world c' in
-          line_moves (n + 1) ls (after_line at.after l) a' c' at.rest parts.1 l.source l.target (registers_after l.source source) (registers_after l.target target)
+          line_moves (n + 1) ls (after_line w.scope.types at.after l) a' c' at.rest parts.1 l.source l.target (registers_after l.source source) (registers_after l.target target)
           (leads_so l.source source (source_may at.after l.source l.target at.allowed)) (leads_so l.target target (target_may at.after l.source l.target at.allowed))
           (line_stands w own world at.after a' c' lead.2 l at.allowed parts.0)
-          (λ stand'. blocks_move ls (n + 1) (after_line at.after l) a' c' stand' at.rest parts.1)
+          (λ stand'. blocks_move ls (n + 1) (after_line w.scope.types at.after l) a' c' stand' at.rest parts.1)

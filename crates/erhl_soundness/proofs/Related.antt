@@ -1,6 +1,8 @@
 -- Registers stay related over an aligned line, but for those that it lets differ.
-use Rattle.std.proofs.Common.{◌≡◌, ◌⊎◌, inl, inr, Bool, true, false, ◌&&◌, cond, List, Option, None, Some, refl, sym, ap, ◌∙◌, subst, subst₂, ⊎_elim, nat_eq}
+use Rattle.std.proofs.Common.{◌≡◌, ◌<◌, ℕ, length, slice_get, ◌⊎◌, inl, inr, Bool, true, false, ◌&&◌, cond, List, Option, None, Some, refl, sym, ap, ◌∙◌, subst, subst₂, ⊎_elim, nat_eq}
 use Rattle.std.proofs.lemmas.Bool.{false≢true, cond_both, cases_Bool}
+use Rattle.std.specs.List.{AllByRecursion}
+use Rattle.ir_types.specs.declared.named.NamedTy.{NamedTy}
 use Rattle.ir_types.specs.declared.names.Name.{Name}
 use Rattle.ir_core.specs.declared.values.Value.{Value}
 use Rattle.ir_core.specs.declared.values.Value.TheVariants.{Poison}
@@ -42,13 +44,13 @@ use Rattle.ir_machine.specs.Machine.{set_to}
 use Rattle.ir_machine.proofs.Runs.{read_set_at}
 use Rattle.erhl_assert.specs.declared.facts.Assertion.{Assertion}
 use Rattle.erhl_assert.specs.Sides.{SideState, read_reg, AreRelated, no_ghost}
-use Rattle.erhl_assert.specs.Facts.{AssertionHolds}
+use Rattle.erhl_assert.specs.Facts.{AssertionHolds, Holds}
 use Rattle.erhl_assert.specs.declared.verdict.Reason.{Reason}
 use Rattle.erhl_assert.specs.declared.verdict.Reason.TheVariants.{Unmatched, TargetMayTrap}
 use Rattle.erhl_assert.specs.Matched.{matched, atoms_matched, are_matched}
 use Rattle.erhl_assert.specs.Allowed.{can_trap, same_operator, first_unmatched, right_fault, line_fault_of}
-use Rattle.erhl_assert.specs.Postcondition.{flags_agree, rights_agree, lines_agree, without_reg, with_reg, diff_after, after_line}
-use Rattle.erhl_soundness.specs.Laws.{AreInOneWorld, goes_on, LineLeads, Keeps, ALineKeepsWhatHolds, MatchedOperandsAreRelated}
+use Rattle.erhl_assert.specs.Postcondition.{flags_agree, rights_agree, lines_agree, without_reg, with_reg, diff_after, after_line, facts_after}
+use Rattle.erhl_soundness.specs.Laws.{AreGlobalsNamed, AreInOneWorld, goes_on, LineLeads, Keeps, ALineKeepsWhatHolds, MatchedOperandsAreRelated}
 use Rattle.erhl_soundness.proofs.Trapping.{no_trap}
 use Rattle.erhl_soundness.proofs.Operators.{binary_related, icmp_related, cast_related, select_related, traps_whatever_flags, only_trap, flags_among_themselves}
 use Rattle.erhl_soundness.proofs.Outside.{outside_with, outside_without}
@@ -346,38 +348,50 @@ leads_so (Some i) side may = absurd may
 
 -- after an aligned line what its postcondition says holds
 module _ (known : Assertion) (source target : SideState) (one : AreInOneWorld source target) (holds : AssertionHolds nat_eq no_ghost known source target) where
+  abbrev types : List NamedTy
+  types = source.scope.types
+
+  named_too : AreGlobalsNamed target
+  named_too = subst₂ (λ (scope : Scope) (world : World). (k : ℕ) → k < length scope.globals → slice_get world.names k ≡ Some (Some k)) one.scope one.world one.named
+
+  target_after_hold : (one_sided : Bool) (t : Calm) (w : Value) → gives_on target t.right ≡ Gives w
+      → AllByRecursion (Holds (side_after target t w)) (facts_after types one_sided (Some (line.Calm t)) known.tgt)
+  target_after_hold one_sided t w is =
+      subst (λ (scope : Scope). AllByRecursion (Holds (side_after target t w)) (facts_after scope.types one_sided (Some (line.Calm t)) known.tgt)) (sym one.scope)
+      (facts_after_hold target t w is named_too one_sided known.tgt holds.target_facts)
+
   source_keeps : (s : Calm) (o : Outcome) → gives_on source s.right ≡ o
-      → Keeps (after_line known (record { source = Some (line.Calm s); target = None })) source target (set_by (kind_of (type_of s.right)) s.name o source.files.now) (Some target.files.now)
+      → Keeps (after_line types known (record { source = Some (line.Calm s); target = None })) source target (set_by (kind_of (type_of s.right)) s.name o source.files.now) (Some target.files.now)
   source_keeps s Trap is = tt
   source_keeps s (Gives v) is = record {
-    source_facts = facts_after_hold source s v is known.src holds.source_facts;
+    source_facts = facts_after_hold source s v is one.named true known.src holds.source_facts;
     target_facts = holds.target_facts;
     related = related_source known.diff source target holds.related s.name (kind_of (type_of s.right)) v;
   }
 
   target_keeps : (t : Calm) (o : Outcome) → gives_on target t.right ≡ o → can_trap t.right ≡ false
-      → Keeps (after_line known (record { source = None; target = Some (line.Calm t) })) source target (Some source.files.now) (set_by (kind_of (type_of t.right)) t.name o target.files.now)
+      → Keeps (after_line types known (record { source = None; target = Some (line.Calm t) })) source target (Some source.files.now) (set_by (kind_of (type_of t.right)) t.name o target.files.now)
   target_keeps t Trap is safe = absurd (no_trap target.scope (read target.files.now) target.world.memory t.right safe is)
   target_keeps t (Gives w) is safe = record {
     source_facts = holds.source_facts;
-    target_facts = facts_after_hold target t w is known.tgt holds.target_facts;
+    target_facts = target_after_hold true t w is;
     related = related_target known.diff source target holds.related t.name (kind_of (type_of t.right)) w;
   }
 
   both_keep : (s t : Calm) (o p : Outcome) → gives_on source s.right ≡ o → gives_on target t.right ≡ p → right_fault known s.right t.right ≡ None
-      → Keeps (after_line known (record { source = Some (line.Calm s); target = Some (line.Calm t) })) source target
+      → Keeps (after_line types known (record { source = Some (line.Calm s); target = Some (line.Calm t) })) source target
       (set_by (kind_of (type_of s.right)) s.name o source.files.now) (set_by (kind_of (type_of t.right)) t.name p target.files.now)
   both_keep s t Trap p is_source is_target allowed = tt
   both_keep s t (Gives v) Trap is_source is_target allowed =
       let traps : Gives v ≡ Trap = sym is_source ∙ allowed_traps known source target one holds s.right t.right allowed is_target in absurd (cc)
   both_keep s t (Gives v) (Gives w) is_source is_target allowed = record {
-    source_facts = facts_after_hold source s v is_source known.src holds.source_facts;
-    target_facts = facts_after_hold target t w is_target known.tgt holds.target_facts;
+    source_facts = facts_after_hold source s v is_source one.named false known.src holds.source_facts;
+    target_facts = target_after_hold false t w is_target;
     related = both_related known source target one holds s t v w is_source is_target;
   }
 
   pub keeps_so : (i j : Option Instr) → line_fault_of known i j ≡ None
-      → Keeps (after_line known (record { source = i; target = j })) source target (registers_after i source) (registers_after j target)
+      → Keeps (after_line types known (record { source = i; target = j })) source target (registers_after i source) (registers_after j target)
   keeps_so None None allowed = holds
   keeps_so (Some (line.Calm s)) None allowed = source_keeps s (gives_on source s.right) refl
   keeps_so None (Some (line.Calm t)) allowed =

@@ -17,11 +17,11 @@ use Rattle.ir_values.specs.Constants.{Scope}
 use Rattle.ir_values.specs.Values.{IsInKind}
 use Rattle.ir_values.proofs.KindLaws.{same_kind_refl}
 use Rattle.block_memory.specs.Memory.{Memory}
-use Rattle.ir_machine.specs.Registers.{Registers, held_at, holding, set, register_value, outcome}
+use Rattle.ir_machine.specs.Registers.{AreInKind, Registers, held_at, holding, set, register_value, outcome}
 use Rattle.ir_machine.specs.State.{World}
 use Rattle.ir_machine.proofs.Runs.{read_set_at, read_set_other}
 use Rattle.erhl_assert.specs.declared.facts.Assertion.{Assertion}
-use Rattle.erhl_assert.specs.Sides.{SideState, IsSideInKind, all_paired, read_reg, RegisterFiles, no_ghost}
+use Rattle.erhl_assert.specs.Sides.{SideState, IsFine, all_paired, read_reg, RegisterFiles, no_ghost}
 use Rattle.erhl_assert.specs.Facts.{AssertionHolds}
 use Rattle.erhl_assert.specs.Edges.{register_at}
 use Rattle.erhl_assert.specs.Steps.{Beside}
@@ -41,8 +41,8 @@ side scope own world a = record {
 -- Both sides are in one world, in which they own the same blocks and each block stands for itself. Each value lies in its kind; a register of
 -- the source that is set, or was before the edge, holds a kind of one of its definitions; and what is known holds.
 pub record Stand (w : Beside) (own : List ℕ) (world : World) (known : Assertion) (a b : RegisterFiles) : Type 0 where
-  pub source_in_kind : IsSideInKind (side w.scope own world a)
-  pub target_in_kind : IsSideInKind (side w.scope own world b)
+  pub source_in_kind : IsFine (side w.scope own world a)
+  pub target_in_kind : IsFine (side w.scope own world b)
   pub now_defined : AreDefined w.source a.now
   pub old_defined : AreDefined w.source a.old
   pub holds : AssertionHolds nat_eq no_ghost known (side w.scope own world a) (side w.scope own world b)
@@ -64,8 +64,21 @@ with_now a now = record a { now = now }
 abbrev pub with_ghost : RegisterFiles → Registers → RegisterFiles
 with_ghost a ghost = record a { ghost = ghost }
 
+-- with other registers, each in kind, a side is as it should be still
+pub fine_with : (scope : Scope) (own : List ℕ) (world : World) (a b : RegisterFiles) → IsFine (side scope own world a) → AreInKind b.now → AreInKind b.old → AreInKind b.ghost
+    → IsFine (side scope own world b)
+fine_with scope own world a b h now old ghost = record {
+  now = now;
+  old = old;
+  ghost = ghost;
+  bytes = h.bytes;
+  globals = h.globals;
+  named = h.named;
+  once = h.once;
+}
+
 -- a reading of every register in kind
-pub reads_in_kind : (s : SideState) → IsSideInKind s → (k : Kind) (r : Reg) → IsInKind k (read_reg s k r)
+pub reads_in_kind : (s : SideState) → IsFine s → (k : Kind) (r : Reg) → IsInKind k (read_reg s k r)
 reads_in_kind s h k (Now x) = h.now x k
 reads_in_kind s h k (Old x) = h.old x k
 reads_in_kind s h k (Ghost x) = h.ghost x k

@@ -14,14 +14,12 @@ use Rattle.ir_values.proofs.OperationLaws.{less_defined_refl}
 use Rattle.ir_values.specs.Related.{IsRelated}
 use Rattle.ir_values.proofs.RelatedValues.{less_related}
 use Rattle.ir_machine.specs.declared.inputs.Input.{Input}
-use Rattle.block_memory.specs.Laws.{IsOfBytes}
 use Rattle.ir_machine.specs.Registers.{Registers, AreInKind, no_registers}
 use Rattle.ir_machine.specs.State.{World, State}
 use Rattle.ir_machine.specs.declared.inputs.InputPath.{InputPath}
 use Rattle.ir_machine.specs.Starting.{misfit, started, started_unless, world_at_start}
 use Rattle.ir_machine.proofs.InKind.{no_registers_in_kind}
 use Rattle.ir_machine.proofs.Passing.{fitting}
-use Rattle.ir_machine.proofs.Worlds.{starts_of_bytes}
 use Rattle.flow_solver.specs.Near.{reached_nodes}
 use Rattle.definedness.specs.Graph.{labels_in, places_in, graph_in, flow_of}
 use Rattle.erhl_assert.specs.declared.facts.Fact.{Fact}
@@ -31,7 +29,7 @@ use Rattle.erhl_assert.specs.declared.hints.Letter.TheVariants.{Both, Source, Ta
 use Rattle.erhl_assert.specs.declared.hints.Hint.{Hint}
 use Rattle.erhl_assert.specs.declared.verdict.Reason.TheVariants.{AlignmentDiffers}
 use Rattle.erhl_assert.specs.declared.verdict.Spot.TheVariants as spot
-use Rattle.erhl_assert.specs.Sides.{read_reg, RegisterFiles}
+use Rattle.erhl_assert.specs.Sides.{IsFine, read_reg, RegisterFiles}
 use Rattle.erhl_assert.specs.Facts.{Holds, with_facts, each_once}
 use Rattle.erhl_assert.specs.Alignment.{Line, AlignedBlock, Alignment, Aligned, Differs, after_first, aligned, letters_or_both, block_hint, block_aligned, with_block, blocks_aligned, same_param, same_header, first_block}
 use Rattle.erhl_assert.specs.Course.{tested, IsGood}
@@ -45,6 +43,7 @@ use Rattle.erhl_soundness.proofs.Edges.{NoneAgain, apart_once}
 use Rattle.erhl_soundness.proofs.Judging.{block_good}
 use Rattle.erhl_soundness.proofs.Relation.{source_lines, target_lines, own_lines, IsAligned, Marked, source_of, target_of, mark_of, running, IsBlockFine, all_fine, IsPairFine, AreStartsRelated}
 use Rattle.erhl_soundness.proofs.Entering.{at_entry_is, entering, entering_defined, entering_in_kind, entering_same, entry_at, misfit_same}
+use Rattle.erhl_soundness.proofs.Worlds.{IsThere, starts_there}
 use Rattle.erhl_soundness.proofs.Reached.{marked, marked_blocks, all_marked, marked_good, marked_lead_on, first_reached}
 
 -- ---- aligned lines give both bodies back
@@ -233,9 +232,20 @@ module _ (w : Beside) where
 
   -- ---- the start of a run
 
-  module _ (world : World) (bytes : IsOfBytes world.memory) where
+  module _ (world : World) (there : IsThere w.scope world) where
     abbrev begun : Registers → RegisterFiles
     begun registers = record { now = registers; old = no_registers; ghost = no_registers }
+
+    begun_fine : (registers : Registers) → AreInKind registers → IsFine (side w.scope [] world (begun registers))
+    begun_fine registers kind = record {
+      now = kind;
+      old = no_registers_in_kind;
+      ghost = no_registers_in_kind;
+      bytes = there.bytes;
+      globals = there.globals;
+      named = there.named;
+      once = there.once;
+    }
 
     facts_none : (registers : Registers) (fs : List Fact) → fs ≡ [] → AllByRecursion (Holds (side w.scope [] world (begun registers))) (with_facts fs [])
     facts_none registers fs none = subst (λ gs. AllByRecursion (Holds (side w.scope [] world (begun registers))) (with_facts gs [])) (sym none) tt
@@ -246,8 +256,8 @@ module _ (w : Beside) where
     begun_stand : (lists : Assertion) (registers : Registers) → AreInKind registers → AreDefined w.source registers → lists.src ≡ [] → lists.tgt ≡ []
         → Stand w [] world (each_once lists) (begun registers) (begun registers)
     begun_stand lists registers kind defined no_src no_tgt = record {
-      source_in_kind = record { now = kind; old = no_registers_in_kind; ghost = no_registers_in_kind; bytes = bytes };
-      target_in_kind = record { now = kind; old = no_registers_in_kind; ghost = no_registers_in_kind; bytes = bytes };
+      source_in_kind = begun_fine registers kind;
+      target_in_kind = begun_fine registers kind;
       now_defined = defined;
       old_defined = none_defined w.source;
       holds = record {
@@ -316,7 +326,7 @@ module _ (w : Beside) where
         (ap (λ gs. entry_at world w.target gs registers) (sym parts.back.target)
         ∙ ap (entry_at world w.target w.target.blocks) (entering_same world w.source.params w.target.params input.args params_alike)
         ∙ sym (at_entry_is world w.target w.target.blocks input.args))
-        (entries_start world (starts_of_bytes w.scope input fits.externals fits.blocks) (marks_of parts.blocks) pair registers
+        (entries_start world (starts_there w.scope input w.source.params fit) (marks_of parts.blocks) pair registers
         (entering_in_kind world w.source.params input.args fits.arguments) (entering_defined world w.source w.source.params input.args (params_defined w.source))
         parts.blocks pair.fine (entry_claims_nothing w parts.blocks parts.good))
 

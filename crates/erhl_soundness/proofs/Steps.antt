@@ -48,7 +48,7 @@ use Rattle.erhl_assert.specs.declared.hints.HintStep.{HintStep}
 use Rattle.erhl_assert.specs.declared.hints.HintStep.TheVariants.{Rule, Ghost as GhostOf, Same as SameAs}
 use Rattle.erhl_assert.specs.declared.verdict.Reason.{Reason}
 use Rattle.erhl_assert.specs.declared.verdict.Reason.TheVariants.{RuleUnfit, MissingPremise, DiffLeft}
-use Rattle.erhl_assert.specs.Sides.{SideState, IsSideInKind, read_reg, worth, has_reg, AreRelated, RegisterFiles, no_ghost}
+use Rattle.erhl_assert.specs.Sides.{SideState, IsFine, read_reg, worth, has_reg, AreRelated, RegisterFiles, no_ghost}
 use Rattle.erhl_assert.specs.Facts.{Holds, IsSound, kind_of_expr, has_fact, with_facts, expr_names, without_naming}
 use Rattle.erhl_assert.specs.Typed.{has_values, has_type}
 use Rattle.erhl_assert.specs.Allowed.{can_trap}
@@ -58,15 +58,14 @@ use Rattle.erhl_assert.specs.Course as course
 use Rattle.erhl_assert.specs.Course.{Ends, Refuses, Course, refuses, after_ends, and_then, tested, first_fault}
 use Rattle.erhl_assert.specs.Growth.{facts_of, with_conclusion, adds_all}
 use Rattle.erhl_assert.specs.Steps.{Meaning, Beside, rule_named, rule_takes, AreSound, first_missing, concluded, after_rule, registers_in, differing_fault, ghost_word, may_be, ghost_fault, choice, as_new, chosen, after_ghost, is_other, has_other_kind, premise_fault, same_fault, after_same, after_step, after_steps}
-use Rattle.erhl_assert.proofs.Courses.{then_ends}
-use Rattle.erhl_assert.proofs.Edges.{with_all, adds_all_ends}
+use Rattle.erhl_assert.proofs.Courses.{adds_all_ends, then_ends, with_all}
 use Rattle.erhl_soundness.proofs.Alike.{outcome_alike, none_found}
-use Rattle.erhl_soundness.proofs.Facts.{StaysThere, has_fact_holds, premises_hold, with_fact_holds, with_facts_hold, both_ways_hold, worth_kept, without_holds}
+use Rattle.erhl_soundness.proofs.Facts.{StaysThere, stays_so, has_fact_holds, premises_hold, with_fact_holds, with_facts_hold, both_ways_hold, worth_kept, without_holds}
 use Rattle.erhl_soundness.proofs.Outside.{outside_without}
 use Rattle.erhl_soundness.proofs.Related.{held_related}
 use Rattle.erhl_soundness.proofs.Trapping.{no_trap}
 use Rattle.erhl_soundness.proofs.Definitions.{AreDefined, reads_poison}
-use Rattle.erhl_soundness.proofs.Standing.{side, Stand, knowing, with_ghost, reads_in_kind, register_worth, none_is_poison, set_ghost, ghost_other, ghost_at}
+use Rattle.erhl_soundness.proofs.Standing.{side, Stand, fine_with, knowing, with_ghost, reads_in_kind, register_worth, none_is_poison, set_ghost, ghost_other, ghost_at}
 
 -- what a course comes to, if it isn't refused, stands, for some ghost registers
 abbrev pub EndsStand : Beside → List ℕ → World → RegisterFiles → RegisterFiles → Ends Assertion → Type 0
@@ -136,22 +135,19 @@ module _ (scope : Scope) (own : List ℕ) (world : World) (a : RegisterFiles) (g
       let after = side scope own world after_choice in
       let o = kind_of (type_of e) in
       let same = ghost_other scope own world a g o v in
-      let stays : StaysThere before after = record { scope = refl; world = refl } in
+      let stays : StaysThere before after = stays_so before after_choice in
       with_facts_hold after (choice (Ghost g) e) (without_naming (Ghost g) fs)
       (both_ways_hold after e (register_at (type_of e) (Ghost g)) v refl
       (worth_kept (same_reg (Ghost g)) before after stays same e apart ∙ gives)
       (register_worth (read_reg after) (Ghost g) v scope world.memory (type_of e) (ghost_at scope own world a g o v)
       (none_is_poison scope (read_reg before) world.memory e v gives)))
-      (without_holds (same_reg (Ghost g)) before after stays same fs all)
+      (without_holds (same_reg (Ghost g)) before after stays same refl fs all)
 
-  choice_in_kind : IsSideInKind (side scope own world a) → IsSideInKind (side scope own world after_choice)
-  choice_in_kind h = record {
-    now = h.now;
-    old = h.old;
-    ghost = set_in_kind a.ghost g (kind_of (type_of e)) v h.ghost
-        (subst (GivesInKind (kind_of (type_of e))) gives (outcome_in_kind scope (read_reg (side scope own world a)) (reads_in_kind (side scope own world a) h) world.memory h.bytes e));
-    bytes = h.bytes;
-  }
+  choice_in_kind : IsFine (side scope own world a) → IsFine (side scope own world after_choice)
+  choice_in_kind h =
+      fine_with scope own world a after_choice h h.now h.old
+      (set_in_kind a.ghost g (kind_of (type_of e)) v h.ghost
+      (subst (GivesInKind (kind_of (type_of e))) gives (outcome_in_kind scope (read_reg (side scope own world a)) (reads_in_kind (side scope own world a) h) world.memory h.bytes e)))
 
 module _ (w : Beside) (sound : AreSound w.rules) (own : List ℕ) (world : World) (a b : RegisterFiles) where
   abbrev source : SideState

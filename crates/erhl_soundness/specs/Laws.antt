@@ -1,8 +1,9 @@
 -- The laws of the logic's words, and then its soundness laws (Crellvm's soundness theorem; the idea of checking each result
 -- of a compiler and proving the checker is credible compilation).
-use Rattle.std.specs.Prelude.{◌≡◌, ℕ, ◌≤◌, true, false, List, [], ◌∷◌, map, Option, None, Some, nat_eq}
+use Rattle.std.specs.Prelude.{◌≡◌, ℕ, ◌<◌, ◌≤◌, true, false, List, [], ◌∷◌, length, map, slice_get, Option, None, Some, nat_eq}
 use Rattle.std.specs.List.{AllByRecursion}
 use Rattle.ir_types.specs.declared.names.Name.{Name}
+use Rattle.ir_types.specs.declared.named.NamedTy.{NamedTy}
 use Rattle.ir_types.specs.declared.names.Name.TheVariants.{Number}
 use Rattle.ir_core.specs.declared.operands.Operand.{Operand}
 use Rattle.ir_types.specs.declared.ty.Ty.TheVariants.{Int}
@@ -49,10 +50,15 @@ abbrev pub goes_on : Option Registers → Frame → List Pending → World → A
 goes_on (Some registers) frame rest world = Does [] (Running (record frame { registers = registers }) rest world)
 goes_on None frame rest world = Does (Wrong ∷ []) Over
 
+-- the block of each global has the global's number for a name, as from the start of every run
+abbrev pub AreGlobalsNamed : SideState → Type 0
+AreGlobalsNamed side = (k : ℕ) → k < length side.scope.globals → slice_get side.world.names k ≡ Some (Some k)
+
 -- two sides of modules with the same types and globals, in one world, of which each block stands for itself
 pub record AreInOneWorld (source target : SideState) : Type 0 where
   pub scope : source.scope ≡ target.scope
   pub world : source.world ≡ target.world
+  pub named : AreGlobalsNamed source
 
 -- the line, or a no-op, leads every frame with the side's registers so, in the side's world, which stays, and in whichever module of its
 -- types and globals
@@ -69,14 +75,14 @@ Keeps known source target (Some source_after) (Some target_after) =
     AssertionHolds nat_eq no_ghost known (record source { files = record source.files { now = source_after } }) (record target { files = record target.files { now = target_after } })
 
 -- where an aligned line has no fault, a check comes to what is known after it; else it is refused, and nothing is added
-abbrev pub ComesTo : Option Reason → Line → Assertion → Type 0
-ComesTo None l known = (over_line l known).ends ≡ Gives (after_line known l)
-ComesTo (Some r) l known = over_line l known ≡ refuses r
+abbrev pub ComesTo : List NamedTy → Option Reason → Line → Assertion → Type 0
+ComesTo types None l known = (over_line types l known).ends ≡ Gives (after_line types known l)
+ComesTo types (Some r) l known = over_line types l known ≡ refuses r
 
--- Over an aligned line that is allowed, fact by fact, a check comes to what is known after it; and a line that isn't allowed it refuses
--- before any fact is added.
+-- Over an aligned line that is allowed, fact by fact, a check comes to what is known after it, beside whatever types; and a line that isn't
+-- allowed it refuses before any fact is added.
 abbrev pub ALineComesToWhatIsKnown : Type 0
-ALineComesToWhatIsKnown = (l : Line) (known : Assertion) → ComesTo (line_fault known l) l known
+ALineComesToWhatIsKnown = (types : List NamedTy) (l : Line) (known : Assertion) → ComesTo types (line_fault known l) l known
 
 -- Over an edge, fact by fact, a check comes to what is known after it, before the edge's steps.
 abbrev pub AnEdgeComesToWhatIsKnown : Type 0
@@ -94,7 +100,7 @@ StaysWithin n c = (after : Assertion) → AllByRecursion (λ s. s ≤ n) c.sizes
 pub record SizesBoundWhatIsKnown : Type 0 where
   pub at_a_start : (n : ℕ) (lists : Assertion) → StaysWithin n (put_in lists)
   pub over_steps : (n : ℕ) (w : Beside) (steps : List HintStep) (known : Assertion) → size known ≤ n → StaysWithin n (after_steps w steps known)
-  pub over_a_line : (n : ℕ) (l : Line) (known : Assertion) → size known ≤ n → StaysWithin n (over_line l known)
+  pub over_a_line : (n : ℕ) (types : List NamedTy) (l : Line) (known : Assertion) → size known ≤ n → StaysWithin n (over_line types l known)
   pub over_an_edge : (n : ℕ) (e : Edge) (known : Assertion) → size known ≤ n → StaysWithin n (over_edge e known)
 
 -- how facts are counted: checks written out, with all of their sizes
@@ -117,13 +123,14 @@ pub record FactsAreCounted : Type 0 where
   -- Over an edge with phis: one copy beside its original, which goes, as a phi sets its register; then four facts of two phis, of either side.
   pub over_phis : (over_edge swap before_swap).sizes ≡ 2 ∷ 2 ∷ 3 ∷ 4 ∷ 5 ∷ 6 ∷ 7 ∷ 8 ∷ 9 ∷ []
 
--- Where an assertion holds of two sides in one world and an aligned line is allowed, the two lines lead them to sides in that world of which
--- holds what `after_line` gives, unless the source's line is undefined behaviour. So where the target's line is, the source's is.
+-- Where an assertion holds of two sides in one world, in which globals have names, and an aligned line is allowed, the two lines lead them to
+-- sides in that world of which holds what `after_line` gives, unless the source's line is undefined behaviour. So where the target's line is, the
+-- source's is.
 abbrev pub ALineKeepsWhatHolds : Type 0
 ALineKeepsWhatHolds = (known : Assertion) (l : Line) (source target : SideState) → AreInOneWorld source target → AssertionHolds nat_eq no_ghost known source target
     → line_fault known l ≡ None
     → (source_after target_after : Option Registers) × LineLeads source l.source source_after × LineLeads target l.target target_after
-    × Keeps (after_line known l) source target source_after target_after
+    × Keeps (after_line source.scope.types known l) source target source_after target_after
 
 -- which lines are allowed, where nothing is known and no register may differ: lines written out
 pub record LinesAreJudged : Type 0 where
@@ -172,9 +179,11 @@ ShapesKeepPhisApart = (m : Module) → HasShape m → AllByRecursion ArePhisApar
 abbrev pub crossed : Name → List Phi → SideState → SideState
 crossed from phis side = record side { files = record side.files { now = with_phis side.scope side.files.now from phis side.files.now; old = side.files.now } }
 
--- Where an assertion holds of two sides of modules with the same types and globals, and each crosses the edge with its phis, what `after_edge` gives holds of the two behind them.
+-- Where an assertion holds of two sides of modules with the same types and globals, which have names, and each crosses the edge with its phis, what
+-- `after_edge` gives holds of the two behind them.
 abbrev pub AnEdgeKeepsWhatHolds : Type 0
-AnEdgeKeepsWhatHolds = (known : Assertion) (e : Edge) (source target : SideState) → source.scope ≡ target.scope → AreApart e.source → AreApart e.target
+AnEdgeKeepsWhatHolds = (known : Assertion) (e : Edge) (source target : SideState) → source.scope ≡ target.scope → AreGlobalsNamed source → AreGlobalsNamed target
+    → AreApart e.source → AreApart e.target
     → AssertionHolds nat_eq no_ghost known source target → AssertionHolds nat_eq no_ghost (after_edge known e) (crossed e.from e.source source) (crossed e.from e.target target)
 
 -- Where the rules are sound, two modules have the same types and globals, no two phis of a block set one register, and each pair of functions

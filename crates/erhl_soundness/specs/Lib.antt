@@ -2,3 +2,5 @@ pub mod Examples
 pub mod FlowExamples
 pub mod FlowLaws
 pub mod Laws
+pub mod MemoryExamples
+pub mod MemoryLaws

@@ -8,6 +8,8 @@
 
 ghost use Rattle.erhl_soundness.specs.Laws.{ALineComesToWhatIsKnown, AnEdgeComesToWhatIsKnown, HintsArePutIn, SizesBoundWhatIsKnown, FactsAreCounted, LinesAreJudged, ALineKeepsWhatHolds, AnEdgeKeepsWhatHolds, MatchedOperandsAreRelated, ShapesKeepPhisApart, AcceptedModulesRefine};
 ghost use Rattle.erhl_soundness.specs.FlowLaws.{ControlFlowIsJudged, PhisMustBeApart};
+ghost use Rattle.erhl_soundness.specs.MemoryExamples.{KillsAreTold, NoAliasIsTold, OkIsTold, PrivateIsTold, UniqueIsTold};
+ghost use Rattle.erhl_soundness.specs.MemoryLaws.{AllocasKeepWhatHolds, CalmLinesKeepWhatHolds, EdgesKeepWhatHolds, FineSidesAreThere, StoresKeepWhatHolds};
 
 /// Empty on purpose: its contract is the law.
 ///
@@ -63,17 +65,18 @@ pub fn lines_are_judged()
 
 /// Empty on purpose: its contract is the law.
 ///
-/// Two sides in one world of which an assertion holds come, by an aligned line that is allowed, to two sides in that world of which holds what
-/// the postcondition gives, unless the source's line is undefined behaviour; whatever their old and ghost registers are. So the target's line
-/// is undefined behaviour only where the source's is.
+/// Two sides in one world, in which the blocks of globals have their names, and of which an assertion holds, come, by an aligned line that is
+/// allowed, to two sides in that world of which holds what the postcondition gives, unless the source's line is undefined behaviour; whatever their
+/// old and ghost registers are. So the target's line is undefined behaviour only where the source's is.
 pub fn a_line_keeps_what_holds()
     ensures { ALineKeepsWhatHolds }
 {}
 
 /// Empty on purpose: its contract is the law.
 ///
-/// Two sides of which an assertion holds, of modules with the same types and globals, come, behind the phis of an edge that are apart, to two
-/// sides of which holds what the postcondition gives; their old registers are those before the edge, and their ghost registers stay.
+/// Two sides of which an assertion holds, of modules with the same types and globals, whose blocks have their names, come, behind the phis of an edge
+/// that are apart, to two sides of which holds what the postcondition gives; their old registers are those before the edge, and their ghost
+/// registers stay.
 pub fn an_edge_keeps_what_holds()
     ensures { AnEdgeKeepsWhatHolds }
 {}
@@ -107,4 +110,54 @@ pub fn accepted_modules_refine()
 /// The theorem needs its premise: there are modules that are accepted and don't refine, of which a block has two phis of one register.
 pub fn phis_must_be_apart()
     ensures { PhisMustBeApart }
+{}
+
+/// Empty on purpose: its contract is the law.
+///
+/// Of a fine side a calm line that doesn't trap leaves true whatever its kills leave, and makes true what it adds; and the side is fine again.
+pub fn a_calm_line_keeps_what_holds()
+    ensures { CalmLinesKeepWhatHolds }
+{}
+
+/// Empty on purpose: its contract is the law.
+///
+/// Of a fine side what is known over an edge, behind phis that are apart, is true there, by itself and whatever the other side is; and the side is
+/// fine again.
+pub fn an_edge_of_one_side_keeps_what_holds()
+    ensures { EdgesKeepWhatHolds }
+{}
+
+/// Empty on purpose: its contract is the law.
+///
+/// Of a fine side that holds pointers to blocks that there are alone, an alloca leaves true whatever its kills leave, and makes true what it adds: its
+/// pointer is the only one to its block, which is private where the line is of one side alone, and its slot may be accessed and holds undef.
+pub fn an_alloca_keeps_what_holds()
+    ensures { AllocasKeepWhatHolds }
+{}
+
+/// Empty on purpose: its contract is the law.
+///
+/// Of a fine side a store that doesn't trap leaves true whatever its kills leave, loads among it that are spared, and makes true what it adds: another
+/// access there doesn't trap, and gives what was stored.
+pub fn a_store_keeps_what_holds()
+    ensures { StoresKeepWhatHolds }
+{}
+
+/// Empty on purpose: its contract is the law.
+///
+/// Beside whatever types and globals there is a fine side, so that no rule is sound for want of one. Each start, of whatever module, is on a fine side
+/// that holds pointers to blocks that there are alone; and in a module of well-formed shape the name of each global leads to it.
+pub fn fine_sides_are_there()
+    ensures { FineSidesAreThere }
+{}
+
+/// Empty on purpose: its contract is the law.
+///
+/// Of sides that are written out it is told which facts of memory are true and which are false, each for one reason; and which loads a store spares.
+pub fn facts_of_memory_are_told()
+    ensures unique { UniqueIsTold }
+    ensures private { PrivateIsTold }
+    ensures no_alias { NoAliasIsTold }
+    ensures ok { OkIsTold }
+    ensures kills { KillsAreTold }
 {}

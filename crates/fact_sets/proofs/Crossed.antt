@@ -1,5 +1,5 @@
 -- Registers that may differ behind an edge, and how they are kept in four parts.
-use Rattle.std.proofs.Common.{◌≡◌, ◌∙◌, Bool, true, false, ◌||◌, ◌&&◌, cond, not, filter, map, List, [], ◌∷◌, ◌++◌, ◌==◌, length, append_assoc, refl, sym, ap, ap₂, arith}
+use Rattle.std.proofs.Common.{◌≡◌, ◌∙◌, Bool, true, false, ◌||◌, cond, not, filter, map, List, [], ◌∷◌, ◌++◌, ◌==◌, length, append_assoc, refl, sym, ap, ap₂, arith}
 use Rattle.std.proofs.lemmas.List.{append-nil, map-append}
 use Rattle.std.proofs.lemmas.List.Elements.{filter-append}
 use Rattle.std.proofs.lemmas.List.Folds.{list_any-append}

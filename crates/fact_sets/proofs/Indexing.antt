@@ -62,7 +62,7 @@ pub unspoken : {X : Type 0} (speaks_of : Reg → X → Bool) (names : List Name)
 unfolding IsIndexed
 unspoken speaks_of names xs r indexed h = true_or_false _ (λ e. let here = indexed r e in let bad : true ≡ false = sym here ∙ h in cc)
 
-filter_none : {X : Type 0} (p : X → Bool) (xs : List X) → list_any p xs ≡ false → filter (λ x. not (p x)) xs ≡ xs
+pub filter_none : {X : Type 0} (p : X → Bool) (xs : List X) → list_any p xs ≡ false → filter (λ x. not (p x)) xs ≡ xs
 filter_none p [] h = refl
 filter_none p (x ∷ xs) h =
     (elim (p x) as (λ b. (b || list_any p xs) ≡ false → cond (not b) (x ∷ filter (λ y. not (p y)) xs) (filter (λ y. not (p y)) xs) ≡ x ∷ xs)

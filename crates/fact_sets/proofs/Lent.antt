@@ -1,6 +1,5 @@
 -- What is left of a list that is lent.
-use Rattle.std.proofs.Common.{◌≡◌, ◌∙◌, ◌≢◌, ⊎_elim, ℕ, zero, suc, Bool, true, false, ◌||◌, ◌&&◌, ◌<◌, ◌==◌, cond, not, filter, List, [], ◌∷◌, ◌++◌, length, get_or, set, replicate, append_assoc, Option, None, Some, refl, sym, ap, arith}
-use Rattle.std.proofs.lemmas.Bool.{cases_eq}
+use Rattle.std.proofs.Common.{◌≡◌, ◌∙◌, ◌≢◌, ℕ, Bool, true, false, ◌||◌, ◌&&◌, ◌<◌, ◌==◌, cond, not, filter, List, [], ◌∷◌, ◌++◌, length, get_or, replicate, append_assoc, Option, None, Some, refl, sym, ap, arith}
 use Rattle.std.proofs.lemmas.List.{append-nil, length-set, get_or-set_same, get_or-set_other, get_or-replicate}
 use Rattle.std.proofs.lemmas.List.Elements.{filter_agree}
 use Rattle.std.proofs.lemmas.List.Quantifiers.{position-Some}

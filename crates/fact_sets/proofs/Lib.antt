@@ -6,3 +6,4 @@ pub mod Placing
 pub mod RegisterNames
 pub mod Nearness
 pub mod ErhlSides
+pub mod Shielding

@@ -12,7 +12,7 @@ use Rattle.ir_types.specs.Same.{same_name}
 use Rattle.ir_core.specs.Same.{same_reg}
 use Rattle.ir_core.specs.Expressions.{Expr0, atom_has}
 use Rattle.erhl_assert.specs.declared.facts.Fact.{Fact}
-use Rattle.erhl_assert.specs.declared.facts.Fact.TheVariants.{LessDef}
+use Rattle.erhl_assert.specs.declared.facts.Fact.TheVariants.{LessDef, Unique, Private, NoAlias, Ok}
 use Rattle.erhl_assert.specs.Facts.{expr_names, fact_names, with_fact, has_fact}
 use Rattle.erhl_assert.specs.Named.{name_of}
 use Rattle.fact_sets.proofs.Indexing.{Has, or_cases, any_append, insert_keeps, register_has}
@@ -67,11 +67,20 @@ expr_has_it r (Load e) names h = atom_has_it r e.pointer.atom names h
 fact_keeps : (n : Name) (f : Fact) (names : List Name) → Has n names → Has n (with_named f names)
 unfolding with_named
 fact_keeps n (LessDef a b) names h = expr_keeps n b _ (expr_keeps n a names h)
+fact_keeps n (NoAlias a b) names h = expr_keeps n b _ (expr_keeps n a names h)
+fact_keeps n (Unique r) names h = insert_keeps n (name_of r) names h
+fact_keeps n (Private r) names h = insert_keeps n (name_of r) names h
+fact_keeps n (Ok e t align) names h = expr_keeps n e names h
 
 fact_has_it : (r : Reg) (f : Fact) (names : List Name) → fact_names r f ≡ true → Has (name_of r) (with_named f names)
 unfolding with_named
 fact_has_it r (LessDef a b) names h =
     or_cases (expr_names r a) (expr_names r b) h (λ k. expr_keeps _ b _ (expr_has_it r a names k)) (λ k. expr_has_it r b _ k)
+fact_has_it r (NoAlias a b) names h =
+    or_cases (expr_names r a) (expr_names r b) h (λ k. expr_keeps _ b _ (expr_has_it r a names k)) (λ k. expr_has_it r b _ k)
+fact_has_it r (Unique s) names h = register_has r s names h
+fact_has_it r (Private s) names h = register_has r s names h
+fact_has_it r (Ok e t align) names h = expr_has_it r e names h
 
 -- names that stay
 pub kept_same : (few many : List Name) → many ≡ few → IsKept few many

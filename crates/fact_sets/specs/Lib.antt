@@ -4,3 +4,4 @@ pub mod Places
 pub mod Near
 pub mod ErhlSides
 pub mod AddedFacts
+pub mod Shields

@@ -12,7 +12,7 @@ use Rattle.ir_core.specs.declared.expressions.Expr.TheVariants.{Plain, Binary, I
 use Rattle.ir_types.specs.Same.{same_name}
 use Rattle.ir_core.specs.Expressions.{Expr0}
 use Rattle.erhl_assert.specs.declared.facts.Fact.{Fact}
-use Rattle.erhl_assert.specs.declared.facts.Fact.TheVariants.{LessDef}
+use Rattle.erhl_assert.specs.declared.facts.Fact.TheVariants.{LessDef, Unique, Private, NoAlias, Ok}
 use Rattle.erhl_assert.specs.Sides.{has_reg}
 use Rattle.erhl_assert.specs.Named.{name_of}
 
@@ -36,6 +36,10 @@ with_expr (Load e) names = with_atom e.pointer.atom names
 
 unfoldable pub with_named : Fact → List Name → List Name
 with_named (LessDef a b) names = with_expr b (with_expr a names)
+with_named (NoAlias a b) names = with_expr b (with_expr a names)
+with_named (Unique r) names = insert_key same_name names (name_of r)
+with_named (Private r) names = insert_key same_name names (name_of r)
+with_named (Ok e t align) names = with_expr e names
 
 -- each name of the first list is in the second
 unfoldable pub IsKept : List Name → List Name → Type 0

@@ -14,6 +14,7 @@ mod listed_registers;
 mod naming;
 mod near_facts;
 mod register_set;
+mod shields;
 
 pub use added_facts::{
     AddEnd, LineEnd, add_equal, left_side, limits_are_apart, names, now_expr, old_atom, old_fact,

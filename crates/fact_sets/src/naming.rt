@@ -90,7 +90,14 @@ pub(crate) fn add_named(
     ensures ok { OnOk result (names.new.keys ≡ with_named fact.now names.old.keys) }
     ensures kept { IsKept names.old.keys names.new.keys }
 {
-    let Fact::LessDef(a, b) = fact;
-    add_expr(alloc, a, names)?;
-    add_expr(alloc, b, names)
+    match fact {
+        Fact::LessDef(a, b) | Fact::NoAlias(a, b) => {
+            add_expr(alloc, a, names)?;
+            add_expr(alloc, b, names)
+        }
+        Fact::Unique(register) | Fact::Private(register) => {
+            add_name(alloc, bare_name(register), names)
+        }
+        Fact::Ok(address, _, _) => add_expr(alloc, address, names),
+    }
 }

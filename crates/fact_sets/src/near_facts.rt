@@ -82,9 +82,8 @@ impl NearFacts {
         ensures { OnOk result ((fs : List Fact) → AreNear self.old fs → AreNear self.new (with_fact fact.now fs)) }
     {
         let alloc = *self.by_name.allocator();
-        let Fact::LessDef(a, b) = fact;
-        match (a, b) {
-            (Expr::Plain(a), Expr::Plain(b)) => {
+        match fact {
+            Fact::LessDef(Expr::Plain(a), Expr::Plain(b)) => {
                 self.put_at(alloc, &a.atom, fact)?;
                 self.put_at(alloc, &b.atom, fact)?;
                 Ok(())

@@ -60,6 +60,7 @@ from_premise put (Some p) (LessDef u v ∷ []) h =
     let first = same_reg_expr_true (instance put (pattern.Plain (gives p) place.Z)) u (right_true one z (left_true (one && z) e h)) in
     let second = same_reg_expr_true (instance put p) v (right_true (one && z) e h) in
     ap₂ (λ a b. LessDef a b ∷ []) (sym first) (sym second)
+from_premise put (Some p) (f ∷ []) h = absurd (cc)
 
 typed_premise : (put : Put Reg) (p : Option Pattern) (from : List Fact) → is_premise put p from ≡ true → typed_facts from ≡ true
 typed_premise put None [] h = refl
@@ -71,6 +72,7 @@ typed_premise put (Some p) (LessDef u v ∷ []) h =
     let z = is_instance put (pattern.Plain (gives p) place.Z) u in
     let e = is_instance put p v in
     all_true (left_true one z (left_true (one && z) e h)) refl
+typed_premise put (Some p) (f ∷ []) h = absurd (cc)
 
 pub fits_instance : (form : Form) (from : List Fact) (to : Fact) → fits form from to ≡ true → IsInstance form from to
 fits_instance form from (LessDef a b) h =
@@ -91,6 +93,7 @@ fits_instance form from (LessDef a b) h =
       typed = all_true (right_true p one h1) (typed_premise put form.premise from (left_true p one h1));
       asked = right_true (p && one && l && r) k h;
     }
+fits_instance form from f h = absurd (cc)
 
 either : (p q : Bool) (P : Type 0) → (p ≡ true → P) → (q ≡ true → P) → (p || q) ≡ true → P
 either true q P f g h = f refl

@@ -316,7 +316,9 @@ fn is_premise(letters: &Letters<Reg>, premise: &Option<Pattern>, from: &[Fact]) 
 pub fn fits(form: &Form, from: &[Fact], to: &Fact) -> bool
     ensures { result ≡ meaning.fits form.now from.now to.now }
 {
-    let Fact::LessDef(a, b) = to;
+    let Fact::LessDef(a, b) = to else {
+        return false;
+    };
     let letters = read(form, from, a, b);
     is_premise(&letters, &form.premise, from)
         && have_one_type(a, b)

@@ -1,91 +1,254 @@
 -- What a line adds to a side, and how an aligned line goes on, within the limit on facts.
-use Rattle.std.proofs.Common.{◌≡◌, ◌∙◌, Bool, true, false, cond, Option, None, Some, refl, sym, ap}
+use Rattle.std.proofs.Common.{◌≡◌, ◌∙◌, Bool, true, false, ◌||◌, cond, not, List, [], ◌∷◌, ◌++◌, map, Option, None, Some, refl, sym, ap, ap₂}
+use Rattle.std.specs.List.{list_any, flat_map}
+use Rattle.ir_types.specs.declared.names.Name.{Name}
+use Rattle.ir_types.specs.declared.named.NamedTy.{NamedTy}
+use Rattle.ir_core.specs.declared.operands.Atom.{Atom}
+use Rattle.ir_core.specs.declared.operands.Atom.TheVariants as atom
+use Rattle.ir_core.specs.declared.operands.Operand.{Operand}
 use Rattle.ir_core.specs.declared.functions.Calm.{Calm}
 use Rattle.ir_core.specs.declared.functions.Instr.{Instr}
 use Rattle.ir_core.specs.declared.functions.Instr.TheVariants as line
+use Rattle.ir_core.specs.declared.values.Kind.{Kind}
+use Rattle.ir_core.specs.declared.expressions.Expr.{Expr}
+use Rattle.ir_core.specs.declared.expressions.Load.{Load as LoadOf}
+use Rattle.ir_core.specs.Types.{kind_of}
+use Rattle.ir_machine.specs.Registers.{align_or}
+use Rattle.erhl_assert.specs.Matched.{now_operand}
+use Rattle.ir_core.specs.declared.expressions.Expr.TheVariants as expr
 use Rattle.ir_core.specs.declared.expressions.Reg.{Reg}
 use Rattle.ir_core.specs.declared.expressions.Reg.TheVariants.{Now}
-use Rattle.ir_core.specs.Expressions.{map_expr}
-use Rattle.erhl_assert.specs.declared.facts.Fact.TheVariants.{LessDef}
+use Rattle.ir_core.specs.Expressions.{Expr0, map_expr}
+use Rattle.erhl_assert.specs.declared.facts.Fact.{Fact}
+use Rattle.erhl_assert.specs.declared.facts.Fact.TheVariants.{LessDef, Unique, Private, NoAlias, Ok}
 use Rattle.erhl_assert.specs.declared.facts.Assertion.{Assertion}
 use Rattle.erhl_assert.specs.declared.facts.Side.{Side}
 use Rattle.erhl_assert.specs.declared.facts.Side.TheVariants.{Src, Tgt}
-use Rattle.erhl_assert.specs.declared.fact_set.Kill.TheVariants.{Naming}
-use Rattle.erhl_assert.specs.Facts.{expr_names, killed, on_side}
+use Rattle.erhl_assert.specs.declared.fact_set.Kill.{Kill}
+use Rattle.erhl_assert.specs.declared.fact_set.Kill.TheVariants as kill
+use Rattle.erhl_assert.specs.Facts.{both_ways, expr_names, on_side}
+use Rattle.erhl_assert.specs.Kills.{all_killed, is_unique_of, killed, unique_of}
 use Rattle.erhl_assert.specs.Alignment.{Line}
 use Rattle.erhl_assert.specs.Course.{Course, Ends, Gives, gives, and_then, are_too_many, within}
 use Rattle.erhl_assert.specs.Allowed.{line_fault}
-use Rattle.erhl_assert.specs.Growth.{adds, forgetting, over_calm, over_side, over_allowed, over_line}
-use Rattle.erhl_assert.specs.Postcondition.{right_side, left_side, diff_after, lines_agree, without_reg, with_reg, after_line}
-use Rattle.erhl_assert.proofs.Courses.{within_more, within_none, calm_keeps_diff, allowed_ends, line_allowed}
+use Rattle.erhl_assert.specs.Growth.{adds, adds_all, facts_of, over_side, over_allowed, over_line}
+use Rattle.erhl_assert.specs.Postcondition.{accessed, accessed_by, calm_adds, copied_in, line_kills, with_align, right_side, left_side, diff_after, lines_agree, without_reg, with_reg, after_line}
+use Rattle.erhl_assert.proofs.Courses.{going_on, within_more, within_none, side_keeps_diff, allowed_ends, line_allowed}
+use Rattle.fact_sets.specs.ErhlSides.Joining.{says_unique}
+use Rattle.postcondition.specs.LineCourses.{access_at, access_in, over_calm}
+use Rattle.postcondition.proofs.EdgeCrossing.Copying.{all_two}
 
-pub forgotten : (side : Side) (r : Reg) (known : Assertion) → on_side side (killed (Naming r)) known ≡ forgetting side r known
-forgotten Src r known = refl
-forgotten Tgt r known = refl
+-- ---- what goes
+pub nothing_killed : (side : Side) (known : Assertion) → known ≡ on_side side (all_killed []) known
+nothing_killed Src known = refl
+nothing_killed Tgt known = refl
 
-module _ (side : Side) (l : Calm) (known : Assertion) where
-  abbrev over : Bool → Course Assertion
-  over b =
-      let kept = forgetting side (Now l.name) known in
-      cond b (gives kept) (and_then (adds side (LessDef (left_side l) (right_side l)) kept) (adds side (LessDef (right_side l) (left_side l))))
+pub killed_then : (ks ls : List Kill) (fs : List Fact) → all_killed (ks ++ ls) fs ≡ all_killed ls (all_killed ks fs)
+killed_then [] ls fs = refl
+killed_then (k ∷ ks) ls fs = killed_then ks ls (killed k fs)
 
-  pub line_added : expr_names (Now l.name) (map_expr Now l.right) ≡ false
-      → over_calm side l known
-      ≡ and_then (adds side (LessDef (left_side l) (right_side l)) (forgetting side (Now l.name) known)) (adds side (LessDef (right_side l) (left_side l)))
-  line_added h = ap over h
+killed_more : (side : Side) (ks ls : List Kill) (known after last : Assertion)
+    → after ≡ on_side side (all_killed ks) known → last ≡ on_side side (all_killed ls) after → last ≡ on_side side (all_killed (ks ++ ls)) known
+killed_more Src ks ls known after last first then =
+    then ∙ ap (on_side Src (all_killed ls)) first ∙ ap (λ fs. record known { src = fs }) (sym (killed_then ks ls known.src))
+killed_more Tgt ks ls known after last first then =
+    then ∙ ap (on_side Tgt (all_killed ls)) first ∙ ap (λ fs. record known { tgt = fs }) (sym (killed_then ks ls known.tgt))
 
-  pub line_not_added : expr_names (Now l.name) (map_expr Now l.right) ≡ true → within (over_calm side l known) ≡ Some (Gives (forgetting side (Now l.name) known))
-  line_not_added h = ap (λ b. within (over b)) h
+none_more : {X : Type 0} (xs : List X) → xs ++ [] ≡ xs
+none_more [] = refl
+none_more (x ∷ xs) = ap (λ ys. x ∷ ys) (none_more xs)
 
-module _ (known : Assertion) where
+module _ (side : Side) (a : Atom Name) (xs : List (Atom Name)) (known after last : Assertion) where
+  pub shared_more : after ≡ on_side side (all_killed (flat_map unique_of (a ∷ []))) known → last ≡ on_side side (all_killed (flat_map unique_of xs)) after
+      → last ≡ on_side side (all_killed (flat_map unique_of (a ∷ xs))) known
+  shared_more first then =
+      killed_more side (unique_of a) (flat_map unique_of xs) known after last (first ∙ ap (λ ks. on_side side (all_killed ks) known) (none_more (unique_of a))) then
+
+pub shared_two : (side : Side) (a b : Atom Name) (known after last : Assertion)
+    → after ≡ on_side side (all_killed (flat_map unique_of (a ∷ []))) known → last ≡ on_side side (all_killed (flat_map unique_of (b ∷ []))) after
+    → last ≡ on_side side (all_killed (flat_map unique_of (a ∷ b ∷ []))) known
+shared_two side a b known after last first then = shared_more side a (b ∷ []) known after last first then
+
+pub shared_three : (side : Side) (a b c : Atom Name) (known after last : Assertion)
+    → after ≡ on_side side (all_killed (flat_map unique_of (a ∷ []))) known → last ≡ on_side side (all_killed (flat_map unique_of (b ∷ c ∷ []))) after
+    → last ≡ on_side side (all_killed (flat_map unique_of (a ∷ b ∷ c ∷ []))) known
+shared_three side a b c known after last first then = shared_more side a (b ∷ c ∷ []) known after last first then
+
+-- a walk over operands
+abbrev atoms : List (Operand Name) → List (Atom Name)
+atoms os = map (λ (o : Operand Name). o.atom) os
+
+abbrev pub shared : Side → List (Operand Name) → Assertion → Assertion
+shared side os known = on_side side (all_killed (flat_map unique_of (atoms os))) known
+
+pub shared_on : (side : Side) (o : Operand Name) (os : List (Operand Name)) (known after all : Assertion)
+    → after ≡ on_side side (all_killed (flat_map unique_of (o.atom ∷ []))) known → shared side (o ∷ os) known ≡ all → shared side os after ≡ all
+shared_on side o os known after all first so_far =
+    shared_more side o.atom (atoms os) known after (shared side os after) first refl ∙ so_far
+
+-- where no register is said to be unique, no copy takes anything
+none_unique : (p q : Bool) → (p || q) ≡ false → (p ≡ false) × (q ≡ false)
+none_unique true q h = absurd (cc)
+none_unique false q h = (refl, h)
+
+pub not_it : (r : Reg) (f : Fact) → says_unique f ≡ false → is_unique_of r f ≡ false
+not_it r (Unique q) h = absurd (cc)
+not_it r (Private q) h = refl
+not_it r (LessDef a b) h = refl
+not_it r (NoAlias a b) h = refl
+not_it r (Ok e t align) h = refl
+
+kept_all : (r : Reg) (fs : List Fact) → list_any says_unique fs ≡ false → killed (kill.Unique r) fs ≡ fs
+kept_all r [] h = refl
+kept_all r (f ∷ fs) h =
+    let two = none_unique (says_unique f) (list_any says_unique fs) h in
+    ap (λ b. cond (not b) (f ∷ killed (kill.Unique r) fs) (killed (kill.Unique r) fs)) (not_it r f two.0) ∙ ap (λ gs. f ∷ gs) (kept_all r fs two.1)
+
+one_kept : (a : Atom Name) (fs : List Fact) → list_any says_unique fs ≡ false → all_killed (unique_of a) fs ≡ fs
+one_kept (atom.Constant c) fs h = refl
+one_kept (atom.Register x) fs h = kept_all (Now x) fs h
+
+all_kept : (xs : List (Atom Name)) (fs : List Fact) → list_any says_unique fs ≡ false → all_killed (flat_map unique_of xs) fs ≡ fs
+all_kept [] fs h = refl
+all_kept (a ∷ xs) fs h =
+    killed_then (unique_of a) (flat_map unique_of xs) fs ∙ ap (all_killed (flat_map unique_of xs)) (one_kept a fs h) ∙ all_kept xs fs h
+
+pub none_shared : (side : Side) (xs : List (Atom Name)) (known : Assertion) → list_any says_unique (facts_of side known) ≡ false
+    → known ≡ on_side side (all_killed (flat_map unique_of xs)) known
+none_shared Src xs known h = ap (λ fs. record known { src = fs }) (sym (all_kept xs known.src h))
+none_shared Tgt xs known h = ap (λ fs. record known { tgt = fs }) (sym (all_kept xs known.tgt h))
+
+pub line_killed : (side : Side) (l : Calm) (known after last : Assertion)
+    → after ≡ on_side side (killed (kill.Naming (Now l.name))) known → last ≡ on_side side (all_killed (flat_map unique_of (copied_in l.right))) after
+    → last ≡ on_side side (all_killed (line_kills (line.Calm l))) known
+line_killed side l known after last first then =
+    killed_more side (kill.Naming (Now l.name) ∷ []) (flat_map unique_of (copied_in l.right) ++ []) known after last (one side first)
+    (then ∙ ap (λ ks. on_side side (all_killed ks) after) (sym (none_more (flat_map unique_of (copied_in l.right)))))
+  where
+    one : (side : Side) → after ≡ on_side side (killed (kill.Naming (Now l.name))) known → after ≡ on_side side (all_killed (kill.Naming (Now l.name) ∷ [])) known
+    one Src h = h
+    one Tgt h = h
+
+-- ---- what comes
+module _ (side : Side) (f : Fact) (known after : Assertion) (few : Bool) where
+  pub one_added : few ≡ true → within (adds side f known) ≡ cond few (Some (Gives after)) None → within (adds_all side (f ∷ []) known) ≡ Some (Gives after)
+  one_added e h = within_more (adds side f known) (adds_all side []) after (h ∙ ap (λ b. cond b (Some (Gives after)) None) e)
+
+  pub one_too_many : few ≡ false → within (adds side f known) ≡ cond few (Some (Gives after)) None → within (adds_all side (f ∷ []) known) ≡ None
+  one_too_many e h = within_none (adds side f known) (adds_all side []) (h ∙ ap (λ b. cond b (Some (Gives after)) None) e)
+
+module _ (side : Side) (fs gs : List Fact) (known : Assertion) where
+  pub all_added : (half after : Assertion) → within (adds_all side fs known) ≡ Some (Gives half) → within (adds_all side gs half) ≡ Some (Gives after)
+      → within (adds_all side (fs ++ gs) known) ≡ Some (Gives after)
+  all_added half after first then = all_two side fs gs known ∙ ap (λ o. going_on o (λ a. within (adds_all side gs a))) first ∙ then
+
+  pub first_over : within (adds_all side fs known) ≡ None → within (adds_all side (fs ++ gs) known) ≡ None
+  first_over first = all_two side fs gs known ∙ ap (λ o. going_on o (λ a. within (adds_all side gs a))) first
+
+  pub second_over : (half : Assertion) → within (adds_all side fs known) ≡ Some (Gives half) → within (adds_all side gs half) ≡ None
+      → within (adds_all side (fs ++ gs) known) ≡ None
+  second_over half first then = all_two side fs gs known ∙ ap (λ o. going_on o (λ a. within (adds_all side gs a))) first ∙ then
+
+-- a load that gets its alignment names what it named
+named_as : (types : List NamedTy) (r : Reg) (e : Expr0) → expr_names r (with_align types e) ≡ expr_names r e
+named_as types r (expr.Load l) = refl
+named_as types r (expr.Plain o) = refl
+named_as types r (expr.Binary b) = refl
+named_as types r (expr.Icmp c) = refl
+named_as types r (expr.Cast c) = refl
+named_as types r (expr.Select s) = refl
+named_as types r (expr.Element e) = refl
+
+module _ (types : List NamedTy) (l : Calm) where
+  abbrev equation : List Fact
+  equation = both_ways (left_side l) (right_side types l)
+
+  abbrev is_own : Bool
+  is_own = expr_names (Now l.name) (map_expr Now l.right)
+
+  load_access : (b : Bool) (o : Option Kind) (a : LoadOf Name) → expr_names (Now l.name) (map_expr Now (expr.Load a)) ≡ b
+      → accessed o l.name a.of (now_operand a.pointer) (align_or types a.of a.align) ≡ cond b [] (access_at o types a)
+  load_access true None a h = refl
+  load_access false None a h = refl
+  load_access b (Some k) a h = ap (λ c. cond c [] (access_at (Some k) types a)) h
+
+  access_of : (b : Bool) (e : Expr Name) → expr_names (Now l.name) (map_expr Now e) ≡ b → accessed_by types l e ≡ cond b [] (access_in types e)
+  access_of b (expr.Load a) h = load_access b (kind_of a.of) a h
+  access_of true (expr.Plain o) h = refl
+  access_of false (expr.Plain o) h = refl
+  access_of true (expr.Binary o) h = refl
+  access_of false (expr.Binary o) h = refl
+  access_of true (expr.Icmp o) h = refl
+  access_of false (expr.Icmp o) h = refl
+  access_of true (expr.Cast o) h = refl
+  access_of false (expr.Cast o) h = refl
+  access_of true (expr.Select o) h = refl
+  access_of false (expr.Select o) h = refl
+  access_of true (expr.Element o) h = refl
+  access_of false (expr.Element o) h = refl
+
+  comes : (b : Bool) → is_own ≡ b → calm_adds types l ≡ cond b [] equation ++ cond b [] (access_in types l.right)
+  comes b h = ap₂ (λ (xs ys : List Fact). xs ++ ys) (ap (λ c. cond c [] equation) (named_as types (Now l.name) (map_expr Now l.right) ∙ h)) (access_of b l.right h)
+
+  module _ (side : Side) (known : Assertion) where
+    pub line_added : (kept : Assertion) → kept ≡ on_side side (all_killed (line_kills (line.Calm l))) known → is_own ≡ false
+        → over_calm types side l known ≡ adds_all side (equation ++ access_in types l.right) kept
+    line_added kept at h = ap₂ (λ (fs : List Fact) (k : Assertion). adds_all side fs k) (comes false h) (sym at)
+
+    pub line_not_added : (kept : Assertion) → kept ≡ on_side side (all_killed (line_kills (line.Calm l))) known → is_own ≡ true
+        → within (over_calm types side l known) ≡ Some (Gives kept)
+    line_not_added kept at h = ap₂ (λ (fs : List Fact) (k : Assertion). within (adds_all side fs k)) (comes true h) (sym at)
+
+-- ---- an aligned line
+module _ (types : List NamedTy) (known : Assertion) where
   pub both_done : (s t : Calm) (half after : Assertion)
-      → within (over_calm Src s known) ≡ Some (Gives half) → within (over_calm Tgt t half) ≡ Some (Gives after)
-      → within (over_allowed (record { source = Some (line.Calm s); target = Some (line.Calm t) }) known)
+      → within (over_calm types Src s known) ≡ Some (Gives half) → within (over_calm types Tgt t half) ≡ Some (Gives after)
+      → within (over_allowed types (record { source = Some (line.Calm s); target = Some (line.Calm t) }) known)
       ≡ Some (Gives (record after { diff = diff_after known (Some (line.Calm s)) (Some (line.Calm t)) }))
   both_done s t half after first second =
       let last : Assertion → Course Assertion = λ after. gives (record after { diff = diff_after known (Some (line.Calm s)) (Some (line.Calm t)) }) in
-      within_more (over_calm Src s known) (λ half. and_then (over_calm Tgt t half) last) half first
-      ∙ within_more (over_calm Tgt t half) last after second
+      within_more (over_calm types Src s known) (λ half. and_then (over_calm types Tgt t half) last) half first
+      ∙ within_more (over_calm types Tgt t half) last after second
 
   pub both_end : (s t : Calm) (half after last : Assertion) (agreed : Bool) → agreed ≡ lines_agree known s t
-      → within (over_calm Src s known) ≡ Some (Gives half) → within (over_calm Tgt t half) ≡ Some (Gives after)
+      → within (over_calm types Src s known) ≡ Some (Gives half) → within (over_calm types Tgt t half) ≡ Some (Gives after)
       → last ≡ record after { diff = cond agreed (without_reg (Now s.name) after.diff) (with_reg (Now t.name) (with_reg (Now s.name) after.diff)) }
-      → within (over_allowed (record { source = Some (line.Calm s); target = Some (line.Calm t) }) known) ≡ Some (Gives last)
+      → within (over_allowed types (record { source = Some (line.Calm s); target = Some (line.Calm t) }) known) ≡ Some (Gives last)
   both_end s t half after last agreed is first second at =
       both_done s t half after first second
       ∙ ap (λ a. Some (Gives a)) (sym (at
       ∙ ap (λ d. record after { diff = cond agreed (without_reg (Now s.name) d) (with_reg (Now t.name) (with_reg (Now s.name) d)) })
-      (calm_keeps_diff Tgt t half after second ∙ calm_keeps_diff Src s known half first)
+      (side_keeps_diff types false Tgt (Some (line.Calm t)) half after second ∙ side_keeps_diff types false Src (Some (line.Calm s)) known half first)
       ∙ ap (λ b. record after { diff = cond b (without_reg (Now s.name) known.diff) (with_reg (Now t.name) (with_reg (Now s.name) known.diff)) }) is))
 
-  pub source_over : (s : Calm) (t : Option Instr) → within (over_calm Src s known) ≡ None → within (over_allowed (record { source = Some (line.Calm s); target = t }) known) ≡ None
+  pub source_over : (s : Calm) (t : Option Instr) → within (over_calm types Src s known) ≡ None → within (over_allowed types (record { source = Some (line.Calm s); target = t }) known) ≡ None
   source_over s t h =
       let last : Assertion → Course Assertion = λ after. gives (record after { diff = diff_after known (Some (line.Calm s)) t }) in
-      within_none (over_calm Src s known) (λ half. and_then (over_side Tgt t half) last) h
+      within_none (over_calm types Src s known) (λ half. and_then (over_side types false Tgt t half) last) h
 
-  pub target_over : (s t : Calm) (half : Assertion) → within (over_calm Src s known) ≡ Some (Gives half) → within (over_calm Tgt t half) ≡ None
-      → within (over_allowed (record { source = Some (line.Calm s); target = Some (line.Calm t) }) known) ≡ None
+  pub target_over : (s t : Calm) (half : Assertion) → within (over_calm types Src s known) ≡ Some (Gives half) → within (over_calm types Tgt t half) ≡ None
+      → within (over_allowed types (record { source = Some (line.Calm s); target = Some (line.Calm t) }) known) ≡ None
   target_over s t half first h =
       let last : Assertion → Course Assertion = λ after. gives (record after { diff = diff_after known (Some (line.Calm s)) (Some (line.Calm t)) }) in
-      within_more (over_calm Src s known) (λ half. and_then (over_calm Tgt t half) last) half first
-      ∙ within_none (over_calm Tgt t half) last h
+      within_more (over_calm types Src s known) (λ half. and_then (over_calm types Tgt t half) last) half first
+      ∙ within_none (over_calm types Tgt t half) last h
 
-  pub source_done : (s : Calm) (after : Assertion) → within (over_calm Src s known) ≡ Some (Gives after)
-      → within (over_allowed (record { source = Some (line.Calm s); target = None }) known) ≡ Some (Gives (record after { diff = with_reg (Now s.name) known.diff }))
+  pub source_done : (s : Calm) (after : Assertion) → within (over_calm types Src s known) ≡ Some (Gives after)
+      → within (over_allowed types (record { source = Some (line.Calm s); target = None }) known) ≡ Some (Gives (record after { diff = with_reg (Now s.name) known.diff }))
   source_done s after h =
       let last : Assertion → Course Assertion = λ after. gives (record after { diff = with_reg (Now s.name) known.diff }) in
-      within_more (over_calm Src s known) (λ half. and_then (gives half) last) after h
+      within_more (over_calm types Src s known) (λ half. and_then (gives half) last) after h
 
-  pub target_done : (t : Calm) (after : Assertion) → within (over_calm Tgt t known) ≡ Some (Gives after)
-      → within (over_allowed (record { source = None; target = Some (line.Calm t) }) known) ≡ Some (Gives (record after { diff = with_reg (Now t.name) known.diff }))
+  pub target_done : (t : Calm) (after : Assertion) → within (over_calm types Tgt t known) ≡ Some (Gives after)
+      → within (over_allowed types (record { source = None; target = Some (line.Calm t) }) known) ≡ Some (Gives (record after { diff = with_reg (Now t.name) known.diff }))
   target_done t after h =
       let last : Assertion → Course Assertion = λ after. gives (record after { diff = with_reg (Now t.name) known.diff }) in
-      within_more (over_calm Tgt t known) last after h
+      within_more (over_calm types Tgt t known) last after h
 
-  pub target_alone_over : (t : Calm) → within (over_calm Tgt t known) ≡ None → within (over_allowed (record { source = None; target = Some (line.Calm t) }) known) ≡ None
+  pub target_alone_over : (t : Calm) → within (over_calm types Tgt t known) ≡ None → within (over_allowed types (record { source = None; target = Some (line.Calm t) }) known) ≡ None
   target_alone_over t h =
       let last : Assertion → Course Assertion = λ after. gives (record after { diff = with_reg (Now t.name) known.diff }) in
-      within_none (over_calm Tgt t known) last h
+      within_none (over_calm types Tgt t known) last h
 
 -- what is within the limit, and what isn't
 parts_at : (b : Bool) (e : Ends Assertion) (known : Assertion) → cond b None (Some e) ≡ Some (Gives known) → (b ≡ false) × (e ≡ Gives known)
@@ -96,21 +259,21 @@ passed_at : (b : Bool) (e : Ends Assertion) → cond b None (Some e) ≡ None �
 passed_at true e h = refl
 passed_at false e h = absurd (cc)
 
-pub known_after : (l : Line) (known after : Assertion) → within (over_allowed l known) ≡ Some (Gives after) → after ≡ after_line known l
-known_after l known after h =
-    let e : Gives after ≡ Gives (after_line known l) =
-    sym (parts_at (are_too_many (over_allowed l known).sizes) (over_allowed l known).ends after h).1 ∙ allowed_ends l known in
+pub known_after : (types : List NamedTy) (l : Line) (known after : Assertion) → within (over_allowed types l known) ≡ Some (Gives after) → after ≡ after_line types known l
+known_after types l known after h =
+    let e : Gives after ≡ Gives (after_line types known l) =
+    sym (parts_at (are_too_many (over_allowed types l known).sizes) (over_allowed types l known).ends after h).1 ∙ allowed_ends types l known in
     cc
 
-sizes_same : (l : Line) (known : Assertion) (b : Bool) → line_fault known l ≡ None → are_too_many (over_allowed l known).sizes ≡ b
-    → are_too_many (over_line l known).sizes ≡ b
-sizes_same l known b allowed h = ap (λ (c : Course Assertion). are_too_many c.sizes) (line_allowed l known allowed) ∙ h
+sizes_same : (types : List NamedTy) (l : Line) (known : Assertion) (b : Bool) → line_fault known l ≡ None → are_too_many (over_allowed types l known).sizes ≡ b
+    → are_too_many (over_line types l known).sizes ≡ b
+sizes_same types l known b allowed h = ap (λ (c : Course Assertion). are_too_many c.sizes) (line_allowed types l known allowed) ∙ h
 
-pub few_after : (l : Line) (known after : Assertion) → line_fault known l ≡ None → within (over_allowed l known) ≡ Some (Gives after)
-    → are_too_many (over_line l known).sizes ≡ false
-few_after l known after allowed h =
-    sizes_same l known false allowed (parts_at (are_too_many (over_allowed l known).sizes) (over_allowed l known).ends after h).0
+pub few_after : (types : List NamedTy) (l : Line) (known after : Assertion) → line_fault known l ≡ None → within (over_allowed types l known) ≡ Some (Gives after)
+    → are_too_many (over_line types l known).sizes ≡ false
+few_after types l known after allowed h =
+    sizes_same types l known false allowed (parts_at (are_too_many (over_allowed types l known).sizes) (over_allowed types l known).ends after h).0
 
-pub too_many_after : (l : Line) (known : Assertion) → line_fault known l ≡ None → within (over_allowed l known) ≡ None
-    → are_too_many (over_line l known).sizes ≡ true
-too_many_after l known allowed h = sizes_same l known true allowed (passed_at (are_too_many (over_allowed l known).sizes) (over_allowed l known).ends h)
+pub too_many_after : (types : List NamedTy) (l : Line) (known : Assertion) → line_fault known l ≡ None → within (over_allowed types l known) ≡ None
+    → are_too_many (over_line types l known).sizes ≡ true
+too_many_after types l known allowed h = sizes_same types l known true allowed (passed_at (are_too_many (over_allowed types l known).sizes) (over_allowed types l known).ends h)

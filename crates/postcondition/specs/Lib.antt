@@ -1,2 +1,3 @@
 pub mod BlockPhis
 pub mod EdgeCrossing
+pub mod LineCourses

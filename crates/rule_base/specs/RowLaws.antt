@@ -23,7 +23,7 @@ use Rattle.ir_machine.specs.Registers.{atom_value}
 use Rattle.erhl_assert.specs.declared.facts.Fact.{Fact}
 use Rattle.erhl_assert.specs.declared.facts.Fact.TheVariants.{LessDef}
 use Rattle.erhl_assert.specs.declared.facts.Schema.{Schema}
-use Rattle.erhl_assert.specs.Sides.{SideState, IsSideInKind, read_reg, worth}
+use Rattle.erhl_assert.specs.Sides.{SideState, IsFine, read_reg, worth}
 use Rattle.erhl_assert.specs.Facts.{IsSound, Holds, kind_of_expr}
 use Rattle.erhl_assert.specs.Typed.{has_values, atom_fits}
 use Rattle.rule_base.specs.declared.shipped.Rule.{Rule}
@@ -42,7 +42,7 @@ refl_is_sound : (side : SideState) (from : List Fact) (to : Fact) → is_refl fr
 refl_is_sound side [] (LessDef a b) h =
     let e : a ≡ b = same_reg_expr_true a b (right_true (have_one_type a b) (same_expr same_reg a b) h) in
     rw (← e) (refl, less_itself (worth side a))
-refl_is_sound side (x ∷ more) to h = absurd (cc)
+refl_is_sound side from to h = absurd (cc)
 
 trans_holds : (side : SideState) (a b c d e f : Expr0) → b ≡ c → e ≡ a → f ≡ d → Holds side (LessDef a b) → Holds side (LessDef c d) → Holds side (LessDef e f)
 trans_holds side a b c d e f p q r first second =
@@ -51,11 +51,8 @@ trans_holds side a b c d e f p q r first second =
     let v : IsOutcomeLessDefined (worth side b) (worth side d) = rw p w in
     rw (q, r) (k, outcome_less_defined_trans (worth side a) (worth side b) (worth side d) first.1 v)
 
-module _ (side : SideState) (fine : IsSideInKind side) where
+module _ (side : SideState) (fine : IsFine side) where
   trans_is_sound : (from : List Fact) (to : Fact) → is_trans from to ≡ true → AllByRecursion (Holds side) from → Holds side to
-  trans_is_sound [] to h all = cc
-  trans_is_sound (x ∷ []) to h all = cc
-  trans_is_sound (x ∷ y ∷ z ∷ more) to h all = cc
   trans_is_sound (LessDef a b ∷ LessDef c d ∷ []) (LessDef e f) h all =
       let h1 : (have_one_type a b && have_one_type c d && same_expr same_reg b c && same_expr same_reg e a) ≡ true = left_true _ (same_expr same_reg f d) h in
       let h2 : (have_one_type a b && have_one_type c d && same_expr same_reg b c) ≡ true = left_true _ (same_expr same_reg e a) h1 in
@@ -64,6 +61,7 @@ module _ (side : SideState) (fine : IsSideInKind side) where
       (same_reg_expr_true e a (right_true (have_one_type a b && have_one_type c d && same_expr same_reg b c) (same_expr same_reg e a) h1))
       (same_reg_expr_true f d (right_true (have_one_type a b && have_one_type c d && same_expr same_reg b c && same_expr same_reg e a) (same_expr same_reg f d) h))
       all.0 all.1.0
+  trans_is_sound from to h all = absurd (cc)
 
   -- undef is less defined than a number of its type, and than undef
   undef_less : (t : Ty) (x y : Atom Reg) → is_undef x ≡ true → is_simple y ≡ true → has_values t ≡ true → atom_fits t y ≡ true

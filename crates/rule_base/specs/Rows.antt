@@ -40,15 +40,13 @@ have_one_type a b = is_typed a && is_typed b && same_ty (type_of a) (type_of b)
 -- `e >= e`
 abbrev pub is_refl : List Fact → Fact → Bool
 is_refl [] (LessDef a b) = have_one_type a b && same_expr same_reg a b
-is_refl (x ∷ more) to = false
+is_refl from to = false
 
 -- `a >= b, b >= c` to `a >= c`
 abbrev pub is_trans : List Fact → Fact → Bool
 is_trans (LessDef a b ∷ LessDef c d ∷ []) (LessDef e f) =
     have_one_type a b && have_one_type c d && same_expr same_reg b c && same_expr same_reg e a && same_expr same_reg f d
-is_trans [] to = false
-is_trans (x ∷ []) to = false
-is_trans (x ∷ y ∷ z ∷ more) to = false
+is_trans from to = false
 
 abbrev pub is_undef : Atom Reg → Bool
 is_undef (atom.Constant constant.Undef) = true
@@ -153,7 +151,7 @@ abbrev pub stand_apart : List (List ℕ) → Bool
 stand_apart [] = true
 stand_apart (x ∷ xs) = not (list_any (same_list nat_eq x) xs) && stand_apart xs
 
--- no row asks anything of types and globals, as no text that `check` reads has any
+-- no row asks anything of types and globals
 abbrev pub takes_row : Rule → Scope → Schema → Bool
 takes_row Refl scope schema = is_refl schema.from schema.to
 takes_row Trans scope schema = is_trans schema.from schema.to

@@ -28,7 +28,9 @@ pub(crate) fn is_fold(from: &[Fact], to: &Fact) -> bool
     if !from.is_empty() {
         return false;
     }
-    let Fact::LessDef(e, f) = to;
+    let Fact::LessDef(e, f) = to else {
+        return false;
+    };
     match f {
         Expr::Plain(constant) => {
             have_one_type(e, f) && is_over_numbers(e) && may_become(&folded(e), &constant.atom)

@@ -87,7 +87,9 @@ fn is_refl(from: &[Fact], to: &Fact) -> bool
     if !from.is_empty() {
         return false;
     }
-    let Fact::LessDef(a, b) = to;
+    let Fact::LessDef(a, b) = to else {
+        return false;
+    };
     have_one_type(a, b) && same_expr(a, b)
 }
 
@@ -97,7 +99,9 @@ fn is_trans(from: &[Fact], to: &Fact) -> bool
     let [Fact::LessDef(a, b), Fact::LessDef(c, d)] = from else {
         return false;
     };
-    let Fact::LessDef(e, f) = to;
+    let Fact::LessDef(e, f) = to else {
+        return false;
+    };
     have_one_type(a, b)
         && have_one_type(c, d)
         && same_expr(b, c)
@@ -127,7 +131,9 @@ fn is_undef_const(from: &[Fact], to: &Fact) -> bool
     if !from.is_empty() {
         return false;
     }
-    let Fact::LessDef(a, b) = to;
+    let Fact::LessDef(a, b) = to else {
+        return false;
+    };
     match (a, b) {
         (Expr::Plain(undef), Expr::Plain(other)) => {
             have_one_type(a, b) && is_undef(&undef.atom) && is_simple(&other.atom)
@@ -159,7 +165,9 @@ fn is_drop_flags(from: &[Fact], to: &Fact) -> bool
     if !from.is_empty() {
         return false;
     }
-    let Fact::LessDef(a, b) = to;
+    let Fact::LessDef(a, b) = to else {
+        return false;
+    };
     match (a, b) {
         (Expr::Binary(many), Expr::Binary(few)) => have_one_type(a, b) && drops_flags(many, few),
         _ => false,

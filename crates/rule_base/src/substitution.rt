@@ -29,7 +29,9 @@ pub(crate) fn is_subst(from: &[Fact], to: &Fact) -> bool
     let (Expr::Plain(before), Expr::Plain(after)) = (a, b) else {
         return false;
     };
-    let Fact::LessDef(e, f) = to;
+    let Fact::LessDef(e, f) = to else {
+        return false;
+    };
     have_one_type(a, b) && have_one_type(e, f) && makes_one(before, after, e, f)
 }
 

@@ -1,14 +1,15 @@
 -- Blocks whose lines agree where nothing is known are valid, whatever is known.
-use Rattle.std.proofs.Common.{◌≡◌, ◌∙◌, ◌&&◌, ◌||◌, ⊎_elim, ℕ, suc, ◌+◌, ◌*◌, ◌≤◌, nat_lt, Bool, true, false, not, cond, filter, List, [], ◌∷◌, ◌++◌, length, map, Option, None, Some, refl, sym, ap, subst, arith}
+use Rattle.std.proofs.Common.{◌≡◌, ◌∙◌, ◌&&◌, ◌||◌, ⊎_elim, ℕ, suc, ◌+◌, ◌*◌, ◌≤◌, nat_lt, Bool, true, false, not, cond, filter, List, [], ◌∷◌, ◌++◌, length, Option, None, Some, refl, sym, ap, subst, arith}
 use Rattle.std.specs.Prelude.{is_none}
-use Rattle.std.specs.List.{AllByRecursion, list_any}
+use Rattle.std.specs.List.{AllByRecursion, list_any, filter_map}
 use Rattle.std.specs.Option.{option_map}
 use Rattle.std.proofs.lemmas.Bool.{cond_both, false≢true, or_cases, or_left, or_right}
 use Rattle.std.proofs.lemmas.Bool.Decides.{nat_tests}
-use Rattle.std.proofs.lemmas.List.{length-append, length-map}
+use Rattle.std.proofs.lemmas.List.{length-append}
 use Rattle.ir_types.specs.NameLaws.{left_true, right_true, all_true, same_name_true, same_name_refl}
 use Rattle.ir_core.specs.Limits.{fact_limit}
 use Rattle.ir_types.specs.declared.names.Name.{Name}
+use Rattle.ir_types.specs.declared.named.NamedTy.{NamedTy}
 use Rattle.ir_core.specs.declared.values.Kind.{Kind}
 use Rattle.ir_core.specs.declared.operands.Operand.{Operand}
 use Rattle.ir_types.specs.declared.ty.Ty.{Ty}
@@ -20,6 +21,7 @@ use Rattle.ir_core.specs.declared.functions.Phi.{Phi}
 use Rattle.ir_core.specs.declared.functions.Term.{Term}
 use Rattle.ir_core.specs.declared.functions.Term.TheVariants.{Ret, RetVoid, Br, CondBr, Switch, Unreachable}
 use Rattle.ir_core.specs.declared.expressions.Expr.{Expr}
+use Rattle.ir_core.specs.declared.expressions.Expr.TheVariants as expr
 use Rattle.ir_core.specs.declared.expressions.Reg.{Reg}
 use Rattle.ir_core.specs.declared.expressions.Reg.TheVariants.{Now}
 use Rattle.ir_core.specs.Expressions.{operands_in}
@@ -28,7 +30,8 @@ use Rattle.ir_types.specs.Same.{same_list, same_ty, same_name}
 use Rattle.ir_core.specs.Types.{kind_of}
 use Rattle.ir_machine.specs.Machine.{entry_from}
 use Rattle.erhl_assert.specs.declared.facts.Fact.{Fact}
-use Rattle.erhl_assert.specs.declared.facts.Fact.TheVariants.{LessDef}
+use Rattle.erhl_assert.specs.declared.facts.Fact.TheVariants.{LessDef, Unique, Private, NoAlias, Ok}
+use Rattle.erhl_assert.specs.declared.fact_set.Kill.{Kill}
 use Rattle.erhl_assert.specs.declared.facts.Assertion.{Assertion}
 use Rattle.erhl_assert.specs.declared.facts.Side.{Side}
 use Rattle.erhl_assert.specs.declared.facts.Side.TheVariants.{Src, Tgt}
@@ -38,18 +41,20 @@ use Rattle.erhl_assert.specs.declared.verdict.Reason.{Reason}
 use Rattle.erhl_assert.specs.declared.verdict.Reason.TheVariants.{TargetMayTrap, Unmatched, DiffLeft}
 use Rattle.erhl_assert.specs.declared.verdict.Verdict.TheVariants as verdict
 use Rattle.erhl_assert.specs.declared.verdict.Spot.TheVariants as spot
-use Rattle.erhl_assert.specs.Facts.{has_fact, expr_names, fact_names, fact_has, without}
+use Rattle.erhl_assert.specs.Facts.{both_ways, has_fact, expr_names, fact_has, on_side, without}
+use Rattle.erhl_assert.specs.Kills.{all_killed, killed}
 use Rattle.erhl_assert.specs.Alignment.{Line, AlignedBlock, no_facts, block_hint}
 use Rattle.erhl_assert.specs.Allowed.{can_trap, same_operator, first_unmatched, right_fault, line_fault}
 use Rattle.erhl_assert.specs.Matched.{now_operand, from_fact, into_fact, some_into, meet, matched_at, matched, are_matched}
-use Rattle.erhl_assert.specs.Postcondition.{right_side, left_side, flags_agree, rights_agree, lines_agree, without_reg, with_reg, diff_after, after_line}
-use Rattle.erhl_assert.specs.Edges.{Edge, edge_between, phis_at, is_old, as_old, without_old, is_of_phi, sets, phi_fact, phi_facts, phi_setting, entries_match, phis_match, is_alike, phi_registers, old_too, diff_over, after_edge}
+use Rattle.erhl_assert.specs.Postcondition.{accessed_by, calm_adds, line_kills, right_side, left_side, flags_agree, rights_agree, lines_agree, without_reg, with_reg, diff_after, after_line}
+use Rattle.erhl_assert.specs.Edges.{Edge, edge_between, phis_at, is_old, as_old, without_old, is_of_phi, past_phis, phi_kills, sets, phi_fact, phi_facts, phi_setting, entries_match, phis_match, is_alike, phi_registers, old_too, diff_over, after_edge}
 use Rattle.erhl_assert.specs.Course.{Ends, Refuses, Gives, Course, gives, after_ends, and_then, first_fault, are_too_many, within, answer_at, judged_answer}
-use Rattle.erhl_assert.specs.Growth.{size, adds, adds_all, forgetting, over_calm, over_allowed, over_line, without_phis, over_edge}
+use Rattle.erhl_assert.specs.Growth.{size, adds, adds_all, over_side, over_allowed, over_line, without_phis, over_edge}
 use Rattle.erhl_assert.specs.Steps.{Beside, after_steps, steps_at, steps_on}
 use Rattle.erhl_assert.specs.Acceptance.{same_case, operand_fault, of_one_kind, term_fault, missing_fault, first_printed, left_over, arrival_fault, edge_judged, edges_judged, labels_once, hint_of_block, block_judged}
 use Rattle.erhl_assert.proofs.Courses.{allowed_ends, line_allowed}
 use Rattle.erhl_assert.proofs.Judging.{edge_within}
+use Rattle.fact_sets.proofs.ErhlSides.Once.{kept_by, killed_is}
 use Rattle.line_align.specs.Cursor.{on_source, on_target, left}
 use Rattle.line_align.specs.Lent.{lines_under}
 use Rattle.erhl_checker.specs.CheckedPair.Agreeing.{instrs_agree, line_agrees, all_agree, terms_agree, are_few, phi_agrees, phis_agree, no_fact, claims_nothing, edge_agrees, edges_agree, block_agrees}
@@ -145,6 +150,10 @@ all_more : (n m : ℕ) (xs : List ℕ) → n ≤ m → AtMost n xs → AtMost m 
 all_more n m [] le all = tt
 all_more n m (x ∷ xs) le all = (omega (arith, all.0), all_more n m xs le all.1)
 
+end_more : (n m : ℕ) (e : Ends Assertion) → n ≤ m → EndAtMost n e → EndAtMost m e
+end_more n m (Refuses r) le h = tt
+end_more n m (Gives known) le h = omega (arith, h)
+
 all_both : (n m : ℕ) (xs ys : List ℕ) → n ≤ m → AtMost n xs → AtMost m ys → AtMost m (xs ++ ys)
 all_both n m [] ys le first second = second
 all_both n m (x ∷ xs) ys le first second = (omega (arith, first.0), all_both n m xs ys le first.1 second)
@@ -182,34 +191,86 @@ filter_shorter p (f ∷ fs) =
     let rest : length (filter p fs) ≤ length fs = filter_shorter p fs in
     cond_both (p f) (f ∷ filter p fs) (filter p fs) (λ (gs : List Fact). length gs ≤ suc (length fs)) (λ e. omega arith) (λ e. omega arith)
 
-forgetting_shrinks : (n : ℕ) (side : Side) (r : Reg) (known : Assertion) → size known ≤ n → size (forgetting side r known) ≤ n
-forgetting_shrinks n Src r known h =
-    let fewer : length (filter (λ f. not (fact_names r f)) known.src) ≤ length known.src = filter_shorter (λ f. not (fact_names r f)) known.src in
+all_killed_shorter : (ks : List Kill) (fs : List Fact) → length (all_killed ks fs) ≤ length fs
+all_killed_shorter [] fs = omega arith
+all_killed_shorter (k ∷ ks) fs =
+    let one : length (killed k fs) ≡ length (filter (kept_by k fs) fs) = ap length (killed_is k fs) in
+    let fewer : length (filter (kept_by k fs) fs) ≤ length fs = filter_shorter (kept_by k fs) fs in
+    let rest : length (all_killed ks (killed k fs)) ≤ length (killed k fs) = all_killed_shorter ks (killed k fs) in
+    omega arith
+
+killing_shrinks : (n : ℕ) (side : Side) (ks : List Kill) (known : Assertion) → size known ≤ n → size (on_side side (all_killed ks) known) ≤ n
+killing_shrinks n Src ks known h =
+    let fewer : length (all_killed ks known.src) ≤ length known.src = all_killed_shorter ks known.src in
     let had : length known.src + length known.tgt ≤ n = h in
     omega arith
-forgetting_shrinks n Tgt r known h =
-    let fewer : length (filter (λ f. not (fact_names r f)) known.tgt) ≤ length known.tgt = filter_shorter (λ f. not (fact_names r f)) known.tgt in
+killing_shrinks n Tgt ks known h =
+    let fewer : length (all_killed ks known.tgt) ≤ length known.tgt = all_killed_shorter ks known.tgt in
     let had : length known.src + length known.tgt ≤ n = h in
     omega arith
 
-calm_reaches : (n : ℕ) (side : Side) (l : Calm) (known : Assertion) → size known ≤ n → Reaches (n + 1 + 1) (over_calm side l known)
-calm_reaches n side l known h =
-    let kept = forgetting side (Now l.name) known in
-    let less = forgetting_shrinks n side (Now l.name) known h in
-    let above = adds side (LessDef (left_side l) (right_side l)) kept in
-    let below = adds side (LessDef (right_side l) (left_side l)) in
-    cond_both (expr_names (Now l.name) (right_side l)) (gives kept) (and_then above below) (Reaches (n + 1 + 1))
-    (λ e. (tt, omega (arith, less)))
-    (λ e. and_then_reaches (n + 1) (n + 1 + 1) above below (omega arith) (adds_reaches n side (LessDef (left_side l) (right_side l)) kept less)
-    (λ known' less'. adds_reaches (n + 1) side (LessDef (right_side l) (left_side l)) known' less'))
+adds_all_reaches : (side : Side) (fs : List Fact) (n : ℕ) (known : Assertion) → size known ≤ n → Reaches (n + length fs) (adds_all side fs known)
+adds_all_reaches side [] n known h = (tt, omega (arith, h))
+adds_all_reaches side (f ∷ fs) n known h =
+    and_then_reaches (n + 1) (n + suc (length fs)) (adds side f known) (adds_all side fs) (omega arith) (adds_reaches n side f known h)
+    (λ half less. let e : n + 1 + length fs ≡ n + suc (length fs) = omega arith in subst (λ m. Reaches m (adds_all side fs half)) e (adds_all_reaches side fs (n + 1) half less))
+
+-- lines that agree are no accesses
+module _ (types : List NamedTy) (l : Calm) where
+  source_no_access : (s t : Expr Name) → same_operator s t ≡ true → accessed_by types l s ≡ []
+  source_no_access (expr.Load a) t h = absurd (false≢true h)
+  source_no_access (expr.Plain a) t h = refl
+  source_no_access (expr.Binary a) t h = refl
+  source_no_access (expr.Icmp a) t h = refl
+  source_no_access (expr.Cast a) t h = refl
+  source_no_access (expr.Select a) t h = refl
+  source_no_access (expr.Element a) t h = refl
+
+  target_no_access : (s t : Expr Name) → same_operator s t ≡ true → accessed_by types l t ≡ []
+  target_no_access (expr.Plain a) (expr.Load b) h = absurd (false≢true h)
+  target_no_access (expr.Binary a) (expr.Load b) h = absurd (false≢true h)
+  target_no_access (expr.Icmp a) (expr.Load b) h = absurd (false≢true h)
+  target_no_access (expr.Cast a) (expr.Load b) h = absurd (false≢true h)
+  target_no_access (expr.Select a) (expr.Load b) h = absurd (false≢true h)
+  target_no_access (expr.Element a) (expr.Load b) h = absurd (false≢true h)
+  target_no_access (expr.Load a) (expr.Load b) h = absurd (false≢true h)
+  target_no_access s (expr.Plain a) h = refl
+  target_no_access s (expr.Binary a) h = refl
+  target_no_access s (expr.Icmp a) h = refl
+  target_no_access s (expr.Cast a) h = refl
+  target_no_access s (expr.Select a) h = refl
+  target_no_access s (expr.Element a) h = refl
+
+  calm_few : accessed_by types l l.right ≡ [] → length (calm_adds types l) ≤ 2
+  calm_few none =
+      let pair : List Fact = both_ways (left_side l) (right_side types l) in
+      let all : length (cond (expr_names (Now l.name) (right_side types l)) [] pair ++ accessed_by types l l.right) ≡ length (cond (expr_names (Now l.name) (right_side types l)) [] pair ++ []) =
+      ap (λ fs. length (cond (expr_names (Now l.name) (right_side types l)) [] pair ++ fs)) none in
+      let two : length (cond (expr_names (Now l.name) (right_side types l)) [] pair ++ []) ≤ 2 =
+      cond_both (expr_names (Now l.name) (right_side types l)) [] pair (λ (fs : List Fact). length (fs ++ []) ≤ 2) (λ e. omega arith) (λ e. omega arith) in
+      omega arith
+
+  calm_reaches : (n : ℕ) (side : Side) (known : Assertion) → accessed_by types l l.right ≡ [] → size known ≤ n
+      → Reaches (n + 1 + 1) (adds_all side (calm_adds types l) (on_side side (all_killed (line_kills (line.Calm l))) known))
+  calm_reaches n side known none h =
+      let kept : Assertion = on_side side (all_killed (line_kills (line.Calm l))) known in
+      let few : length (calm_adds types l) ≤ 2 = calm_few none in
+      let it : Reaches (n + length (calm_adds types l)) (adds_all side (calm_adds types l) kept) =
+      adds_all_reaches side (calm_adds types l) n kept (killing_shrinks n side (line_kills (line.Calm l)) known h) in
+      let le : n + length (calm_adds types l) ≤ n + 1 + 1 = omega arith in (
+        all_more (n + length (calm_adds types l)) (n + 1 + 1) (adds_all side (calm_adds types l) kept).sizes le it.0,
+        end_more (n + length (calm_adds types l)) (n + 1 + 1) (adds_all side (calm_adds types l) kept).ends le it.1,
+      )
 
 -- of a line of both sides
-both_reach : (n : ℕ) (s t : Calm) (known : Assertion) → size known ≤ n
-    → Reaches (n + 1 + 1 + 1 + 1) (over_allowed (record { source = Some (line.Calm s); target = Some (line.Calm t) }) known)
-both_reach n s t known h =
+both_reach : (types : List NamedTy) (n : ℕ) (s t : Calm) (known : Assertion) → same_operator s.right t.right ≡ true → size known ≤ n
+    → Reaches (n + 1 + 1 + 1 + 1) (over_allowed types (record { source = Some (line.Calm s); target = Some (line.Calm t) }) known)
+both_reach types n s t known one h =
     let last : Assertion → Course Assertion = λ after. gives (record after { diff = diff_after known (Some (line.Calm s)) (Some (line.Calm t)) }) in
-    and_then_reaches (n + 1 + 1) (n + 1 + 1 + 1 + 1) (over_calm Src s known) (λ half. and_then (over_calm Tgt t half) last) (omega arith) (calm_reaches n Src s known h)
-    (λ half less. and_then_reaches (n + 1 + 1 + 1 + 1) (n + 1 + 1 + 1 + 1) (over_calm Tgt t half) last (omega arith) (calm_reaches (n + 1 + 1) Tgt t half less)
+    and_then_reaches (n + 1 + 1) (n + 1 + 1 + 1 + 1) (over_side types false Src (Some (line.Calm s)) known) (λ half. and_then (over_side types false Tgt (Some (line.Calm t)) half) last) (omega arith)
+    (calm_reaches types s n Src known (source_no_access types s s.right t.right one) h)
+    (λ half less. and_then_reaches (n + 1 + 1 + 1 + 1) (n + 1 + 1 + 1 + 1) (over_side types false Tgt (Some (line.Calm t)) half) last (omega arith)
+    (calm_reaches types t (n + 1 + 1) Tgt half (target_no_access types t s.right t.right one) less)
     (λ after less'. (tt, less')))
 
 not_too_many : (n : ℕ) (sizes : List ℕ) → n ≤ fact_limit → AtMost n sizes → are_too_many sizes ≡ false
@@ -219,32 +280,38 @@ not_too_many n (s ∷ ss) le all =
     ap (λ b. b || are_too_many ss) here ∙ not_too_many n ss le all.1
 
 -- ---- a line that agrees, of what is known where no register may differ
-module _ (s t : Calm) (known : Assertion) (n : ℕ) (same : known.diff ≡ []) (agree : lines_agree no_facts s t ≡ true)
+module _ (types : List NamedTy) (s t : Calm) (known : Assertion) (n : ℕ) (same : known.diff ≡ []) (agree : lines_agree no_facts s t ≡ true)
     (before : size known ≤ n) (few : n + 1 + 1 + 1 + 1 ≤ fact_limit) where
   abbrev both : Line
   both = record { source = Some (line.Calm s); target = Some (line.Calm t) }
 
+  one_operator : same_operator s.right t.right ≡ true
+  one_operator =
+      let one = same_operator s.right t.right in
+      let flags = flags_agree s.right t.right in
+      left_true one flags (left_true (one && flags) (are_matched no_facts (operands_in s.right) (operands_in t.right)) (right_true (same_name s.name t.name) (rights_agree no_facts s.right t.right) agree))
+
   allowed : line_fault known both ≡ None
   allowed = line_allowed_so known same s t agree
 
-  line_goes_on : within (over_line both known) ≡ Some (Gives (after_line known both))
+  line_goes_on : within (over_line types both known) ≡ Some (Gives (after_line types known both))
   line_goes_on =
-      line_within both known allowed
-      (ap (λ (c : Course Assertion). are_too_many c.sizes) (line_allowed both known allowed)
-      ∙ not_too_many (n + 1 + 1 + 1 + 1) (over_allowed both known).sizes few (both_reach n s t known before).0)
+      line_within types both known allowed
+      (ap (λ (c : Course Assertion). are_too_many c.sizes) (line_allowed types both known allowed)
+      ∙ not_too_many (n + 1 + 1 + 1 + 1) (over_allowed types both known).sizes few (both_reach types n s t known one_operator before).0)
 
-  line_adds : size (after_line known both) ≤ n + 1 + 1 + 1 + 1
-  line_adds = subst (EndAtMost (n + 1 + 1 + 1 + 1)) (allowed_ends both known) (both_reach n s t known before).1
+  line_adds : size (after_line types known both) ≤ n + 1 + 1 + 1 + 1
+  line_adds = subst (EndAtMost (n + 1 + 1 + 1 + 1)) (allowed_ends types both known) (both_reach types n s t known one_operator before).1
 
 -- over a line that agrees a check goes on, no register may differ after it, and it adds at most four facts
-abbrev GoesOn : Line → Assertion → ℕ → Type 0
-GoesOn l known n = (within (over_line l known) ≡ Some (Gives (after_line known l))) × ((after_line known l).diff ≡ []) × (size (after_line known l) ≤ n + 1 + 1 + 1 + 1)
+abbrev GoesOn : List NamedTy → Line → Assertion → ℕ → Type 0
+GoesOn types l known n = (within (over_line types l known) ≡ Some (Gives (after_line types known l))) × ((after_line types known l).diff ≡ []) × (size (after_line types known l) ≤ n + 1 + 1 + 1 + 1)
 
-line_steps : (x y : Option Instr) (known : Assertion) (n : ℕ) → known.diff ≡ [] → instrs_agree x y ≡ true → size known ≤ n → n + 1 + 1 + 1 + 1 ≤ fact_limit
-    → GoesOn (record { source = x; target = y }) known n
-line_steps (Some (line.Calm s)) (Some (line.Calm t)) known n same agree before few =
-    (line_goes_on s t known n same agree before few, none_differ known same s t agree, line_adds s t known n same agree before few)
-line_steps x y known n same agree before few = absurd (false≢true agree)
+line_steps : (types : List NamedTy) (x y : Option Instr) (known : Assertion) (n : ℕ) → known.diff ≡ [] → instrs_agree x y ≡ true → size known ≤ n → n + 1 + 1 + 1 + 1 ≤ fact_limit
+    → GoesOn types (record { source = x; target = y }) known n
+line_steps types (Some (line.Calm s)) (Some (line.Calm t)) known n same agree before few =
+    (line_goes_on types s t known n same agree before few, none_differ known same s t agree, line_adds types s t known n same agree before few)
+line_steps types x y known n same agree before few = absurd (false≢true agree)
 
 -- ---- terminators
 
@@ -385,11 +452,19 @@ module _ (from : Name) where
 
 -- ---- how many facts an edge adds
 
-adds_all_reaches : (side : Side) (fs : List Fact) (n : ℕ) (known : Assertion) → size known ≤ n → Reaches (n + length fs) (adds_all side fs known)
-adds_all_reaches side [] n known h = (tt, omega (arith, h))
-adds_all_reaches side (f ∷ fs) n known h =
-    and_then_reaches (n + 1) (n + suc (length fs)) (adds side f known) (adds_all side fs) (omega arith) (adds_reaches n side f known h)
-    (λ half less. let e : n + 1 + length fs ≡ n + suc (length fs) = omega arith in subst (λ m. Reaches m (adds_all side fs half)) e (adds_all_reaches side fs (n + 1) half less))
+copies_few : (fs : List Fact) → length (filter_map as_old fs) ≤ length fs
+copies_few [] = omega arith
+copies_few (LessDef a b ∷ fs) = let rest = copies_few fs in omega arith
+copies_few (NoAlias a b ∷ fs) = let rest = copies_few fs in omega arith
+copies_few (Ok e t align ∷ fs) = let rest = copies_few fs in omega arith
+copies_few (Unique r ∷ fs) = let rest = copies_few fs in omega arith
+copies_few (Private r ∷ fs) = let rest = copies_few fs in omega arith
+
+past_shorter : (from : Name) (ps : List Phi) (fs : List Fact) → length (past_phis from ps fs) ≤ length fs
+past_shorter from ps fs =
+    let first : length (without (is_of_phi ps) fs) ≤ length fs = filter_shorter (λ f. not (fact_has (is_of_phi ps) f)) fs in
+    let then : length (past_phis from ps fs) ≤ length (without (is_of_phi ps) fs) = all_killed_shorter (phi_kills from ps) (without (is_of_phi ps) fs) in
+    omega arith
 
 phi_fact_few : (p : Phi) (o : Option Entry) → length (phi_fact p o) ≤ 2
 phi_fact_few p None = omega arith
@@ -408,8 +483,8 @@ module _ (e : Edge) (known : Assertion) (n p : ℕ) (before : size known ≤ n) 
   kept = without_old known
 
   abbrev with_copies_of : Side → ℕ
-  with_copies_of Src = length kept.src + length kept.tgt + length (map as_old kept.src)
-  with_copies_of Tgt = length kept.src + length kept.tgt + length (map as_old kept.src) + length (map as_old kept.tgt)
+  with_copies_of Src = length kept.src + length kept.tgt + length (filter_map as_old kept.src)
+  with_copies_of Tgt = length kept.src + length kept.tgt + length (filter_map as_old kept.src) + length (filter_map as_old kept.tgt)
 
   abbrev with_phis_of : Side → ℕ
   with_phis_of Src = with_copies_of Tgt + length (phi_facts e.from e.source)
@@ -420,16 +495,16 @@ module _ (e : Edge) (known : Assertion) (n p : ℕ) (before : size known ≤ n) 
       let fewer : length kept.src ≤ length known.src = filter_shorter (λ f. not (fact_has is_old f)) known.src in
       let fewer_of_target : length kept.tgt ≤ length known.tgt = filter_shorter (λ f. not (fact_has is_old f)) known.tgt in
       let had : length known.src + length known.tgt ≤ n = before in
-      let copies = length-map kept.src as_old in
-      let copies_of_target = length-map kept.tgt as_old in
+      let copies = copies_few kept.src in
+      let copies_of_target = copies_few kept.tgt in
       let phis = phi_facts_few e.from e.source in
       let phis_of_target = phi_facts_few e.from e.target in
       omega arith
 
   phis_shrink : (m : ℕ) (k : Assertion) → size k ≤ m → size (without_phis e k) ≤ m
   phis_shrink m k h =
-      let fewer : length (without (is_of_phi e.source) k.src) ≤ length k.src = filter_shorter (λ f. not (fact_has (is_of_phi e.source) f)) k.src in
-      let fewer_of_target : length (without (is_of_phi e.target) k.tgt) ≤ length k.tgt = filter_shorter (λ f. not (fact_has (is_of_phi e.target) f)) k.tgt in
+      let fewer : length (past_phis e.from e.source k.src) ≤ length k.src = past_shorter e.from e.source k.src in
+      let fewer_of_target : length (past_phis e.from e.target k.tgt) ≤ length k.tgt = past_shorter e.from e.target k.tgt in
       let had : length k.src + length k.tgt ≤ m = h in
       omega arith
 
@@ -443,7 +518,7 @@ module _ (e : Edge) (known : Assertion) (n p : ℕ) (before : size known ≤ n) 
   with_source k = and_then (adds_all Src (phi_facts e.from e.source) (without_phis e k)) with_target
 
   abbrev with_copies : Assertion → Course Assertion
-  with_copies k = and_then (adds_all Tgt (map as_old kept.tgt) k) with_source
+  with_copies k = and_then (adds_all Tgt (filter_map as_old kept.tgt) k) with_source
 
   last_reaches : (more : Assertion) → size more ≤ with_phis_of Src → Reaches (with_phis_of Tgt) (with_target more)
   last_reaches more less =
@@ -457,13 +532,13 @@ module _ (e : Edge) (known : Assertion) (n p : ℕ) (before : size known ≤ n) 
 
   copies_reach : (half : Assertion) → size half ≤ with_copies_of Src → Reaches (with_phis_of Tgt) (with_copies half)
   copies_reach half less =
-      and_then_reaches (with_copies_of Tgt) (with_phis_of Tgt) (adds_all Tgt (map as_old kept.tgt) half) with_source (omega arith)
-      (adds_all_reaches Tgt (map as_old kept.tgt) (with_copies_of Src) half less) source_reaches
+      and_then_reaches (with_copies_of Tgt) (with_phis_of Tgt) (adds_all Tgt (filter_map as_old kept.tgt) half) with_source (omega arith)
+      (adds_all_reaches Tgt (filter_map as_old kept.tgt) (with_copies_of Src) half less) source_reaches
 
   edge_reaches : Reaches (with_phis_of Tgt) (over_edge e known)
   edge_reaches =
-      and_then_reaches (with_copies_of Src) (with_phis_of Tgt) (adds_all Src (map as_old kept.src) kept) with_copies (omega arith)
-      (adds_all_reaches Src (map as_old kept.src) (length kept.src + length kept.tgt) kept (omega arith)) copies_reach
+      and_then_reaches (with_copies_of Src) (with_phis_of Tgt) (adds_all Src (filter_map as_old kept.src) kept) with_copies (omega arith)
+      (adds_all_reaches Src (filter_map as_old kept.src) (length kept.src + length kept.tgt) kept (omega arith)) copies_reach
 
   edge_goes_on : n + n + 4 * p ≤ fact_limit → within (over_edge e known) ≡ Some (Gives (after_edge known e))
   edge_goes_on few =
@@ -528,11 +603,11 @@ module _ (w : Beside) (b : AlignedBlock) (labels : List Name)
       ∙ sym (end_passed w b k known labels are (term_passes b.source.term b.target.term known same terms))
       ∙ agreeing_edges w b.source.name (length b.lines) no_edges known same (omega arith) labels edges
   agreeing_lines (l ∷ ls) k n known same before left agree =
-      let step = line_steps l.source l.target known n same (left_true (line_agrees l) (all_agree ls) agree) before (omega arith) in
+      let step = line_steps w.scope.types l.source l.target known n same (left_true (line_agrees l) (all_agree ls) agree) before (omega arith) in
       lines_one w b k l ls known
       ∙ ap (λ ss. answer_at b.source.name (spot.Line k) (past_line w (steps_at k ss) l known) (lines_answer w b (k + 1) ls)) no_steps
       ∙ ap (λ e. answer_at b.source.name (spot.Line k) e (lines_answer w b (k + 1) ls)) step.0
-      ∙ agreeing_lines ls (k + 1) (n + 1 + 1 + 1 + 1) (after_line known l) step.1 step.2 (omega arith) (right_true (line_agrees l) (all_agree ls) agree)
+      ∙ agreeing_lines ls (k + 1) (n + 1 + 1 + 1 + 1) (after_line w.scope.types known l) step.1 step.2 (omega arith) (right_true (line_agrees l) (all_agree ls) agree)
 
 -- what says the same as a hint that says nothing says nothing
 pub empty_too : (h k : HintBlock) → AreParts h k → IsEmpty h → IsEmpty k

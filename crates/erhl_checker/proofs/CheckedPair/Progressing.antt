@@ -3,6 +3,7 @@ use Rattle.std.proofs.Common.{◌≡◌, ◌∙◌, ℕ, ◌+◌, ◌<◌, ◌�
 use Rattle.std.proofs.lemmas.List.{drop_all}
 use Rattle.std.specs.Borrow.{Bor}
 use Rattle.ir_types.specs.declared.names.Name.{Name}
+use Rattle.ir_types.specs.declared.named.NamedTy.{NamedTy}
 use Rattle.ir_core.specs.declared.functions.Instr.{Instr}
 use Rattle.ir_core.specs.declared.functions.Phi.{Phi}
 use Rattle.ir_core.specs.Functions.{successors_of}
@@ -36,16 +37,16 @@ answers_so same ended is = subst (Answers ended) same is
 
 -- ---- lines
 
-pub line_within : (l : Line) (known : Assertion) → line_fault known l ≡ None → are_too_many (over_line l known).sizes ≡ false
-    → within (over_line l known) ≡ Some (Gives (after_line known l))
-line_within l known allowed few =
-    ap (λ b. cond b None (Some (over_line l known).ends)) few ∙ ap (λ e. Some e) (line_ends l known allowed)
+module _ (types : List NamedTy) (l : Line) (known : Assertion) where
+  pub line_within : line_fault known l ≡ None → are_too_many (over_line types l known).sizes ≡ false → within (over_line types l known) ≡ Some (Gives (after_line types known l))
+  line_within allowed few =
+      ap (λ b. cond b None (Some (over_line types l known).ends)) few ∙ ap (λ e. Some e) (line_ends types l known allowed)
 
-pub line_refuses_so : (l : Line) (known : Assertion) (r : Reason) → line_fault known l ≡ Some r → within (over_line l known) ≡ Some (Refuses r)
-line_refuses_so l known r fault = ap (λ (c : Course Assertion). within c) (line_refused l known r fault)
+  pub line_refuses_so : (r : Reason) → line_fault known l ≡ Some r → within (over_line types l known) ≡ Some (Refuses r)
+  line_refuses_so r fault = ap (λ (c : Course Assertion). within c) (line_refused types l known r fault)
 
-pub line_over : (l : Line) (known : Assertion) → are_too_many (over_line l known).sizes ≡ true → within (over_line l known) ≡ None
-line_over l known many = ap (λ b. cond b None (Some (over_line l known).ends)) many
+  pub line_over : are_too_many (over_line types l known).sizes ≡ true → within (over_line types l known) ≡ None
+  line_over many = ap (λ b. cond b None (Some (over_line types l known).ends)) many
 
 -- what comes of a course after the steps, where they refuse nothing
 pub came_then : (c : Course Assertion) (next : Assertion → Course Assertion) (refusal : Option Reason) (after : Assertion) → within c ≡ Some (ended refusal after) → refusal ≡ None
@@ -182,7 +183,7 @@ module _ (w : Beside) (b : AlignedBlock) where
   pub lines_one : (k : ℕ) (l : Line) (ls : List Line) (known : Assertion)
       → lines_answer w b k (l ∷ ls) known ≡ answer_at b.source.name (spot.Line k) (past_line w (steps_at k steps) l known) (lines_answer w b (k + 1) ls)
   lines_one k l ls known =
-      answer_placed b.source.name (spot.Line k) (and_then (after_steps w (steps_at k steps) known) (over_line l)) (lines_judged w b (k + 1) ls)
+      answer_placed b.source.name (spot.Line k) (and_then (after_steps w (steps_at k steps) known) (over_line w.scope.types l)) (lines_judged w b (k + 1) ls)
 
   pub lines_none : (k : ℕ) (known : Assertion)
       → lines_answer w b k [] known ≡ answer_at b.source.name (spot.Line k) (within (after_steps w (steps_at k steps) known)) (end_answer w b k)

@@ -68,7 +68,7 @@ fault_at (Some (Gives known)) = Some None
 
 -- the steps that stand before an aligned line, and then the line, within the limit on facts
 abbrev pub past_line : Beside → List HintStep → Line → Assertion → Option (Ends Assertion)
-past_line w steps l known = within (and_then (after_steps w steps known) (over_line l))
+past_line w steps l known = within (and_then (after_steps w steps known) (over_line w.scope.types l))
 
 -- behind the phis of an edge: its steps, and what the block claims that it enters
 abbrev pub after_edge_steps : Beside → List HintStep → Name → Assertion → Course Assertion

@@ -83,7 +83,7 @@ fn over_line(
     ys: &[Instr],
     known: &mut Sides<IndexedSet>,
 ) -> Result<Option<Reason>, CheckEnd>
-    ensures { CameOf result known.new (within (over_line (aligned_line letter xs.now ys.now) known.old)) }
+    ensures { CameOf result known.new (within (over_line (asked called takes pair.now).scope.types (aligned_line letter xs.now ys.now) known.old)) }
 {
     let line = Line {
         source: taken(on_source(letter), xs),

@@ -1,10 +1,12 @@
 -- Lists in which each fact stands once, and what is left of a list as facts are added.
 use Rattle.std.proofs.Common.{◌≡◌, ◌∙◌, Bool, true, false, ◌||◌, ◌&&◌, cond, not, filter, List, [], ◌∷◌, ◌++◌, refl, sym, ap}
 use Rattle.ir_core.specs.declared.expressions.Reg.{Reg}
+use Rattle.std.specs.List.{list_all}
 use Rattle.erhl_assert.specs.declared.facts.Fact.{Fact}
 use Rattle.erhl_assert.specs.declared.fact_set.Kill.{Kill}
-use Rattle.erhl_assert.specs.declared.fact_set.Kill.TheVariants.{Naming}
-use Rattle.erhl_assert.specs.Facts.{same_fact, has_fact, with_fact, with_facts, fact_has, without, fact_names, killed}
+use Rattle.erhl_assert.specs.declared.fact_set.Kill.TheVariants.{Naming, Unique, Stored, Called}
+use Rattle.erhl_assert.specs.Facts.{same_fact, has_fact, with_fact, with_facts, fact_has, without, fact_names}
+use Rattle.erhl_assert.specs.Kills.{is_private, is_unique_of, killed, loads_of, spares}
 use Rattle.erhl_assert.specs.Edges.{is_old}
 use Rattle.erhl_assert.specs.FactLaws.{same_fact_true}
 use Rattle.fact_sets.specs.ErhlSides.Looking.{looked_at}
@@ -75,8 +77,21 @@ one_once f fs once =
       | false ↦ λ e. with_more fs (f ∷ []) [] ∙ ap (with_fact f) once ∙ ap (λ b. cond b fs (fs ++ f ∷ [])) e
     ]) refl
 
+-- what a kill leaves a fact by, where these are known before it
+abbrev pub kept_by : Kill → List Fact → Fact → Bool
+kept_by (Naming r) fs f = not (fact_names r f)
+kept_by (Unique r) fs f = not (is_unique_of r f)
+kept_by (Stored address of) fs f = list_all (spares fs address) (loads_of f)
+kept_by Called fs f = list_all (λ p. is_private fs p.atom) (loads_of f)
+
+pub killed_is : (k : Kill) (fs : List Fact) → killed k fs ≡ filter (kept_by k fs) fs
+killed_is (Naming r) fs = refl
+killed_is (Unique r) fs = refl
+killed_is (Stored address of) fs = refl
+killed_is Called fs = refl
+
 pub killed_once : (k : Kill) (fs : List Fact) → with_facts fs [] ≡ fs → with_facts (killed k fs) [] ≡ killed k fs
-killed_once (Naming r) fs once = left_once (λ f. not (fact_names r f)) fs once
+killed_once k fs once = ap (λ gs. with_facts gs []) (killed_is k fs) ∙ left_once (kept_by k fs) fs once ∙ sym (killed_is k fs)
 
 -- a fact among those that name no register of a sort
 none_left : (test : Reg → Bool) (f : Fact) → fact_has test f ≡ true → (fs : List Fact) → has_fact f (without test fs) ≡ false

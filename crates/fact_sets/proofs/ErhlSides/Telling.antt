@@ -9,7 +9,8 @@ use Rattle.ir_core.specs.declared.expressions.Reg.{Reg}
 use Rattle.erhl_assert.specs.declared.facts.Assertion.{Assertion}
 use Rattle.erhl_assert.specs.declared.facts.Side.TheVariants.{Src, Tgt}
 use Rattle.erhl_assert.specs.declared.fact_set.Kill.TheVariants.{Naming}
-use Rattle.erhl_assert.specs.Facts.{killed, on_side}
+use Rattle.erhl_assert.specs.Facts.{on_side}
+use Rattle.erhl_assert.specs.Kills.{killed}
 use Rattle.erhl_assert.specs.Sides.{has_reg}
 use Rattle.erhl_assert.specs.Postcondition.{without_reg}
 use Rattle.erhl_assert.specs.Steps.{as_new, register_in}
@@ -67,7 +68,7 @@ pub operand_doesnt : (diff : List Reg) (o : Operand Reg) (os : List (Operand Reg
 operand_doesnt diff o os h = first_is_not diff o.atom (filter_map (λ (p : Operand Reg). register_in p.atom) os) h
 
 pub is_new : (r : Reg) (known : Assertion)
-    → as_new r known ≡ record (on_side Tgt (killed (Naming r)) (on_side Src (killed (Naming r)) known)) { diff = without_reg r known.diff }
+    → as_new r known ≡ on_side Tgt (killed (Naming r)) (on_side Src (killed (Naming r)) (record known { diff = without_reg r known.diff }))
 is_new r known = refl
 
 -- ---- registers that mustn't differ

@@ -6,7 +6,7 @@ ghost use Rattle.ir_core.specs.declared.expressions.Reg.{Reg};
 ghost use Rattle.ir_core.specs.declared.expressions.Reg.TheVariants.{Now, Old};
 ghost use Rattle.ir_core.specs.Same.{same_reg};
 ghost use Rattle.ir_core.specs.Expressions.{map_atom, map_operand, map_binary, map_icmp, map_cast, map_select, map_element, map_load, map_expr, atom_has};
-ghost use Rattle.erhl_assert.specs.declared.facts.Fact.TheVariants.{LessDef};
+ghost use Rattle.erhl_assert.specs.declared.facts.Fact.TheVariants.{LessDef, Ok};
 ghost use Rattle.erhl_assert.specs.Facts.{expr_names};
 ghost use Rattle.erhl_assert.specs.Postcondition.{left_side};
 ghost use Rattle.erhl_assert.specs.Edges.{old_of, as_old};
@@ -15,7 +15,7 @@ use contents::{Boxed, Exact, Seq};
 use erhl_assert::Fact;
 use ir_core::{
     Atom, Binary, BitType, Calm, Cast, Element, Expr, Expr0, Icmp, Load, Name, Operand, Reg,
-    Select, same_name,
+    Select, Ty, same_name,
 };
 use std::alloc::{AllocError, Global};
 
@@ -182,13 +182,36 @@ pub fn old_register(alloc: Global, register: &Reg) -> Result<Reg, AllocError>
     register.named(alloc)
 }
 
-/// The fact, of registers as they were before the edge.
-pub fn old_fact(alloc: Global, fact: &Fact) -> Result<Fact, AllocError>
+fn old_pair(alloc: Global, a: &Expr0, b: &Expr0) -> Result<(Expr0, Expr0), AllocError>
+    ensures { IfOk result (λ pair. pair ≡ (map_expr old_of a.now, map_expr old_of b.now)) }
+{
+    let a = named_expr(alloc, a)?;
+    Ok((a, named_expr(alloc, b)?))
+}
+
+fn old_access(alloc: Global, address: &Expr0, ty: &Ty, align: u64) -> Result<Fact, AllocError>
+    ensures { IfOk result (λ fact. fact ≡ Ok (map_expr old_of address.now) ty.now align) }
+{
+    let address = named_expr(alloc, address)?;
+    Ok(Fact::Ok(address, ty.copy(alloc)?, align))
+}
+
+/// The fact, of registers as they were before the edge, if it is one of expressions.
+pub fn old_fact(alloc: Global, fact: &Fact) -> Result<Option<Fact>, AllocError>
     ensures { IfOk result (λ old. old ≡ as_old fact.now) }
 {
-    let Fact::LessDef(a, b) = fact;
-    let a = named_expr(alloc, a)?;
-    Ok(Fact::LessDef(a, named_expr(alloc, b)?))
+    match fact {
+        Fact::LessDef(a, b) => {
+            let (a, b) = old_pair(alloc, a, b)?;
+            Ok(Some(Fact::LessDef(a, b)))
+        }
+        Fact::NoAlias(a, b) => {
+            let (a, b) = old_pair(alloc, a, b)?;
+            Ok(Some(Fact::NoAlias(a, b)))
+        }
+        Fact::Ok(address, ty, align) => Ok(Some(old_access(alloc, address, ty, *align)?)),
+        Fact::Unique(_) | Fact::Private(_) => Ok(None),
+    }
 }
 
 /// A function's atom, of registers as they were before the edge.

@@ -7,9 +7,10 @@ ghost use Rattle.std.specs.Prelude.{◌≡◌, ◌||◌, [], true, false, OnOk, 
 ghost use Rattle.std.specs.List.{list_any};
 ghost use Rattle.ir_core.specs.declared.expressions.Reg.TheVariants.{Now};
 ghost use Rattle.ir_core.specs.Expressions.{map_atom};
-ghost use Rattle.erhl_assert.specs.Facts.{with_fact, with_facts, killed};
+ghost use Rattle.erhl_assert.specs.Facts.{with_fact, with_facts};
+ghost use Rattle.erhl_assert.specs.Kills.{killed};
 ghost use Rattle.fact_sets.specs.Near.{found_under, HasAllNear, AreNear};
-ghost use Rattle.fact_sets.specs.ErhlSides.Joining.{joins};
+ghost use Rattle.fact_sets.specs.ErhlSides.Joining.{joins, says_unique};
 
 use crate::NearFacts;
 use erhl_assert::{Fact, FactSet, Kill};
@@ -23,6 +24,8 @@ pub struct Joined<S: FactSet> {
     near: NearFacts,
     /// Whether a fact between two operands may be among them.
     may_join: bool,
+    /// Whether that a register is unique may be among them.
+    may_be_unique: bool,
     /// Whether each fact stands once among them. It does, unless memory was refused to one that was to be added.
     is_whole: bool,
 }
@@ -31,7 +34,7 @@ impl<S: FactSet> Model for Joined<S> {
     ghost use Rattle.std.specs.Prelude.{List};
     ghost use Rattle.erhl_assert.specs.declared.facts.Fact.{Fact};
     ghost use Rattle.std.specs.Prelude.{◌≡◌, true};
-    ghost use Rattle.fact_sets.specs.ErhlSides.Joining.{AreTold, AreNearIf};
+    ghost use Rattle.fact_sets.specs.ErhlSides.Joining.{AreTold, AreNearIf, MayBeUnique};
     ghost use Rattle.std.specs.Coded.{codes};
     ghost use Rattle.ir_core.specs.contracts.operands.Const as constant;
     ghost use Rattle.ir_types.specs.contracts.ty.Ty as ty;
@@ -43,7 +46,8 @@ impl<S: FactSet> Model for Joined<S> {
     ghost view = { λ it. S.contents it.facts };
 
     ghost invariant = { λ it. AreTold it.may_join it.is_whole (S.contents it.facts)
-        × AreNearIf it.is_whole it.near (S.contents it.facts) };
+        × (AreNearIf it.is_whole it.near (S.contents it.facts)
+        × MayBeUnique it.may_be_unique (S.contents it.facts)) };
 }
 
 impl<S: FactSet> Drop for Joined<S> {
@@ -52,6 +56,7 @@ impl<S: FactSet> Drop for Joined<S> {
             facts: _,
             near: _,
             may_join: _,
+            may_be_unique: _,
             is_whole: _,
         } = self;
     }
@@ -71,6 +76,13 @@ fn may_join_with(may_join: bool, fact: &Fact) -> bool
     may_join || joins(fact)
 }
 
+/// Whether that a register is unique may be among some and this one.
+fn may_be_unique_with(may_be_unique: bool, fact: &Fact) -> bool
+    ensures { result ≡ (may_be_unique || says_unique fact.now) }
+{
+    may_be_unique || matches!(fact, Fact::Unique(_))
+}
+
 /// Keeps the fact among those between two operands, if it is one of them and isn't there yet.
 #[tactic(auto, using(crate::proofs::ErhlSides::Joining::there_near))]
 fn keep_near<S: FactSet>(facts: &S, fact: &Fact, near: &mut NearFacts) -> Result<(), AllocError>
@@ -83,7 +95,7 @@ fn keep_near<S: FactSet>(facts: &S, fact: &Fact, near: &mut NearFacts) -> Result
 }
 
 impl<S: FactSet> Joined<S> {
-    #[tactic(auto, using(crate::proofs::ErhlSides::Joining::none_told, crate::proofs::ErhlSides::Joining::none_near_told))]
+    #[tactic(auto, using(crate::proofs::ErhlSides::Joining::none_told, crate::proofs::ErhlSides::Joining::none_near_told, crate::proofs::ErhlSides::Joining::none_unique))]
     pub(crate) fn of_none(alloc: Global, facts: S) -> Joined<S>
         requires { S.contents facts ≡ [] }
         ensures { result ≡ [] }
@@ -92,6 +104,7 @@ impl<S: FactSet> Joined<S> {
             facts,
             near: NearFacts::none(alloc),
             may_join: false,
+            may_be_unique: false,
             is_whole: true,
         }
     }
@@ -108,6 +121,14 @@ impl<S: FactSet> Joined<S> {
         ensures { result ≡ false → list_any joins self.now ≡ false }
     {
         self.may_join
+    }
+
+    /// Whether that a register is unique may be among them.
+    #[tactic(auto, using(crate::proofs::ErhlSides::Joining::told_unique))]
+    pub fn may_be_unique(&self) -> bool
+        ensures { result ≡ false → list_any says_unique self.now ≡ false }
+    {
+        self.may_be_unique
     }
 
     /// Whether each fact stands once among them.
@@ -130,12 +151,13 @@ impl<S: FactSet> Joined<S> {
     }
 
     /// Puts the fact at the end, where it isn't there yet.
-    #[tactic(auto, using(crate::proofs::ErhlSides::Joining::all_told, crate::proofs::ErhlSides::Joining::nothing_near))]
+    #[tactic(auto, using(crate::proofs::ErhlSides::Joining::all_told, crate::proofs::ErhlSides::Joining::nothing_near, crate::proofs::ErhlSides::Joining::more_unique))]
     pub(crate) fn add(&mut self, fact: Fact) -> Result<(), AllocError>
         ensures { OnOk result (self.new ≡ with_fact fact self.old) }
     {
         let may_join = may_join_with(self.may_join, &fact);
         let is_whole = self.is_whole;
+        self.may_be_unique = may_be_unique_with(self.may_be_unique, &fact);
         // Where memory is refused, nothing is known of the facts.
         self.may_join = true;
         self.is_whole = false;
@@ -147,7 +169,7 @@ impl<S: FactSet> Joined<S> {
     }
 
     /// Takes facts out.
-    #[tactic(auto, using(crate::proofs::ErhlSides::Joining::left_told, crate::proofs::ErhlSides::Joining::left_near))]
+    #[tactic(auto, using(crate::proofs::ErhlSides::Joining::left_told, crate::proofs::ErhlSides::Joining::left_near, crate::proofs::ErhlSides::Joining::left_unique))]
     pub(crate) fn kill(&mut self, kill: &Kill)
         ensures { self.new ≡ killed kill.now self.old }
     {

@@ -78,7 +78,9 @@ pub fn fact_has<T: Sort>(sort: &T, fact: &Fact) -> bool
     ensures { result ≡ fact_has (T.is_of sort.now) fact.now }
 {
     match fact {
-        Fact::LessDef(a, b) => expr_has(sort, a) || expr_has(sort, b),
+        Fact::LessDef(a, b) | Fact::NoAlias(a, b) => expr_has(sort, a) || expr_has(sort, b),
+        Fact::Unique(register) | Fact::Private(register) => sort.is_of(register),
+        Fact::Ok(address, _, _) => expr_has(sort, address),
     }
 }
 

@@ -2,7 +2,8 @@ ghost use Rattle.std.specs.Prelude.{◌≡◌, ◌+◌, ◌&&◌, [], ◌∷◌,
 ghost use Rattle.std.specs.Option.{option_copied, option_map};
 ghost use Rattle.erhl_assert.specs.Sides.{has_reg};
 ghost use Rattle.erhl_assert.specs.Alignment.{no_facts};
-ghost use Rattle.erhl_assert.specs.Facts.{fact_has, has_fact, with_facts, without, killed, on_side};
+ghost use Rattle.erhl_assert.specs.Facts.{fact_has, has_fact, with_facts, without, on_side};
+ghost use Rattle.erhl_assert.specs.Kills.{killed};
 ghost use Rattle.erhl_assert.specs.Postcondition.{with_reg, without_reg};
 ghost use Rattle.ir_core.specs.Limits.{fact_limit};
 ghost use Rattle.erhl_assert.specs.Course.{Gives, within};
@@ -335,11 +336,10 @@ impl<'l, 'a, S: FactSet> Sides<'l, 'a, S> {
     pub fn take_as_new(&mut self, register: Reg)
         ensures { self.new ≡ as_new register self.old }
     {
+        self.remove_differing(&register);
         let kill = Kill::Naming(register);
         self.kill(Side::Src, &kill);
         self.kill(Side::Tgt, &kill);
-        let Kill::Naming(register) = &kill;
-        self.remove_differing(register);
     }
 
     /// Puts the fact at the end of the side's, where it isn't there yet.

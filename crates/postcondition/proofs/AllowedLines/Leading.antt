@@ -10,7 +10,7 @@ use Rattle.ir_core.specs.Same.{same_expr, same_reg}
 use Rattle.ir_types.specs.NameLaws.{same_name_refl}
 use Rattle.ir_core.proofs.SameLaws.{same_reg_operand_true}
 use Rattle.erhl_assert.specs.declared.facts.Fact.{Fact}
-use Rattle.erhl_assert.specs.declared.facts.Fact.TheVariants.{LessDef}
+use Rattle.erhl_assert.specs.declared.facts.Fact.TheVariants.{LessDef, Unique, Private, NoAlias, Ok}
 use Rattle.erhl_assert.specs.Facts.{has_fact}
 use Rattle.erhl_assert.specs.Matched.{from_fact, into_fact}
 use Rattle.fact_sets.specs.Near.{found_under, is_near, HasAllNear}
@@ -43,6 +43,10 @@ into_none p b (LessDef x (Cast e)) h = refl
 into_none p b (LessDef x (Select e)) h = refl
 into_none p b (LessDef x (Element e)) h = refl
 into_none p b (LessDef x (Load e)) h = refl
+into_none p b (Unique r) h = refl
+into_none p b (Private r) h = refl
+into_none p b (NoAlias x y) h = refl
+into_none p b (Ok e t align) h = refl
 
 from_none : (p : Operand Reg → Bool) (a : Operand Reg) (f : Fact) → joins f ≡ false → from_fact p a f ≡ false
 from_none p a (LessDef (Plain o) (Plain q)) h = absurd (false≢true (sym h))
@@ -58,6 +62,10 @@ from_none p a (LessDef (Cast e) y) h = refl
 from_none p a (LessDef (Select e) y) h = refl
 from_none p a (LessDef (Element e) y) h = refl
 from_none p a (LessDef (Load e) y) h = refl
+from_none p a (Unique r) h = refl
+from_none p a (Private r) h = refl
+from_none p a (NoAlias x y) h = refl
+from_none p a (Ok e t align) h = refl
 
 any_none : (p : Fact → Bool) → ((f : Fact) → joins f ≡ false → p f ≡ false) → (fs : List Fact) → list_any joins fs ≡ false → list_any p fs ≡ false
 any_none p none [] h = refl
@@ -106,6 +114,10 @@ into_near p b (LessDef (Plain o) (Cast e)) h = absurd (false≢true h)
 into_near p b (LessDef (Plain o) (Select e)) h = absurd (false≢true h)
 into_near p b (LessDef (Plain o) (Element e)) h = absurd (false≢true h)
 into_near p b (LessDef (Plain o) (Load e)) h = absurd (false≢true h)
+into_near p b (Unique r) h = absurd (false≢true h)
+into_near p b (Private r) h = absurd (false≢true h)
+into_near p b (NoAlias x y) h = absurd (false≢true h)
+into_near p b (Ok e t align) h = absurd (false≢true h)
 
 from_near : (p : Operand Reg → Bool) (a : Operand Reg) (f : Fact) → from_fact p a f ≡ true → is_near (found_under a.atom) f ≡ true
 from_near p a (LessDef (Plain o) (Plain q)) h =
@@ -123,6 +135,10 @@ from_near p a (LessDef (Cast e) y) h = absurd (false≢true h)
 from_near p a (LessDef (Select e) y) h = absurd (false≢true h)
 from_near p a (LessDef (Element e) y) h = absurd (false≢true h)
 from_near p a (LessDef (Load e) y) h = absurd (false≢true h)
+from_near p a (Unique r) h = absurd (false≢true h)
+from_near p a (Private r) h = absurd (false≢true h)
+from_near p a (NoAlias x y) h = absurd (false≢true h)
+from_near p a (Ok e t align) h = absurd (false≢true h)
 
 pub into_found : (p : Operand Reg → Bool) (b : Operand Reg) (near fs : List Fact) → HasAllNear (found_under b.atom) near fs
     → list_any (λ f. has_fact f fs && into_fact p b f) near ≡ list_any (into_fact p b) fs

@@ -1,12 +1,15 @@
 -- Facts that are added over an edge, within the limit on facts.
-use Rattle.std.proofs.Common.{◌≡◌, ◌∙◌, ℕ, ◌+◌, Bool, true, false, cond, not, List, [], ◌∷◌, ◌++◌, map, drop, Option, None, Some, Result, refl, sym, ap, subst}
+use Rattle.std.proofs.Common.{◌≡◌, ◌∙◌, ℕ, ◌+◌, Bool, true, false, cond, not, List, [], ◌∷◌, ◌++◌, drop, Option, None, Some, Result, refl, sym, ap, subst}
 use Rattle.std.specs.Prelude.{slice_get}
+use Rattle.std.specs.List.{filter_map}
+use Rattle.std.proofs.lemmas.List.Elements.{filter_map-append}
 use Rattle.std.specs.Option.{option_to_list}
 use Rattle.ir_types.specs.declared.names.Name.{Name}
 use Rattle.ir_core.specs.declared.functions.Entry.{Entry}
 use Rattle.ir_core.specs.declared.functions.Phi.{Phi}
 use Rattle.ir_machine.specs.Machine.{entry_from}
 use Rattle.erhl_assert.specs.declared.facts.Fact.{Fact}
+use Rattle.erhl_assert.specs.declared.facts.Fact.TheVariants.{LessDef, Unique, Private, NoAlias, Ok}
 use Rattle.erhl_assert.specs.declared.facts.Assertion.{Assertion}
 use Rattle.erhl_assert.specs.declared.facts.Side.{Side}
 use Rattle.erhl_assert.specs.Facts.{fact_has, without}
@@ -36,7 +39,7 @@ beside_two n side (f ∷ fs) gs known =
     ∙ chained (within (adds_beside n side f known)) (λ a. within (adds_all_beside n side (fs ++ gs) a)) (λ a. within (adds_all_beside n side fs a)) (λ a. within (adds_all_beside n side gs a)) (λ a. beside_two n side fs gs a)
     ∙ ap (λ o. going_on o (λ a. within (adds_all_beside n side gs a))) (sym (within_then (adds_beside n side f known) (adds_all_beside n side fs)))
 
-all_two : (side : Side) (fs gs : List Fact) (known : Assertion)
+pub all_two : (side : Side) (fs gs : List Fact) (known : Assertion)
     → within (adds_all side (fs ++ gs) known) ≡ going_on (within (adds_all side fs known)) (λ a. within (adds_all side gs a))
 all_two side [] gs known = refl
 all_two side (f ∷ fs) gs known =
@@ -52,19 +55,23 @@ module _ (n : ℕ) (side : Side) (f : Fact) (known after : Assertion) (few : Boo
   pub one_too_many : few ≡ false → within (adds_beside n side f known) ≡ cond few (Some (Gives after)) None → within (adds_all_beside n side (f ∷ []) known) ≡ None
   one_too_many e h = within_none (adds_beside n side f known) (adds_all_beside n side []) (h ∙ ap (λ b. cond b (Some (Gives after)) None) e)
 
-map_append : (fs gs : List Fact) → map as_old (fs ++ gs) ≡ map as_old fs ++ map as_old gs
-map_append [] gs = refl
-map_append (f ∷ fs) gs = ap (λ hs. as_old f ∷ hs) (map_append fs gs)
-
 copies_append : (fs gs : List Fact) → copies (fs ++ gs) ≡ copies fs ++ copies gs
-copies_append fs gs = ap (map as_old) (filter_append (λ f. not (fact_has is_old f)) fs gs) ∙ map_append (without is_old fs) (without is_old gs)
+copies_append fs gs =
+    ap (filter_map as_old) (filter_append (λ f. not (fact_has is_old f)) fs gs) ∙ filter_map-append as_old (without is_old fs) (without is_old gs)
+
+one_copy : (f : Fact) → option_to_list (as_old f) ≡ filter_map as_old (f ∷ [])
+one_copy (LessDef a b) = refl
+one_copy (NoAlias a b) = refl
+one_copy (Ok e t align) = refl
+one_copy (Unique r) = refl
+one_copy (Private r) = refl
 
 module _ (k : ℕ) (fs : List Fact) where
-  pub copied_here : (f : Fact) → Some f ≡ slice_get fs k → fact_has is_old f ≡ false → as_old f ∷ [] ≡ copies (at_place k fs)
-  copied_here f e h = ap (λ b. map as_old (cond (not b) (f ∷ []) [])) (sym h) ∙ ap (λ o. copies (option_to_list o)) e
+  pub copied_here : (f : Fact) → Some f ≡ slice_get fs k → fact_has is_old f ≡ false → option_to_list (as_old f) ≡ copies (at_place k fs)
+  copied_here f e h = one_copy f ∙ ap (λ b. filter_map as_old (cond (not b) (f ∷ []) [])) (sym h) ∙ ap (λ o. copies (option_to_list o)) e
 
   pub not_copied : (f : Fact) → Some f ≡ slice_get fs k → fact_has is_old f ≡ true → [] ≡ copies (at_place k fs)
-  not_copied f e h = ap (λ b. map as_old (cond (not b) (f ∷ []) [])) (sym h) ∙ ap (λ o. copies (option_to_list o)) e
+  not_copied f e h = ap (λ b. filter_map as_old (cond (not b) (f ∷ []) [])) (sym h) ∙ ap (λ o. copies (option_to_list o)) e
 
   pub nothing_copied : None ≡ slice_get fs k → [] ≡ copies (at_place k fs)
   nothing_copied e = ap (λ o. copies (option_to_list o)) e

@@ -1,6 +1,7 @@
 -- What is added to the facts that stay has the sizes of what is added while all are there, and comes to the same behind the phis.
-use Rattle.std.proofs.Common.{◌≡◌, ◌∙◌, ℕ, ◌+◌, Bool, true, false, ◌||◌, cond, not, filter, List, [], ◌∷◌, ◌++◌, map, length, None, Some, refl, sym, ap, ap₂, arith, length-append}
-use Rattle.std.specs.List.{list_any}
+use Rattle.std.proofs.Common.{◌≡◌, ◌∙◌, ℕ, ◌+◌, Bool, true, false, ◌||◌, cond, not, filter, List, [], ◌∷◌, ◌++◌, ◌&&◌, map, length, None, Some, refl, sym, ap, ap₂, arith, length-append}
+use Rattle.std.specs.List.{list_any, list_all, filter_map}
+use Rattle.ir_types.specs.declared.names.Name.{Name}
 use Rattle.ir_core.specs.declared.functions.Phi.{Phi}
 use Rattle.ir_core.specs.declared.operands.Atom.{Atom}
 use Rattle.ir_core.specs.declared.operands.Atom.TheVariants as atom
@@ -10,7 +11,7 @@ use Rattle.ir_core.specs.declared.expressions.Reg.TheVariants.{Now, Old, Ghost}
 use Rattle.ir_core.specs.declared.expressions.Expr.TheVariants.{Plain, Binary, Icmp, Cast, Select, Element, Load}
 use Rattle.ir_core.specs.Expressions.{Expr0, map_atom, map_expr, map_operand, atom_has, expr_has}
 use Rattle.erhl_assert.specs.declared.facts.Fact.{Fact}
-use Rattle.erhl_assert.specs.declared.facts.Fact.TheVariants.{LessDef}
+use Rattle.erhl_assert.specs.declared.facts.Fact.TheVariants.{LessDef, Unique, Private, NoAlias, Ok}
 use Rattle.erhl_assert.specs.declared.facts.Assertion.{Assertion}
 use Rattle.erhl_assert.specs.declared.facts.Side.{Side}
 use Rattle.erhl_assert.specs.declared.facts.Side.TheVariants.{Src, Tgt}
@@ -18,12 +19,14 @@ use Rattle.erhl_assert.specs.Facts.{has_fact, with_fact, fact_has, without}
 use Rattle.erhl_assert.specs.Edges.{Edge, is_old, old_of, as_old, is_of_phi, without_old, phi_facts, diff_over, after_edge}
 use Rattle.erhl_assert.specs.Course.{Course, Ends, Gives, gives, after_ends, and_then, are_too_many, within}
 use Rattle.erhl_assert.specs.Growth.{size, with_conclusion, adds_all, without_phis, over_edge}
-use Rattle.erhl_assert.proofs.Courses.{then_ends}
-use Rattle.erhl_assert.proofs.Edges.{with_all, adds_all_ends, edge_ends}
+use Rattle.erhl_assert.proofs.Courses.{then_ends, with_all, adds_all_ends}
+use Rattle.erhl_assert.proofs.Edges.{edge_ends}
 use Rattle.fact_sets.specs.ErhlSides.Beside.{adds_all_beside}
+use Rattle.fact_sets.specs.ErhlSides.Joining.{says_unique}
 use Rattle.fact_sets.proofs.ErhlSides.Once.{found_left, left_with}
-use Rattle.postcondition.specs.EdgeCrossing.Crossing.{goes, stays, copies, over_staying}
+use Rattle.postcondition.specs.EdgeCrossing.Crossing.{goes, is_shared, is_taken, stays, copies, over_staying}
 use Rattle.postcondition.proofs.EdgeCrossing.Staying.{left_in_turn, stay_or_go}
+use Rattle.postcondition.proofs.EdgeCrossing.Sharing.{not_shared, taken_out}
 
 -- ---- copies name no register of a phi
 both_false : (a b : Bool) → a ≡ false → b ≡ false → (a || b) ≡ false
@@ -59,16 +62,35 @@ module _ (ps : List Phi) where
       (atom_apart e.base.atom) (operands_apart e.indices)
   expr_apart (Load l) = atom_apart l.pointer.atom
 
-  copy_apart : (f : Fact) → fact_has (is_of_phi ps) (as_old f) ≡ false
-  copy_apart (LessDef a b) = both_false (expr_has (is_of_phi ps) (map_expr old_of a)) (expr_has (is_of_phi ps) (map_expr old_of b)) (expr_apart a) (expr_apart b)
+  pair_apart : (a b : Expr0) → (expr_has (is_of_phi ps) (map_expr old_of a) || expr_has (is_of_phi ps) (map_expr old_of b)) ≡ false
+  pair_apart a b = both_false (expr_has (is_of_phi ps) (map_expr old_of a)) (expr_has (is_of_phi ps) (map_expr old_of b)) (expr_apart a) (expr_apart b)
 
-  copy_stays : (f : Fact) → not (fact_has (is_of_phi ps) (as_old f)) ≡ true
-  copy_stays f = ap not (copy_apart f)
+-- the phis leave each of the facts
+abbrev AreLeft : Name → List Phi → List Fact → Type 0
+AreLeft from ps fs = list_all (λ f. not (is_taken from ps f)) fs ≡ true
+
+all_left : (from : Name) (ps : List Phi) (f : Fact) (fs : List Fact) → fact_has (is_of_phi ps) f ≡ false → says_unique f ≡ false → AreLeft from ps fs → AreLeft from ps (f ∷ fs)
+all_left from ps f fs apart other left =
+    ap (λ b. not b && list_all (λ g. not (is_taken from ps g)) fs) (both_false (fact_has (is_of_phi ps) f) (is_shared from ps f) apart (not_shared f other from ps)) ∙ left
+
+copies_left : (from : Name) (ps : List Phi) (fs : List Fact) → AreLeft from ps (filter_map as_old fs)
+copies_left from ps [] = refl
+copies_left from ps (LessDef a b ∷ fs) =
+    all_left from ps (LessDef (map_expr old_of a) (map_expr old_of b)) (filter_map as_old fs) (pair_apart ps a b) refl (copies_left from ps fs)
+copies_left from ps (NoAlias a b ∷ fs) =
+    all_left from ps (NoAlias (map_expr old_of a) (map_expr old_of b)) (filter_map as_old fs) (pair_apart ps a b) refl (copies_left from ps fs)
+copies_left from ps (Ok e t align ∷ fs) = all_left from ps (Ok (map_expr old_of e) t align) (filter_map as_old fs) (expr_apart ps e) refl (copies_left from ps fs)
+copies_left from ps (Unique r ∷ fs) = copies_left from ps fs
+copies_left from ps (Private r ∷ fs) = copies_left from ps fs
+
+first_left : (a b : Bool) → (a && b) ≡ true → (a ≡ true) × (b ≡ true)
+first_left true b h = (refl, h)
+first_left false b h = absurd (cc)
 
 -- ---- with fewer facts, of which so many are counted beside
 pub record IsLess (others : ℕ) (e : Edge) (all few : Assertion) : Type 0 where
-  pub source : few.src ≡ without (is_of_phi e.source) all.src
-  pub target : few.tgt ≡ without (is_of_phi e.target) all.tgt
+  pub source : few.src ≡ filter (λ f. not (is_taken e.from e.source f)) all.src
+  pub target : few.tgt ≡ filter (λ f. not (is_taken e.from e.target f)) all.tgt
   pub count : size all ≡ size few + others
 
 abbrev one_or_none : Bool → ℕ
@@ -88,54 +110,54 @@ one_size b d m n h k = ap₂ (λ (x : Bool) (y : ℕ). cond x [] (y ∷ [])) h k
 
 module _ (others : ℕ) (e : Edge) where
   -- the fact is there where it is there in all
-  there_source : (f : Fact) (all few : Assertion) → IsLess others e all few → has_fact (as_old f) few.src ≡ has_fact (as_old f) all.src
-  there_source f all few less =
-      ap (has_fact (as_old f)) less.source ∙ found_left (λ g. not (fact_has (is_of_phi e.source) g)) (as_old f) (copy_stays e.source f) all.src
+  there_source : (f : Fact) → not (is_taken e.from e.source f) ≡ true → (all few : Assertion) → IsLess others e all few → has_fact f few.src ≡ has_fact f all.src
+  there_source f left all few less = ap (has_fact f) less.source ∙ found_left (λ g. not (is_taken e.from e.source g)) f left all.src
 
-  there_target : (f : Fact) (all few : Assertion) → IsLess others e all few → has_fact (as_old f) few.tgt ≡ has_fact (as_old f) all.tgt
-  there_target f all few less =
-      ap (has_fact (as_old f)) less.target ∙ found_left (λ g. not (fact_has (is_of_phi e.target) g)) (as_old f) (copy_stays e.target f) all.tgt
+  there_target : (f : Fact) → not (is_taken e.from e.target f) ≡ true → (all few : Assertion) → IsLess others e all few → has_fact f few.tgt ≡ has_fact f all.tgt
+  there_target f left all few less = ap (has_fact f) less.target ∙ found_left (λ g. not (is_taken e.from e.target g)) f left all.tgt
 
-  more_source : (f : Fact) (all few : Assertion) → IsLess others e all few → IsLess others e (with_conclusion Src (as_old f) all) (with_conclusion Src (as_old f) few)
-  more_source f all few less = record {
-    source = ap (with_fact (as_old f)) less.source ∙ sym (left_with (λ g. not (fact_has (is_of_phi e.source) g)) (as_old f) all.src (copy_stays e.source f));
+  more_source : (f : Fact) → not (is_taken e.from e.source f) ≡ true → (all few : Assertion) → IsLess others e all few → IsLess others e (with_conclusion Src f all) (with_conclusion Src f few)
+  more_source f left all few less = record {
+    source = ap (with_fact f) less.source ∙ sym (left_with (λ g. not (is_taken e.from e.source g)) f all.src left);
     target = less.target;
     count =
-        let same : one_or_none (has_fact (as_old f) few.src) ≡ one_or_none (has_fact (as_old f) all.src) = ap one_or_none (there_source f all few less) in
-        omega (arith, longer (as_old f) all.src, longer (as_old f) few.src, less.count, same);
+        let same : one_or_none (has_fact f few.src) ≡ one_or_none (has_fact f all.src) = ap one_or_none (there_source f left all few less) in
+        omega (arith, longer f all.src, longer f few.src, less.count, same);
   }
 
-  more_target : (f : Fact) (all few : Assertion) → IsLess others e all few → IsLess others e (with_conclusion Tgt (as_old f) all) (with_conclusion Tgt (as_old f) few)
-  more_target f all few less = record {
+  more_target : (f : Fact) → not (is_taken e.from e.target f) ≡ true → (all few : Assertion) → IsLess others e all few → IsLess others e (with_conclusion Tgt f all) (with_conclusion Tgt f few)
+  more_target f left all few less = record {
     source = less.source;
-    target = ap (with_fact (as_old f)) less.target ∙ sym (left_with (λ g. not (fact_has (is_of_phi e.target) g)) (as_old f) all.tgt (copy_stays e.target f));
+    target = ap (with_fact f) less.target ∙ sym (left_with (λ g. not (is_taken e.from e.target g)) f all.tgt left);
     count =
-        let same : one_or_none (has_fact (as_old f) few.tgt) ≡ one_or_none (has_fact (as_old f) all.tgt) = ap one_or_none (there_target f all few less) in
-        omega (arith, longer (as_old f) all.tgt, longer (as_old f) few.tgt, less.count, same);
+        let same : one_or_none (has_fact f few.tgt) ≡ one_or_none (has_fact f all.tgt) = ap one_or_none (there_target f left all few less) in
+        omega (arith, longer f all.tgt, longer f few.tgt, less.count, same);
   }
 
-  copied_source : (fs : List Fact) (all few : Assertion) → IsLess others e all few
-      → ((adds_all_beside others Src (map as_old fs) few).sizes ≡ (adds_all Src (map as_old fs) all).sizes)
-      × IsLess others e (with_all Src (map as_old fs) all) (with_all Src (map as_old fs) few)
-  copied_source [] all few less = (refl, less)
-  copied_source (f ∷ fs) all few less =
-      let more = more_source f all few less in
-      let rest = copied_source fs (with_conclusion Src (as_old f) all) (with_conclusion Src (as_old f) few) more in (
+  copied_source : (fs : List Fact) → AreLeft e.from e.source fs → (all few : Assertion) → IsLess others e all few
+      → ((adds_all_beside others Src fs few).sizes ≡ (adds_all Src fs all).sizes)
+      × IsLess others e (with_all Src fs all) (with_all Src fs few)
+  copied_source [] left all few less = (refl, less)
+  copied_source (f ∷ fs) left all few less =
+      let two = first_left (not (is_taken e.from e.source f)) (list_all (λ g. not (is_taken e.from e.source g)) fs) left in
+      let more = more_source f two.0 all few less in
+      let rest = copied_source fs two.1 (with_conclusion Src f all) (with_conclusion Src f few) more in (
         ap₂ (λ (xs ys : List ℕ). xs ++ ys)
-            (one_size (has_fact (as_old f) few.src) (has_fact (as_old f) all.src) (size (with_conclusion Src (as_old f) few) + others) (size (with_conclusion Src (as_old f) all)) (there_source f all few less) (sym more.count))
+            (one_size (has_fact f few.src) (has_fact f all.src) (size (with_conclusion Src f few) + others) (size (with_conclusion Src f all)) (there_source f two.0 all few less) (sym more.count))
             rest.0,
         rest.1,
       )
 
-  copied_target : (fs : List Fact) (all few : Assertion) → IsLess others e all few
-      → ((adds_all_beside others Tgt (map as_old fs) few).sizes ≡ (adds_all Tgt (map as_old fs) all).sizes)
-      × IsLess others e (with_all Tgt (map as_old fs) all) (with_all Tgt (map as_old fs) few)
-  copied_target [] all few less = (refl, less)
-  copied_target (f ∷ fs) all few less =
-      let more = more_target f all few less in
-      let rest = copied_target fs (with_conclusion Tgt (as_old f) all) (with_conclusion Tgt (as_old f) few) more in (
+  copied_target : (fs : List Fact) → AreLeft e.from e.target fs → (all few : Assertion) → IsLess others e all few
+      → ((adds_all_beside others Tgt fs few).sizes ≡ (adds_all Tgt fs all).sizes)
+      × IsLess others e (with_all Tgt fs all) (with_all Tgt fs few)
+  copied_target [] left all few less = (refl, less)
+  copied_target (f ∷ fs) left all few less =
+      let two = first_left (not (is_taken e.from e.target f)) (list_all (λ g. not (is_taken e.from e.target g)) fs) left in
+      let more = more_target f two.0 all few less in
+      let rest = copied_target fs two.1 (with_conclusion Tgt f all) (with_conclusion Tgt f few) more in (
         ap₂ (λ (xs ys : List ℕ). xs ++ ys)
-            (one_size (has_fact (as_old f) few.tgt) (has_fact (as_old f) all.tgt) (size (with_conclusion Tgt (as_old f) few) + others) (size (with_conclusion Tgt (as_old f) all)) (there_target f all few less) (sym more.count))
+            (one_size (has_fact f few.tgt) (has_fact f all.tgt) (size (with_conclusion Tgt f few) + others) (size (with_conclusion Tgt f all)) (there_target f two.0 all few less) (sym more.count))
             rest.0,
         rest.1,
       )
@@ -182,19 +204,19 @@ append_none (x ∷ xs) = ap (λ ys. x ∷ ys) (append_none xs)
 -- ---- the whole edge
 module _ (e : Edge) (known : Assertion) where
   abbrev others : ℕ
-  others = length (filter (goes e.source) known.src) + length (filter (goes e.target) known.tgt)
+  others = length (filter (goes e.from e.source) known.src) + length (filter (goes e.from e.target) known.tgt)
 
   abbrev kept : Assertion
   kept = without_old known
 
   abbrev few : Assertion
-  few = record { src = filter (stays e.source) known.src; tgt = filter (stays e.target) known.tgt; diff = [] }
+  few = record { src = filter (stays e.from e.source) known.src; tgt = filter (stays e.from e.target) known.tgt; diff = [] }
 
   fewer : IsLess others e kept few
   fewer = record {
-    source = left_in_turn e.source known.src;
-    target = left_in_turn e.target known.tgt;
-    count = omega (arith, stay_or_go e.source known.src, stay_or_go e.target known.tgt);
+    source = left_in_turn e.from e.source known.src;
+    target = left_in_turn e.from e.target known.tgt;
+    count = omega (arith, stay_or_go e.from e.source known.src, stay_or_go e.from e.target known.tgt);
   }
 
   abbrev all_half : Assertion
@@ -210,10 +232,10 @@ module _ (e : Edge) (known : Assertion) where
   few_copied = with_all Tgt (copies known.tgt) few_half
 
   first : ((adds_all_beside others Src (copies known.src) few).sizes ≡ (adds_all Src (copies known.src) kept).sizes) × IsLess others e all_half few_half
-  first = copied_source others e (without is_old known.src) kept few fewer
+  first = copied_source others e (copies known.src) (copies_left e.from e.source (without is_old known.src)) kept few fewer
 
   second : ((adds_all_beside others Tgt (copies known.tgt) few_half).sizes ≡ (adds_all Tgt (copies known.tgt) all_half).sizes) × IsLess others e all_copied few_copied
-  second = copied_target others e (without is_old known.tgt) all_half few_half first.1
+  second = copied_target others e (copies known.tgt) (copies_left e.from e.target (without is_old known.tgt)) all_half few_half first.1
 
   abbrev source_phis : List Fact
   source_phis = phi_facts e.from e.source
@@ -223,7 +245,10 @@ module _ (e : Edge) (known : Assertion) where
 
   third : ((adds_all Src source_phis few_copied).sizes ≡ (adds_all Src source_phis (without_phis e all_copied)).sizes)
       × AreSame (with_all Src source_phis few_copied) (with_all Src source_phis (without_phis e all_copied))
-  third = added_same Src source_phis few_copied (without_phis e all_copied) (record { source = second.1.source; target = second.1.target })
+  third = added_same Src source_phis few_copied (without_phis e all_copied) (record {
+    source = second.1.source ∙ sym (taken_out e.from e.source all_copied.src);
+    target = second.1.target ∙ sym (taken_out e.from e.target all_copied.tgt);
+  })
 
   abbrev few_more : Assertion
   few_more = with_all Src source_phis few_copied

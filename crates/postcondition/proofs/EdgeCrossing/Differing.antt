@@ -1,5 +1,5 @@
 -- The registers that may differ behind phis.
-use Rattle.std.proofs.Common.{◌≡◌, ◌∙◌, Bool, true, false, ◌||◌, ◌&&◌, cond, not, filter, List, [], ◌∷◌, ◌++◌, append_assoc, Option, None, Some, refl, sym, ap}
+use Rattle.std.proofs.Common.{◌≡◌, ◌∙◌, Bool, true, false, ◌||◌, ◌&&◌, cond, not, filter, List, [], ◌∷◌, ◌++◌, append_assoc, Option, Some, refl, sym, ap}
 use Rattle.std.proofs.lemmas.List.Elements.{filter_agree}
 use Rattle.ir_types.specs.declared.names.Name.{Name}
 use Rattle.ir_types.specs.NameLaws.{same_name_true, same_name_refl}

@@ -124,8 +124,10 @@ fn leads_into<R: InLogic>(
         (λ d. meet diff.now kind (record { ty = s.now; atom = map_atom R.in_logic c.now }) d)
         (now_operand (record { ty = t.now; atom = b.now })) fact.now }
 {
-    let Fact::LessDef(x, y) = fact;
-    is_plain_now(y, t, b) && meets_plain(diff, kind, s, c, x)
+    match fact {
+        Fact::LessDef(x, y) => is_plain_now(y, t, b) && meets_plain(diff, kind, s, c, x),
+        _ => false,
+    }
 }
 
 /// Whether one of the facts that are known and near says that c is less defined than the target's operand.
@@ -278,8 +280,10 @@ fn leads_from<S: FactSet>(
         (now_operand (record { ty = t.now; atom = b.now })) known.now.tgt)
         (now_operand (record { ty = s.now; atom = a.now })) fact.now }
 {
-    let Fact::LessDef(x, y) = fact;
-    is_plain_now(x, s, a) && plain_reaches(known, kind, y, t, b)
+    match fact {
+        Fact::LessDef(x, y) => is_plain_now(x, s, a) && plain_reaches(known, kind, y, t, b),
+        _ => false,
+    }
 }
 
 /// Whether one of the facts that are known and near says that the source's operand is less defined than some c that reaches the target's.

@@ -1,11 +1,13 @@
 //! What is known on an edge, behind the phis of the block that it enters.
-ghost use Rattle.std.specs.Prelude.{◌≡◌, ◌++◌, ◌+◌, [], ◌∷◌, None, Some, false, true, not, filter, map, length, IfOk, IfErr, OnOk};
+ghost use Rattle.std.specs.Prelude.{◌≡◌, ◌++◌, ◌+◌, [], ◌∷◌, None, Some, false, true, not, filter, length, IfOk, IfErr, OnOk};
 ghost use Rattle.ir_core.specs.declared.limits.Limit.{Limit};
 ghost use Rattle.ir_core.specs.declared.limits.Limit.TheVariants.{Facts};
 ghost use Rattle.ir_core.specs.declared.expressions.Reg.TheVariants.{Now};
 ghost use Rattle.ir_core.specs.declared.expressions.Reg.TheVariants.{Old};
 ghost use Rattle.ir_core.specs.declared.expressions.Expr.TheVariants as expr;
 ghost use Rattle.ir_core.specs.Expressions.{map_atom};
+ghost use Rattle.std.specs.Option.{option_to_list};
+ghost use Rattle.erhl_assert.specs.declared.facts.Fact.TheVariants.{Unique};
 ghost use Rattle.erhl_assert.specs.declared.verdict.Reason.{Reason};
 ghost use Rattle.erhl_assert.specs.Facts.{with_facts, on_side};
 ghost use Rattle.erhl_assert.specs.Course.{Gives, and_then, are_too_many, within};
@@ -16,7 +18,7 @@ ghost use Rattle.fact_sets.specs.ErhlSides.Beside.{adds_all_beside};
 ghost use Rattle.fact_sets.specs.declared.added_facts.ends.AddEnd.TheVariants as add_end;
 ghost use Rattle.fact_sets.specs.declared.added_facts.ends.LineEnd.TheVariants as line_end;
 ghost use Rattle.fact_sets.specs.AddedFacts.Ends.{Follows};
-ghost use Rattle.postcondition.specs.EdgeCrossing.Crossing.{at_place, copies, goes, stays, stays_apart, over_staying};
+ghost use Rattle.postcondition.specs.EdgeCrossing.Crossing.{at_place, copies, goes, is_of_atom, is_of_entry, is_shared, is_taken, stays, stays_apart, over_staying};
 
 use crate::block_phis::{IndexedPhi, Phis, sets_alike};
 use contents::Exact;
@@ -24,7 +26,7 @@ use erhl_assert::{Fact, FactSet, Side};
 use fact_sets::{
     AddEnd, LineEnd, RegisterSet, Sides, add_equal, fact_has, names_old, old_atom, old_fact,
 };
-use ir_core::{Atom, Entry, Expr, Expr0, Limit, Name, Operand, Reg};
+use ir_core::{Atom, Entry, Expr, Expr0, Limit, Name, Operand, Reg, same_name};
 use std::alloc::{AllocError, Global};
 
 /// An edge: the block that it leaves, and on both sides the phis of the block that it enters.
@@ -37,37 +39,76 @@ pub struct Edge<'b, 'a> {
 
 // ---- what stays
 
-fn goes(phis: &Phis<'_>, fact: &Fact) -> bool
-    ensures { result ≡ goes phis.now fact.now }
+/// Whether the register is the atom.
+fn is_atom(register: &Reg, atom: &Atom<Name>) -> bool
+    ensures { result ≡ is_of_atom (Unique register.now) atom.now }
 {
-    !names_old(fact) && fact_has(phis, fact)
+    match (register, atom) {
+        (Reg::Now(name), Atom::Register(other)) => same_name(other, name),
+        _ => false,
+    }
 }
 
-fn stays(phis: &Phis<'_>, fact: &Fact) -> bool
-    ensures { result ≡ stays phis.now fact.now }
+/// Whether the phi is given the register.
+#[tactic(auto, using(crate::proofs::EdgeCrossing::Sharing::of_entry_found))]
+fn is_given(from: &Name, phi: &IndexedPhi<'_>, register: &Reg) -> bool
+    ensures { result ≡ is_of_entry (Unique register.now) (entry_from from.now phi.now.entries) }
 {
-    !names_old(fact) && !fact_has(phis, fact)
+    match phi.entry_from(from) {
+        None => false,
+        Some(entry) => is_atom(register, &entry.value),
+    }
+}
+
+/// Whether the fact is that what a phi is given is unique.
+#[tactic(auto, using(crate::proofs::EdgeCrossing::Sharing::not_shared))]
+fn is_shared(from: &Name, phis: &Phis<'_>, fact: &Fact) -> bool
+    ensures { result ≡ is_shared from.now phis.now fact.now }
+{
+    match fact {
+        Fact::Unique(register) => phis.all().iter().any(|phi| is_given(from, phi, register)),
+        _ => false,
+    }
+}
+
+/// Whether the phis take the fact away.
+fn is_taken(from: &Name, phis: &Phis<'_>, fact: &Fact) -> bool
+    ensures { result ≡ is_taken from.now phis.now fact.now }
+{
+    fact_has(phis, fact) || is_shared(from, phis, fact)
+}
+
+fn goes(from: &Name, phis: &Phis<'_>, fact: &Fact) -> bool
+    ensures { result ≡ goes from.now phis.now fact.now }
+{
+    !names_old(fact) && is_taken(from, phis, fact)
+}
+
+fn stays(from: &Name, phis: &Phis<'_>, fact: &Fact) -> bool
+    ensures { result ≡ stays from.now phis.now fact.now }
+{
+    !names_old(fact) && !is_taken(from, phis, fact)
 }
 
 /// 1 where the fact of that number goes, else 0.
 #[tactic(auto, using(crate::proofs::EdgeCrossing::Staying::gone_here, crate::proofs::EdgeCrossing::Staying::not_gone_here, crate::proofs::EdgeCrossing::Staying::none_here))]
-fn gone_at<S: FactSet>(facts: &S, k: usize, phis: &Phis<'_>) -> usize
-    ensures { result ≡ length (filter (goes phis.now) (at_place k (S.contents facts.now))) }
+fn gone_at<S: FactSet>(facts: &S, k: usize, from: &Name, phis: &Phis<'_>) -> usize
+    ensures { result ≡ length (filter (goes from.now phis.now) (at_place k (S.contents facts.now))) }
 {
     match facts.at(k) {
         None => 0,
-        Some(fact) => { if goes(phis, fact) { 1 } else { 0 } }
+        Some(fact) => { if goes(from, phis, fact) { 1 } else { 0 } }
     }
 }
 
-/// How many of the facts go as they name a register of a phi.
+/// How many of the facts the phis take away.
 #[tactic(auto, using(crate::proofs::EdgeCrossing::Staying::gone_on))]
-fn count_gone<S: FactSet>(facts: &S, phis: &Phis<'_>) -> usize
-    ensures { result ≡ length (filter (goes phis.now) (S.contents facts.now)) }
+fn count_gone<S: FactSet>(facts: &S, from: &Name, phis: &Phis<'_>) -> usize
+    ensures { result ≡ length (filter (goes from.now phis.now) (S.contents facts.now)) }
 {
     let mut gone = 0;
     for k in 0..facts.len() {
-        gone += gone_at(facts, k, phis);
+        gone += gone_at(facts, k, from, phis);
     }
     gone
 }
@@ -79,16 +120,17 @@ fn put_at<S: FactSet>(
     side: Side,
     facts: &S,
     k: usize,
+    from: &Name,
     phis: &Phis<'_>,
     after: &mut Sides<S>,
 ) -> Result<(), AllocError>
     ensures { OnOk result
-        (after.new ≡ on_side side (with_facts (filter (stays phis.now) (at_place k (S.contents facts.now)))) after.old) }
+        (after.new ≡ on_side side (with_facts (filter (stays from.now phis.now) (at_place k (S.contents facts.now)))) after.old) }
 {
     match facts.at(k) {
         None => Ok(()),
         Some(fact) => {
-            if stays(phis, fact) {
+            if stays(from, phis, fact) {
                 after.add_fact(side, fact.copy(alloc)?)
             } else {
                 Ok(())
@@ -103,21 +145,22 @@ fn put_staying<S: FactSet>(
     alloc: Global,
     side: Side,
     facts: &S,
+    from: &Name,
     phis: &Phis<'_>,
     after: &mut Sides<S>,
 ) -> Result<(), AllocError>
     ensures { OnOk result
-        (after.new ≡ on_side side (with_facts (filter (stays phis.now) (S.contents facts.now))) after.old) }
+        (after.new ≡ on_side side (with_facts (filter (stays from.now phis.now) (S.contents facts.now))) after.old) }
 {
     for k in 0..facts.len() {
-        put_at(alloc, side, facts, k, phis, after)?;
+        put_at(alloc, side, facts, k, from, phis, after)?;
     }
     Ok(())
 }
 
 // ---- what is added
 
-/// Adds the fact as it was before the edge.
+/// Adds the fact as it was before the edge, if it is one of expressions.
 #[tactic(auto, using(crate::proofs::EdgeCrossing::Copying::one_added, crate::proofs::EdgeCrossing::Copying::one_too_many))]
 fn add_copy<S: FactSet>(
     alloc: Global,
@@ -126,13 +169,17 @@ fn add_copy<S: FactSet>(
     fact: &Fact,
     after: &mut Sides<S>,
 ) -> Result<(), AddEnd>
-    ensures { Follows result after.new (adds_all_beside others side (as_old fact.now ∷ []) after.old) }
+    ensures { Follows result after.new (adds_all_beside others side (option_to_list (as_old fact.now)) after.old) }
 {
-    let copy = old_fact(alloc, fact)?;
-    if after.add_beside(others, side, copy)? {
-        Ok(())
-    } else {
-        Err(AddEnd::Limit(Limit::Facts))
+    match old_fact(alloc, fact)? {
+        None => Ok(()),
+        Some(copy) => {
+            if after.add_beside(others, side, copy)? {
+                Ok(())
+            } else {
+                Err(AddEnd::Limit(Limit::Facts))
+            }
+        }
     }
 }
 
@@ -392,11 +439,12 @@ fn diff_over<'l, 'a, S: FactSet>(
 
 // ---- the edge
 
-/// What stays, where each fact stands once: without facts that name old registers or ones of phis.
+/// What stays, where each fact stands once: without facts that name old registers, and without those that the phis take away.
 #[tactic(auto, using(crate::proofs::EdgeCrossing::Staying::all_stay))]
 fn staying<'l, 'a, S: FactSet>(
     alloc: Global,
     known: &Sides<'l, 'a, S>,
+    from: &Name,
     source: &Phis<'_>,
     target: &Phis<'_>,
 ) -> Result<Sides<'l, 'a, S>, AllocError>
@@ -405,14 +453,28 @@ fn staying<'l, 'a, S: FactSet>(
     ensures { IfOk result
         (λ after. after
         ≡ record {
-          src = filter (stays source.now) known.now.src;
-          tgt = filter (stays target.now) known.now.tgt;
+          src = filter (stays from.now source.now) known.now.src;
+          tgt = filter (stays from.now target.now) known.now.tgt;
           diff = [];
         }) }
 {
     let mut after = Sides::empty(alloc)?;
-    put_staying(alloc, Side::Src, known.facts(Side::Src), source, &mut after)?;
-    put_staying(alloc, Side::Tgt, known.facts(Side::Tgt), target, &mut after)?;
+    put_staying(
+        alloc,
+        Side::Src,
+        known.facts(Side::Src),
+        from,
+        source,
+        &mut after,
+    )?;
+    put_staying(
+        alloc,
+        Side::Tgt,
+        known.facts(Side::Tgt),
+        from,
+        target,
+        &mut after,
+    )?;
     Ok(after)
 }
 
@@ -436,13 +498,14 @@ fn over<'l, 'a, S: FactSet>(
         (over_edge (record { from = edge.now.from.now; source = edge.now.source.now; target = edge.now.target.now }) known.now)
         ≡ None)) }
 {
+    let from = edge.from;
     let source = edge.source;
     let target = edge.target;
-    let gone_source = count_gone(known.facts(Side::Src), source) as u128;
-    let gone_target = count_gone(known.facts(Side::Tgt), target) as u128;
-    let mut after = staying(alloc, known, source, target)?;
+    let gone_source = count_gone(known.facts(Side::Src), from, source) as u128;
+    let gone_target = count_gone(known.facts(Side::Tgt), from, target) as u128;
+    let mut after = staying(alloc, known, from, source, target)?;
     add_over(alloc, gone_source + gone_target, known, edge, &mut after)?;
-    let diff = diff_over(alloc, known, edge.from, source, target)?;
+    let diff = diff_over(alloc, known, from, source, target)?;
     after.set_differing(diff);
     Ok(after)
 }

@@ -1,4 +1,4 @@
-use Rattle.std.proofs.Common.{◌≡◌, ◌∙◌, ◌&&◌, Bool, List, ap}
+use Rattle.std.proofs.Common.{◌∙◌, ◌&&◌, Bool, List, ap}
 use Rattle.std.specs.List.{list_any}
 use Rattle.ir_core.specs.declared.expressions.Reg.{Reg}
 use Rattle.fact_sets.specs.ErhlSides.Differing.{is_left_over}

@@ -1,4 +1,4 @@
-use Rattle.std.proofs.Common.{◌≡◌, ◌∙◌, refl, sym}
+use Rattle.std.proofs.Common.{◌∙◌, refl, sym}
 use Rattle.fact_sets.proofs.Crossed.{kept_alone_over, is_none}
 use Rattle.fact_sets.proofs.register_set.RegisterSet.old_too.Goals as goal
 

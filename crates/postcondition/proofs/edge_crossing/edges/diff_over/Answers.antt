@@ -1,6 +1,5 @@
 use Rattle.std.proofs.Common.{◌∙◌, ◌++◌, List, ap, filter}
 use Rattle.ir_core.specs.declared.functions.Phi.{Phi}
-use Rattle.ir_core.specs.declared.expressions.Reg.{Reg}
 use Rattle.erhl_assert.specs.Edges.{Edge, old_too, phi_registers}
 use Rattle.postcondition.specs.EdgeCrossing.Crossing.{stays_apart}
 use Rattle.postcondition.proofs.EdgeCrossing.Differing.{apart, all_added}

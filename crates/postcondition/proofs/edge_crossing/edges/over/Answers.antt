@@ -11,7 +11,7 @@ returns-clause-ok g c =
     let known = c.args.known.now in
     let from = c.args.edge.now.from.now in
     let e : Edge = record { from = from; source = c.args.edge.now.source.now; target = c.args.edge.now.target.now } in
-    let gone : List Phi → List Fact → ℕ = λ ps fs. length (filter (goes ps) fs) in
+    let gone : List Phi → List Fact → ℕ = λ ps fs. length (filter (goes from ps) fs) in
     crossed e known (c.count_gone-gone_source.result + c.count_gone-gone_target.result) c.in_ok-after.after
     (ap₂ (λ (m n : ℕ). m + n) (c.count_gone-gone_source.ensures ∙ ap (gone e.source) c.facts.ensures) (c.count_gone-gone_target.ensures ∙ ap (gone e.target) c.facts-2.ensures))
     c.in_ok-after.ensures

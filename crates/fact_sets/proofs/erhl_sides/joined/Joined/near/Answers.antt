@@ -8,4 +8,4 @@ use Rattle.fact_sets.proofs.erhl_sides.joined.Joined.near.Goals as goal
 pub returns-then-self : goal.returns-then-self
 returns-then-self g c =
     all_near c.self.inside.is_whole c.self.inside.near (found_under (map_atom Now c.args.atom.now)) c.near.result.now (g.S.FactSet.contents c.self.inside.facts) c.args.self.now
-    c.self.invariant.1 (search rules) c.near.ensures (search rules)
+    c.self.invariant.1.0 (search rules) c.near.ensures (search rules)

@@ -1,0 +1,250 @@
+//! Facts by which a store or a call leaves what is loaded, beside those that have loads.
+ghost use Rattle.std.specs.Prelude.{◌≡◌, ◌++◌, ◌||◌, filter, true, OnOk, OnErr};
+ghost use Rattle.std.specs.List.{list_all};
+ghost use Rattle.ir_core.specs.declared.expressions.Expr.TheVariants.{Plain};
+ghost use Rattle.erhl_assert.specs.declared.facts.Fact.TheVariants.{Unique, Private, NoAlias};
+ghost use Rattle.erhl_assert.specs.Facts.{has_fact, same_fact, with_fact};
+ghost use Rattle.erhl_assert.specs.Kills as kills;
+ghost use Rattle.fact_sets.specs.Shields as spec;
+
+use contents::Exact;
+use erhl_assert::Fact;
+use indexmap::IndexSet;
+use ir_core::{Atom, Expr, Expr0, Operand, Reg, same_const, same_reg, same_reg_operand};
+use std::alloc::{AllocError, Global};
+
+/// Whether a kill asks of the fact whether it is known.
+pub(crate) fn shields(fact: &Fact) -> bool
+    ensures { result ≡ spec.shields fact.now }
+{
+    match fact {
+        Fact::Unique(_) | Fact::Private(_) => true,
+        Fact::NoAlias(Expr::Plain(_), Expr::Plain(_)) => true,
+        Fact::NoAlias(_, _) | Fact::LessDef(_, _) | Fact::Ok(_, _, _) => false,
+    }
+}
+
+fn is_load(expr: &Expr0) -> bool
+    ensures { result ≡ spec.is_load expr.now }
+{
+    matches!(expr, Expr::Load(_))
+}
+
+/// Whether the fact has a load.
+fn has_load(fact: &Fact) -> bool
+    ensures { result ≡ spec.has_load fact.now }
+{
+    match fact {
+        Fact::LessDef(a, b) | Fact::NoAlias(a, b) => is_load(a) || is_load(b),
+        Fact::Ok(address, _, _) => is_load(address),
+        Fact::Unique(_) | Fact::Private(_) => false,
+    }
+}
+
+/// Whether some facts and this one may have a load.
+pub(crate) fn may_load_with(may_load: bool, fact: &Fact) -> bool
+    ensures { result ≡ (may_load || spec.has_load fact.now) }
+{
+    may_load || has_load(fact)
+}
+
+/// Whether the fact is that the register is unique.
+pub(crate) fn is_unique_of(register: &Reg, fact: &Fact) -> bool
+    ensures same { result ≡ same_fact (Unique register.now) fact.now }
+    ensures of { result ≡ kills.is_unique_of register.now fact.now }
+{
+    match fact {
+        Fact::Unique(other) => same_reg(register, other),
+        _ => false,
+    }
+}
+
+/// Whether the fact is that the register is private.
+fn is_private_of(register: &Reg, fact: &Fact) -> bool
+    ensures { result ≡ same_fact (Private register.now) fact.now }
+{
+    match fact {
+        Fact::Private(other) => same_reg(register, other),
+        _ => false,
+    }
+}
+
+/// Whether the fact is that the first isn't an alias of the second.
+fn is_no_alias_of(p: &Operand<Reg>, q: &Operand<Reg>, fact: &Fact) -> bool
+    ensures { result ≡ same_fact (NoAlias (Plain p.now) (Plain q.now)) fact.now }
+{
+    match fact {
+        Fact::NoAlias(Expr::Plain(a), Expr::Plain(b)) => {
+            same_reg_operand(p, a) && same_reg_operand(q, b)
+        }
+        _ => false,
+    }
+}
+
+/// Whether it is known that the register is unique.
+pub(crate) fn has_unique(register: &Reg, shields: &[Fact]) -> bool
+    ensures { result ≡ has_fact (Unique register.now) shields.now }
+{
+    shields.iter().any(|fact| is_unique_of(register, fact))
+}
+
+fn has_private(register: &Reg, shields: &[Fact]) -> bool
+    ensures { result ≡ has_fact (Private register.now) shields.now }
+{
+    shields.iter().any(|fact| is_private_of(register, fact))
+}
+
+fn has_no_alias(p: &Operand<Reg>, q: &Operand<Reg>, shields: &[Fact]) -> bool
+    ensures { result ≡ has_fact (NoAlias (Plain p.now) (Plain q.now)) shields.now }
+{
+    shields.iter().any(|fact| is_no_alias_of(p, q, fact))
+}
+
+fn is_unique(atom: &Atom<Reg>, shields: &[Fact]) -> bool
+    ensures { result ≡ kills.is_unique shields.now atom.now }
+{
+    match atom {
+        Atom::Constant(_) => false,
+        Atom::Register(register) => has_unique(register, shields),
+    }
+}
+
+fn is_private(atom: &Atom<Reg>, shields: &[Fact]) -> bool
+    ensures { result ≡ kills.is_private shields.now atom.now }
+{
+    match atom {
+        Atom::Constant(_) => false,
+        Atom::Register(register) => has_private(register, shields),
+    }
+}
+
+/// Whether the atom is a register of now, or a constant.
+fn is_now_or_constant(atom: &Atom<Reg>) -> bool
+    ensures { result ≡ kills.is_now_or_constant atom.now }
+{
+    match atom {
+        Atom::Constant(_) => true,
+        Atom::Register(register) => matches!(register, Reg::Now(_)),
+    }
+}
+
+/// Whether the atoms are two.
+fn is_other(a: &Atom<Reg>, b: &Atom<Reg>) -> bool
+    ensures { result ≡ kills.is_other a.now b.now }
+{
+    match (a, b) {
+        (Atom::Register(r), Atom::Register(q)) => !same_reg(r, q),
+        (Atom::Constant(c), Atom::Constant(d)) => !same_const(c, d),
+        _ => true,
+    }
+}
+
+/// Whether a store through q leaves what is loaded from p.
+fn spares(shields: &[Fact], q: &Operand<Reg>, p: &Operand<Reg>) -> bool
+    ensures { result ≡ kills.spares shields.now q.now p.now }
+{
+    is_other(&q.atom, &p.atom)
+        && (has_no_alias(p, q, shields)
+            || has_no_alias(q, p, shields)
+            || (is_unique(&p.atom, shields) && is_now_or_constant(&q.atom))
+            || (is_unique(&q.atom, shields) && is_now_or_constant(&p.atom)))
+}
+
+/// What leaves loads: a store through an address, or a call.
+pub(crate) trait Change {
+    ghost use Rattle.std.specs.Prelude.{Bool, List};
+    ghost use Rattle.ir_core.specs.declared.expressions.Reg.{Reg};
+    ghost use Rattle.ir_core.specs.declared.operands.Operand.{Operand};
+    ghost use Rattle.erhl_assert.specs.declared.facts.Fact.{Fact};
+
+    ghost leaves: { Self → List Fact → Operand Reg → Bool };
+
+    /// Whether it leaves what is loaded from the pointer.
+    fn leaves(&self, shields: &[Fact], pointer: &Operand<Reg>) -> bool
+        ensures { result ≡ leaves self.now shields.now pointer.now };
+}
+
+/// A store through the address.
+#[derive(Drop, Clone, Copy)]
+pub(crate) struct Store<'a> {
+    pub(crate) address: &'a Operand<Reg>,
+}
+
+impl<'a> Change for Store<'a> {
+    ghost leaves = { λ store fs p. kills.spares fs store.address.now p };
+
+    fn leaves(&self, shields: &[Fact], pointer: &Operand<Reg>) -> bool {
+        spares(shields, self.address, pointer)
+    }
+}
+
+/// A call.
+#[derive(Drop, Clone, Copy)]
+pub(crate) struct Call;
+
+impl Change for Call {
+    ghost leaves = { λ _ fs p. kills.is_private fs p.atom };
+
+    fn leaves(&self, shields: &[Fact], pointer: &Operand<Reg>) -> bool {
+        is_private(&pointer.atom, shields)
+    }
+}
+
+fn leaves_expr<C: Change>(change: &C, shields: &[Fact], expr: &Expr0) -> bool
+    ensures { result ≡ list_all (C.leaves change.now shields.now) (kills.loads_in expr.now) }
+{
+    match expr {
+        Expr::Load(load) => change.leaves(shields, &load.pointer),
+        _ => true,
+    }
+}
+
+#[tactic(auto, using(crate::proofs::Shielding::all_of_two))]
+fn leaves_both<C: Change>(change: &C, shields: &[Fact], a: &Expr0, b: &Expr0) -> bool
+    ensures { result ≡ list_all (C.leaves change.now shields.now) (kills.loads_in a.now ++ kills.loads_in b.now) }
+{
+    leaves_expr(change, shields, a) && leaves_expr(change, shields, b)
+}
+
+/// Whether the change leaves each load of the fact.
+fn leaves_fact<C: Change>(change: &C, shields: &[Fact], fact: &Fact) -> bool
+    ensures { result ≡ list_all (C.leaves change.now shields.now) (kills.loads_of fact.now) }
+{
+    match fact {
+        Fact::LessDef(a, b) | Fact::NoAlias(a, b) => leaves_both(change, shields, a, b),
+        Fact::Ok(address, _, _) => leaves_expr(change, shields, address),
+        Fact::Unique(_) | Fact::Private(_) => true,
+    }
+}
+
+/// Takes out the facts of which the change doesn't leave each load.
+pub(crate) fn keep_left<C: Change>(change: &C, shields: &[Fact], facts: &mut IndexSet<Fact>)
+    ensures { facts.new.keys ≡ kills.with_loads (C.leaves change.now shields.now) facts.old.keys }
+{
+    facts.retain(|fact| leaves_fact(change, shields, fact));
+}
+
+/// Puts a fact that shields at the end of both, where it isn't there yet.
+pub(crate) fn add_shield(
+    alloc: Global,
+    fact: Fact,
+    facts: &mut IndexSet<Fact>,
+    some: &mut Vec<Fact>,
+) -> Result<(), AllocError>
+    requires shields { spec.shields fact ≡ true }
+    requires before { some.old.items ≡ filter spec.shields facts.old.keys }
+    ensures ok { OnOk result (facts.new.keys ≡ with_fact fact facts.old.keys) }
+    ensures err { OnErr result (facts.new.keys ≡ facts.old.keys) }
+    ensures all { some.new.items ≡ filter spec.shields facts.new.keys }
+{
+    if facts.contains(&fact) {
+        return Ok(());
+    }
+    let count = some.len();
+    some.push(fact.copy(alloc)?)?;
+    if facts.insert(fact).is_err() {
+        some.truncate(count);
+        return Err(AllocError);
+    }
+    Ok(())
+}
