@@ -5,12 +5,12 @@ usage: bench/count.py [--program PATH] [--only WORD] [--write FILE]
 
 A row of budgets.tsv has, between tabs: its name, an input, a command, a unit (byte or line), a budget (instructions a unit), the peak of
 memory in MB, whether the count has to grow linearly (yes or no), and which part counts: all of it, `judging` (what the calls take that ask
-whether the modules are well-formed), `reading` (what getting them from their texts takes, but for that), `whole` (the same by the whole
-grammar) or `printing` (what putting a module into a text takes). Where a unit is neither byte nor line it is what N counts. A budget or
+whether the modules are well-formed), `reading` (what getting them from their texts takes, but for that)
+or `printing` (what putting a module into a text takes). Where a unit is neither byte nor line it is what N counts. A budget or
 a peak that isn't set yet is inf. In a command {} stands for the input's file, HINTS for the hints that belong to it, NONE for hints that
 say nothing, STEP for one step before the first line, with which facts are kept along the block, BASE for a module of one line. An input is
 made by rule: chain:N is a function of N lines of i32, mixed:N one of all operators over integers of several widths, flow:N one of N blocks
-that branch, join and loop, clang:N a module of N functions as clang writes them (which `check` doesn't read), steps:N a hint file of N steps, blocks:N one of N blocks. Four have HINTS, under which they are valid against
+that branch, join and loop, clang:N a module of N functions as clang writes them, steps:N a hint file of N steps, blocks:N one of N blocks. Four have HINTS, under which they are valid against
 themselves: edges:N, a function of N blocks with a phi each, at whose starts 60 facts are known; ghosts:N, one of N blocks with two ghost
 and two same steps each; switch:N, one of a block of 50 lines and a step, which leads to N blocks; differ:N, one of N blocks in
 a row, at whose starts the same 400 registers may differ.
@@ -198,8 +198,8 @@ EMPTY = {"steps": steps(0), "blocks": blocks(0)}
 
 # The crates that ask whether a module is well-formed.
 JUDGES = {"whole_functions", "ir_shape", "whole_shapes", "definedness", "flow_solver"}
-# The crates that read the whole grammar, any of whose functions may have been inlined into their callers.
-READERS = {"module_reader", "ir_lexer", "module_tokens", "token_context", "derivation_writer", "derivation_cursor", "module_trees", "module_surroundings", "module_walk", "fault_walk", "named_modules"}
+# The crates that read modules, any of whose functions may have been inlined into their callers.
+READERS = {"ir_reader", "ir_lexer", "module_tokens", "token_context", "derivation_writer", "derivation_cursor", "module_trees", "module_surroundings", "module_walk", "fault_walk", "named_modules"}
 
 
 def crate_of(symbol):
@@ -229,20 +229,14 @@ def judging(path):
 
 
 def reading(path):
-    return in_calls(path, lambda caller: caller == "crell_program", lambda callee: callee == "ir_reader") - judging(path)
-
-
-def whole(path):
-    read = in_calls(path, lambda caller: caller in {"crell", "crell_program"}, lambda callee: callee in READERS)
-    # The reader asks ir_reader whether the module is well-formed.
-    return read - in_calls(path, lambda caller: caller == "module_reader", lambda callee: callee == "ir_reader")
+    return in_calls(path, lambda caller: caller in {"crell", "crell_program"}, lambda callee: callee in READERS) - judging(path)
 
 
 def printing(path):
     return in_calls(path, lambda caller: caller == "crell_program", lambda callee: callee == "ir_printer")
 
 
-PARTS = {"judging": judging, "reading": reading, "whole": whole, "printing": printing}
+PARTS = {"judging": judging, "reading": reading, "printing": printing}
 
 
 class Bench:

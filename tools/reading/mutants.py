@@ -22,7 +22,7 @@ def bytes_of(value):
 
 
 def rows_in(folder, names="whole_*.json"):
-    """The rows of the files of these names, each with its file's name; if no names are given, those of the whole grammar."""
+    """The rows of the files of these names, each with its file's name; if no names are given, those of the tables `whole_*.json`."""
     for path in sorted(glob.glob(os.path.join(folder, names))):
         with open(path) as file:
             rows = json.load(file)

@@ -23,14 +23,12 @@ use Rattle.crell_program.specs.declared.command.Form.TheVariants.{ModuleText, Hi
 use Rattle.crell_program.specs.CommandLine.Words.{CheckFiles, Command, Check, Print}
 use Rattle.crell_program.specs.Command.{File, limit_of, files_of}
 use Rattle.crell_program.specs.Due.{ShelfSeen, Held, Missing, Long, Broken, MayCome, DueOfFile, DueOfFiles, DueOfCheck, DueOfListing, DueOfTexts, IsReadOnlyAs, checked}
-use Rattle.crell_program.specs.declared.command.Grammar.{Grammar}
-use Rattle.crell_program.specs.declared.command.Grammar.TheVariants.{Small, Whole}
-use Rattle.crell_program.specs.Grammar.{IsAtFault, SpellsOnly}
+use Rattle.crell_program.specs.Modules.{SpellsOnly}
+use Rattle.ir_reader.specs.Faults.{IsAtFault}
 use Rattle.crell_program.specs.Delivery.{SinkSeen, GotAll, GotPart, GotNothing, IsDelivered}
 use Rattle.crell_program.specs.Rows.{Run, IsAnswered, WritingFailed}
 use Rattle.crell_program.specs.Statuses.{HasListing, ReadsHints, SomeOf, IsFit, HasFault, IsPlace, IsPassedLimit, HintsAreAtFault, IsAnswer, IsInvalid, HasNoVerdict, IsUnfit, module_status, text_status, AreJudged, NoneIsAbsent, SomeFileIsUnfit, SomeFileIsLonger, SomeFileIsMissing, IsStatus}
 use Rattle.crell_program.proofs.Bytes.{if_told, TellsAll, if_all_told, none_absent}
-use Rattle.crell_program.proofs.Grammars.{holds_no_hints, told_as_text}
 
 -- what is said at a status
 abbrev pub Says : Run → ℕ → Type 0
@@ -110,12 +108,12 @@ module _ (rules : Rules) (shelf : ShelfSeen) (out err : SinkSeen) (command : Com
   says_text_fault (text.WrongType place) bytes file said unfit = λ to_out to_err. (unfit, nothing_of out to_out)
 
   -- the first fault of a module's text
-  says_unfit : (grammar : Grammar) (f : ModuleFault) (bytes file : List ℕ) → IsAtFault grammar bytes f → SomeFileIsUnfit (module_status f) shelf.told (Some command)
+  says_unfit : (f : ModuleFault) (bytes file : List ℕ) → IsAtFault bytes f → SomeFileIsUnfit (module_status f) shelf.told (Some command)
       → SaysOf this (module_fault f bytes file)
-  says_unfit grammar (faults.Text f) bytes file is unfit = says_text_fault f bytes file (told_as_text grammar bytes f is.0) unfit
-  says_unfit grammar (faults.Shape f) bytes file is unfit = λ to_out to_err. (unfit, nothing_of out to_out)
-  says_unfit grammar (faults.Undefined function u) bytes file is unfit = λ to_out to_err. (unfit, nothing_of out to_out)
-  says_unfit grammar faults.Memory bytes file is unfit = absurd (is.1 refl)
+  says_unfit (faults.Text f) bytes file is unfit = says_text_fault f bytes file is.0.1 unfit
+  says_unfit (faults.Shape f) bytes file is unfit = λ to_out to_err. (unfit, nothing_of out to_out)
+  says_unfit (faults.Undefined function u) bytes file is unfit = λ to_out to_err. (unfit, nothing_of out to_out)
+  says_unfit faults.Memory bytes file is unfit = absurd (is.1 refl)
 
   says_fault : (fault : Fault) (file : List ℕ) → ((P : Fault → Type 0) → P fault → HintsAreAtFault P shelf.told (Some command)) → SaysOf this (at_fault fault file)
   says_fault (At path) file at = λ to_out to_err. (at IsPlace (path, refl), nothing_of out to_out)
@@ -156,23 +154,23 @@ module _ (rules : Rules) (shelf : ShelfSeen) (out err : SinkSeen) (names : Check
 
   pub says_check : (answer : Answer) → DueOfCheck rules names answer source target hints → SaysOf checks answer
   says_check answer (inl (f, is, e)) =
-      let unfit : IsUnfit (module_status f) (ModuleText Small) source = (f, is, refl) in
+      let unfit : IsUnfit (module_status f) ModuleText source = (f, is, refl) in
       along checks answer (module_fault f source names.source) e
-      (says_unfit rules shelf out err (Check names) Small f source names.source is
-      (present, inl (holds_no_hints Small, if_told _ source (IsUnfit (module_status f) (ModuleText Small)) told.0 unfit)))
+      (says_unfit rules shelf out err (Check names) f source names.source is
+      (present, inl ((λ e. cc), if_told _ source (IsUnfit (module_status f) ModuleText) told.0 unfit)))
   says_check answer (inr (s, sp, inl (f, is, e))) =
-      let unfit : IsUnfit (module_status f) (ModuleText Small) target = (f, is, refl) in
+      let unfit : IsUnfit (module_status f) ModuleText target = (f, is, refl) in
       along checks answer (module_fault f target names.target) e
-      (says_unfit rules shelf out err (Check names) Small f target names.target is
-      (present, inr (inl (holds_no_hints Small, if_told _ target (IsUnfit (module_status f) (ModuleText Small)) told.1.0 unfit))))
+      (says_unfit rules shelf out err (Check names) f target names.target is
+      (present, inr (inl ((λ e. cc), if_told _ target (IsUnfit (module_status f) ModuleText) told.1.0 unfit))))
   says_check answer (inr (s, sp, inr (t, tp, inl (fault, is, e)))) =
       along checks answer (at_fault fault names.hints) e
       (says_fault rules shelf out err (Check names) fault names.hints (λ P p. (
         reads,
         present,
         (
-          if_told _ source (HasFault P (ModuleText Small)) told.0 (s, sp.0),
-          (if_told _ target (HasFault P (ModuleText Small)) told.1.0 (t, tp.0), (if_told _ hints (HasFault P HintFile) told.1.1.0 (fault, p, is.0), tt)),
+          if_told _ source (HasFault P ModuleText) told.0 (s, sp.0),
+          (if_told _ target (HasFault P ModuleText) told.1.0 (t, tp.0), (if_told _ hints (HasFault P HintFile) told.1.1.0 (fault, p, is.0), tt)),
         ),
       )))
   says_check answer (inr (s, sp, inr (t, tp, inr (h, hp, e)))) =
@@ -180,14 +178,14 @@ module _ (rules : Rules) (shelf : ShelfSeen) (out err : SinkSeen) (names : Check
       (says_checked rules shelf out err (Check names) tt (module_answer rules s t h) names.source
       (answered IsInvalid s sp t tp h hp) (answered HasNoVerdict s sp t tp h hp))
     where
-      answered : (P : Option ModuleVerdict → Type 0) (s : Module) → SpellsOnly Small source s → (t : Module) → SpellsOnly Small target t → (h : Hints) → IsReadOnlyAs hints (Ok h)
+      answered : (P : Option ModuleVerdict → Type 0) (s : Module) → SpellsOnly source s → (t : Module) → SpellsOnly target t → (h : Hints) → IsReadOnlyAs hints (Ok h)
           → P (module_answer rules s t h) → IsAnswer P rules shelf.told (Some (Check names))
       answered P s sp t tp h hp p = (
         reads,
         present,
         (
-          if_told _ source (IsFit (ModuleText Small)) told.0 (s, sp.0),
-          (if_told _ target (IsFit (ModuleText Small)) told.1.0 (t, tp.0), (if_told _ hints (IsFit HintFile) told.1.1.0 (h, hp.0), tt)),
+          if_told _ source (IsFit ModuleText) told.0 (s, sp.0),
+          (if_told _ target (IsFit ModuleText) told.1.0 (t, tp.0), (if_told _ hints (IsFit HintFile) told.1.1.0 (h, hp.0), tt)),
         ),
         if_all_told shelf.told (files_of (Check names)) (source ∷ target ∷ hints ∷ []) (AreJudged rules P (Check names)) told (s, t, h, sp.0, tp.0, hp.0, p),
       )
@@ -196,11 +194,11 @@ module _ (rules : Rules) (shelf : ShelfSeen) (out err : SinkSeen) (listing : Lis
     (told : TellsAll shelf.told (files_of (Print listing file)) (text ∷ [])) where
   pub says_listing : (answer : Answer) → DueOfListing listing file answer text → SaysOf (command_run rules shelf out err (Print listing file)) answer
   says_listing answer (inl (f, is, e)) =
-      let unfit : IsUnfit (module_status f) (ModuleText Whole) text = (f, is, refl) in
+      let unfit : IsUnfit (module_status f) ModuleText text = (f, is, refl) in
       let present : NoneIsAbsent shelf.told (files_of (Print listing file)) = none_absent shelf.told (files_of (Print listing file)) (text ∷ []) told in
       along (command_run rules shelf out err (Print listing file)) answer (module_fault f text file) e
-      (says_unfit rules shelf out err (Print listing file) Whole f text file is
-      (present, inl (holds_no_hints Whole, if_told _ text (IsUnfit (module_status f) (ModuleText Whole)) told.0 unfit)))
+      (says_unfit rules shelf out err (Print listing file) f text file is
+      (present, inl ((λ e. cc), if_told _ text (IsUnfit (module_status f) ModuleText) told.0 unfit)))
   says_listing answer (inr (m, sp, due)) =
       along (command_run rules shelf out err (Print listing file)) answer (printed due.0) due.2
       (λ to_out to_err. (text, told.0, (m, sp, (due.0, due.1, to_out))))

@@ -22,15 +22,13 @@ use Rattle.crell_program.specs.CommandLine.Words.{CheckFiles, Command, Check, Pr
 use Rattle.crell_program.specs.Command.{File, most_bytes, files_of}
 use Rattle.crell_program.specs.CrellAnswers.VerdictText.{verdict_status}
 use Rattle.crell_program.specs.Due.{ShelfSeen, Held, Missing, Long, Broken, DueOfFile, DueOfFiles, DueOfCheck, DueOfListing, DueOfTexts, checked}
-use Rattle.crell_program.specs.declared.command.Grammar.{Grammar}
-use Rattle.crell_program.specs.declared.command.Grammar.TheVariants.{Small, Whole}
-use Rattle.crell_program.specs.Grammar.{FaultsAreOfOneKind, FaultsExcludeModules, IsAtFault, SpellsWellFormed}
+use Rattle.ir_reader.specs.Faults.{IsAtFault, SpellsWellFormed}
+use Rattle.ir_reader.specs.Laws.{FaultsAreOfOneKind, FaultsExcludeModules}
 use Rattle.crell_program.specs.Delivery.{SinkSeen, IsDelivered}
 use Rattle.crell_program.specs.Rows.{Run, IsAnswered, NoFault}
 use Rattle.crell_program.specs.Statuses.{HoldsAllOf, HoldsAll, HasVerdict, AreJudged, FirstIsUnfit, IsInvalid, HasNoVerdict, module_status, HintsHaveFault, fault_status, IsListed, IsAbsent, IsOverlong, FirstUnheldOf, FirstUnheld}
 use Rattle.crell_program.proofs.Bytes.{told_bytes}
 use Rattle.crell_program.proofs.FaultStatus.{module_fault_status, one_status}
-use Rattle.crell_program.proofs.Grammars.{holds_no_hints}
 
 isnt_missing : (bytes : List ℕ) → Bytes bytes ≡ NoSuch → ⊥
 isnt_missing bytes e = cc
@@ -67,11 +65,11 @@ AreWithin (file ∷ files) [] = ⊥
 
 answer_of_texts : FaultsExcludeModules → (rules : Rules) (names : CheckFiles) (answer : Answer) (source target hints : List ℕ) (s t : Module) (h : Hints)
     → length source ≤ text_limit → length target ≤ text_limit
-    → SpellsWellFormed Small source s → SpellsWellFormed Small target t → HintsOf hints h → DueOfCheck rules names answer source target hints
+    → SpellsWellFormed source s → SpellsWellFormed target t → HintsOf hints h → DueOfCheck rules names answer source target hints
     → answer ≡ checked (module_answer rules s t h) names.source
-answer_of_texts excludes rules names answer source target hints s t h short also sp tp hp (inl (f, is, e)) = absurd (excludes Small source f s short is sp)
+answer_of_texts excludes rules names answer source target hints s t h short also sp tp hp (inl (f, is, e)) = absurd (excludes source f s short is sp)
 answer_of_texts excludes rules names answer source target hints s t h short also sp tp hp (inr (s2, sq, inl (f, is, e))) =
-    absurd (excludes Small target f t also is tp)
+    absurd (excludes target f t also is tp)
 answer_of_texts excludes rules names answer source target hints s t h short also sp tp hp (inr (s2, sq, inr (t2, tq, inl (fault, is, e)))) =
     absurd (not_both h fault (is.1 (Ok h) hp))
 answer_of_texts excludes rules names answer source target hints s t h short also sp tp hp (inr (s2, sq, inr (t2, tq, inr (h2, hq, e)))) =
@@ -159,32 +157,32 @@ too_many_facts excludes = judged_so excludes HasNoVerdict 9 status_of_none
 
 module _ (kinds : FaultsAreOfOneKind) (excludes : FaultsExcludeModules) where
   -- the status is that of a first fault of the text
-  by_fault : (grammar : Grammar) (text file : List ℕ) (answer : Answer) (f g : ModuleFault) (known : ℕ) → length text ≤ text_limit → IsAtFault grammar text f → answer ≡ module_fault f text file
-      → IsAtFault grammar text g → module_status g ≡ known → answer.status ≡ known
-  by_fault grammar text file answer f g known short is e also same =
-      ap (λ (a : Answer). a.status) e ∙ module_fault_status f text file ∙ one_status kinds grammar text f g short is also ∙ same
+  by_fault : (text file : List ℕ) (answer : Answer) (f g : ModuleFault) (known : ℕ) → length text ≤ text_limit → IsAtFault text f → answer ≡ module_fault f text file
+      → IsAtFault text g → module_status g ≡ known → answer.status ≡ known
+  by_fault text file answer f g known short is e also same =
+      ap (λ (a : Answer). a.status) e ∙ module_fault_status f text file ∙ one_status kinds text f g short is also ∙ same
 
   unread_check : (rules : Rules) (names : CheckFiles) (answer : Answer) (source target hints : List ℕ) (known : ℕ) → length source ≤ text_limit → length target ≤ text_limit
       → FirstIsUnfit known (files_of (Check names)) (source ∷ target ∷ hints ∷ []) → DueOfCheck rules names answer source target hints → answer.status ≡ known
   unread_check rules names answer source target hints known short also (inl (g, first, same)) (inl (f, is, e)) =
-      by_fault Small source names.source answer f g known short is e first same
+      by_fault source names.source answer f g known short is e first same
   unread_check rules names answer source target hints known short also (inl (g, first, same)) (inr (s, sp, due)) =
-      absurd (excludes Small source g s short first sp.0)
+      absurd (excludes source g s short first sp.0)
   unread_check rules names answer source target hints known short also (inr ((m, fit), rest)) (inl (f, is, e)) =
-      absurd (excludes Small source f m short is fit)
+      absurd (excludes source f m short is fit)
   unread_check rules names answer source target hints known short also (inr (fit, inl (g, first, same))) (inr (s, sp, inl (f, is, e))) =
-      by_fault Small target names.target answer f g known also is e first same
+      by_fault target names.target answer f g known also is e first same
   unread_check rules names answer source target hints known short also (inr (fit, inl (g, first, same))) (inr (s, sp, inr (t, tp, due))) =
-      absurd (excludes Small target g t also first tp.0)
+      absurd (excludes target g t also first tp.0)
   unread_check rules names answer source target hints known short also (inr (fit, inr ((m, fit_too), rest))) (inr (s, sp, inl (f, is, e))) =
-      absurd (excludes Small target f m also is fit_too)
+      absurd (excludes target f m also is fit_too)
   unread_check rules names answer source target hints known short also (inr (fit, inr (fit_too, inl none))) (inr (s, sp, inr (t, tp, due))) = absurd none
   unread_check rules names answer source target hints known short also (inr (fit, inr (fit_too, inr (fit_hints, none)))) (inr (s, sp, inr (t, tp, due))) = absurd none
 
   unread_listing : (listing : Listing) (file : List ℕ) (answer : Answer) (text : List ℕ) (known : ℕ) → length text ≤ text_limit
       → FirstIsUnfit known (files_of (Print listing file)) (text ∷ []) → DueOfListing listing file answer text → answer.status ≡ known
-  unread_listing listing file answer text known short (inl (g, first, same)) (inl (f, is, e)) = by_fault Whole text file answer f g known short is e first same
-  unread_listing listing file answer text known short (inl (g, first, same)) (inr (m, sp, due)) = absurd (excludes Whole text g m short first sp.0)
+  unread_listing listing file answer text known short (inl (g, first, same)) (inl (f, is, e)) = by_fault text file answer f g known short is e first same
+  unread_listing listing file answer text known short (inl (g, first, same)) (inr (m, sp, due)) = absurd (excludes text g m short first sp.0)
   unread_listing listing file answer text known short (inr (fit, none)) due = absurd none
 
   unread_texts : (rules : Rules) (known : ℕ) (command : Command) (answer : Answer) (texts : List (List ℕ)) → AreWithin (files_of command) texts
@@ -211,11 +209,11 @@ fault_has_status (Past limit) answer file e = ap (λ (a : Answer). a.status) e
 
 hints_unread_check : FaultsExcludeModules → (rules : Rules) (fault : Fault) (names : CheckFiles) (answer : Answer) (source target hints : List ℕ) (s t : Module)
     → length source ≤ text_limit → length target ≤ text_limit
-    → SpellsWellFormed Small source s → SpellsWellFormed Small target t → IsHintFault hints fault → DueOfCheck rules names answer source target hints
+    → SpellsWellFormed source s → SpellsWellFormed target t → IsHintFault hints fault → DueOfCheck rules names answer source target hints
     → answer.status ≡ fault_status fault
-hints_unread_check excludes rules fault names answer source target hints s t short also sp tp hp (inl (f, is, e)) = absurd (excludes Small source f s short is sp)
+hints_unread_check excludes rules fault names answer source target hints s t short also sp tp hp (inl (f, is, e)) = absurd (excludes source f s short is sp)
 hints_unread_check excludes rules fault names answer source target hints s t short also sp tp hp (inr (s2, sq, inl (f, is, e))) =
-    absurd (excludes Small target f t also is tp)
+    absurd (excludes target f t also is tp)
 hints_unread_check excludes rules fault names answer source target hints s t short also sp tp hp (inr (s2, sq, inr (t2, tq, inl (found, is, e)))) =
     fault_has_status found answer names.hints e ∙ ap fault_status (sym (faults_same fault found (is.1 (Err fault) hp)))
 hints_unread_check excludes rules fault names answer source target hints s t short also sp tp hp (inr (s2, sq, inr (t2, tq, inr (h, hq, e)))) =
@@ -230,7 +228,7 @@ hints_unread_texts excludes rules fault (Check names) answer [] within unfit due
 hints_unread_texts excludes rules fault (Check names) answer (source ∷ []) within unfit due = absurd due
 hints_unread_texts excludes rules fault (Check names) answer (source ∷ target ∷ []) within unfit due = absurd due
 hints_unread_texts excludes rules fault (Check names) answer (source ∷ target ∷ hints ∷ text ∷ more) within unfit due = absurd due
-hints_unread_texts excludes rules fault (Print listing file) answer texts within (inl form, fit) due = absurd (holds_no_hints Whole form)
+hints_unread_texts excludes rules fault (Print listing file) answer texts within (inl form, fit) due = absurd (cc)
 hints_unread_texts excludes rules fault (Print listing file) answer texts within (inr none, fit) due = absurd none
 
 pub hints_unread : FaultsExcludeModules → (run : Run) (status : ℕ) → IsAnswered run status → (fault : Fault)
@@ -244,7 +242,7 @@ listed_texts : FaultsExcludeModules → (rules : Rules) (command : Command) (ans
     → AreWithin (files_of command) texts → IsListed command texts → DueOfTexts rules command answer texts → answer.status ≡ 0
 listed_texts excludes rules (Check names) answer texts within listed due = absurd listed
 listed_texts excludes rules (Print listing file) answer (text ∷ []) within listed (inl (f, is, e)) =
-    absurd (excludes Whole text f listed.0.0 within.0 is listed.0.1)
+    absurd (excludes text f listed.0.0 within.0 is listed.0.1)
 listed_texts excludes rules (Print listing file) answer (text ∷ []) within listed (inr (m, sp, due)) = ap (λ (a : Answer). a.status) due.2
 listed_texts excludes rules (Print listing file) answer [] within listed due = absurd due
 listed_texts excludes rules (Print listing file) answer (text ∷ other ∷ more) within listed due = absurd due

@@ -5,10 +5,10 @@ use Rattle.ir_lexer.specs.declared.fault.TextFault.{TextFault}
 use Rattle.ir_lexer.specs.declared.fault.TextFault.TheVariants as text
 use Rattle.ir_reader.specs.declared.fault.ModuleFault.{ModuleFault}
 use Rattle.ir_reader.specs.declared.fault.ModuleFault.TheVariants as faults
-use Rattle.ir_reader.specs.InputLaws.{FaultKind, PastLimit, Misspelled, IllFormed, Silent, fault_kind, text_kind}
+use Rattle.ir_reader.specs.Laws.{FaultKind, PastLimit, Misspelled, IllFormed, Silent, fault_kind, text_kind}
 use Rattle.crell_program.specs.CrellAnswers.Answer.{text_fault, module_fault}
-use Rattle.crell_program.specs.declared.command.Grammar.{Grammar}
-use Rattle.crell_program.specs.Grammar.{FaultsAreOfOneKind, IsAtFault}
+use Rattle.ir_reader.specs.Faults.{IsAtFault}
+use Rattle.ir_reader.specs.Laws.{FaultsAreOfOneKind}
 use Rattle.crell_program.specs.Statuses.{module_status, text_status}
 
 abbrev kind_status : FaultKind → ℕ
@@ -64,7 +64,7 @@ module_fault_status (faults.Shape f) bytes file = refl
 module_fault_status (faults.Undefined function u) bytes file = refl
 module_fault_status faults.Memory bytes file = refl
 
--- the first faults of a text by one grammar have one status
-pub one_status : FaultsAreOfOneKind → (grammar : Grammar) (bytes : List ℕ) (f g : ModuleFault) → length bytes ≤ text_limit → IsAtFault grammar bytes f → IsAtFault grammar bytes g
+-- the first faults of a text have one status
+pub one_status : FaultsAreOfOneKind → (bytes : List ℕ) (f g : ModuleFault) → length bytes ≤ text_limit → IsAtFault bytes f → IsAtFault bytes g
     → module_status f ≡ module_status g
-one_status kinds grammar bytes f g short p q = by_kind f ∙ ap kind_status (kinds grammar bytes f g short p q) ∙ sym (by_kind g)
+one_status kinds bytes f g short p q = by_kind f ∙ ap kind_status (kinds bytes f g short p q) ∙ sym (by_kind g)

@@ -11,7 +11,7 @@ use Rattle.crell_program.specs.CommandLine.Words.{Command}
 use Rattle.crell_program.specs.Command.{files_of}
 use Rattle.crell_program.specs.CrellAnswers.VerdictText.{verdict_status, verdict_answer}
 use Rattle.crell_program.specs.Due.{ShelfSeen, shelf_seen, IsDue, DueOfTexts, checked}
-use Rattle.crell_program.specs.Grammar.{FaultsExcludeModules}
+use Rattle.ir_reader.specs.Laws.{FaultsExcludeModules}
 use Rattle.crell_program.specs.Delivery.{SinkSeen, sink_seen, IsDelivered}
 use Rattle.crell_program.specs.Rows.{Run, IsAnswered, KeepsRows, NoFault}
 use Rattle.crell_program.specs.Statuses.{HasVerdict, AreJudged, IsRefinementOfBytes}

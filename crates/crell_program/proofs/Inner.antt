@@ -24,8 +24,8 @@ use Rattle.crell_program.specs.Command.{File, files_of}
 use Rattle.crell_program.specs.Fetching.{AreHeld}
 use Rattle.crell_program.specs.CrellAnswers.VerdictText.{verdict_status, verdict_answer}
 use Rattle.crell_program.specs.Due.{ShelfSeen, Held, Missing, Long, Broken, DueOfFile, DueOfFiles, DueOfCheck, DueOfListing, DueOfTexts, IsListing, IsReadOnlyAs, checked}
-use Rattle.crell_program.specs.declared.command.Grammar.TheVariants.{Small, Whole}
-use Rattle.crell_program.specs.Grammar.{IsModuleFault, SpellsOne, SpellsOnly}
+use Rattle.crell_program.specs.Modules.{SpellsOne, SpellsOnly}
+use Rattle.ir_reader.specs.Faults.{IsModuleFault}
 use Rattle.crell_program.specs.Delivery.{SinkSeen, IsDelivered, Untouched}
 use Rattle.crell_program.specs.Rows.{IsAnswered}
 use Rattle.crell_program.specs.Statuses.{AreRefined, IsRefinement, IsRefinementOfBytes}
@@ -65,18 +65,18 @@ read_only : (text : List ℕ) (due : Reading Hints) → IsHintReading text due �
 read_only text due is = (is, λ other also. readings_are_one text other due also is)
 
 module _ {E : Type 0} (rules : Rules) (names : CheckFiles) (source target hints : List ℕ) where
-  pub unfit_source : (fault : ModuleFault) → IsModuleFault Small source fault → (r : Result Answer E) → IfOk r (λ _. fault ≢ faults.Memory)
+  pub unfit_source : (fault : ModuleFault) → IsModuleFault source fault → (r : Result Answer E) → IfOk r (λ _. fault ≢ faults.Memory)
       → IfOk r (λ a. a ≡ module_fault fault source names.source) → IfOk r (λ answer. DueOfCheck rules names answer source target hints)
   unfit_source fault is (Ok answer) said e = inl (fault, (is, said), e)
   unfit_source fault is (Err end) said e = e
 
-  module _ (s : Module) (sp : SpellsOnly Small source s) where
-    pub unfit_target : (fault : ModuleFault) → IsModuleFault Small target fault → (r : Result Answer E) → IfOk r (λ _. fault ≢ faults.Memory)
+  module _ (s : Module) (sp : SpellsOnly source s) where
+    pub unfit_target : (fault : ModuleFault) → IsModuleFault target fault → (r : Result Answer E) → IfOk r (λ _. fault ≢ faults.Memory)
         → IfOk r (λ a. a ≡ module_fault fault target names.target) → IfOk r (λ answer. DueOfCheck rules names answer source target hints)
     unfit_target fault is (Ok answer) said e = inr (s, sp, inl (fault, (is, said), e))
     unfit_target fault is (Err end) said e = e
 
-    module _ (t : Module) (tp : SpellsOnly Small target t) where
+    module _ (t : Module) (tp : SpellsOnly target t) where
       pub unfit_hints : (fault : Fault) → IsHintFault hints fault → (r : Result Answer E) → IfOk r (λ a. a ≡ at_fault fault names.hints)
           → IfOk r (λ answer. DueOfCheck rules names answer source target hints)
       unfit_hints fault is (Ok answer) e = inr (s, sp, inr (t, tp, inl (fault, read_only hints (Err fault) is, e)))
@@ -88,7 +88,7 @@ module _ {E : Type 0} (rules : Rules) (names : CheckFiles) (source target hints 
       texts_judged h hp (Err end) e = e
 
 -- refinement of the two modules that two texts spell alone is refinement of the texts
-pub refined : (source target : List ℕ) (s t : Module) → SpellsOnly Small source s → SpellsOnly Small target t → Refines s t → AreRefined source target
+pub refined : (source target : List ℕ) (s t : Module) → SpellsOnly source s → SpellsOnly target t → Refines s t → AreRefined source target
 refined source target s t sp tp refines = (
   (s, sp.0.0, sp.1),
   (t, tp.0.0, tp.1),
@@ -99,10 +99,10 @@ refined source target s t sp tp refines = (
 )
 
 -- and the other way
-pub refined_modules : (source target : List ℕ) (s t : Module) → SpellsOnly Small source s → SpellsOnly Small target t → AreRefined source target → Refines s t
+pub refined_modules : (source target : List ℕ) (s t : Module) → SpellsOnly source s → SpellsOnly target t → AreRefined source target → Refines s t
 refined_modules source target s t sp tp are = are.2 s t sp.0.0 tp.0.0
 
-pub texts_refined : {E : Type 0} (source target : List ℕ) (s t : Module) → SpellsOnly Small source s → SpellsOnly Small target t
+pub texts_refined : {E : Type 0} (source target : List ℕ) (s t : Module) → SpellsOnly source s → SpellsOnly target t
     → (r : Result Answer E) → IfOk r (λ a. a.status ≡ 0 → Refines s t) → IfOk r (λ a. a.status ≡ 0 → AreRefined source target)
 texts_refined source target s t sp tp (Ok answer) refines = λ z. refined source target s t sp tp (refines z)
 texts_refined source target s t sp tp (Err end) refines = refines
@@ -193,25 +193,25 @@ module _ {E : Type 0} (shelf : ShelfSeen) (listing : Listing) (name text : List 
   file_judged rules due = if_ok_then r _ _
       (λ answer d. due_of_held shelf (files_of (Print listing name)) (text ∷ []) answer (DueOfTexts rules (Print listing name) answer) all d) due
 
-  pub file_spelled : IfOk r (λ answer. answer.status ≡ 0 → SpellsOne Whole text) → IfOk r (λ answer. answer.status ≡ 0 → IsRefinement shelf.told (Print listing name))
-  file_spelled spelled = if_ok_then r _ _ (λ answer f z. if_told (shelf.told name) text (SpellsOne Whole) all.0.1 (f z)) spelled
+  pub file_spelled : IfOk r (λ answer. answer.status ≡ 0 → SpellsOne text) → IfOk r (λ answer. answer.status ≡ 0 → IsRefinement shelf.told (Print listing name))
+  file_spelled spelled = if_ok_then r _ _ (λ answer f z. if_told (shelf.told name) text (SpellsOne) all.0.1 (f z)) spelled
 
 module _ {E : Type 0} (listing : Listing) (name text : List ℕ) (r : Result Answer E) where
   -- what is listed of a module is printed
-  pub listing_judged : (m : Module) → SpellsOnly Whole text m → IfOk r (IsListing listing m) → IfOk r (λ answer. DueOfListing listing name answer text)
+  pub listing_judged : (m : Module) → SpellsOnly text m → IfOk r (IsListing listing m) → IfOk r (λ answer. DueOfListing listing name answer text)
   listing_judged m sp = if_ok_then r (IsListing listing m) (λ answer. DueOfListing listing name answer text) (λ answer printed. inr (m, sp, printed))
 
-  pub one_spelled : (m : Module) → SpellsOnly Whole text m → IfOk r (IsListing listing m) → IfOk r (λ answer. answer.status ≡ 0 → SpellsOne Whole text)
-  one_spelled m sp = if_ok_then r (IsListing listing m) (λ answer. answer.status ≡ 0 → SpellsOne Whole text) (λ answer printed z. (m, sp.0.0, sp.1))
+  pub one_spelled : (m : Module) → SpellsOnly text m → IfOk r (IsListing listing m) → IfOk r (λ answer. answer.status ≡ 0 → SpellsOne text)
+  one_spelled m sp = if_ok_then r (IsListing listing m) (λ answer. answer.status ≡ 0 → SpellsOne text) (λ answer printed z. (m, sp.0.0, sp.1))
 
 -- or its fault is told
-pub fault_listed : {E : Type 0} (listing : Listing) (name text : List ℕ) (fault : ModuleFault) → IsModuleFault Whole text fault → (r : Result Answer E) → IfOk r (λ _. fault ≢ faults.Memory)
+pub fault_listed : {E : Type 0} (listing : Listing) (name text : List ℕ) (fault : ModuleFault) → IsModuleFault text fault → (r : Result Answer E) → IfOk r (λ _. fault ≢ faults.Memory)
     → IfOk r (λ a. a ≡ module_fault fault text name) → IfOk r (λ answer. DueOfListing listing name answer text)
 fault_listed listing name text fault is (Ok answer) said e = inl (fault, (is, said), e)
 fault_listed listing name text fault is (Err end) said e = e
 
 pub fault_spelled : {E : Type 0} (name text : List ℕ) (fault : ModuleFault) → (r : Result Answer E)
-    → IfOk r (λ a. a ≡ module_fault fault text name) → IfOk r (λ answer. answer.status ≡ 0 → SpellsOne Whole text)
+    → IfOk r (λ a. a ≡ module_fault fault text name) → IfOk r (λ answer. answer.status ≡ 0 → SpellsOne text)
 fault_spelled name text fault (Ok answer) e = λ z. absurd (fault_isnt_zero fault text name (sym (ap (λ (a : Answer). a.status) e) ∙ z))
 fault_spelled name text fault (Err end) e = e
 

@@ -19,13 +19,10 @@ use Rattle.crell_io.specs.Shelf.Told.{Bytes}
 use Rattle.crell_program.specs.declared.command_line.request.Listing.{Listing}
 use Rattle.crell_program.specs.CommandLine.Words.{CheckFiles, Command, Check, Print}
 use Rattle.crell_program.specs.declared.command.Form.TheVariants.{ModuleText, HintFile}
-use Rattle.crell_program.specs.declared.command.Grammar.{Grammar}
-use Rattle.crell_program.specs.declared.command.Grammar.TheVariants.{Small, Whole}
 use Rattle.crell_program.specs.Command.{File, most_bytes, files_of}
-use Rattle.crell_program.specs.Grammar.{IsAtFault, SpellsWellFormed}
+use Rattle.ir_reader.specs.Faults.{IsAtFault, SpellsWellFormed}
 use Rattle.crell_program.specs.Judged.{IsJudged, IsToldJudged, IsTextStatus, MeetsOne, RunsAreJudged, Stays, StillRunsHaveNoFault}
 use Rattle.crell_program.specs.Statuses.{HoldsAllOf, FirstIsUnfit, HintsHaveFault, IsListed, AreJudged, IsInvalid, HasNoVerdict, FirstUnheldOf, IsAbsent, IsOverlong, module_status, text_status}
-use Rattle.crell_program.proofs.Grammars.{told_as_text}
 
 -- ---- the files that are held
 
@@ -90,11 +87,11 @@ text_status_is (text.Twice place size) told = inl refl
 text_status_is (text.WrongNumber place expected) told = inl refl
 text_status_is (text.WrongType place) told = inl refl
 
-module_status_is : (grammar : Grammar) (bytes : List ℕ) (f : ModuleFault) → IsAtFault grammar bytes f → IsTextStatus (module_status f)
-module_status_is grammar bytes (faults.Text f) is = text_status_is f (told_as_text grammar bytes f is.0)
-module_status_is grammar bytes (faults.Shape f) is = inr (inl refl)
-module_status_is grammar bytes (faults.Undefined function u) is = inr (inl refl)
-module_status_is grammar bytes faults.Memory is = absurd (is.1 refl)
+module_status_is : (bytes : List ℕ) (f : ModuleFault) → IsAtFault bytes f → IsTextStatus (module_status f)
+module_status_is bytes (faults.Text f) is = text_status_is f is.0.1
+module_status_is bytes (faults.Shape f) is = inr (inl refl)
+module_status_is bytes (faults.Undefined function u) is = inr (inl refl)
+module_status_is bytes faults.Memory is = absurd (is.1 refl)
 
 -- ---- the texts of a command
 
@@ -107,7 +104,7 @@ module _ (rules : Rules) (told : List ℕ → Told) where
         → MeetsOne rules told (Some (Check names))
     unfit fault is first = inr (inr (inl (module_status fault, is, holds told (files_of (Check names)) texts (FirstIsUnfit (module_status fault) (files_of (Check names))) are first)))
 
-    verdict : (s t : Module) (h : Hints) → SpellsWellFormed Small source s → SpellsWellFormed Small target t → HintsOf hints h
+    verdict : (s t : Module) (h : Hints) → SpellsWellFormed source s → SpellsWellFormed target t → HintsOf hints h
         → (said : Option ModuleVerdict) → module_answer rules s t h ≡ said → MeetsOne rules told (Some (Check names))
     verdict s t h sp tp hp None e =
         inr (inr (inr (inr (inr (inr (inr (holds told (files_of (Check names)) texts (AreJudged rules HasNoVerdict (Check names)) are (s, t, h, sp, tp, hp, e))))))))
@@ -122,7 +119,7 @@ module _ (rules : Rules) (told : List ℕ → Told) where
         (holds told (files_of (Check names)) texts (AreJudged rules IsInvalid (Check names)) are
         (s, t, h, sp, tp, hp, (modules.Refused function block spot reason, e, λ same. cc)))))))))
 
-    of_hints : (s t : Module) → SpellsWellFormed Small source s → SpellsWellFormed Small target t → IsJudged HintFile hints → MeetsOne rules told (Some (Check names))
+    of_hints : (s t : Module) → SpellsWellFormed source s → SpellsWellFormed target t → IsJudged HintFile hints → MeetsOne rules told (Some (Check names))
     of_hints s t sp tp (inl (h, hp)) = verdict s t h sp tp hp (module_answer rules s t h) refl
     of_hints s t sp tp (inr (fault, is)) =
         inr (inr (inr (inl (
@@ -131,22 +128,22 @@ module _ (rules : Rules) (told : List ℕ → Told) where
               (inr (inr (inl refl)), ((s, sp), ((t, tp), ((fault, refl, is), tt)))),
         ))))
 
-    of_target : (s : Module) → SpellsWellFormed Small source s → IsJudged (ModuleText Small) target → IsJudged HintFile hints → MeetsOne rules told (Some (Check names))
+    of_target : (s : Module) → SpellsWellFormed source s → IsJudged ModuleText target → IsJudged HintFile hints → MeetsOne rules told (Some (Check names))
     of_target s sp (inl (t, tp)) judged = of_hints s t sp tp judged
-    of_target s sp (inr (fault, is)) judged = unfit fault (module_status_is Small target fault is) (inr ((s, sp), inl (fault, is, refl)))
+    of_target s sp (inr (fault, is)) judged = unfit fault (module_status_is target fault is) (inr ((s, sp), inl (fault, is, refl)))
 
-    of_source : IsJudged (ModuleText Small) source → IsJudged (ModuleText Small) target → IsJudged HintFile hints → MeetsOne rules told (Some (Check names))
+    of_source : IsJudged ModuleText source → IsJudged ModuleText target → IsJudged HintFile hints → MeetsOne rules told (Some (Check names))
     of_source (inl (s, sp)) also judged = of_target s sp also judged
-    of_source (inr (fault, is)) also judged = unfit fault (module_status_is Small source fault is) (inl (fault, is, refl))
+    of_source (inr (fault, is)) also judged = unfit fault (module_status_is source fault is) (inl (fault, is, refl))
 
   module _ (listing : Listing) (name file_text : List ℕ) (are : AreToldWithin told (files_of (Print listing name)) (file_text ∷ [])) where
-    of_file : IsJudged (ModuleText Whole) file_text → MeetsOne rules told (Some (Print listing name))
+    of_file : IsJudged ModuleText file_text → MeetsOne rules told (Some (Print listing name))
     of_file (inl (m, mp)) =
         inr (inr (inr (inr (inl (holds told (files_of (Print listing name)) (file_text ∷ []) (IsListed (Print listing name)) are ((m, mp), tt))))))
     of_file (inr (fault, is)) =
         inr (inr (inl (
           module_status fault,
-          module_status_is Whole file_text fault is,
+          module_status_is file_text fault is,
           holds told (files_of (Print listing name)) (file_text ∷ []) (FirstIsUnfit (module_status fault) (files_of (Print listing name))) are (inl (fault, is, refl)),
         )))
 

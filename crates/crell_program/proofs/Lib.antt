@@ -4,7 +4,6 @@ pub mod Completeness
 pub mod Examples
 pub mod FaultStatus
 pub mod Fetches
-pub mod Grammars
 pub mod InMemory
 pub mod Inner
 pub mod Judged

@@ -13,8 +13,6 @@ use Rattle.crell_io.specs.Count.{HasRisen}
 use Rattle.crell_io.specs.Shelf.{Told, IfTold}
 use Rattle.crell_io.specs.Shelf.Told.{Untold, NoSuch, Bytes}
 use Rattle.crell_io.specs.Sink.{appended}
-use Rattle.crell_program.specs.declared.command.Grammar.{Grammar}
-use Rattle.crell_program.specs.declared.command.Grammar.TheVariants.{Small, Whole}
 use Rattle.crell_program.specs.declared.command_line.request.Listing.{Listing}
 use Rattle.crell_program.specs.declared.command_line.request.Listing.TheVariants.{Definitions, ModuleItself, NamedModule}
 use Rattle.crell_program.specs.declared.crell_answers.answer.Answer.{Answer}
@@ -23,7 +21,7 @@ use Rattle.crell_program.specs.CommandLine.Words.{CheckFiles, Command, Check, Pr
 use Rattle.crell_program.specs.CrellAnswers.Answer.{at_fault, module_fault, printed}
 use Rattle.crell_program.specs.DefinitionText.Lines.{LinesAreOne}
 use Rattle.crell_program.specs.Due.{ShelfSeen, Held, Missing, Long, Broken, DueOfCheck, DueOfFile, DueOfFiles, DueOfHints, DueOfListing, DueOfModule, DueOfTexts, IsDue, IsListing, Lists, checked}
-use Rattle.crell_program.specs.Grammar.{FaultsExcludeModules, ModuleFaultsAreOne}
+use Rattle.ir_reader.specs.Laws.{FaultsExcludeModules, ModuleFaultsAreOne}
 use Rattle.crell_program.specs.OneAnswer.{DueIsOne, StatusIsOne, UsageIsSaid, UsagesDifferOnErr}
 use Rattle.crell_program.proofs.Completeness.{AreWithin, delivered_well, faults_same, hints_same, not_both}
 
@@ -76,13 +74,13 @@ one_listing lines ModuleItself m t u p q = p ∙ sym q
 one_listing lines NamedModule m t u p q = p ∙ sym q
 
 module _ (faults_are_one : ModuleFaultsAreOne) (excludes : FaultsExcludeModules) (lines : LinesAreOne) (rules : Rules) (a b : Answer) where
-  of_module : (grammar : Grammar) (name text : List ℕ) (N M : Module → Type 0) → length text ≤ text_limit → ((m : Module) → N m → M m → a ≡ b)
-      → DueOfModule grammar name text a N → DueOfModule grammar name text b M → a ≡ b
-  of_module grammar name text N M short leads (inl (f, is, e)) (inl (g, also, d)) =
-      e ∙ (ap (λ (x : ModuleFault). module_fault x text name) (faults_are_one grammar text f g short is also) ∙ sym d)
-  of_module grammar name text N M short leads (inl (f, is, e)) (inr (m, only, n)) = absurd (excludes grammar text f m short is only.0)
-  of_module grammar name text N M short leads (inr (m, only, n)) (inl (f, is, e)) = absurd (excludes grammar text f m short is only.0)
-  of_module grammar name text N M short leads (inr (m, only, n)) (inr (k, also, r)) = leads m n (subst M (only.1 k also.0.0) r)
+  of_module : (name text : List ℕ) (N M : Module → Type 0) → length text ≤ text_limit → ((m : Module) → N m → M m → a ≡ b)
+      → DueOfModule name text a N → DueOfModule name text b M → a ≡ b
+  of_module name text N M short leads (inl (f, is, e)) (inl (g, also, d)) =
+      e ∙ (ap (λ (x : ModuleFault). module_fault x text name) (faults_are_one text f g short is also) ∙ sym d)
+  of_module name text N M short leads (inl (f, is, e)) (inr (m, only, n)) = absurd (excludes text f m short is only.0)
+  of_module name text N M short leads (inr (m, only, n)) (inl (f, is, e)) = absurd (excludes text f m short is only.0)
+  of_module name text N M short leads (inr (m, only, n)) (inr (k, also, r)) = leads m n (subst M (only.1 k also.0.0) r)
 
   of_hints : (name text : List ℕ) (N M : Hints → Type 0) → ((h : Hints) → N h → M h → a ≡ b) → DueOfHints name text a N → DueOfHints name text b M → a ≡ b
   of_hints name text N M leads (inl (f, is, e)) (inl (g, also, d)) = e ∙ (ap (λ (x : Fault). at_fault x name) (faults_same f g (also.1 (Err f) is.0)) ∙ sym d)
@@ -98,18 +96,18 @@ module _ (faults_are_one : ModuleFaultsAreOne) (excludes : FaultsExcludeModules)
     ByTarget answer s t = DueOfHints names.hints hints answer (ByHints answer s t)
 
     abbrev BySource : Answer → Module → Type 0
-    BySource answer s = DueOfModule Small names.target target answer (ByTarget answer s)
+    BySource answer s = DueOfModule names.target target answer (ByTarget answer s)
 
     of_check : (source : List ℕ) → length source ≤ text_limit → length target ≤ text_limit
         → DueOfCheck rules names a source target hints → DueOfCheck rules names b source target hints → a ≡ b
     of_check source short also =
-        of_module Small names.source source (BySource a) (BySource b) short
-        (λ s. of_module Small names.target target (ByTarget a s) (ByTarget b s) also
+        of_module names.source source (BySource a) (BySource b) short
+        (λ s. of_module names.target target (ByTarget a s) (ByTarget b s) also
         (λ t. of_hints names.hints hints (ByHints a s t) (ByHints b s t) (λ h e d. e ∙ sym d)))
 
   of_listing : (listing : Listing) (file text : List ℕ) → length text ≤ text_limit → DueOfListing listing file a text → DueOfListing listing file b text → a ≡ b
   of_listing listing file text short =
-      of_module Whole file text (λ m. IsListing listing m a) (λ m. IsListing listing m b) short
+      of_module file text (λ m. IsListing listing m a) (λ m. IsListing listing m b) short
       (λ m (t, p, e) (u, q, d). e ∙ (ap printed (one_listing lines listing m t u p q) ∙ sym d))
 
   of_texts : (command : Command) (texts : List (List ℕ)) → AreWithin (files_of command) texts → DueOfTexts rules command a texts → DueOfTexts rules command b texts → a ≡ b

@@ -1,6 +1,6 @@
 -- The rows of the table of statuses follow from the first.
 use Rattle.std.proofs.Common.{ℕ}
-use Rattle.crell_program.specs.Grammar.{FaultsAreOfOneKind, FaultsExcludeModules}
+use Rattle.ir_reader.specs.Laws.{FaultsAreOfOneKind, FaultsExcludeModules}
 use Rattle.crell_program.specs.Rows.{Run, IsAnswered, KeepsRows}
 use Rattle.crell_program.proofs.Causes.{said, said_at, kept, is_status, other_status}
 use Rattle.crell_program.proofs.Completeness.{printed, valid, invalid, too_many_facts, unread, hints_unread, missing, overlong}

@@ -7,12 +7,11 @@ use Rattle.crell_program.specs.declared.command_line.request.FileNames.{FileName
 use Rattle.crell_program.specs.CommandLine.Words.{Command, Check, Print, shown_names}
 use Rattle.crell_program.specs.declared.command.Form.{Form}
 use Rattle.crell_program.specs.declared.command.Form.TheVariants.{ModuleText, HintFile}
-use Rattle.crell_program.specs.declared.command.Grammar.TheVariants.{Small, Whole}
 use Rattle.crell_program.specs.declared.command.Wanted.{Wanted}
 
 -- the limit on the bytes of a file of that form
 abbrev pub limit_of : Form → Limit
-limit_of (ModuleText grammar) = limit.Text
+limit_of ModuleText = limit.Text
 limit_of HintFile = limit.Json
 
 -- a file that a command reads
@@ -23,13 +22,12 @@ pub record File : Type 0 where
 abbrev pub most_bytes : File → ℕ
 most_bytes file = limit_number (limit_of file.form)
 
--- The files that a command reads, in the order in which they are judged: `check` reads modules by the smaller grammar, `defs` and `fmt` by the
--- whole one.
+-- the files that a command reads, in the order in which they are judged
 abbrev pub files_of : Command → List File
 files_of (Check names) =
-    record { name = names.source; form = ModuleText Small } ∷ record { name = names.target; form = ModuleText Small }
+    record { name = names.source; form = ModuleText } ∷ record { name = names.target; form = ModuleText }
     ∷ record { name = names.hints; form = HintFile } ∷ []
-files_of (Print listing file) = record { name = file; form = ModuleText Whole } ∷ []
+files_of (Print listing file) = record { name = file; form = ModuleText } ∷ []
 
 -- the code's files, with their names as their bytes
 abbrev pub shown_file : Wanted → File

@@ -17,10 +17,9 @@ use Rattle.crell_io.specs.Shelf.Told.{NoSuch}
 use Rattle.crell_program.specs.declared.command_line.request.Listing.{Listing}
 use Rattle.crell_program.specs.declared.command_line.request.Listing.TheVariants.{Definitions, ModuleItself, NamedModule}
 use Rattle.crell_program.specs.CommandLine.Words.{CheckFiles, Command, Check, Print}
-use Rattle.crell_program.specs.declared.command.Grammar.{Grammar}
-use Rattle.crell_program.specs.declared.command.Grammar.TheVariants.{Small, Whole}
 use Rattle.crell_program.specs.Command.{File, limit_of, most_bytes, files_of}
-use Rattle.crell_program.specs.Grammar.{IsAtFault, SpellsOnly}
+use Rattle.crell_program.specs.Modules.{SpellsOnly}
+use Rattle.ir_reader.specs.Faults.{IsAtFault}
 use Rattle.crell_program.specs.declared.crell_answers.answer.Answer.{Answer}
 use Rattle.crell_program.specs.CrellAnswers.Answer.{usage, module_fault, at_fault, printed, read_failed, past_limit, absent}
 use Rattle.crell_program.specs.CrellAnswers.VerdictText.{verdict_answer}
@@ -77,11 +76,11 @@ DueOfFiles shelf (file ∷ files) answer next =
 abbrev pub IsReadOnlyAs : List ℕ → Reading Hints → Type 0
 IsReadOnlyAs text due = IsHintReading text due × ((other : Reading Hints) → IsHintReading text other → other ≡ due)
 
--- a module's text is judged by that grammar: its first fault is the answer's cause, and its module leads on
-abbrev pub DueOfModule : Grammar → List ℕ → List ℕ → Answer → (Module → Type 0) → Type 0
-DueOfModule grammar name text answer next =
-    ((fault : ModuleFault) × IsAtFault grammar text fault × (answer ≡ module_fault fault text name))
-    ⊎ ((m : Module) × SpellsOnly grammar text m × next m)
+-- a module's text is judged: its first fault is the answer's cause, and its module leads on
+abbrev pub DueOfModule : List ℕ → List ℕ → Answer → (Module → Type 0) → Type 0
+DueOfModule name text answer next =
+    ((fault : ModuleFault) × IsAtFault text fault × (answer ≡ module_fault fault text name))
+    ⊎ ((m : Module) × SpellsOnly text m × next m)
 
 -- a hint file's text is judged: its first fault is the answer's cause, and its hints lead on
 abbrev pub DueOfHints : List ℕ → List ℕ → Answer → (Hints → Type 0) → Type 0
@@ -93,11 +92,11 @@ abbrev pub checked : Option ModuleVerdict → List ℕ → Answer
 checked (Some v) source = verdict_answer v
 checked None source = past_limit limit.Facts source
 
--- the three texts of `check` are judged, those of modules by the smaller grammar, and then the pair
+-- the three texts of `check` are judged, and then the pair
 abbrev pub DueOfCheck : Rules → CheckFiles → Answer → List ℕ → List ℕ → List ℕ → Type 0
 DueOfCheck rules names answer source target hints =
-    DueOfModule Small names.source source answer (λ s.
-    DueOfModule Small names.target target answer (λ t.
+    DueOfModule names.source source answer (λ s.
+    DueOfModule names.target target answer (λ t.
     DueOfHints names.hints hints answer (λ h. answer ≡ checked (module_answer rules s t h) names.source)))
 
 -- The text is what is listed of the module: for each block of its functions what is defined at its start; or the module itself, or with
@@ -111,9 +110,9 @@ Lists NamedModule m text = text ≡ printed_module (named_all m)
 abbrev pub IsListing : Listing → Module → Answer → Type 0
 IsListing listing m answer = (text : List ℕ) × Lists listing m text × (answer ≡ printed text)
 
--- the text of `defs` or `fmt` is judged by the whole grammar, and then what is listed of its module is printed
+-- the text of `defs` or `fmt` is judged, and then what is listed of its module is printed
 abbrev pub DueOfListing : Listing → List ℕ → Answer → List ℕ → Type 0
-DueOfListing listing file answer text = DueOfModule Whole file text answer (λ m. IsListing listing m answer)
+DueOfListing listing file answer text = DueOfModule file text answer (λ m. IsListing listing m answer)
 
 -- the texts of a command's files are there, one for each
 abbrev pub DueOfTexts : Rules → Command → Answer → List (List ℕ) → Type 0

@@ -6,10 +6,9 @@ use Rattle.crell_io.specs.Shelf.{Told}
 use Rattle.crell_io.specs.Shelf.Told.{Bytes}
 use Rattle.crell_program.specs.declared.command_line.request.Listing.{Listing}
 use Rattle.crell_program.specs.CommandLine.Words.{CheckFiles, Check, Print}
-use Rattle.crell_program.specs.declared.command.Grammar.TheVariants.{Whole}
 use Rattle.crell_program.specs.Delivery.{GotAll, GotPart, SinkSeen}
 use Rattle.crell_program.specs.Due.{IsReadOnlyAs}
-use Rattle.crell_program.specs.Grammar.{SpellsOne}
+use Rattle.crell_program.specs.Modules.{SpellsOne}
 use Rattle.crell_program.specs.Statuses.{AreRefined, IsRefinementOfBytes, IsStatus}
 
 -- 0 and 10 are statuses, and 11 is none
@@ -25,7 +24,7 @@ pub record HeadlinesAreOfTexts : Type 0 where
   pub check : (told : List ℕ → Told) (names : CheckFiles) (source target : List ℕ) → told names.source ≡ Bytes source → told names.target ≡ Bytes target
       → IsRefinementOfBytes told (Some (Check names)) ↔ AreRefined source target
   pub print : (told : List ℕ → Told) (listing : Listing) (file text : List ℕ) → told file ≡ Bytes text
-      → IsRefinementOfBytes told (Some (Print listing file)) ↔ SpellsOne Whole text
+      → IsRefinementOfBytes told (Some (Print listing file)) ↔ SpellsOne text
 
 -- A hint file's text is read as one thing alone.
 abbrev pub ReadingsAreOne : Type 0

@@ -15,14 +15,14 @@ use Rattle.crell_program.specs.CommandLine.Words.{Command}
 use Rattle.crell_program.specs.declared.command.Form.{Form}
 use Rattle.crell_program.specs.declared.command.Form.TheVariants.{ModuleText, HintFile}
 use Rattle.crell_program.specs.Command.{File, files_of}
-use Rattle.crell_program.specs.Grammar.{IsAtFault, SpellsWellFormed}
+use Rattle.ir_reader.specs.Faults.{IsAtFault, SpellsWellFormed}
 use Rattle.crell_program.specs.Rows.{Run, NoFault}
 use Rattle.crell_program.specs.Statuses.{HoldsAll, FirstIsUnfit, HintsHaveFault, IsListed, HasVerdict, IsInvalid, HasNoVerdict, FirstUnheld, IsAbsent, IsOverlong}
 
--- The text is judged: by its form's grammar it spells a well-formed module, or something is first at fault in it; or it is that of hints, or
+-- The text is judged: it spells a well-formed module, or something is first at fault in it; or it is that of hints, or
 -- something is first at fault in them.
 abbrev pub IsJudged : Form → List ℕ → Type 0
-IsJudged (ModuleText grammar) text = ((m : Module) × SpellsWellFormed grammar text m) ⊎ ((fault : ModuleFault) × IsAtFault grammar text fault)
+IsJudged ModuleText text = ((m : Module) × SpellsWellFormed text m) ⊎ ((fault : ModuleFault) × IsAtFault text fault)
 IsJudged HintFile text = ((h : Hints) × HintsOf text h) ⊎ ((fault : Fault) × IsHintFault text fault)
 
 -- the file is told to be absent, or its bytes are told, which are judged

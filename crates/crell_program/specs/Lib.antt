@@ -4,10 +4,10 @@ pub mod Due
 pub mod Examples
 pub mod Fetching
 pub mod FirstParts
-pub mod Grammar
 pub mod InMemory
 pub mod Judged
 pub mod MemoryRuns
+pub mod Modules
 pub mod OneAnswer
 pub mod Rows
 pub mod Statuses

@@ -12,13 +12,12 @@ use Rattle.crell_io.specs.MemShelf.{ShelfState}
 use Rattle.crell_io.specs.MemSink.{SinkState}
 use Rattle.crell_program.specs.declared.command_line.request.Listing.{Listing}
 use Rattle.crell_program.specs.declared.crell_answers.answer.Answer.{Answer}
-use Rattle.crell_program.specs.declared.command.Grammar.TheVariants.{Small}
 use Rattle.crell_program.specs.CommandLine.Examples.{a, b, h}
 use Rattle.crell_program.specs.CommandLine.Words.{Command, Check, Print}
 use Rattle.crell_program.specs.CrellAnswers.Answer.{absent}
 use Rattle.crell_program.specs.CrellAnswers.VerdictText.{verdict_answer, verdict_status}
 use Rattle.crell_program.specs.Due.{IsDue}
-use Rattle.crell_program.specs.Grammar.{SpellsWellFormed}
+use Rattle.ir_reader.specs.Faults.{SpellsWellFormed}
 use Rattle.crell_program.specs.InMemory.{EndsWell, Fits, memory_run}
 use Rattle.crell_program.specs.Rows.{NoFault, Run}
 
@@ -47,7 +46,7 @@ PairsAreAnswered =
     (rules : Rules) (source target hints : List ℕ) (s t : Module) (proof : Hints) (v : ModuleVerdict) (room status : ℕ) (shelf : ShelfState) (out err : SinkState)
     → let run = memory_run rules (Some checking) (three_files source target hints) room shelf out err in
     length source ≤ text_limit → length target ≤ text_limit → length hints ≤ limit_number limit.Json
-    → SpellsWellFormed Small source s → SpellsWellFormed Small target t → HintsOf hints proof → module_answer rules s t proof ≡ Some v
+    → SpellsWellFormed source s → SpellsWellFormed target t → HintsOf hints proof → module_answer rules s t proof ≡ Some v
     → length (verdict_answer v).out ≤ room → EndsWell run status → EndsWith run status (verdict_status v)
 
 -- To words that are no command's a text of any length is due, so no room is sure to be enough, and the premise of `no_fault` isn't met.

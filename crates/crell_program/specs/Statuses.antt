@@ -20,28 +20,29 @@ use Rattle.crell_io.specs.Shelf.{Told, IfTold, IsBytesAnd}
 use Rattle.crell_io.specs.Shelf.Told.{NoSuch}
 use Rattle.crell_program.specs.declared.command.Form.{Form}
 use Rattle.crell_program.specs.declared.command.Form.TheVariants.{ModuleText, HintFile}
-use Rattle.crell_program.specs.declared.command.Grammar.TheVariants.{Small, Whole}
 use Rattle.crell_program.specs.CommandLine.Words.{Command, Check, Print}
 use Rattle.crell_program.specs.Command.{File, most_bytes, files_of}
 use Rattle.crell_program.specs.Due.{ShelfSeen, Missing, Long, MayCome, Lists}
-use Rattle.crell_program.specs.Grammar.{IsAtFault, Spells, SpellsOne, SpellsOnly, SpellsWellFormed}
+use Rattle.crell_program.specs.Modules.{SpellsOne, SpellsOnly}
+use Rattle.ir_reader.specs.Faults.{IsAtFault, SpellsWellFormed}
+use Rattle.module_spelling.specs.Spells.{Spells}
 
--- By the smaller grammar each of the texts spells one module, and the target's refines the source's: whatever it shows, the source's may show
--- too, unless that has undefined behaviour first.
+-- Each of the texts spells one module, and the target's refines the source's: whatever it shows, the source's may show too, unless that has
+-- undefined behaviour first.
 abbrev pub AreRefined : List ℕ → List ℕ → Type 0
 AreRefined source target =
-    SpellsOne Small source × SpellsOne Small target × ((s t : Module) → Spells Small source s → Spells Small target t → Refines s t)
+    SpellsOne source × SpellsOne target × ((s t : Module) → Spells source s → Spells target t → Refines s t)
 
 -- of texts that spell these modules alone it says that these refine, and no more
 abbrev pub RefinementIsOfModules : Type 0
 RefinementIsOfModules =
-    (source target : List ℕ) (s t : Module) → SpellsOnly Small source s → SpellsOnly Small target t → AreRefined source target ↔ Refines s t
+    (source target : List ℕ) (s t : Module) → SpellsOnly source s → SpellsOnly target t → AreRefined source target ↔ Refines s t
 
--- The texts of a command's files are such that the command has done what it is for. Those of `check` refine; that of `defs` or `fmt` spells one module
--- by the whole grammar, and the rows say what is printed of it.
+-- The texts of a command's files are such that the command has done what it is for. Those of `check` refine; that of `defs` or `fmt` spells one module,
+-- and the rows say what is printed of it.
 abbrev pub IsRefinement : (List ℕ → Told) → Command → Type 0
 IsRefinement told (Check names) = IfTold (told names.source) (λ source. IfTold (told names.target) (λ target. AreRefined source target))
-IsRefinement told (Print listing file) = IfTold (told file) (SpellsOne Whole)
+IsRefinement told (Print listing file) = IfTold (told file) (SpellsOne)
 
 -- THE HEADLINE. The words are a command's, and if the shelf tells what it holds under the source's and the target's names,
 -- these bytes spell two modules, of which the target's refines the source's, if the command is `check`.
@@ -82,14 +83,14 @@ module_status (faults.Shape f) = 4
 module_status (faults.Undefined function u) = 4
 module_status faults.Memory = 8
 
--- the text is a module's, and its first fault, by its form's grammar, has that status
+-- the text is a module's, and its first fault has that status
 abbrev pub IsUnfit : ℕ → Form → List ℕ → Type 0
-IsUnfit status (ModuleText grammar) text = (fault : ModuleFault) × IsAtFault grammar text fault × (module_status fault ≡ status)
+IsUnfit status ModuleText text = (fault : ModuleFault) × IsAtFault text fault × (module_status fault ≡ status)
 IsUnfit status HintFile text = ⊥
 
--- the text is of its form: a module's spells, by the form's grammar, one that is well-formed
+-- the text is of its form: a module's spells one that is well-formed
 abbrev pub IsFit : Form → List ℕ → Type 0
-IsFit (ModuleText grammar) text = (m : Module) × SpellsWellFormed grammar text m
+IsFit ModuleText text = (m : Module) × SpellsWellFormed text m
 IsFit HintFile text = (h : Hints) × HintsOf text h
 
 -- a place is first at fault; a text passes a limit before that
@@ -101,7 +102,7 @@ IsPassedLimit fault = (limit : Limit) × (fault ≡ Past limit)
 
 -- the text is that of a well-formed module, or that of hints whose first fault is such
 abbrev pub HasFault : (Fault → Type 0) → Form → List ℕ → Type 0
-HasFault P (ModuleText grammar) text = IsFit (ModuleText grammar) text
+HasFault P ModuleText text = IsFit ModuleText text
 HasFault P HintFile text = (fault : Fault) × P fault × IsHintFault text fault
 
 -- none of the files is told to be absent
@@ -145,7 +146,7 @@ fault_status (Past limit) = 9
 -- The texts are of their forms, and what the checker answers on them is such.
 abbrev pub AreJudged : Rules → (Option ModuleVerdict → Type 0) → Command → List (List ℕ) → Type 0
 AreJudged rules P (Check names) (source ∷ target ∷ hints ∷ []) =
-    (s : Module) × (t : Module) × (h : Hints) × SpellsWellFormed Small source s × SpellsWellFormed Small target t × HintsOf hints h × P (module_answer rules s t h)
+    (s : Module) × (t : Module) × (h : Hints) × SpellsWellFormed source s × SpellsWellFormed target t × HintsOf hints h × P (module_answer rules s t h)
 AreJudged rules P (Check names) [] = ⊥
 AreJudged rules P (Check names) (source ∷ []) = ⊥
 AreJudged rules P (Check names) (source ∷ target ∷ []) = ⊥
@@ -191,12 +192,12 @@ IsAnswer P rules told (Some command) =
 abbrev pub HasVerdict : Rules → (List ℕ → Told) → Option Command → (Option ModuleVerdict → Type 0) → Type 0
 HasVerdict rules told command P = HoldsAll told command (AreJudged rules P)
 
--- of the texts of `defs` or `fmt` there is one, which spells a well-formed module by the whole grammar
+-- of the texts of `defs` or `fmt` there is one, which spells a well-formed module
 abbrev pub IsListed : Command → List (List ℕ) → Type 0
 IsListed (Check names) texts = ⊥
 IsListed (Print listing file) texts = AllZip (λ (file : File). IsFit file.form) (files_of (Print listing file)) texts
 
--- Where the command is `defs` or `fmt`: the text of its file, if it is told, spells one module by the whole grammar, which is well-formed; and what
+-- Where the command is `defs` or `fmt`: the text of its file, if it is told, spells one module, which is well-formed; and what
 -- is listed of it, the lines of its blocks with the registers that are defined at their starts, or the module, as it is or with names for its
 -- numbers, is such.
 abbrev pub HasListing : (List ℕ → Told) → Option Command → (List ℕ → Type 0) → Type 0
@@ -204,7 +205,7 @@ HasListing told None P = Unit {0}
 HasListing told (Some (Check names)) P = Unit {0}
 HasListing told (Some (Print listing file)) P =
     (text : List ℕ) × IfTold (told file) (λ held. text ≡ held)
-    × ((m : Module) × SpellsOnly Whole text m × ((listed : List ℕ) × Lists listing m listed × P listed))
+    × ((m : Module) × SpellsOnly text m × ((listed : List ℕ) × Lists listing m listed × P listed))
 
 -- told to be absent
 abbrev pub IsAbsent : (List ℕ → Told) → File → Type 0

@@ -5,20 +5,11 @@ ghost use Rattle.crell_program.specs.Command.{files_of, limit_of, most_bytes, sh
 use crate::command_line::{FileNames, Listing};
 use ir_core::Limit;
 
-/// By which grammar a module's text is read.
-#[derive(Drop, Clone, Copy)]
-pub enum Grammar {
-    /// The smaller one, of functions over integers without memory: that of `check`.
-    Small,
-    /// The whole one of the profile: that of `defs` and `fmt`.
-    Whole,
-}
-
 /// What a file is to hold.
 #[derive(Drop, Clone, Copy)]
 pub enum Form {
-    /// A module's text, by that grammar.
-    ModuleText(Grammar),
+    /// A module's text.
+    ModuleText,
     /// Hints, as JSON.
     HintFile,
 }
@@ -29,7 +20,7 @@ impl Form {
         ensures { result ≡ limit_of self }
     {
         match self {
-            Form::ModuleText(_) => Limit::Text,
+            Form::ModuleText => Limit::Text,
             Form::HintFile => Limit::Json,
         }
     }
@@ -49,24 +40,24 @@ impl Wanted<'_> {
         ensures small { result < 2 ^ 64 - 1 }
     {
         match self.form {
-            Form::ModuleText(_) => Limit::Text.number(),
+            Form::ModuleText => Limit::Text.number(),
             Form::HintFile => Limit::Json.number(),
         }
     }
 }
 
-/// The files of `check`, in the order in which they are judged; its modules are read by the smaller grammar.
+/// The files of `check`, in the order in which they are judged.
 pub fn files_of_check<'a>(names: &FileNames<'a>) -> [Wanted<'a>; 3]
     ensures { map shown_file result ≡ files_of (shown_command names.now) }
 {
     [
         Wanted {
             name: names.source,
-            form: Form::ModuleText(Grammar::Small),
+            form: Form::ModuleText,
         },
         Wanted {
             name: names.target,
-            form: Form::ModuleText(Grammar::Small),
+            form: Form::ModuleText,
         },
         Wanted {
             name: names.hints,
@@ -75,12 +66,12 @@ pub fn files_of_check<'a>(names: &FileNames<'a>) -> [Wanted<'a>; 3]
     ]
 }
 
-/// The file of `defs` or `fmt`, the same for each listing; its module is read by the whole grammar.
+/// The file of `defs` or `fmt`, the same for each listing.
 pub fn files_of_listing(_listing: Listing, file: &str) -> [Wanted<'_>; 1]
     ensures { map shown_file result ≡ files_of (Print _listing file.now) }
 {
     [Wanted {
         name: file,
-        form: Form::ModuleText(Grammar::Whole),
+        form: Form::ModuleText,
     }]
 }

@@ -5,8 +5,8 @@ ghost use Rattle.crell_program.specs.CommandLine.Words.{command_of};
 ghost use Rattle.crell_program.specs.InMemory.{new_shelf, new_sink, memory_run, EndsWell};
 
 use crate::crell;
-use crate::laws::first_faults_agree;
 use crell_io::{Entry, MemShelf, MemSink};
+use ir_reader::first_faults_agree;
 use rule_base::RuleBook;
 use std::alloc::{AllocError, Global};
 

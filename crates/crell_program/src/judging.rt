@@ -14,12 +14,12 @@ use erhl_checker::{CheckEnd, check_module};
 use erhl_soundness::shapes_keep_phis_apart;
 use hint_format::{HintFault, read_hints};
 use ir_core::Module;
-use ir_reader::read_input;
+use ir_reader::read_well_formed;
 use rule_base::{InferRule, RuleBook};
 use std::alloc::{AllocError, Global};
 
-/// Judges a pair of modules by a book of rules, as `check` does: `source` and `target` are the bytes of modules' texts, read by the
-/// smaller grammar, and `hints` those of a hint file. The names are those of their files, for the texts of the answer alone.
+/// Judges a pair of modules by a book of rules, as `check` does: `source` and `target` are the bytes of modules' texts, and `hints`
+/// those of a hint file. The names are those of their files, for the texts of the answer alone.
 ///
 /// The first cause decides: the source, the target, the hints, then the pair. The answer's status is 0 where the target is valid, 1
 /// where it is refused, 3 or 4 at a module's first fault, 5 at the hints' first fault, and 9 where a limit is passed. A verdict is told on
@@ -43,11 +43,11 @@ pub fn judge_pair(
     // Where its status is 0, the bytes that were given spell modules of which the target's refines the source's.
     ensures refines { IfOk result (λ answer. answer.status ≡ 0 → AreRefined source.now target.now) }
 {
-    let source_module = match read_input(alloc, source) {
+    let source_module = match read_well_formed(alloc, source) {
         Ok(module) => module,
         Err(fault) => return module_fault(alloc, &fault, source, names.source),
     };
-    let target_module = match read_input(alloc, target) {
+    let target_module = match read_well_formed(alloc, target) {
         Ok(module) => module,
         Err(fault) => return module_fault(alloc, &fault, target, names.target),
     };

@@ -1,6 +1,5 @@
 ghost use Rattle.crell_program.specs.Examples.{HeadlinesAreOfTexts, PartsAreNotAll, ReadingsAreOne, StatusesOfExamples};
 ghost use Rattle.crell_program.specs.FirstParts.{FailuresLeaveFirstParts, PartsAreFirst, PartsOfExamples};
-ghost use Rattle.crell_program.specs.Grammar.{FaultsAreOfOneKind, FaultsExcludeModules, ModuleFaultsAreOne};
 ghost use Rattle.crell_program.specs.InMemory.{TextsWithinRoomFit};
 ghost use Rattle.crell_program.specs.Judged.{RunsAreJudged, StillRunsHaveNoFault};
 ghost use Rattle.crell_program.specs.MemoryRuns.{AbsentFilesAreTold, NoRoomFitsUsage, PairsAreAnswered, UsageWithinRoomFits};
@@ -8,17 +7,7 @@ ghost use Rattle.crell_program.specs.OneAnswer.{DueIsOne, StatusIsOne, UsageIsSa
 ghost use Rattle.crell_program.specs.Statuses.{RefinementIsOfModules};
 
 use crate::definition_text::lines_are_one;
-
-/// The body calls laws alone, since the clauses are laws.
-///
-/// By each grammar the first faults of a text of at most 2 to the 24 bytes are of one kind, and a text that has one spells no well-formed module.
-pub(crate) fn first_faults_agree()
-    ensures kinds { FaultsAreOfOneKind }
-    ensures spelled { FaultsExcludeModules }
-{
-    ir_reader::first_faults_agree();
-    module_reader::first_faults_agree();
-}
+use ir_reader::{first_faults_agree, module_faults_are_one};
 
 /// Empty on purpose: its contract is the law.
 ///
@@ -53,16 +42,6 @@ pub fn answers_are_told_apart()
     ensures readings { ReadingsAreOne }
     ensures deliveries { PartsAreNotAll }
 {}
-
-/// The body calls laws alone, since the clause is a law.
-///
-/// By each grammar a text of at most 2 to the 24 bytes has one first fault, with all that is told of it.
-pub fn module_faults_are_one()
-    ensures { ModuleFaultsAreOne }
-{
-    ir_reader::module_faults_are_one();
-    module_reader::module_faults_are_one();
-}
 
 /// The body calls laws alone, since the clauses are laws.
 ///

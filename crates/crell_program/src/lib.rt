@@ -21,6 +21,6 @@ pub use in_memory::{MemoryRun, crell_in_memory};
 pub use judging::judge_pair;
 pub use laws::{
     answers_are_told_apart, due_is_one, failed_sinks_hold_first_parts, memory_runs_meet_premises,
-    module_faults_are_one, refinement_is_of_modules, runs_are_judged, texts_within_room_fit,
+    refinement_is_of_modules, runs_are_judged, texts_within_room_fit,
 };
 pub use program::{WANT_OF_MEMORY, crell};

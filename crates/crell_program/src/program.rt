@@ -3,11 +3,10 @@ ghost use Rattle.rule_base.specs.Book.{meanings_of, rules_of};
 ghost use Rattle.crell_io.specs.Shelf.{StaysWell};
 ghost use Rattle.crell_program.specs.CrellAnswers.Answer.{usage};
 ghost use Rattle.crell_program.specs.CommandLine.Words.{Print, command_of, shown_request};
-ghost use Rattle.crell_program.specs.declared.command.Grammar.TheVariants.{Whole};
 ghost use Rattle.crell_program.specs.Command.{files_of, shown_command};
 ghost use Rattle.crell_program.specs.Due.{shelf_seen, DueOfFiles, DueOfListing, DueOfTexts, IsListing, Lists};
 ghost use Rattle.crell_program.specs.Delivery.{sink_seen, IsDelivered};
-ghost use Rattle.crell_program.specs.Grammar.{SpellsOne};
+ghost use Rattle.crell_program.specs.Modules.{SpellsOne};
 ghost use Rattle.crell_program.specs.Rows.{IsAnswered, KeepsRows};
 ghost use Rattle.crell_program.specs.Statuses.{IsRefinement, IsRefinementOfBytes};
 
@@ -18,12 +17,11 @@ use crate::definition_text::definitions_text;
 use crate::delivery::deliver;
 use crate::fetch::{Stop, gather};
 use crate::judging::judge_pair;
-use crate::laws::first_faults_agree;
 use crell_io::{Shelf, Sink};
 use ir_core::Module;
 use ir_printer::print_module;
+use ir_reader::{first_faults_agree, read_well_formed};
 use ir_rename::name_all;
-use module_reader::read_whole;
 use rule_base::{InferRule, Pass, RuleBook};
 use std::alloc::{AllocError, Global};
 
@@ -37,8 +35,7 @@ const NO_COMMAND: &str = "crell: no command\n";
 pub const WANT_OF_MEMORY: u8 = 8;
 
 /// Runs the command that the words name, over this shelf and these sinks, and gives the status: `check SRC TGT HINTS`,
-/// `defs FILE` or `fmt FILE [--names]`. The first word is the program's name. `check` reads modules by the smaller grammar, `defs` and `fmt` by the whole
-/// one. The passes are those that later commands run; these call none.
+/// `defs FILE` or `fmt FILE [--names]`. The first word is the program's name. The passes are those that later commands run; these call none.
 pub fn crell<S: Shelf, O: Sink, E: Sink>(
     alloc: Global,
     words: &[String],
@@ -217,12 +214,12 @@ fn list_file<S: Shelf>(
     }
 }
 
-/// The answer that is due to the text of `defs` or `fmt`, which is read by the whole grammar.
+/// The answer that is due to the text of `defs` or `fmt`.
 fn list_text(alloc: Global, listing: Listing, file: &str, text: &[u8]) -> Result<Answer, AllocError>
     ensures due { IfOk result (λ answer. DueOfListing listing file.now answer text.now) }
-    ensures spelled { IfOk result (λ answer. answer.status ≡ 0 → SpellsOne Whole text.now) }
+    ensures spelled { IfOk result (λ answer. answer.status ≡ 0 → SpellsOne text.now) }
 {
-    match read_whole(alloc, text) {
+    match read_well_formed(alloc, text) {
         Ok(module) => listed(alloc, listing, &module),
         Err(fault) => module_fault(alloc, &fault, text, file),
     }

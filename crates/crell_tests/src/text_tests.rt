@@ -12,11 +12,11 @@ mod expressions;
 #[cfg(test)]
 mod functions;
 #[cfg(test)]
+mod names;
+#[cfg(test)]
 mod numbers;
 #[cfg(test)]
 mod printing;
-#[cfg(test)]
-mod reading;
 #[cfg(test)]
 mod tokens;
 #[cfg(test)]

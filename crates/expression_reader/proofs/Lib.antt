@@ -1,8 +1,10 @@
 pub mod ConstCases
 pub mod Found
 pub mod Joined
+pub mod Judged
 pub mod Lexed
 pub mod Lineless
+pub mod NameTexts
 pub mod OneFault
 pub mod Others
 pub mod Powers

@@ -12,22 +12,22 @@ use Rattle.token_context.proofs.Lineless.{no_lines_passed}
 use Rattle.expression_reader.specs.ToldTypes.{of_place}
 use Rattle.expression_reader.specs.Types.{IsStuckAt, IsTypeFault, own_kinds, type_number}
 
-left_out_is : (tokens : List Placed) (k : ℕ) (t : Placed) → slice_get tokens k ≡ Some t → is_left_out_at tokens k ≡ is_left_out t.kind
+pub left_out_is : (tokens : List Placed) (k : ℕ) (t : Placed) → slice_get tokens k ≡ Some t → is_left_out_at tokens k ≡ is_left_out t.kind
 left_out_is [] k t is = cc
 left_out_is (x ∷ xs) zero t is = let same : x ≡ t = cc in ap (λ (t : Placed). is_left_out t.kind) same
 left_out_is (x ∷ xs) (suc k) t is = left_out_is xs k t is
 
-place_is : (end : ℕ) (tokens : List Placed) (k : ℕ) (t : Placed) → slice_get tokens k ≡ Some t → place_at end tokens k ≡ t.start
+pub place_is : (end : ℕ) (tokens : List Placed) (k : ℕ) (t : Placed) → slice_get tokens k ≡ Some t → place_at end tokens k ≡ t.start
 place_is end [] k t is = cc
 place_is end (x ∷ xs) zero t is = let same : x ≡ t = cc in ap (λ (t : Placed). t.start) same
 place_is end (x ∷ xs) (suc k) t is = place_is end xs k t is
 
-none_left_out : (tokens : List Placed) (k : ℕ) → slice_get tokens k ≡ None → is_left_out_at tokens k ≡ false
+pub none_left_out : (tokens : List Placed) (k : ℕ) → slice_get tokens k ≡ None → is_left_out_at tokens k ≡ false
 none_left_out [] k is = refl
 none_left_out (x ∷ xs) zero is = cc
 none_left_out (x ∷ xs) (suc k) is = none_left_out xs k is
 
-place_is_end : (end : ℕ) (tokens : List Placed) (k : ℕ) → slice_get tokens k ≡ None → place_at end tokens k ≡ end
+pub place_is_end : (end : ℕ) (tokens : List Placed) (k : ℕ) → slice_get tokens k ≡ None → place_at end tokens k ≡ end
 place_is_end end [] k is = refl
 place_is_end end (x ∷ xs) zero is = cc
 place_is_end end (x ∷ xs) (suc k) is = place_is_end end xs k is

@@ -1,5 +1,5 @@
 -- The laws of what texts of one expression spell and of what is at fault in them.
-use Rattle.std.specs.Prelude.{◌≡◌, ℕ, List}
+use Rattle.std.specs.Prelude.{◌≡◌, ◌⊎◌, ℕ, List}
 use Rattle.expression_reader.specs.Expressions.{IsExpressionFault, SpellsExpression}
 use Rattle.ir_core.specs.Expressions.{Expr0}
 use Rattle.module_texts.specs.Texts.{IsShort}
@@ -21,3 +21,8 @@ FaultsExclude = (bytes : List ℕ) (f : TextFault) (e : Expr0) → IsShort bytes
 -- two faults that are told of a text are one: of one kind, at one place and, where a word is left out, of one length
 abbrev pub ExpressionFaultsAreOne : Type 0
 ExpressionFaultsAreOne = (bytes : List ℕ) (f g : TextFault) → IsToldFault bytes f → IsToldFault bytes g → f ≡ g
+
+-- each text is short and spells an expression, or something is first at fault in it that isn't want of memory
+abbrev pub EachExpressionIsJudged : Type 0
+EachExpressionIsJudged =
+    (bytes : List ℕ) → ((e : Expr0) × IsShort bytes × SpellsExpression bytes e) ⊎ ((f : TextFault) × IsToldFault bytes f)

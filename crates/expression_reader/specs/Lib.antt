@@ -1,8 +1,11 @@
 pub mod Expressions
 pub mod Laws
+pub mod NameLaws
+pub mod Names
 pub mod Powers
 pub mod Ranges
 pub mod Told
+pub mod ToldNames
 pub mod ToldTypes
 pub mod TypeLaws
 pub mod Types

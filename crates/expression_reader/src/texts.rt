@@ -1,11 +1,13 @@
 //! The tokens of a text and the marks of their derivation, or the fault of one step as the fault of the text.
 ghost use Rattle.std.specs.Prelude.{◌≡◌, ◌<◌, length, map, IfOk, IfErr, Err};
 ghost use Rattle.expression_reader.specs.Expressions.{IsExpressionFault};
+ghost use Rattle.expression_reader.specs.Names.{IsNameFault};
 ghost use Rattle.expression_reader.specs.Told.{IsTreeOf};
 ghost use Rattle.expression_reader.specs.ToldTypes as told;
 ghost use Rattle.expression_reader.specs.Types.{IsTypeFault};
 ghost use Rattle.module_derivations.specs.FlatMarks.Flat.{mark_of};
 ghost use Rattle.ir_core.specs.Limits.{text_limit};
+ghost use Rattle.ir_types.specs.declared.names.Sigil.{Sigil};
 ghost use Rattle.module_derivations.specs.Ahead.{ahead};
 ghost use Rattle.module_derivations.specs.Empty.{made};
 ghost use Rattle.module_derivations.specs.Types.{any_type};
@@ -34,7 +36,7 @@ fn of_lexer(fault: LexFault) -> TextFault
 }
 
 /// A token of the text that is not expected.
-fn of_token(text: &[u8], token: &Token) -> TextFault
+pub(crate) fn of_token(text: &[u8], token: &Token) -> TextFault
     ensures { result ≡ told.of_token (placed_in text.now token.now) }
 {
     let place = token.start as usize;
@@ -64,6 +66,7 @@ pub fn read_tokens(alloc: Global, text: &[u8]) -> Result<Vec<Token>, TextFault>
     ensures tokens { IfOk result (λ tokens. HasTokens text.now (map (placed_in text.now) tokens.items)) }
     ensures of_type { IfErr result (IsTypeFault text.now) }
     ensures of_expression { IfErr result (IsExpressionFault text.now) }
+    ensures of_name { IfErr result (λ fault. (sigil : Sigil) → IsNameFault sigil text.now fault) }
     ensures long { text_limit < length text.now → result ≡ Err (TextFault.Limit Limit.Text) }
 {
     match lex(alloc, text) {

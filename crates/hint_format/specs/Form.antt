@@ -1,25 +1,28 @@
 -- The form of a hint file, as far as it is read, as one function of the file's JSON value: it answers the hints, or what is first at
 -- fault. A value is judged before what it holds, and members in the order of their bytes.
-use Rattle.std.specs.Prelude.{◌≡◌, ◌⊎◌, ◌<◌, ℕ, ◌==◌, ◌||◌, not, Bool, true, false, List, [], ◌∷◌, ◌++◌, length, map, drop, take, codes, if◌then◌else◌, Option, Some, None, option_and_then, Ok, Err}
+use Rattle.std.specs.Prelude.{◌≡◌, ◌⊎◌, ℕ, ◌==◌, ◌||◌, not, Bool, true, false, List, [], ◌∷◌, ◌++◌, length, map, drop, take, codes, if◌then◌else◌, Option, Some, None, option_and_then, Ok, Err}
 use Rattle.std.specs.List.{list_any}
 use Rattle.std.specs.Str.{bytes_eq}
-use Rattle.serde_json.specs.Data.{Data, string, array, no_items, item}
+use Rattle.serde_json.specs.Data.{Data, string, number, unsigned, array, no_items, item}
 use Rattle.serde_json.specs.Find.{as_number, as_u64}
 use Rattle.serde_json.specs.Written.{compact_text}
-use Rattle.ir_core.specs.declared.limits.Limit.TheVariants as limit
+use Rattle.ir_core.specs.declared.limits.Limit.{Limit}
 use Rattle.ir_types.specs.declared.names.Name.{Name}
 use Rattle.ir_types.specs.declared.names.Sigil.{Sigil}
 use Rattle.ir_types.specs.declared.names.Sigil.TheVariants.{Local, Global}
+use Rattle.ir_types.specs.declared.ty.Ty.{Ty}
 use Rattle.ir_core.specs.declared.expressions.Reg.{Reg}
 use Rattle.ir_core.specs.declared.expressions.Reg.TheVariants.{Now, Old, Ghost}
 use Rattle.ir_core.specs.Expressions.{Expr0, expr_has}
-use Rattle.ir_core.specs.Limits.{text_limit}
 use Rattle.ir_types.specs.Same.{same_name}
-use Rattle.ir_reader.specs.Faults.{IsShort}
-use Rattle.ir_reader.specs.Spells.{SpellsExpression, SpellsName}
-use Rattle.ir_printer.specs.ExpressionPrinter.Printed.{printed_name, printed_expr, printed_register}
+use Rattle.ir_lexer.specs.declared.fault.TextFault.TheVariants as text_fault
+use Rattle.expression_reader.specs.Expressions.{IsExpressionFault, SpellsExpression}
+use Rattle.expression_reader.specs.Names.{IsNameFault, SpellsName}
+use Rattle.module_texts.specs.Texts.{IsShort}
+use Rattle.ir_printer.specs.ExpressionPrinter.Printed.{printed_name, printed_expr, printed_register, printed_type}
 use Rattle.erhl_assert.specs.declared.facts.Fact.{Fact}
 use Rattle.erhl_assert.specs.declared.facts.Fact.TheVariants.{LessDef}
+use Rattle.erhl_assert.specs.declared.facts.Fact.TheVariants as fact
 use Rattle.erhl_assert.specs.declared.facts.Side.{Side}
 use Rattle.erhl_assert.specs.declared.facts.Side.TheVariants.{Src, Tgt}
 use Rattle.erhl_assert.specs.declared.hints.Letter.{Letter}
@@ -42,19 +45,22 @@ use Rattle.json_forms.specs.Forms.{Reading, read_then, or_unfit, has_members, me
 
 -- ---- what the texts of a file mean
 
--- past the limit on the bytes of a text
-abbrev pub IsLong : List ℕ → Type 0
-IsLong text = text_limit < length text
-
 -- A name is its printed text, exactly: `%x` is one, and `%"x"` none.
 abbrev pub IsNameText : Sigil → List ℕ → Name → Type 0
 IsNameText sigil text name = SpellsName sigil text name × (text ≡ printed_name sigil name)
 
--- What a text is read as: what it means, where it is short; the limit, where it is long; else it is itself at fault.
-abbrev pub IsTextReading : {A : Type 0} → (List ℕ → A → Type 0) → List ℕ → Reading A → Type 0
-IsTextReading Means text (Ok a) = IsShort text × Means text a
-IsTextReading {A} Means text (Err fault) =
-    (IsLong text × (fault ≡ Past limit.Text)) ⊎ (IsShort text × ((a : A) → Means text a → ⊥) × (fault ≡ here))
+-- that a text of an expression, or of a name, passes a limit is first at fault in it
+abbrev pub PassesAsExpression : List ℕ → Limit → Type 0
+PassesAsExpression text l = IsExpressionFault text (text_fault.Limit l)
+
+abbrev pub PassesAsName : Sigil → List ℕ → Limit → Type 0
+PassesAsName sigil text l = IsNameFault sigil text (text_fault.Limit l)
+
+-- What a text is read as: what it means, where it is short; the limit, where it passes one; else it is itself at fault.
+abbrev pub IsTextReading : {A : Type 0} → (List ℕ → A → Type 0) → (List ℕ → Limit → Type 0) → List ℕ → Reading A → Type 0
+IsTextReading Means Passes text (Ok a) = IsShort text × Means text a
+IsTextReading {A} Means Passes text (Err fault) =
+    ((l : Limit) × Passes text l × (fault ≡ Past l)) ⊎ (((l : Limit) → Passes text l → ⊥) × ((a : A) → Means text a → ⊥) × (fault ≡ here))
 
 -- what expressions and names are read as
 pub record Leaves : Type 0 where
@@ -63,8 +69,8 @@ pub record Leaves : Type 0 where
 
 -- they go by the spelling of the logic's expressions and of names, and by nothing else
 abbrev pub AreLeaves : Leaves → Type 0
-AreLeaves leaves = ((text : List ℕ) → IsTextReading SpellsExpression text (leaves.expression text))
-    × ((sigil : Sigil) (text : List ℕ) → IsTextReading (IsNameText sigil) text (leaves.name sigil text))
+AreLeaves leaves = ((text : List ℕ) → IsTextReading SpellsExpression PassesAsExpression text (leaves.expression text))
+    × ((sigil : Sigil) (text : List ℕ) → IsTextReading (IsNameText sigil) (PassesAsName sigil) text (leaves.name sigil text))
 
 -- ---- registers and expressions
 
@@ -241,6 +247,23 @@ IsHintFault bytes fault = IsHintReading bytes (Err fault)
 
 -- ---- printing
 
+-- two expressions behind a word
+abbrev pub printed_pair : List ℕ → Expr0 → Expr0 → List ℕ
+printed_pair word a b =
+    compact_text (array (item (string word) (item (string (printed_expr printed_register a)) (item (string (printed_expr printed_register b)) no_items))))
+
+-- a register behind a word
+abbrev pub printed_lone : List ℕ → Reg → List ℕ
+printed_lone word r = compact_text (array (item (string word) (item (string (printed_register r)) no_items)))
+
+abbrev pub printed_access : Expr0 → Ty → ℕ → List ℕ
+printed_access e t align =
+    compact_text (array (item (string (codes "ok")) (item (string (printed_expr printed_register e)) (item (string (printed_type t)) (item (number (unsigned align)) no_items)))))
+
 -- a fact as a JSON array without spaces
 abbrev pub printed_fact : Fact → List ℕ
-printed_fact (LessDef a b) = compact_text (array (item (string (codes "ge")) (item (string (printed_expr printed_register a)) (item (string (printed_expr printed_register b)) no_items))))
+printed_fact (LessDef a b) = printed_pair (codes "ge") a b
+printed_fact (fact.Unique r) = printed_lone (codes "unique") r
+printed_fact (fact.Private r) = printed_lone (codes "private") r
+printed_fact (fact.NoAlias a b) = printed_pair (codes "noalias") a b
+printed_fact (fact.Ok e t align) = printed_access e t align

@@ -8,7 +8,8 @@ use Rattle.ir_core.specs.Expressions.{Expr0}
 use Rattle.ir_printer.specs.ExpressionPrinter.Printed.{printed_name}
 use Rattle.ir_lexer.specs.declared.fault.TextFault.{TextFault}
 use Rattle.ir_lexer.specs.declared.fault.TextFault.TheVariants as text_fault
-use Rattle.ir_reader.proofs.Judged.{judged_expression, judged_name}
+use Rattle.expression_reader.proofs.Judged.{judged_expression}
+use Rattle.expression_reader.proofs.NameTexts.{judged_name}
 use Rattle.json_forms.specs.declared.failure.Failure.{Failure}
 use Rattle.json_forms.specs.declared.failure.Failure.TheVariants.{Form, Memory}
 use Rattle.json_forms.specs.declared.failure.Fault.{Fault}
@@ -28,7 +29,7 @@ failure_of text_fault.Memory = Memory
 failure_of fault = Form (fault_reading fault)
 
 -- what a text is judged to mean, or its fault
-abbrev pub reading_of : {X : Type 0} {Means : X → Type 0} {Has : TextFault → Type 0} → ((x : X) × Means x) ⊎ ((fault : TextFault) × Has fault) → Reading X
+abbrev pub reading_of : {X Short : Type 0} {Means : X → Type 0} {Has : TextFault → Type 0} → ((x : X) × Short × Means x) ⊎ ((fault : TextFault) × Has fault) → Reading X
 reading_of (inl meant) = Ok meant.0
 reading_of (inr told) = Err (fault_reading told.0)
 

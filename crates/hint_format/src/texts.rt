@@ -15,9 +15,10 @@ ghost use Rattle.erhl_assert.specs.Edges.{is_old};
 ghost use Rattle.hint_format.specs.Form.{behind, expression_of_text, ghost_or_now, old_register, register_of_text};
 ghost use Rattle.hint_format.specs.Reading.{expression_reading, failure_of, name_reading, read_leaves};
 
+use expression_reader::{read_expr, read_name};
 use ir_core::{Atom, Expr, Expr0, Name, Operand, Reg, Sigil};
+use ir_lexer::TextFault;
 use ir_printer::print_name;
-use ir_reader::{TextFault, read_expr, read_name};
 use json_forms::{Failure, Fault, TextForm, unfit};
 use std::alloc::{AllocError, Global};
 

@@ -10,16 +10,14 @@ use Rattle.ir_shape.specs.ShapeLaws.Laws.{ShapelyModulesAreFaultless}
 use Rattle.ir_shape.specs.Shape.{first_fault}
 use Rattle.ir_lexer.specs.declared.fault.TextFault.{TextFault}
 use Rattle.ir_lexer.specs.declared.fault.TextFault.TheVariants as text
-use Rattle.ir_naming.specs.Spells.{NamesModule}
-use Rattle.ir_reader.specs.Faults.{IsTextFault}
-use Rattle.ir_reader.specs.Forms.{module_form}
-use Rattle.ir_reader.specs.Spells.{SpellsWellFormed}
-use Rattle.ir_reader.specs.Laws.{FaultsAreOne, FaultsExclude, IsAlike, ModulesAreOne}
+use Rattle.module_texts.specs.Laws.{FaultsAreOne, FaultsExclude, IsAlike, ModulesAreOne}
+use Rattle.module_texts.specs.Texts.{IsTextFault}
 use Rattle.ir_reader.specs.declared.fault.ModuleFault.{ModuleFault}
 use Rattle.ir_reader.specs.declared.fault.ModuleFault.TheVariants as fault
-use Rattle.ir_reader.specs.InputFaults.{FirstWithout, IsModuleFault}
-use Rattle.ir_reader.specs.InputLaws.{PastLimit, Misspelled, text_kind, fault_kind}
+use Rattle.ir_reader.specs.Faults.{FirstWithout}
+use Rattle.ir_reader.specs.Laws.{PastLimit, Misspelled, text_kind, fault_kind}
 use Rattle.ir_reader.proofs.First.{of_all}
+use Rattle.ir_reader.specs.Faults.{IsModuleFault, SpellsWellFormed}
 
 -- a fault of a text that isn't want of memory passes a limit or is misspelled
 by_kind : (P : TextFault → Type 0) → ((l : Limit) → P (text.Limit l)) → ((f : TextFault) → text_kind f ≡ Misspelled → P f) → (f : TextFault) → f ≢ text.Memory → P f
@@ -53,18 +51,18 @@ limit_alike l text.Memory kind alike = alike
 told_as_misspelled : (f : TextFault) → text_kind f ≡ Misspelled → f ≡ text.Memory → ⊥
 told_as_misspelled f kind memory = let e = sym (ap text_kind memory) ∙ kind in cc
 
-text_kinds : (bytes : List ℕ) → FaultsAreOne module_form → (f : TextFault) → f ≢ text.Memory → (g : TextFault) → g ≢ text.Memory
-    → IsTextFault module_form bytes f → IsTextFault module_form bytes g → text_kind f ≡ text_kind g
+text_kinds : (bytes : List ℕ) → FaultsAreOne → (f : TextFault) → f ≢ text.Memory → (g : TextFault) → g ≢ text.Memory
+    → IsTextFault bytes f → IsTextFault bytes g → text_kind f ≡ text_kind g
 text_kinds bytes one =
-    by_kind (λ f. (g : TextFault) → g ≢ text.Memory → IsTextFault module_form bytes f → IsTextFault module_form bytes g → text_kind f ≡ text_kind g)
-    (λ l. by_kind (λ g. IsTextFault module_form bytes (text.Limit l) → IsTextFault module_form bytes g → PastLimit ≡ text_kind g)
+    by_kind (λ f. (g : TextFault) → g ≢ text.Memory → IsTextFault bytes f → IsTextFault bytes g → text_kind f ≡ text_kind g)
+    (λ l. by_kind (λ g. IsTextFault bytes (text.Limit l) → IsTextFault bytes g → PastLimit ≡ text_kind g)
     (λ m p q. refl)
     (λ g kind p q. absurd (limit_alike l g kind (one bytes (text.Limit l) g (p, λ e. cc) (q, told_as_misspelled g kind)))))
-    (λ f kind. by_kind (λ g. IsTextFault module_form bytes f → IsTextFault module_form bytes g → text_kind f ≡ text_kind g)
+    (λ f kind. by_kind (λ g. IsTextFault bytes f → IsTextFault bytes g → text_kind f ≡ text_kind g)
     (λ l p q. absurd (limit_alike l f kind (one bytes (text.Limit l) f (q, λ e. cc) (p, told_as_misspelled f kind))))
     (λ g also p q. kind ∙ sym also))
 
-module _ (excludes : FaultsExclude module_form NamesModule) (faults_one : FaultsAreOne module_form) (one : ModulesAreOne) (faultless : ShapelyModulesAreFaultless) (bytes : List ℕ) (short : length bytes ≤ text_limit) where
+module _ (excludes : FaultsExclude) (faults_one : FaultsAreOne) (one : ModulesAreOne) (faultless : ShapelyModulesAreFaultless) (bytes : List ℕ) (short : length bytes ≤ text_limit) where
   pub kinds : (f g : ModuleFault) → IsModuleFault bytes f → f ≢ fault.Memory → IsModuleFault bytes g → g ≢ fault.Memory → fault_kind f ≡ fault_kind g
   kinds fault.Memory g p said q also = absurd (said refl)
   kinds (fault.Text f) fault.Memory p said q also = absurd (also refl)

@@ -2,7 +2,7 @@
 use Rattle.std.proofs.Common.{◌≡◌, ℕ, ◌<◌, suc, zero, List, [], ◌∷◌, ◌++◌, length, take, get_or, refl, sym, ap, ◌∙◌, subst, arith}
 use Rattle.std.specs.List.{AllByRecursion}
 use Rattle.ir_core.specs.declared.functions.Function.{Function}
-use Rattle.ir_reader.specs.InputFaults.{FirstWithout}
+use Rattle.ir_reader.specs.Faults.{FirstWithout}
 
 further : (P : Function → Type 0) (g : Function) (fs : List Function) (f : Function) → P g → FirstWithout P fs f → FirstWithout P (g ∷ fs) f
 further P g fs f such first = record {

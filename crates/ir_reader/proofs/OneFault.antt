@@ -1,4 +1,4 @@
--- What is first at fault in a module's text is one, by whichever grammar the text is read.
+-- What is first at fault in a module's text is one.
 use Rattle.std.proofs.Common.{◌≡◌, ◌≢◌, ℕ, List, ◌∷◌, ◌++◌, None, Some, refl, sym, ap, ◌∙◌, subst}
 use Rattle.std.specs.List.{AllByRecursion}
 use Rattle.ir_core.specs.declared.functions.Function.{Function}
@@ -13,11 +13,10 @@ use Rattle.definedness.specs.Undefined.{IsFirstUndefined}
 use Rattle.ir_lexer.specs.declared.fault.TextFault.{TextFault}
 use Rattle.ir_lexer.specs.declared.fault.TextFault.TheVariants as text
 use Rattle.ir_types.specs.declared.names.Name.{Name}
-use Rattle.ir_reader.specs.InputFaults.{FirstWithout, IsModuleFault}
-use Rattle.ir_reader.specs.Faults.{IsTextFault}
-use Rattle.ir_reader.specs.Forms.{module_form}
-use Rattle.ir_reader.specs.Laws.{IsAlike}
-use Rattle.ir_reader.specs.Spells.{Spells}
+use Rattle.ir_reader.specs.Faults.{FirstWithout, IsModuleFault}
+use Rattle.module_spelling.specs.Spells.{Spells}
+use Rattle.module_texts.specs.Laws.{IsAlike}
+use Rattle.module_texts.specs.Texts.{IsTextFault}
 use Rattle.ir_reader.specs.declared.fault.ModuleFault.{ModuleFault}
 use Rattle.ir_reader.specs.declared.fault.ModuleFault.TheVariants as fault
 use Rattle.ir_reader.proofs.First.{first_is_one, of_all}
@@ -45,7 +44,7 @@ IsFault OfText Spelled (fault.Undefined function u) =
     × ((f : Function) × FirstWithout IsFunctionDefined m.functions f × IsFirstUndefined f u × (function ≡ f.name))
 IsFault OfText Spelled fault.Memory = ⊥
 
-pub as_fault : (bytes : List ℕ) (f : ModuleFault) → IsModuleFault bytes f → f ≢ fault.Memory → IsFault (IsTextFault module_form bytes) (Spells bytes) f
+pub as_fault : (bytes : List ℕ) (f : ModuleFault) → IsModuleFault bytes f → f ≢ fault.Memory → IsFault (IsTextFault bytes) (Spells bytes) f
 as_fault bytes (fault.Text f) p said = p
 as_fault bytes (fault.Shape f) p said = p
 as_fault bytes (fault.Undefined function u) p said = p

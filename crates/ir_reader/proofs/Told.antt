@@ -1,101 +1,74 @@
--- What is said of a module that is spelled is said of the text.
-use Rattle.std.proofs.Common.{◌≡◌, ◌<◌, ◌^◌, ℕ, suc, List, [], ◌∷◌, get_or, Fits, w8, Result, None, Ok, Err, IfOk, IfErr, subst, sym, arith}
-use Rattle.std.specs.List.{AllByRecursion}
-use Rattle.ir_core.specs.declared.modules.Module.{Module}
+-- What is told where tokens are no tree, and where a tree is misnamed.
+use Rattle.std.proofs.Common.{◌≡◌, ◌∙◌, ◌-◌, ℕ, zero, suc, Bool, true, false, cond, List, [], ◌∷◌, length, map, Option, Some, None, refl, ap, sym, inl, inr}
+use Rattle.std.specs.Prelude.{slice_get}
 use Rattle.ir_core.specs.declared.limits.Limit.{Limit}
 use Rattle.ir_core.specs.declared.limits.Limit.TheVariants as limit
-use Rattle.ir_core.specs.Ranges.{AreBytes, IsInRange}
-use Rattle.ir_core.specs.WellFormed.{IsFunctionDefined, IsWellFormed}
-use Rattle.ir_shape.specs.Shape.{first_fault}
-use Rattle.ir_typing.specs.ModuleLimits.Passed.{IsPassed, IsWithin}
-use Rattle.ir_lexer.specs.declared.fault.TextFault.{TextFault}
-use Rattle.ir_lexer.specs.declared.fault.TextFault.TheVariants as text
-use Rattle.ir_reader.specs.Faults.{IsTextFault}
-use Rattle.ir_reader.specs.Forms.{module_form}
-use Rattle.ir_reader.specs.Spells.{Spells}
-use Rattle.ir_reader.specs.Laws.{ModulesHaveShape}
-use Rattle.ir_reader.specs.declared.fault.ModuleFault.{ModuleFault}
-use Rattle.ir_reader.specs.declared.fault.ModuleFault.TheVariants as fault
-use Rattle.ir_reader.specs.InputFaults.{IsModuleFault}
-use Rattle.ir_reader.specs.Found.{HasFault, ShapeAmong, UndefinedAmong, of_text}
+use Rattle.ir_lexer.specs.Cut.{Placed}
+use Rattle.module_grammar.specs.Symbols.{Symbol, kind_of}
+use Rattle.ir_reader.specs.Told.{of_grammar, of_place, of_sized}
+use Rattle.module_spelling.specs.Faults.{IsDeepAt, IsGrammarFault, IsStuck, PassesLimit, module_number}
+use Rattle.module_texts.specs.Texts.{HasSymbols, IsNameFault, IsTextFault, is_left_out_at, own_symbols, place_at}
+use Rattle.ir_lexer.specs.LeftOut.{is_left_out}
+use Rattle.name_claims.specs.declared.claims.Reason.{Reason}
+use Rattle.name_claims.specs.declared.claims.Reason.TheVariants as reason
+use Rattle.ir_lexer.specs.declared.fault.TextFault.TheVariants as fault
 
-below_byte : (b : ℕ) → Fits w8 b → b < 2 ^ 8
-below_byte b fit = omega (arith, fit)
+-- ---- names
 
-pub are_bytes : (bytes : List ℕ) → ((i : ℕ) → Fits w8 (get_or bytes i 0)) → AreBytes bytes
-are_bytes [] fit = tt
-are_bytes (b ∷ bytes) fit = (below_byte b (fit 0), are_bytes bytes (λ i. fit (suc i)))
+-- a fault of names from one place to another
+pub of_reason : (bytes : List ℕ) (start end : ℕ) (why : Reason) → IsNameFault bytes (record { start = start; end = end; reason = why })
+    → IsTextFault bytes (of_sized start (end - start) why)
+of_reason bytes start end reason.Twice is = (end, is, refl)
+of_reason bytes start end (reason.WrongNumber due) is = (end, is)
+of_reason bytes start end reason.Unknown is = (end, is, refl)
+of_reason bytes start end reason.LeftOut is = inr (end, is, refl)
+of_reason bytes start end reason.WrongType is = (end, is)
 
--- a module within the limits passes none
-pub never_passed : (m : Module) (l : Limit) → IsWithin m → IsPassed m l → ⊥
-never_passed m limit.Depth within passed = passed within.0
-never_passed m limit.Lines within passed = passed.1 within.1
-never_passed m limit.Block within passed = passed.2 within.2
-never_passed m limit.Text within passed = passed
-never_passed m limit.Json within passed = passed
-never_passed m limit.Facts within passed = passed
+-- ---- the grammar
 
-module _ (bytes : List ℕ) (m : Module) (spells : Spells bytes m) where
-  -- a spelled module without fault, in which all functions are defined, is well-formed
-  pub fitting : {A E : Type 0} → ModulesHaveShape → IsInRange m → IsWithin m → (r : Result A E) → IfOk r (λ _. first_fault m ≡ None)
-      → IfOk r (λ _. AllByRecursion IsFunctionDefined m.functions) → IfOk r (λ _. IsWellFormed m)
-  fitting shapes range within (Ok a) faultless defined = record {
-    shape = shapes bytes m spells faultless;
-    defined = defined;
-    range = range;
-    depths = within.0;
-    lines = within.1;
-    blocks = within.2;
-  }
-  fitting shapes range within (Err e) faultless defined = tt
+left_out_is : (tokens : List Placed) (k : ℕ) (t : Placed) → slice_get tokens k ≡ Some t → is_left_out_at tokens k ≡ is_left_out t.kind
+left_out_is [] k t is = cc
+left_out_is (x ∷ xs) zero t is = let same : x ≡ t = cc in ap (λ (t : Placed). is_left_out t.kind) same
+left_out_is (x ∷ xs) (suc k) t is = left_out_is xs k t is
 
-  told : (e : ModuleFault) → HasFault m e → IsModuleFault bytes e
-  told (fault.Text f) has = absurd has
-  told (fault.Shape f) has = (m, spells, has)
-  told (fault.Undefined function u) has = (m, spells, has.0, has.1)
-  told fault.Memory has = tt
+place_is : (end : ℕ) (tokens : List Placed) (k : ℕ) (t : Placed) → slice_get tokens k ≡ Some t → place_at end tokens k ≡ t.start
+place_is end [] k t is = cc
+place_is end (x ∷ xs) zero t is = let same : x ≡ t = cc in ap (λ (t : Placed). t.start) same
+place_is end (x ∷ xs) (suc k) t is = place_is end xs k t is
 
-  -- its first fault is the text's
-  pub told_of_text : {A : Type 0} (r : Result A ModuleFault) → IfErr r (HasFault m) → IfErr r (IsModuleFault bytes)
-  told_of_text (Ok a) has = tt
-  told_of_text (Err e) has = told e has
+none_left_out : (tokens : List Placed) (k : ℕ) → slice_get tokens k ≡ None → is_left_out_at tokens k ≡ false
+none_left_out [] k is = refl
+none_left_out (x ∷ xs) zero is = cc
+none_left_out (x ∷ xs) (suc k) is = none_left_out xs k is
 
--- a fault of shape is the module's first
-pub of_shape : (m : Module) (e : ModuleFault) → ShapeAmong m e → HasFault m e
-of_shape m (fault.Text f) among = among
-of_shape m (fault.Shape f) among = among
-of_shape m (fault.Undefined function u) among = absurd among
-of_shape m fault.Memory among = tt
+place_is_end : (end : ℕ) (tokens : List Placed) (k : ℕ) → slice_get tokens k ≡ None → place_at end tokens k ≡ end
+place_is_end end [] k is = refl
+place_is_end end (x ∷ xs) zero is = cc
+place_is_end end (x ∷ xs) (suc k) is = place_is_end end xs k is
 
-of_uses : (m : Module) → first_fault m ≡ None → (e : ModuleFault) → UndefinedAmong m.functions e → HasFault m e
-of_uses m faultless (fault.Text f) among = among
-of_uses m faultless (fault.Shape f) among = absurd among
-of_uses m faultless (fault.Undefined function u) among = (faultless, among)
-of_uses m faultless fault.Memory among = tt
+module _ (bytes : List ℕ) (tokens : List Placed) (symbols : List Symbol) (has : HasSymbols bytes tokens symbols) where
+  -- a token that isn't expected
+  pub stuck_told : (k : ℕ) → IsGrammarFault (own_symbols bytes tokens) symbols k → IsTextFault bytes (of_grammar tokens (length bytes) k)
+  stuck_told k is = at (slice_get tokens k) refl
+    where
+      of_word : (t : Placed) → slice_get tokens k ≡ Some t → (left : Bool) → is_left_out t.kind ≡ left
+          → IsTextFault bytes (cond left (fault.LeftOut t.start (t.end - t.start)) (fault.Expected t.start))
+      of_word t found true left = inl (tokens, symbols, has, (k, t, is, found, left, refl, refl))
+      of_word t found false left = (tokens, symbols, has, (k, is, left_out_is tokens k t found ∙ left, sym (place_is (length bytes) tokens k t found)))
 
--- where the module has shape, a use that isn't defined is its first fault
-pub undefined_is_first : {A : Type 0} (m : Module) → first_fault m ≡ None → (r : Result A ModuleFault) → IfErr r (UndefinedAmong m.functions)
-    → IfErr r (HasFault m)
-undefined_is_first m faultless (Ok a) among = tt
-undefined_is_first m faultless (Err e) among = of_uses m faultless e among
+      at : (o : Option Placed) → slice_get tokens k ≡ o → IsTextFault bytes (of_place (length bytes) o)
+      at None found = (tokens, symbols, has, (k, is, none_left_out tokens k found, sym (place_is_end (length bytes) tokens k found)))
+      at (Some t) found = of_word t found (is_left_out t.kind) refl
 
-pub always_ok : {A E : Type 0} (r : Result A E) (P : Type 0) → P → IfOk r (λ _. P)
-always_ok (Ok a) P p = p
-always_ok (Err e) P p = tt
+  -- a token that would be expected, if what stands before it weren't too deep
+  pub deep_told : (k : ℕ) → IsStuck module_number (map kind_of symbols) k → IsDeepAt (own_symbols bytes tokens) k → IsTextFault bytes (fault.Limit limit.Depth)
+  deep_told k stuck deep = (tokens, symbols, has, inr (refl, (k, stuck, deep)))
 
--- a text's fault is a module's
-told_by_text : (bytes : List ℕ) (f : TextFault) → IsTextFault module_form bytes f → IsModuleFault bytes (of_text f)
-told_by_text bytes (text.BadByte place) is = (is, λ e. cc)
-told_by_text bytes (text.BadString place) is = (is, λ e. cc)
-told_by_text bytes (text.BadNumber place) is = (is, λ e. cc)
-told_by_text bytes (text.Expected place) is = (is, λ e. cc)
-told_by_text bytes (text.LeftOut place size) is = (is, λ e. cc)
-told_by_text bytes (text.Unknown place size) is = (is, λ e. cc)
-told_by_text bytes (text.Twice place size) is = (is, λ e. cc)
-told_by_text bytes (text.WrongNumber place expected) is = (is, λ e. cc)
-told_by_text bytes (text.WrongType place) is = (is, λ e. cc)
-told_by_text bytes (text.Limit l) is = (is, λ e. cc)
-told_by_text bytes text.Memory is = tt
-
-pub told_as_text : (bytes : List ℕ) (f : TextFault) (e : ModuleFault) → e ≡ of_text f → IsTextFault module_form bytes f → IsModuleFault bytes e
-told_as_text bytes f e same is = subst (IsModuleFault bytes) (sym same) (told_by_text bytes f is)
+  -- a token that passes a limit
+  pub limit_told : (l : Limit) → ((k : ℕ) × PassesLimit module_number (map kind_of symbols) k l) → IsTextFault bytes (fault.Limit l)
+  limit_told limit.Text (k, passes) = absurd passes.1.4.0
+  limit_told limit.Lines passes = (tokens, symbols, has, inl passes)
+  limit_told limit.Depth passes = (tokens, symbols, has, inl passes)
+  limit_told limit.Json (k, passes) = absurd passes.1.4.0
+  limit_told limit.Facts (k, passes) = absurd passes.1.4.0
+  limit_told limit.Block (k, passes) = absurd passes.1.4.0

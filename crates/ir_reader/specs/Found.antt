@@ -9,7 +9,7 @@ use Rattle.ir_lexer.specs.declared.fault.TextFault.{TextFault}
 use Rattle.ir_lexer.specs.declared.fault.TextFault.TheVariants as text
 use Rattle.ir_reader.specs.declared.fault.ModuleFault.{ModuleFault}
 use Rattle.ir_reader.specs.declared.fault.ModuleFault.TheVariants as fault
-use Rattle.ir_reader.specs.InputFaults.{FirstWithout}
+use Rattle.ir_reader.specs.Faults.{FirstWithout}
 
 -- a text's fault, as a module's
 abbrev pub of_text : TextFault → ModuleFault

@@ -1,11 +1,6 @@
 pub mod Faults
-pub mod Forms
 pub mod Found
-pub mod InputFaults
-pub mod InputLaws
 pub mod Laws
-pub mod Spells
+pub mod Naming
+pub mod Read
 pub mod Told
-pub use Rattle.ir_reader.specs.Faults
-pub use Rattle.ir_reader.specs.Forms
-pub use Rattle.ir_reader.specs.Spells

@@ -1,9 +1,9 @@
 ghost use Rattle.std.specs.Prelude.{◌≡◌};
 ghost use Rattle.ir_reader.specs.declared.fault.ModuleFault.TheVariants as fault;
 
-use crate::TextFault;
 use definedness::Undefined;
 use ir_core::Name;
+use ir_lexer::TextFault;
 use ir_shape::ShapeFault;
 use std::alloc::AllocError;
 

@@ -1,8 +1,8 @@
-ghost use Rattle.ir_reader.specs.InputLaws.{FaultsAreOfOneKind, FaultsExcludeModules, ModuleFaultsAreOne};
+ghost use Rattle.ir_reader.specs.Laws.{FaultsAreOfOneKind, FaultsExcludeModules, ModuleFaultsAreOne};
 
-use crate::{faults_and_spelling_exclude, faults_are_one, texts_spell_one};
 use definedness::{first_undefined_is_one, shape_knows_labels};
 use ir_shape::{faultless_modules_have_shape, modules_with_shape_are_faultless};
+use module_texts::{faults_and_spelling_exclude, faults_are_one, texts_spell_one};
 
 /// The body calls laws alone, since the clauses are laws.
 ///

@@ -1,11 +1,11 @@
 //! The fault of one step, as the fault of a text.
 ghost use Rattle.std.specs.Prelude.{◌≡◌, length, map};
-ghost use Rattle.ir_grammar.specs.Symbols.{placed_in};
+ghost use Rattle.module_grammar.specs.Spelled.{placed_in};
 ghost use Rattle.ir_reader.specs.Told as told;
 
-use crate::TextFault;
+use crate::Misnamed;
 use ir_core::Limit;
-use ir_lexer::{LexFault, Token, is_left_out};
+use ir_lexer::{LexFault, TextFault, Token, is_left_out};
 use name_claims::{Fault, Reason};
 
 pub fn of_lexer(fault: LexFault) -> TextFault
@@ -43,25 +43,8 @@ pub fn of_grammar(text: &[u8], tokens: &[Token], place: usize) -> TextFault
     }
 }
 
-/// The same, unless a line is past the limit before it.
-pub fn of_stuck(text: &[u8], tokens: &[Token], past: Option<usize>, place: usize) -> TextFault
-    ensures { result ≡ told.of_stuck (map (placed_in text.now) tokens.now) (length text.now) past place }
-{
-    match past {
-        None => of_grammar(text, tokens, place),
-        Some(past) => {
-            if past < place {
-                TextFault::Limit(Limit::Lines)
-            } else {
-                of_grammar(text, tokens, place)
-            }
-        }
-    }
-}
-
-/// The first fault of what a text claims.
-pub fn of_names(fault: Fault) -> TextFault
-    ensures { result ≡ told.of_names fault }
+fn of_fault(fault: Fault) -> TextFault
+    ensures { result ≡ told.of_fault fault }
 {
     let place = fault.start;
     let length = fault.end.saturating_sub(place);
@@ -71,5 +54,15 @@ pub fn of_names(fault: Fault) -> TextFault
         Reason::Unknown => TextFault::Unknown { place, length },
         Reason::LeftOut => TextFault::LeftOut { place, length },
         Reason::WrongType => TextFault::WrongType(place),
+    }
+}
+
+/// What is first at fault in a tree.
+pub fn of_names(misnamed: Misnamed) -> TextFault
+    ensures { result ≡ told.of_names misnamed }
+{
+    match misnamed {
+        Misnamed::Fault(fault) => of_fault(fault),
+        Misnamed::Block => TextFault::Limit(Limit::Block),
     }
 }

@@ -1,66 +1,48 @@
-ghost use Rattle.std.specs.Prelude.{◌≡◌, ◌≤◌, ◌<◌, length, map, IfOk, IfErr, Err, ℕ};
+ghost use Rattle.std.specs.Prelude.{◌≡◌, ◌≤◌, ◌<◌, ℕ, length, map, IfOk, IfErr, Err};
 ghost use Rattle.ir_core.specs.declared.modules.Module.{Module};
 ghost use Rattle.ir_core.specs.Limits.{text_limit};
-ghost use Rattle.ir_core.specs.Order.{IsInOrder};
-ghost use Rattle.ir_grammar.specs.declared.words.Language.TheVariants.{Ir};
-ghost use Rattle.ir_grammar.specs.Symbols.{kind_in, placed_in, symbol_in};
-ghost use Rattle.ir_grammar.specs.Written.{written};
-ghost use Rattle.ir_naming.specs.Modules.{module_of};
-ghost use Rattle.ir_naming.specs.Laws.{IsFaultless};
-ghost use Rattle.ir_reader.specs.Faults.{IsTextFault};
-ghost use Rattle.ir_reader.specs.Forms.{module_form};
-ghost use Rattle.ir_reader.specs.Spells.{Spells};
-ghost use Rattle.ir_reader.specs.Told.{IsTreeFault, IsTreeNameFault, IsTreeOf};
-ghost use Rattle.tree_reader.specs.Lines.{IsPastLimit};
+ghost use Rattle.ir_lexer.specs.Cut.{AreInOrder};
+ghost use Rattle.module_grammar.specs.Spelled.{placed_in};
+ghost use Rattle.module_spelling.specs.Spells.{Spells};
+ghost use Rattle.module_texts.specs.Texts.{HasTokens, IsTextFault};
 
-use crate::faults::{of_names, of_stuck};
+use crate::derivations::marks_in;
+use crate::faults::of_names;
+use crate::naming::name_derivation;
 use crate::tokens::read_tokens;
-use crate::{TextFault, texts_spell_one};
+use derivation_cursor::Cursor;
 use ir_core::{Limit, Module};
-use ir_grammar::{Language, ModuleText};
-use ir_lexer::Token;
-use module_naming::name_module;
+use ir_lexer::{TextFault, Token};
+use module_grammar::Language;
+use module_spelling::{
+    called_names_stand, declared_names_stand, names_rest_on_these_alone, within_trees_are_short,
+};
+use module_texts::texts_spell_one;
+use named_modules::faultless_trees_name_what_is_built;
 use std::alloc::Global;
-use tree_reader::{kinds_of, line_past_limit, read_definitions_of};
 
-/// The tree of the tokens of a text, or their first fault.
-fn read_tree(alloc: Global, text: &[u8], tokens: &[Token]) -> Result<ModuleText, TextFault>
-    ensures tree { IfOk result (λ tree. written tree ≡ map (symbol_in Ir text.now) tokens.now) }
-    ensures lines { IfOk result (λ tree. (k : ℕ) → IsPastLimit (map (kind_in Ir text.now) tokens.now) k → ⊥) }
-    ensures fault { IfErr result (λ fault. IsTreeFault module_form (map (placed_in text.now) tokens.now) (length text.now) fault) }
+/// The module that the tokens of a text spell, or their first fault.
+fn module_of(alloc: Global, text: &[u8], tokens: &[Token]) -> Result<Module, TextFault>
+    requires tokens { HasTokens text.now (map (placed_in text.now) tokens.now) }
+    requires order { AreInOrder 0 (length text.now) tokens.now }
+    ensures spelled { IfOk result (λ m. Spells text.now m) }
+    ensures fault { IfErr result (λ fault. IsTextFault text.now fault) }
 {
-    let told = kinds_of(alloc, Language::Ir, text, tokens)?;
-    let kinds = told.as_slice();
-    let past = line_past_limit(kinds);
-    match read_definitions_of(alloc, text, tokens, kinds)? {
-        Ok(tree) => match past {
-            None => Ok(tree),
-            Some(_) => Err(TextFault::Limit(Limit::Lines)),
-        },
-        Err(place) => Err(of_stuck(text, tokens, past, place)),
-    }
-}
-
-/// The tree of a text, or its first fault among tokens and grammar. The tokens are let go before it is used.
-fn tree_in(alloc: Global, text: &[u8]) -> Result<ModuleText, TextFault>
-    ensures tree { IfOk result (λ tree. IsTreeOf module_form text.now tree) }
-    ensures fault { IfErr result (λ fault. IsTextFault module_form text.now fault) }
-    ensures long { text_limit < length text.now → result ≡ Err (TextFault.Limit Limit.Text) }
-{
-    let tokens = read_tokens(alloc, text)?;
-    read_tree(alloc, text, tokens.as_slice())
-}
-
-/// The module that is built of a tree, or the first fault of what the tree claims.
-fn name_tree(alloc: Global, tree: ModuleText) -> Result<Module, TextFault>
-    ensures module { IfOk result (λ m. m ≡ module_of tree) }
-    ensures faultless { IfOk result (λ m. IsFaultless tree) }
-    ensures fault { IfErr result (λ fault. IsTreeNameFault module_form tree fault) }
-{
-    let (module, fault) = name_module(alloc, tree)?;
-    match fault {
-        None => Ok(module),
-        Some(fault) => Err(of_names(fault)),
+    faultless_trees_name_what_is_built();
+    within_trees_are_short();
+    called_names_stand();
+    declared_names_stand();
+    names_rest_on_these_alone();
+    let (marks, around) = marks_in(alloc, text, tokens)?;
+    let c = Cursor {
+        language: Language::Ir,
+        text,
+        tokens,
+        numbers: marks.as_slice(),
+    };
+    match name_derivation(alloc, &c, &around)? {
+        Ok(module) => Ok(module),
+        Err(misnamed) => Err(of_names(misnamed)),
     }
 }
 
@@ -68,11 +50,11 @@ fn name_tree(alloc: Global, tree: ModuleText) -> Result<Module, TextFault>
 fn module_in(alloc: Global, text: &[u8]) -> Result<Module, TextFault>
     ensures spelled { IfOk result (λ m. Spells text.now m) }
     ensures short { IfOk result (λ m. length text.now ≤ text_limit) }
-    ensures fault { IfErr result (λ fault. IsTextFault module_form text.now fault) }
+    ensures fault { IfErr result (λ fault. IsTextFault text.now fault) }
     ensures long { text_limit < length text.now → result ≡ Err (TextFault.Limit Limit.Text) }
 {
-    let tree = tree_in(alloc, text)?;
-    name_tree(alloc, tree)
+    let tokens = read_tokens(alloc, text)?;
+    module_of(alloc, text, tokens.as_slice())
 }
 
 /// The module that the text spells. That each name is defined before it is used on every path is not tested here, nor is the
@@ -80,16 +62,15 @@ fn module_in(alloc: Global, text: &[u8]) -> Result<Module, TextFault>
 ///
 /// # Errors
 ///
-/// The first fault: of the text's length, else of its tokens, else of the grammar, else of names and types; or want of memory.
+/// The first fault: of the text's length, else of its tokens, else of the grammar and the limits on depths and lines, else of names and
+/// types and the limit on blocks; or want of memory.
 pub fn read_module(alloc: Global, text: &[u8]) -> Result<Module, TextFault>
     ensures spelled { IfOk result (λ m. Spells text.now m) }
-    // Each name of it is defined once, and the unnamed ones are counted.
-    ensures order { IfOk result IsInOrder }
     // The text spells no other module.
     ensures only { IfOk result (λ m. (other : Module) → Spells text.now other → other ≡ m) }
     // Only texts of at most 2 to the 24 bytes are read.
     ensures short { IfOk result (λ m. length text.now ≤ text_limit) }
-    ensures fault { IfErr result (λ fault. IsTextFault module_form text.now fault) }
+    ensures fault { IfErr result (λ fault. IsTextFault text.now fault) }
     // A text of more than 2 to the 24 bytes is refused before anything grows.
     ensures long { text_limit < length text.now → result ≡ Err (TextFault.Limit Limit.Text) }
 {

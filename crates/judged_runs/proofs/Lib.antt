@@ -1,3 +1,2 @@
 mod Hints
 mod Runs
-mod Texts

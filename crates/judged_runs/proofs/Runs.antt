@@ -4,29 +4,24 @@ use Rattle.std.specs.List.{AllByRecursion}
 use Rattle.ir_core.specs.declared.modules.Module.{Module}
 use Rattle.ir_core.specs.Ranges.{AreBytes}
 use Rattle.ir_reader.specs.declared.fault.ModuleFault.{ModuleFault}
+use Rattle.ir_reader.specs.Faults.{IsAtFault}
 use Rattle.crell_io.specs.Shelf.{Told}
 use Rattle.crell_io.specs.Shelf.Told.{Untold, NoSuch, Bytes}
 use Rattle.crell_program.specs.declared.command.Form.{Form}
 use Rattle.crell_program.specs.declared.command.Form.TheVariants.{ModuleText, HintFile}
-use Rattle.crell_program.specs.declared.command.Grammar.TheVariants.{Small, Whole}
 use Rattle.crell_program.specs.Command.{File}
 use Rattle.crell_program.specs.Judged.{IsJudged, IsToldJudged}
-use Rattle.renaming_laws.specs.Judged as small
+use Rattle.renaming_laws.specs.Judged.{IsFitting, TextsAreJudged}
+use Rattle.judged_runs.specs.HintFiles.{HintFilesAreJudged}
 use Rattle.judged_runs.specs.Runs.{IsTold}
-use Rattle.judged_runs.specs.Texts as whole
 
-small_judged : (bytes : List ℕ) → ((m : Module) × small.IsFitting bytes m) ⊎ ((f : ModuleFault) × small.IsAtFault bytes f) → IsJudged (ModuleText Small) bytes
-small_judged bytes (inl (m, fits)) = inl (m, fits.1)
-small_judged bytes (inr at_fault) = inr at_fault
+module_judged : (bytes : List ℕ) → ((m : Module) × IsFitting bytes m) ⊎ ((f : ModuleFault) × IsAtFault bytes f) → IsJudged ModuleText bytes
+module_judged bytes (inl (m, fits)) = inl (m, fits.1)
+module_judged bytes (inr at_fault) = inr at_fault
 
-whole_judged : (bytes : List ℕ) → ((m : Module) × whole.IsFitting bytes m) ⊎ ((f : ModuleFault) × whole.IsAtFault bytes f) → IsJudged (ModuleText Whole) bytes
-whole_judged bytes (inl (m, fits)) = inl (m, fits.1)
-whole_judged bytes (inr at_fault) = inr at_fault
-
-module _ (smalls : small.TextsAreJudged) (wholes : whole.WholeTextsAreJudged) (hints : whole.HintFilesAreJudged) where
+module _ (modules : TextsAreJudged) (hints : HintFilesAreJudged) where
   text_judged : (form : Form) (bytes : List ℕ) → AreBytes bytes → IsJudged form bytes
-  text_judged (ModuleText Small) bytes are = small_judged bytes (smalls bytes are)
-  text_judged (ModuleText Whole) bytes are = whole_judged bytes (wholes bytes are)
+  text_judged ModuleText bytes are = module_judged bytes (modules bytes are)
   text_judged HintFile bytes are = hints bytes
 
   file_judged : (name : List ℕ) (form : Form) (told : List ℕ → Told) (t : Told) → told name ≡ t → IsTold t → IsToldJudged told (record { name = name; form = form })

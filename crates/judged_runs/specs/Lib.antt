@@ -1,2 +1,2 @@
+pub mod HintFiles
 pub mod Runs
-pub mod Texts

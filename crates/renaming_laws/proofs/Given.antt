@@ -1,5 +1,5 @@
--- Named and numbered modules are in range, in order and well-formed, and so they are printed as their own texts.
-use Rattle.std.proofs.Common.{◌≡◌, ◌∙◌, ◌≤◌, List, [], ◌∷◌, refl, sym, subst}
+-- Named and numbered modules are in range, in order and well-formed.
+use Rattle.std.proofs.Common.{List, [], ◌∷◌, refl, sym, subst}
 use Rattle.std.specs.List.{AllByRecursion}
 use Rattle.ir_core.specs.declared.functions.Function.{Function}
 use Rattle.ir_core.specs.declared.modules.Module.{Module}
@@ -7,8 +7,6 @@ use Rattle.ir_types.specs.declared.names.Name.{Name}
 use Rattle.ir_types.specs.declared.names.Name.TheVariants.{Text, Number}
 use Rattle.ir_core.specs.Functions.{names_of}
 use Rattle.ir_core.specs.Order.{AreCounted, AreInOrder, AreNew}
-use Rattle.ir_core.specs.Integers.{IsIntegerFunction}
-use Rattle.ir_core.specs.Limits.{line_limit}
 use Rattle.ir_core.specs.Ranges.{IsFunctionInRange, IsInRange, IsNameInRange, StandBehind}
 use Rattle.ir_core.specs.WellFormed.{HasFunctionShape}
 use Rattle.ir_rename.specs.Laws.{HasNamesApart, HasNamesInRange, IsText, NamedAreTexts}
@@ -17,13 +15,10 @@ use Rattle.ir_rename.specs.Numbered.{numbered_function, numbered_in_order}
 use Rattle.ir_rename.specs.Renamed.{AreRenamed}
 use Rattle.ir_rename.proofs.Lists.{length_mapped}
 use Rattle.ir_rename.proofs.Shaped.{all_under}
-use Rattle.ir_typing.specs.ModuleLimits.Passed.{AreShort, IsShort}
-use Rattle.ir_reader.specs.Laws.{ModulesAreOverIntegers}
-use Rattle.printer_laws.specs.Laws.{PrintedModulesAreRead, PrintedModulesCanBeRun}
 use Rattle.renaming_laws.specs.Kept.{DefinednessStays, FunctionNamesStay, NamesStayApart, ShapeStays, WellFormednessStays}
-use Rattle.renaming_laws.specs.Laws.{CanBeRead, CanBeRun, GivesOrder, KeepsDefined, KeepsIntegers, KeepsNamesInRange, KeepsRange, KeepsShape, KeepsWellFormed, SpelledCanBeRun}
+use Rattle.renaming_laws.specs.Laws.{GivesOrder, KeepsDefined, KeepsNamesInRange, KeepsRange, KeepsShape, KeepsWellFormed}
 use Rattle.renaming_laws.proofs.Names.{by_count, by_text, named_in_range, numbered_in_range}
-use Rattle.renaming_laws.proofs.Ranges.{as_many, in_range, of_integers}
+use Rattle.renaming_laws.proofs.Ranges.{in_range}
 
 abbrev InRange : Function → Type 0
 InRange f = AllByRecursion IsNameInRange (names_of f)
@@ -72,36 +67,6 @@ numbered_range m range = record {
   order = subst (λ count. StandBehind 0 count m.declarations) (sym (length_mapped numbered_function m.functions)) range.order;
 }
 
--- ---- integers, and the limit on lines
-
-pub named_integers : KeepsIntegers named_all
-named_integers m integers = record {
-  types = integers.types;
-  globals = integers.globals;
-  functions = all_under IsIntegerFunction IsIntegerFunction named_function (λ f is. of_integers (by_text f) f is) m.functions integers.functions;
-  declarations = integers.declarations;
-}
-
-pub numbered_integers : KeepsIntegers numbered_in_order
-numbered_integers m integers = record {
-  types = integers.types;
-  globals = integers.globals;
-  functions = all_under IsIntegerFunction IsIntegerFunction numbered_function (λ f is. of_integers (by_count f) f is) m.functions integers.functions;
-  declarations = integers.declarations;
-}
-
--- functions stay within the limit on lines
-abbrev pub StaysShort : (Module → Module) → Type 0
-StaysShort given = (m : Module) → AreShort m.functions → AreShort (given m).functions
-
-pub named_short : StaysShort named_all
-named_short m short =
-    all_under IsShort IsShort named_function (λ f few. subst (λ n. n ≤ line_limit) (sym (as_many (by_text f) f.blocks)) few) m.functions short
-
-pub numbered_short : StaysShort numbered_in_order
-numbered_short m short =
-    all_under IsShort IsShort numbered_function (λ f few. subst (λ n. n ≤ line_limit) (sym (as_many (by_count f) f.blocks)) few) m.functions short
-
 -- ---- order
 
 uncounted : (names : List Name) → AllByRecursion IsText names → AreCounted 0 names 0
@@ -136,19 +101,3 @@ pub keeps_well_formed : (given : Module → Module) → Renames given → KeepsN
 keeps_well_formed given renames names stays m well =
     let range = names_in m well.range in
     stays m (given m) (renames m range (apart_in m well.shape.functions)) well (names m range)
-
--- ---- texts
-
-pub can_be_read : (given : Module → Module) → ((m : Module) → (given m).types ≡ m.types) → GivesOrder given → KeepsShape given → KeepsRange given → StaysShort given
-    → KeepsIntegers given → PrintedModulesAreRead → CanBeRead given
-can_be_read given types orders shapes ranges stays keeps read m none order shape range short integers =
-    let names = names_in m range in
-    read (given m) (types m ∙ none) (orders m names (apart_in m shape.functions) order) (shapes m names shape) (ranges m range) (stays m short) (keeps m integers)
-
-pub can_be_run : (given : Module → Module) → ((m : Module) → (given m).types ≡ m.types) → GivesOrder given → KeepsWellFormed given → KeepsIntegers given
-    → PrintedModulesCanBeRun → CanBeRun given
-can_be_run given types orders keeps stays run m none order well integers =
-    run (given m) (types m ∙ none) (orders m (names_in m well.range) (apart_in m well.shape.functions) order) (keeps m well) (stays m integers)
-
-pub spelled_can_be_run : (given : Module → Module) → CanBeRun given → ModulesAreOverIntegers → SpelledCanBeRun given
-spelled_can_be_run given run integers bytes m (spells, well) = run m spells.names.types spells.names.order well (integers bytes m spells)

@@ -9,7 +9,6 @@ use Rattle.ir_types.specs.declared.named.NamedTy.{NamedTy}
 use Rattle.ir_types.specs.declared.names.Name.{Name}
 use Rattle.ir_core.specs.Functions.{function_names, names_of}
 use Rattle.ir_core.specs.Order.{AreNew}
-use Rattle.ir_core.specs.Integers.{AreFieldsIntegers, IsIntegerFunction}
 use Rattle.ir_core.specs.Ranges.{IsDeclarationInRange, IsFunctionInRange, IsGlobalInRange, IsNamedTypeInRange, IsNameInRange, StandBehind}
 use Rattle.ir_core.specs.WellFormed.{HasDeclaredShape, HasFunctionShape, HasGlobalShape, IsFunctionDefined, NamesTypes, global_names}
 use Rattle.ir_rename.specs.Laws.{RenamedAreDefined, RenamedHaveShape}
@@ -18,9 +17,9 @@ use Rattle.ir_rename.proofs.Apart.{apart_from_new, are_new}
 use Rattle.ir_rename.proofs.Beside.{declared, global, renamed_alike}
 use Rattle.ir_rename.proofs.Renames.{names_renamed}
 use Rattle.ir_rename.proofs.Shaped.{apart_mapped}
-use Rattle.renaming_laws.specs.Kept.{DefinednessStays, FunctionNamesStay, IntegersStay, NamesStayApart, RangeStays, ShapeStays, WellFormednessStays}
+use Rattle.renaming_laws.specs.Kept.{DefinednessStays, FunctionNamesStay, NamesStayApart, RangeStays, ShapeStays, WellFormednessStays}
 use Rattle.renaming_laws.proofs.Limits.{limits_stay}
-use Rattle.renaming_laws.proofs.Ranges.{in_range, of_integers}
+use Rattle.renaming_laws.proofs.Ranges.{in_range}
 
 -- ---- functions side by side
 
@@ -127,19 +126,6 @@ range_stays m n is range names = record {
   order =
       subst (λ (ds : List Declaration). StandBehind 0 (length n.functions) ds) (sym is.declarations)
       (subst (λ count. StandBehind 0 count m.declarations) (sym (as_many_functions m.functions n.functions is.functions)) range.order);
-}
-
--- ---- over integers
-
-integers_of : (f g : Function) → Renamed f g → IsIntegerFunction f → IsIntegerFunction g
-integers_of f g (ρ, is) integers = subst IsIntegerFunction (sym is.same) (of_integers ρ f integers)
-
-pub integers_stay : IntegersStay
-integers_stay m n is integers = record {
-  types = subst (AllByRecursion AreFieldsIntegers) (sym is.types) integers.types;
-  globals = is.globals ∙ integers.globals;
-  functions = under IsIntegerFunction IsIntegerFunction integers_of m.functions n.functions is.functions integers.functions;
-  declarations = is.declarations ∙ integers.declarations;
 }
 
 pub well_formedness_stays : RenamedHaveShape → RenamedAreDefined → WellFormednessStays

@@ -1,13 +1,14 @@
 pub mod Again
 pub mod FirstWays
-pub mod Fits
 pub mod Given
 pub mod Kept
 pub mod Limits
 pub mod Names
+pub mod NoRanges
 pub mod PrintedExpressions
 pub mod PrintedFacts
 pub mod PrintedNames
+pub mod PrintedOperands
 pub mod Ranges
 pub mod Texts
 pub mod Uses

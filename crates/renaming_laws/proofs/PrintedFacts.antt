@@ -77,3 +77,4 @@ printed_facts_are_read leaves are (LessDef a b) may writable allowed =
     let right_read = kept leaves may right b (expression_read leaves are right b writable.1.1 (printed_expressions_are_read b writable.1.0))
     (λ old. allowed (ap (λ x. expr_has is_old a || x) old ∙ or_true (expr_has is_old a))) in
     (three (codes "ge") left right, three_read (codes "ge") left right, rw (left_read, right_read) refl)
+printed_facts_are_read leaves are f may writable allowed = absurd writable

@@ -1,5 +1,5 @@
 -- A function under other names that are in range is in range where it was.
-use Rattle.std.proofs.Common.{◌≡◌, ◌∙◌, ◌+◌, ℕ, true, not, List, [], ◌∷◌, ◌++◌, length, map, refl, sym, ap, subst}
+use Rattle.std.proofs.Common.{◌≡◌, ◌∙◌, ◌+◌, ℕ, List, [], ◌∷◌, ◌++◌, length, map, refl, sym, ap, subst}
 use Rattle.std.proofs.lemmas.List.{map-append}
 use Rattle.std.specs.List.{AllByRecursion, flat_map, fold, sum_by}
 use Rattle.ir_core.specs.declared.expressions.Expr.{Expr}
@@ -16,18 +16,12 @@ use Rattle.ir_core.specs.declared.operands.Atom.TheVariants.{Constant, Register}
 use Rattle.ir_core.specs.declared.operands.Operand.{Operand}
 use Rattle.ir_types.specs.declared.names.Name.{Name}
 use Rattle.ir_types.specs.declared.ty.Ty.{Ty}
-use Rattle.ir_core.specs.Expressions.{map_atom, map_expr, map_operand}
+use Rattle.ir_core.specs.Expressions.{map_expr, map_operand}
 use Rattle.ir_core.specs.Functions.{cases_of, names_of, operands_in_block, typed_of}
-use Rattle.ir_core.specs.Integers.{IsIntegerFunction, IsIntegerOperand, is_integer_atom, is_integer_line, is_of_memory}
 use Rattle.ir_core.specs.Ranges.{IsCaseInRange, IsFunctionInRange, IsLineInRange, IsNameInRange, IsOperandInRange, IsRightInRange, IsTypeInRange}
-use Rattle.ir_core.specs.Types.{is_integer}
-use Rattle.ir_core.proofs.Narrow.{AreNarrowFlags}
-use Rattle.ir_rename.specs.Renamed.{rename_block, rename_case, rename_function, rename_line, rename_param, rename_phi, rename_term}
+use Rattle.ir_rename.specs.Renamed.{rename_block, rename_case, rename_function, rename_line, rename_phi, rename_term}
 use Rattle.ir_rename.proofs.Lists.{length_mapped}
 use Rattle.ir_rename.proofs.Shaped.{all_operands, all_types, all_under, typed}
-use Rattle.ir_core.specs.Modules.{not_extended}
-use Rattle.ir_core.specs.declared.functions.Extensions.{Extensions}
-use Rattle.ir_core.specs.declared.functions.Param.{Param}
 
 -- ---- lines
 
@@ -67,15 +61,6 @@ right ρ (expr.Select s) is = is
 right ρ (expr.Element e) is = is
 right ρ (expr.Load l) is = is
 
-pub flags : (ρ : Name → Name) (e : Expr Name) → AreNarrowFlags e → AreNarrowFlags (map_expr ρ e)
-flags ρ (expr.Plain o) are = are
-flags ρ (expr.Binary b) are = are
-flags ρ (expr.Icmp c) are = are
-flags ρ (expr.Cast c) are = are
-flags ρ (expr.Select s) are = are
-flags ρ (expr.Element e) are = absurd are
-flags ρ (expr.Load l) are = absurd are
-
 line : (ρ : Name → Name) (l : Instr) → IsLineInRange l → IsLineInRange (rename_line ρ l)
 line ρ (instr.Calm c) is = right ρ c.right is
 line ρ (instr.Alloca a) is = is
@@ -113,10 +98,6 @@ all_cases ρ (b ∷ bs) =
 
 -- ---- functions
 
-extensions_stay : (ρ : Name → Name) (ps : List Param) → map (λ (p : Param). p.extensions) (map (rename_param ρ) ps) ≡ map (λ (p : Param). p.extensions) ps
-extensions_stay ρ [] = refl
-extensions_stay ρ (p ∷ ps) = ap (λ es. p.extensions ∷ es) (extensions_stay ρ ps)
-
 abbrev HasTypeInRange : Name × Ty → Type 0
 HasTypeInRange r = IsTypeInRange r.1
 
@@ -134,49 +115,4 @@ in_range ρ f range names = record {
       subst (AllByRecursion IsLineInRange) (sym (all_lines ρ f.blocks)) (all_under IsLineInRange IsLineInRange (rename_line ρ) (line ρ) (flat_map lines_of f.blocks) range.lines);
   cases =
       subst (AllByRecursion IsCaseInRange) (sym (all_cases ρ f.blocks)) (all_under IsCaseInRange IsCaseInRange (rename_case ρ) (λ c is. is) (flat_map cases_in f.blocks) range.cases);
-}
-
--- ---- over integers
-
-calm : (ρ : Name → Name) (e : Expr Name) → not (is_of_memory e) ≡ true → not (is_of_memory (map_expr ρ e)) ≡ true
-calm ρ (expr.Plain o) is = is
-calm ρ (expr.Binary b) is = is
-calm ρ (expr.Icmp c) is = is
-calm ρ (expr.Cast c) is = is
-calm ρ (expr.Select s) is = is
-calm ρ (expr.Element e) is = is
-calm ρ (expr.Load l) is = is
-
-integer_line : (ρ : Name → Name) (l : Instr) → is_integer_line l ≡ true → is_integer_line (rename_line ρ l) ≡ true
-integer_line ρ (instr.Calm c) is = calm ρ c.right is
-integer_line ρ (instr.Alloca a) is = is
-integer_line ρ (instr.Store s) is = is
-integer_line ρ (instr.Call c) is = is
-
-integer_atom : (ρ : Name → Name) (a : Atom Name) → is_integer_atom a ≡ true → is_integer_atom (map_atom ρ a) ≡ true
-integer_atom ρ (Constant c) is = is
-integer_atom ρ (Register r) is = is
-
-integer_operand : (ρ : Name → Name) (o : Operand Name) → IsIntegerOperand o → IsIntegerOperand (map_operand ρ o)
-integer_operand ρ o is = (is.0, integer_atom ρ o.atom is.1)
-
-abbrev HasIntegerType : Name × Ty → Type 0
-HasIntegerType r = is_integer r.1 ≡ true
-
-abbrev IsLineOfIntegers : Instr → Type 0
-IsLineOfIntegers l = is_integer_line l ≡ true
-
-pub of_integers : (ρ : Name → Name) (f : Function) → IsIntegerFunction f → IsIntegerFunction (rename_function ρ f)
-of_integers ρ f is = record {
-  result = is.result;
-  registers =
-      subst (AllByRecursion HasIntegerType) (sym (all_types ρ f)) (all_under HasIntegerType HasIntegerType (typed ρ) (λ r is. is) (typed_of f) is.registers);
-  operands =
-      subst (AllByRecursion (λ (o : Operand Name). IsIntegerOperand o)) (sym (all_operands ρ f))
-      (all_under (λ (o : Operand Name). IsIntegerOperand o) (λ (o : Operand Name). IsIntegerOperand o) (map_operand ρ) (integer_operand ρ) (flat_map operands_in_block f.blocks) is.operands);
-  lines =
-      subst (AllByRecursion IsLineOfIntegers) (sym (all_lines ρ f.blocks))
-      (all_under IsLineOfIntegers IsLineOfIntegers (rename_line ρ) (integer_line ρ) (flat_map lines_of f.blocks) is.lines);
-  linkage = is.linkage;
-  extensions = (is.extensions.0, subst (AllByRecursion (λ (e : Extensions). e ≡ not_extended)) (sym (extensions_stay ρ f.params)) is.extensions.1);
 }

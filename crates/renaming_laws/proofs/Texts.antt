@@ -1,25 +1,25 @@
 -- A text spells a well-formed module, or something is first at fault in it.
-use Rattle.std.proofs.Common.{◌≡◌, ◌≢◌, ◌⊎◌, ⊎_elim, inl, inr, ℕ, ◌≤◌, List, [], ◌∷◌, ◌++◌, length, Option, None, Some, refl, ap}
-use Rattle.std.specs.List.{AllByRecursion}
-use Rattle.ir_core.specs.declared.functions.Function.{Function}
-use Rattle.ir_core.specs.declared.modules.Module.{Module}
-use Rattle.ir_core.specs.Limits.{text_limit}
-use Rattle.ir_core.specs.Ranges.{AreBytes}
-use Rattle.ir_core.specs.WellFormed.{HasFunctionShape, IsFunctionDefined}
-use Rattle.definedness.specs.declared.paths.Undefined.{Undefined}
+use Rattle.std.proofs.Common.{◌≡◌, ◌⊎◌, ⊎_elim, inl, inr, ℕ, List, [], ◌∷◌, Option, None, Some, refl, ap}
 use Rattle.definedness.specs.Laws.{ShapeKnowsLabels, UndefinedUsesAreFaults}
 use Rattle.definedness.specs.Undefined.{IsFirstUndefined}
-use Rattle.ir_naming.specs.Spells.{NamesModule}
-use Rattle.ir_shape.specs.declared.fault.ShapeFault.{ShapeFault}
+use Rattle.definedness.specs.declared.paths.Undefined.{Undefined}
+use Rattle.ir_core.specs.Ranges.{AreBytes}
+use Rattle.ir_core.specs.WellFormed.{HasFunctionShape, IsFunctionDefined}
+use Rattle.ir_core.specs.declared.functions.Function.{Function}
+use Rattle.ir_core.specs.declared.modules.Module.{Module}
 use Rattle.ir_shape.specs.Shape.{first_fault}
-use Rattle.ir_reader.specs.Forms.{module_form}
-use Rattle.ir_reader.specs.Spells.{Spells}
-use Rattle.ir_core.proofs.Within.{lies_within}
-use Rattle.ir_reader.specs.Laws.{EachIsJudged, ModulesAreInRange, ModulesAreOverIntegers, ModulesAreShort, ModulesHaveShape}
-use Rattle.ir_reader.specs.declared.fault.ModuleFault.{ModuleFault}
+use Rattle.ir_shape.specs.ShapeLaws.Laws.{FaultlessModulesHaveShape}
+use Rattle.ir_shape.specs.declared.fault.ShapeFault.{ShapeFault}
+use Rattle.ir_reader.specs.Faults.{FirstWithout, IsAtFault}
 use Rattle.ir_reader.specs.declared.fault.ModuleFault.TheVariants as fault
-use Rattle.ir_reader.specs.InputFaults.{FirstWithout}
-use Rattle.renaming_laws.specs.Judged.{FunctionsAreJudged, IsAtFault, IsFitting}
+use Rattle.ir_reader.specs.declared.fault.ModuleFault.{ModuleFault}
+use Rattle.module_spelling.specs.Spells.{Spells}
+use Rattle.module_texts.specs.JudgedTexts.Laws.{EachTextIsJudged}
+use Rattle.module_texts.specs.SpelledLimits.Laws.{ModulesAreWithin}
+use Rattle.module_texts.specs.SpelledLimits.Ranges.{ModulesAreInRange}
+use Rattle.module_texts.specs.Texts.{IsShort}
+use Rattle.renaming_laws.specs.Judged.{FunctionsAreJudged, IsFitting}
+use Rattle.std.specs.List.{AllByRecursion}
 
 -- the first of the functions that isn't defined, with its first use that isn't
 abbrev pub HasFirstUndefined : List Function → Type 0
@@ -51,27 +51,42 @@ module _ (knows : ShapeKnowsLabels) (faults : UndefinedUsesAreFaults) (judged : 
       (λ undefined. inr (f, undefined.0, first_here f fs (λ defined. faults m f undefined.0 shape.0 undefined.1 defined), undefined.1))
       (judged f (knows m f shape.0))
 
-  module _
-      (has_shape : ModulesHaveShape) (in_range : ModulesAreInRange) (integers : ModulesAreOverIntegers) (few : ModulesAreShort)
-      (each : EachIsJudged module_form NamesModule) (bytes : List ℕ) (are_bytes : AreBytes bytes)
-    where
-      abbrev Judged : Type 0
-      Judged = ((m : Module) × IsFitting bytes m) ⊎ ((f : ModuleFault) × IsAtFault bytes f)
+module _
+    (knows : ShapeKnowsLabels) (faults : UndefinedUsesAreFaults) (judged : FunctionsAreJudged) (shapes : FaultlessModulesHaveShape) (in_range : ModulesAreInRange)
+    (are_within : ModulesAreWithin) (each : EachTextIsJudged) (bytes : List ℕ) (are_bytes : AreBytes bytes)
+  where
+    abbrev Judged : Type 0
+    Judged = ((m : Module) × IsFitting bytes m) ⊎ ((f : ModuleFault) × IsAtFault bytes f)
 
-      of_module : (m : Module) → length bytes ≤ text_limit → Spells bytes m → (shape : Option ShapeFault) → first_fault m ≡ shape → Judged
-      of_module m short spells (Some f) is = inr (fault.Shape f, ((m, spells, is), λ e. cc))
-      of_module m short spells None is =
-          let shape = has_shape bytes m spells is in
-          let range = in_range bytes m are_bytes spells in
-          let limits = lies_within m range (integers bytes m spells) in
-          ⊎_elim (λ (all : AllByRecursion IsFunctionDefined m.functions).
-          inl (m, (short, (spells, record { shape = shape; defined = all; range = range; depths = limits.0; lines = few bytes m spells; blocks = limits.1 }))))
-          (λ (first : HasFirstUndefined m.functions).
-          inr (fault.Undefined first.0.name first.1, ((m, spells, is, (first.0, first.2, first.3, refl)), λ e. cc)))
-          (of_functions m m.functions shape.functions)
+    of_module : (m : Module) → IsShort bytes → Spells bytes m → (shape : Option ShapeFault) → first_fault m ≡ shape → Judged
+    of_module m short spells (Some f) is = inr (fault.Shape f, ((m, spells, is), λ e. cc))
+    of_module m short spells None is =
+        let shape = shapes m is in
+        let within = are_within bytes m spells in
+        ⊎_elim (λ (all : AllByRecursion IsFunctionDefined m.functions).
+        inl (
+          m,
+          (
+            short,
+            (
+              spells,
+              record {
+                shape = shape;
+                defined = all;
+                range = in_range bytes m are_bytes spells;
+                depths = within.0;
+                lines = within.1;
+                blocks = within.2;
+              },
+            ),
+          ),
+        ))
+        (λ (first : HasFirstUndefined m.functions).
+        inr (fault.Undefined first.0.name first.1, ((m, spells, is, (first.0, first.2, first.3, refl)), λ e. cc)))
+        (of_functions knows faults judged m m.functions shape.functions)
 
-      pub of_text : Judged
-      of_text =
-          ⊎_elim (λ read. of_module read.0 read.1.0 read.1.1 (first_fault read.0) refl)
-          (λ told. inr (fault.Text told.0, (told.1, λ e. cc)))
-          (each bytes)
+    pub of_text : Judged
+    of_text =
+        ⊎_elim (λ read. of_module read.0 read.1 read.2 (first_fault read.0) refl)
+        (λ told. inr (fault.Text told.0, (told.1, λ e. cc)))
+        (each bytes)

@@ -1,4 +1,4 @@
--- Over the whole grammar: named and numbered modules have their names in the order of the file, and so they are read of their own texts.
+-- Named and numbered modules have their names in the order of the file, and so they are read of their own texts.
 use Rattle.std.proofs.Common.{◌≡◌, ◌∙◌, ℕ, ◌+◌, List, [], ◌∷◌, ◌++◌, map, arith, refl, ap, sym, subst}
 use Rattle.std.specs.List.{AllByRecursion}
 use Rattle.ir_core.specs.declared.functions.Function.{Function}
@@ -19,8 +19,7 @@ use Rattle.printed_modules.specs.Laws.{PrintedModulesAreRead}
 use Rattle.module_texts.specs.SpelledLimits.Laws.{ModulesAreWithin}
 use Rattle.module_texts.specs.SpelledLimits.Ranges.{ModulesAreInRange}
 use Rattle.renaming_laws.specs.Kept.{LimitsStay, NamesStayApart}
-use Rattle.renaming_laws.specs.Laws.{KeepsRange, KeepsShape}
-use Rattle.renaming_laws.specs.Whole.{IsReadAgain, SpelledIsReadAgain}
+use Rattle.renaming_laws.specs.Laws.{CanBeRead, CanBeRun, KeepsRange, KeepsShape, KeepsWellFormed, SpelledCanBeRead, SpelledCanBeRun}
 use Rattle.renaming_laws.proofs.Given.{Renames, apart_in, in_order, names_in}
 
 -- ---- names in the order of the file
@@ -64,7 +63,7 @@ numbered_order law (f ∷ fs) range apart =
 -- ---- what is read again
 
 pub named_again :
-    PrintedModulesAreRead → Renames named_all → NamedAreTexts → NamesStayApart → KeepsShape named_all → KeepsRange named_all → LimitsStay → IsReadAgain named_all
+    PrintedModulesAreRead → Renames named_all → NamedAreTexts → NamesStayApart → KeepsShape named_all → KeepsRange named_all → LimitsStay → CanBeRead named_all
 named_again print renames texts apart shapes ranges limits m types globals shape range within =
     let names = names_in m range in
     let is = renames m names (apart_in m shape.functions) in
@@ -78,7 +77,7 @@ named_again print renames texts apart shapes ranges limits m types globals shape
 
 pub numbered_again :
     PrintedModulesAreRead → Renames numbered_in_order → NumberedIsInOrder → KeepsShape numbered_in_order → KeepsRange numbered_in_order → LimitsStay
-    → IsReadAgain numbered_in_order
+    → CanBeRead numbered_in_order
 numbered_again print renames law shapes ranges limits m types globals shape range within =
     let names = names_in m range in
     let apart = apart_in m shape.functions in
@@ -90,6 +89,15 @@ numbered_again print renames law shapes ranges limits m types globals shape rang
     })
     (shapes m names shape) (ranges m range) (limits m (numbered_in_order m) (renames m names apart) within)
 
-pub spelled_again : (given : Module → Module) → IsReadAgain given → ModulesAreInRange → ModulesAreWithin → SpelledIsReadAgain given
+pub spelled_again : (given : Module → Module) → CanBeRead given → ModulesAreInRange → ModulesAreWithin → SpelledCanBeRead given
 spelled_again given again ranges within bytes m are_bytes spells shape =
     again m spells.names.type_order spells.names.order shape (ranges bytes m are_bytes spells) (within bytes m spells)
+
+-- ---- what can be run
+
+pub can_be_run : (given : Module → Module) → CanBeRead given → KeepsWellFormed given → CanBeRun given
+can_be_run given read keeps m types globals well =
+    (read m types globals well.shape well.range (well.depths, well.lines, well.blocks), keeps m well)
+
+pub spelled_can_be_run : (given : Module → Module) → CanBeRun given → SpelledCanBeRun given
+spelled_can_be_run given run bytes m (spells, well) = run m spells.names.type_order spells.names.order well

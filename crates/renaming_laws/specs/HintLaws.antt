@@ -1,24 +1,32 @@
 -- The laws that tie printing to reading.
-use Rattle.std.specs.Prelude.{◌≡◌, ◌≤◌, Bool, true, not, length, Some, Ok}
+use Rattle.std.specs.Prelude.{◌≡◌, ◌≤◌, ℕ, Bool, true, length, Some, Ok}
 use Rattle.std.specs.List.{AllByRecursion}
 use Rattle.serde_json.specs.Data.{Data}
 use Rattle.serde_json.specs.Read.{read}
+use Rattle.ir_core.specs.declared.expressions.Expr.TheVariants as expr
 use Rattle.ir_core.specs.declared.expressions.Reg.{Reg}
 use Rattle.ir_core.specs.declared.expressions.Reg.TheVariants.{Now, Old, Ghost}
+use Rattle.ir_core.specs.declared.modules.GlobalVar.{GlobalVar}
+use Rattle.ir_core.specs.declared.modules.Module.{Module}
 use Rattle.ir_core.specs.declared.operands.Atom.{Atom}
 use Rattle.ir_core.specs.declared.operands.Atom.TheVariants.{Constant, Register}
 use Rattle.ir_types.specs.declared.names.Name.{Name}
 use Rattle.ir_types.specs.declared.names.Sigil.{Sigil}
 use Rattle.ir_core.specs.declared.operands.Operand.{Operand}
 use Rattle.ir_types.specs.declared.ty.Ty.{Ty}
-use Rattle.ir_core.specs.Expressions.{Expr0, operands_in, type_of}
-use Rattle.ir_core.specs.Limits.{text_limit}
-use Rattle.ir_core.specs.Integers.{is_of_memory}
-use Rattle.ir_core.specs.Ranges.{IsNameInRange, IsRightInRange}
-use Rattle.ir_core.specs.Types.{constant_fits}
-use Rattle.ir_reader.specs.Spells.{SpellsExpression, SpellsName}
+use Rattle.ir_core.specs.Depths.{depth_of, depth_of_constant}
+use Rattle.ir_core.specs.Expressions.{Expr0, operands_in}
+use Rattle.ir_core.specs.Limits.{depth_limit, text_limit}
+use Rattle.ir_core.specs.Ranges.{IsNameInRange, IsRightInRange, constant_written, is_written}
+use Rattle.ir_core.specs.StatedTypes.{stated_in}
+use Rattle.ir_core.specs.TypeNames.{type_names}
+use Rattle.ir_core.specs.Types.{is_first_class}
+use Rattle.ir_core.specs.Typing.{is_constant_of}
+use Rattle.ir_core.specs.WellFormed.{IsTypeKnown}
+use Rattle.module_walk.specs.LogicExpressions.{pointed}
+use Rattle.expression_reader.specs.Expressions.{SpellsExpression}
+use Rattle.expression_reader.specs.Names.{SpellsName}
 use Rattle.ir_printer.specs.ExpressionPrinter.Printed.{printed_name, printed_register, printed_expr}
-use Rattle.printer_laws.specs.Writable.{IsWritableType}
 use Rattle.erhl_assert.specs.declared.facts.Fact.{Fact}
 use Rattle.erhl_assert.specs.declared.facts.Fact.TheVariants.{LessDef}
 use Rattle.erhl_assert.specs.Edges.{is_old}
@@ -47,19 +55,37 @@ IsWritableRegister (Now name) = IsNameInRange name
 IsWritableRegister (Old name) = IsNameInRange name
 IsWritableRegister (Ghost name) = IsNameInRange name
 
--- a constant of the type, or such a register
-abbrev pub IsWritableAtom : Ty → Atom Reg → Type 0
-IsWritableAtom t (Constant c) = constant_fits t c ≡ true
-IsWritableAtom t (Register r) = IsWritableRegister r
+module _ (m : Module) where
+  -- a type that the module knows, in range and within the limit on depths
+  abbrev pub IsWritableType : Ty → Type 0
+  IsWritableType t = (is_written t ≡ true) × IsTypeKnown m t × (depth_of t ≤ depth_limit)
 
-abbrev pub IsWritableOperand : Operand Reg → Type 0
-IsWritableOperand o = IsWritableType o.ty × IsWritableAtom o.ty o.atom
+  -- a constant of the type in the module, in range and within that limit, or such a register
+  abbrev pub IsWritableAtom : Ty → Atom Reg → Type 0
+  IsWritableAtom t (Constant c) =
+      (constant_written t c ≡ true) × (is_constant_of m t c ≡ true) × AllByRecursion (IsTypeKnown m) (stated_in c) × (depth_of_constant c ≤ depth_limit)
+  IsWritableAtom t (Register r) = IsWritableRegister r
 
--- An expression of such a type over such operands, not of memory, with flags that its operator may have: `udiv exact i8 %x, 3`,
--- `zext i8 %x to i1`, `select i8 %x, i8 1, i16 2`; `add exact i8 %x, 3` and `i8 256` are none.
-abbrev pub IsWritableExpression : Expr0 → Type 0
-IsWritableExpression e =
-    IsWritableType (type_of e) × IsRightInRange e × (not (is_of_memory e) ≡ true) × AllByRecursion IsWritableOperand (operands_in e)
+  abbrev pub IsWritableOperand : Operand Reg → Type 0
+  IsWritableOperand o = IsWritableType o.ty × (is_first_class o.ty ≡ true) × IsWritableAtom o.ty o.atom
+
+  -- What stands beside the operands: such types. An address is of the type that follows where no name has fields, and a load states its alignment.
+  abbrev pub IsWritableBeside : Expr0 → Type 0
+  IsWritableBeside (expr.Cast c) = IsWritableType c.to
+  IsWritableBeside (expr.Element e) = IsWritableType e.of × (e.to ≡ pointed e.base.ty e.of e.indices)
+  IsWritableBeside (expr.Load l) = IsWritableType l.of × ((align : ℕ) × (l.align ≡ Some align))
+  IsWritableBeside e = Unit {0}
+
+-- An expression that can stand beside some module whose types and globals have names in range, with flags that its operator may have, and an
+-- alignment in range: `udiv exact i8 %x, 3`, `zext i8 %x to i1`, `select i8 %x, i8 1, i16 2`, `load i32, i32* old %p, align 4`; `add exact i8 %x, 3` and
+-- `i8 256` are none.
+pub record IsWritableExpression (e : Expr0) : Type 0 where
+  pub around : Module
+  pub types : AllByRecursion IsNameInRange (type_names around)
+  pub globals : AllByRecursion (λ (g : GlobalVar). IsNameInRange g.name) around.globals
+  pub right : IsRightInRange e
+  pub beside : IsWritableBeside around e
+  pub operands : AllByRecursion (IsWritableOperand around) (operands_in e)
 
 -- A printed expression spells that expression.
 abbrev pub PrintedExpressionsAreRead : Type 0
@@ -75,8 +101,10 @@ PrintedExpressionsAreApart = (a b : Expr0) → IsWritableExpression a → IsWrit
 abbrev pub IsShortExpression : Expr0 → Type 0
 IsShortExpression e = IsWritableExpression e × (length (printed_expr printed_register e) ≤ text_limit)
 
+-- Facts of memory are printed, and no text of them is read.
 abbrev pub IsWritableFact : Fact → Type 0
 IsWritableFact (LessDef a b) = IsShortExpression a × IsShortExpression b
+IsWritableFact f = ⊥
 
 -- A printed fact is JSON, which is read as that fact where old registers may stand; and elsewhere too, if it names none.
 abbrev pub PrintedFactsAreRead : Type 0

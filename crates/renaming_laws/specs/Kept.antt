@@ -3,7 +3,6 @@ use Rattle.std.specs.Prelude.{◌≡◌}
 use Rattle.std.specs.List.{AllByRecursion}
 use Rattle.ir_core.specs.declared.modules.Module.{Module}
 use Rattle.ir_core.specs.Functions.{function_names}
-use Rattle.ir_core.specs.Integers.{IsOverIntegers}
 use Rattle.ir_core.specs.Ranges.{IsInRange}
 use Rattle.ir_core.specs.WellFormed.{HasFunctionShape, HasShape, IsDefined, IsWellFormed}
 use Rattle.ir_rename.specs.Laws.{HasNamesApart, HasNamesInRange}
@@ -31,9 +30,6 @@ RangeStays = (m n : Module) → AreRenamed m n → IsInRange m → HasNamesInRan
 -- renaming adds no line and makes nothing deeper or larger
 abbrev pub LimitsStay : Type 0
 LimitsStay = (m n : Module) → AreRenamed m n → IsWithin m → IsWithin n
-
-abbrev pub IntegersStay : Type 0
-IntegersStay = (m n : Module) → AreRenamed m n → IsOverIntegers m → IsOverIntegers n
 
 abbrev pub WellFormednessStays : Type 0
 WellFormednessStays = (m n : Module) → AreRenamed m n → IsWellFormed m → HasNamesInRange n → IsWellFormed n

@@ -1,10 +1,9 @@
 -- What is named or numbered can be printed and run.
-use Rattle.std.specs.Prelude.{◌≡◌, ℕ, List, []}
+use Rattle.std.specs.Prelude.{◌≡◌, ℕ, List, map}
 use Rattle.std.specs.List.{AllByRecursion}
 use Rattle.ir_core.specs.declared.modules.Module.{Module}
 use Rattle.ir_types.specs.declared.names.Name.{Name}
 use Rattle.ir_core.specs.Functions.{function_names, names_of}
-use Rattle.ir_core.specs.Integers.{IsOverIntegers}
 use Rattle.ir_core.specs.Order.{AreInOrder, IsInOrder}
 use Rattle.ir_core.specs.Ranges.{AreBytes, IsInRange}
 use Rattle.ir_core.specs.WellFormed.{HasFunctionShape, HasShape, IsDefined, IsWellFormed}
@@ -12,8 +11,12 @@ use Rattle.ir_printer.specs.Printed.{printed_module}
 use Rattle.ir_rename.specs.Laws.{HasNamesApart, HasNamesInRange, IsText}
 use Rattle.ir_rename.specs.Named.{IsFresh, named_all}
 use Rattle.ir_rename.specs.Numbered.{numbered_in_order}
-use Rattle.ir_reader.specs.Spells.{Spells, SpellsWellFormed}
-use Rattle.ir_typing.specs.ModuleLimits.Passed.{AreShort}
+use Rattle.ir_types.specs.declared.named.NamedTy.{NamedTy}
+use Rattle.ir_typing.specs.ModuleLimits.Passed.{IsWithin}
+use Rattle.ir_reader.specs.Faults.{SpellsWellFormed}
+use Rattle.module_spelling.specs.Spells.{Spells}
+use Rattle.named_modules.specs.Modules.{global_names}
+use Rattle.printed_modules.specs.Order.{IsInFileOrder}
 
 -- ---- where names become this
 
@@ -38,29 +41,30 @@ module _ (given : Module → Module) where
   abbrev pub KeepsWellFormed : Type 0
   KeepsWellFormed = (m : Module) → IsWellFormed m → IsWellFormed (given m)
 
-  abbrev pub KeepsIntegers : Type 0
-  KeepsIntegers = (m : Module) → IsOverIntegers m → IsOverIntegers (given m)
-
-  -- A module over integers alone, without named types, becomes one that is printed as its own text, and can be run, where the names of its
-  -- functions are in order.
-  abbrev pub CanBeRun : Type 0
-  CanBeRun =
-      (m : Module) → m.types ≡ [] → AreInOrder (function_names m) → IsWellFormed m → IsOverIntegers m
-      → SpellsWellFormed (printed_module (given m)) (given m)
-
-  -- where it has shape, is in range and within the limit on lines, it is read as that module at least
+  -- A module whose named types, globals and functions, which keep their names, have them in order, that has shape, is in range and passes no
+  -- limit, becomes one that is printed as its own text.
   abbrev pub CanBeRead : Type 0
   CanBeRead =
-      (m : Module) → m.types ≡ [] → AreInOrder (function_names m) → HasShape m → IsInRange m → AreShort m.functions → IsOverIntegers m
+      (m : Module) → AreInOrder (map (λ (t : NamedTy). t.name) m.types) → AreInOrder (global_names m) → HasShape m → IsInRange m → IsWithin m
       → Spells (printed_module (given m)) (given m)
+
+  -- where it is well-formed, it can be run besides
+  abbrev pub CanBeRun : Type 0
+  CanBeRun =
+      (m : Module) → AreInOrder (map (λ (t : NamedTy). t.name) m.types) → AreInOrder (global_names m) → IsWellFormed m
+      → SpellsWellFormed (printed_module (given m)) (given m)
 
   -- what a text spells, and can be run, becomes such a module
   abbrev pub SpelledCanBeRun : Type 0
   SpelledCanBeRun = (bytes : List ℕ) (m : Module) → SpellsWellFormed bytes m → SpellsWellFormed (printed_module (given m)) (given m)
 
-  -- what a text spells, whether or not it can be run, becomes a module that is printed as its own text
+  -- what a text spells that has shape, whether or not it can be run, becomes a module that is printed as its own text
   abbrev pub SpelledCanBeRead : Type 0
-  SpelledCanBeRead = (bytes : List ℕ) (m : Module) → AreBytes bytes → Spells bytes m → Spells (printed_module (given m)) (given m)
+  SpelledCanBeRead = (bytes : List ℕ) (m : Module) → AreBytes bytes → Spells bytes m → HasShape m → Spells (printed_module (given m)) (given m)
+
+-- the names of a spelled module are in the order of the file
+abbrev pub SpelledAreInOrder : Type 0
+SpelledAreInOrder = (bytes : List ℕ) (m : Module) → Spells bytes m → IsInFileOrder m
 
 -- ---- again
 

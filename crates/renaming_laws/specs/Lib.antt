@@ -3,4 +3,3 @@ pub mod Judged
 pub mod Kept
 pub mod Laws
 pub mod Ways
-pub mod Whole

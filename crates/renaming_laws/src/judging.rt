@@ -2,7 +2,8 @@ ghost use Rattle.renaming_laws.specs.Judged.{FunctionsAreJudged, TextsAreJudged}
 ghost use Rattle.renaming_laws.specs.Ways.{WaysHaveAFirst};
 
 use definedness::{shape_knows_labels, undefined_uses_are_faults};
-use ir_reader::{each_text_is_judged, spelled_modules_fit};
+use ir_shape::faultless_modules_have_shape;
+use module_texts::{each_text_is_judged, spelled_modules_are_in_range, spelled_modules_are_within};
 
 /// Empty on purpose: its contract is the law.
 ///
@@ -27,6 +28,8 @@ pub fn texts_are_judged()
     shape_knows_labels();
     undefined_uses_are_faults();
     functions_are_judged();
-    spelled_modules_fit();
+    faultless_modules_have_shape();
+    spelled_modules_are_in_range();
+    spelled_modules_are_within();
     each_text_is_judged();
 }

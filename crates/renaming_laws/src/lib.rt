@@ -11,6 +11,7 @@ pub use hints::{printed_expressions_are_read, printed_facts_are_read, printed_na
 pub use judging::{functions_are_judged, texts_are_judged, ways_have_a_first};
 pub use laws::{
     fresh_names_are_one, named_modules_can_be_run, named_modules_stay_well_formed,
-    numbered_modules_can_be_run, numbered_modules_stay_well_formed, renamed_modules_are_read_again,
-    renamed_modules_stay_well_formed, renaming_again_changes_nothing, spelled_modules_are_renamed,
+    numbered_modules_can_be_run, numbered_modules_stay_well_formed,
+    renamed_modules_stay_well_formed, renaming_again_changes_nothing, spelled_modules_are_in_order,
+    spelled_modules_are_renamed,
 };

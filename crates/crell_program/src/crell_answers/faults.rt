@@ -10,7 +10,8 @@ use crate::crell_answers::answer::{Answer, fault, past_limit};
 use crate::crell_answers::pieces::{push_name, push_number, push_place};
 use definedness::Undefined;
 use ir_core::{Name, Sigil};
-use ir_reader::{ModuleFault, TextFault};
+use ir_lexer::TextFault;
+use ir_reader::ModuleFault;
 use ir_shape::{LinePlace, ShapeFault};
 use std::alloc::{AllocError, Global};
 

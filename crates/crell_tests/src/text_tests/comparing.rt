@@ -3,7 +3,7 @@ use contents::Seq;
 use erhl_assert::{Difference, Hints, ModuleVerdict};
 use erhl_checker::{CheckEnd, check_module};
 use ir_core::Module;
-use module_reader::read_module;
+use ir_reader::read_module;
 use rule_base::RuleBook;
 use std::alloc::{AllocError, Global};
 use std::test::*;
@@ -37,8 +37,7 @@ fn shown(alloc: Global, source: &[u8], target: &[u8]) -> Result<Vec<u8>, AllocEr
     }
 }
 
-/// Texts of two modules, and behind a `~` the first list in which they differ; a `|` ends each. No text that `check` reads has a global or a
-/// declaration.
+/// Texts of two modules, and behind a `~` the first list in which they differ; a `|` ends each.
 const ROWS: &[u8] = b"@a = global i32 0, align 4~@a = global i32 0, align 4~valid|\
 @a = global i32 0, align 4~@a = global i32 0, align 8~globals|\
 @a = global i32 0, align 4~@a = global i32 0~globals|\

@@ -147,6 +147,35 @@ fn rows(rt: HostRuntime) {
     assert!(rt; count == 118);
 }
 
+/// The same of registers of the logic; a `|` ends each.
+const REGISTERS: &[u8] = b"i32 ghost %g~i32 ghost %g|\
+i32 old %x~i32 old %x|\
+i32 old ; before\n %x~i32 old %x|\
+add nsw i32 old %x, ghost %y~add nsw i32 old %x, ghost %y|\
+select i1 ghost %c, i32 %x, i32 old %y~select i1 ghost %c, i32 %x, i32 old %y|\
+i32 old 5~Expected 8|\
+old ghost %x~Expected 0|\
+old i32 %x~Expected 0|\
+i32 old ghost %x~Expected 8|\
+i32 ghost undef~Expected 10|\
+i32 ghost @f~Expected 10|\
+i32 old~Expected 7|\
+i32 %x old~Expected 7|\
+zext i8 %x to old~Expected 14";
+
+#[test]
+fn registers(rt: HostRuntime) {
+    let mut count: u32 = 0;
+    for row in REGISTERS.split(|byte| *byte == b'|') {
+        let mut parts = row.split(|byte| *byte == b'~');
+        if let (Some(text), Some(wanted)) = (parts.next(), parts.next()) {
+            assert!(rt; is(shown(rt.alloc(), text), wanted), "row {count}");
+            count = count.saturating_add(1);
+        }
+    }
+    assert!(rt; count == 14);
+}
+
 /// Texts of addresses, and behind a `~` the type that is kept of each: it follows where no name has fields.
 const ADDRESSES: &[u8] = b"getelementptr i8, i8* %p~i8*
 getelementptr %t, i8 %p, i1 %i~%t*

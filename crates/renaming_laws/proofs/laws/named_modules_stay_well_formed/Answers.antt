@@ -1,6 +1,6 @@
 use Rattle.ir_rename.specs.Named.{named_all}
 use Rattle.ir_rename.specs.Laws.{NamingRenames}
-use Rattle.renaming_laws.proofs.Given.{Renames, keeps_defined, keeps_shape, keeps_well_formed, named_integers, named_names_in_range, named_order, named_range}
+use Rattle.renaming_laws.proofs.Given.{Renames, keeps_defined, keeps_shape, keeps_well_formed, named_names_in_range, named_order, named_range}
 use Rattle.renaming_laws.proofs.laws.named_modules_stay_well_formed.Goals as goal
 
 renames : NamingRenames → Renames named_all
@@ -20,9 +20,6 @@ returns-clause-shape c = keeps_shape named_all (renames c.named_functions_are_re
 
 pub returns-clause-defined : goal.returns-clause-defined
 returns-clause-defined c = keeps_defined named_all (renames c.named_functions_are_renamed.ensures.renamed) c.renamed_modules_stay_well_formed.ensures.defined
-
-pub returns-clause-integers : goal.returns-clause-integers
-returns-clause-integers c = named_integers
 
 pub returns-clause-well : goal.returns-clause-well
 returns-clause-well c = keeps_well_formed named_all (renames c.named_functions_are_renamed.ensures.renamed) named_names_in_range c.renamed_modules_stay_well_formed.ensures.well

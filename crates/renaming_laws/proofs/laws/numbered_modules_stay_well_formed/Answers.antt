@@ -1,5 +1,5 @@
 use Rattle.ir_rename.specs.Numbered.{numbered_in_order}
-use Rattle.renaming_laws.proofs.Given.{keeps_defined, keeps_shape, keeps_well_formed, numbered_integers, numbered_names_in_range, numbered_range}
+use Rattle.renaming_laws.proofs.Given.{keeps_defined, keeps_shape, keeps_well_formed, numbered_names_in_range, numbered_range}
 use Rattle.renaming_laws.proofs.laws.numbered_modules_stay_well_formed.Goals as goal
 
 pub returns-clause-names : goal.returns-clause-names
@@ -16,9 +16,6 @@ returns-clause-shape c = keeps_shape numbered_in_order c.numbered_functions_are_
 
 pub returns-clause-defined : goal.returns-clause-defined
 returns-clause-defined c = keeps_defined numbered_in_order c.numbered_functions_are_renamed.ensures.renamed c.renamed_modules_stay_well_formed.ensures.defined
-
-pub returns-clause-integers : goal.returns-clause-integers
-returns-clause-integers c = numbered_integers
 
 pub returns-clause-well : goal.returns-clause-well
 returns-clause-well c = keeps_well_formed numbered_in_order c.numbered_functions_are_renamed.ensures.renamed numbered_names_in_range c.renamed_modules_stay_well_formed.ensures.well

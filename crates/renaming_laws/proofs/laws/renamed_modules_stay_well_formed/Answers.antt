@@ -1,5 +1,5 @@
 use Rattle.renaming_laws.proofs.Limits.{limits_stay}
-use Rattle.renaming_laws.proofs.Kept.{definedness_stays, function_names_stay, integers_stay, names_stay_apart, range_stays, shape_stays, well_formedness_stays}
+use Rattle.renaming_laws.proofs.Kept.{definedness_stays, function_names_stay, names_stay_apart, range_stays, shape_stays, well_formedness_stays}
 use Rattle.renaming_laws.proofs.laws.renamed_modules_stay_well_formed.Goals as goal
 
 pub returns-clause-names : goal.returns-clause-names
@@ -19,9 +19,6 @@ returns-clause-range c = range_stays
 
 pub returns-clause-limits : goal.returns-clause-limits
 returns-clause-limits c = limits_stay
-
-pub returns-clause-integers : goal.returns-clause-integers
-returns-clause-integers c = integers_stay
 
 pub returns-clause-well : goal.returns-clause-well
 returns-clause-well c =

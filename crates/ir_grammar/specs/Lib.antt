@@ -1,9 +1,0 @@
-pub mod Operators
-pub mod Words
-pub mod Symbols
-pub mod Written
-pub mod Parts
-pub mod Kinds
-pub mod Sorts
-pub mod Rules
-pub mod Examples

@@ -1,5 +1,0 @@
-pub mod Faults
-pub mod Laws
-pub mod Naming
-pub mod Read
-pub mod Told
