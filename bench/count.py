@@ -10,7 +10,7 @@ or `printing` (what putting a module into a text takes). Where a unit is neither
 a peak that isn't set yet is inf. In a command {} stands for the input's file, HINTS for the hints that belong to it, NONE for hints that
 say nothing, STEP for one step before the first line, with which facts are kept along the block, BASE for a module of one line. An input is
 made by rule: chain:N is a function of N lines of i32, mixed:N one of all operators over integers of several widths, flow:N one of N blocks
-that branch, join and loop, clang:N a module of N functions as clang writes them, steps:N a hint file of N steps, blocks:N one of N blocks. Four have HINTS, under which they are valid against
+that branch, join and loop, clang:N a module of N functions as clang writes them, memory:N one of N lines of slots and addresses, stores:N one of N stores to 64 slots, steps:N a hint file of N steps, blocks:N one of N blocks. Four have HINTS, under which they are valid against
 themselves: edges:N, a function of N blocks with a phi each, at whose starts 60 facts are known; ghosts:N, one of N blocks with two ghost
 and two same steps each; switch:N, one of a block of 50 lines and a step, which leads to N blocks; differ:N, one of N blocks in
 a row, at whose starts the same 400 registers may differ.
@@ -119,6 +119,22 @@ def clang(count):
     return "\n".join(lines)
 
 
+def memory(count):
+    """A function of so many lines, by four: a slot, a store to it, a load from it, and an address."""
+    lines = ["define i32 @f(i32 %x, [8 x i32]* %a) {", "entry:"]
+    for k in range(count // 4):
+        lines += [f"  %p{k} = alloca i32", f"  store i32 %x, i32* %p{k}", f"  %v{k} = load i32, i32* %p{k}",
+                  f"  %e{k} = getelementptr inbounds [8 x i32], [8 x i32]* %a, i64 0, i64 {k % 8}"]
+    return "\n".join(lines + [f"  ret i32 %v{count // 4 - 1}" if count >= 4 else "  ret i32 0", "}", ""])
+
+
+def stores(count):
+    """A function of so many stores, in turn to 64 slots that it makes first."""
+    lines = ["define i32 @f(i32 %x) {", "entry:"] + [f"  %p{k} = alloca i32" for k in range(64)]
+    lines += [f"  store i32 {k}, i32* %p{k % 64}" for k in range(count)]
+    return "\n".join(lines + ["  ret i32 %x", "}", ""])
+
+
 def edges(count):
     """A function of so many blocks in a row, each with a phi, behind a first one whose lines give the facts."""
     lines = ["define i32 @f(i32 %x) {", "b0:"] + [f"  %v{j} = add i32 %x, {j}" for j in range(15)] + ["  %p0 = add i32 %x, 15"]
@@ -191,7 +207,7 @@ def blocks(count):
 
 ONE_STEP = hints(['{"at":"%entry","steps":[{"at":0,"rule":"undef_const","side":"src","from":[],"to":["ge","i32 undef","i32 7"]}]}'])
 RETURN = "define i32 @f() {\n  ret i32 0\n}\n"
-MAKERS = {"chain": chain, "mixed": mixed, "flow": flow, "clang": clang, "edges": edges, "ghosts": ghosts, "differ": differ, "switch": switch, "steps": steps, "blocks": blocks}
+MAKERS = {"chain": chain, "mixed": mixed, "flow": flow, "clang": clang, "memory": memory, "stores": stores, "edges": edges, "ghosts": ghosts, "differ": differ, "switch": switch, "steps": steps, "blocks": blocks}
 HINTS = {"edges": edge_hints, "ghosts": ghost_hints, "differ": differ_hints, "switch": switch_hints}
 EMPTY = {"steps": steps(0), "blocks": blocks(0)}
 

@@ -194,20 +194,20 @@ module _ (types : List NamedTy) (l : Line) (known : Assertion) where
   abbrev over_tested : Option Reason → Course Assertion
   over_tested o = and_then (tested o known) (over_allowed types l)
 
-  pub line_allowed : line_fault known l ≡ None → over_line types l known ≡ over_allowed types l known
+  pub line_allowed : line_fault types known l ≡ None → over_line types l known ≡ over_allowed types l known
   line_allowed h = ap over_tested h
 
   -- one that isn't allowed is refused before anything is added
-  pub line_refused : (r : Reason) → line_fault known l ≡ Some r → over_line types l known ≡ refuses r
+  pub line_refused : (r : Reason) → line_fault types known l ≡ Some r → over_line types l known ≡ refuses r
   line_refused r h = ap over_tested h
 
-  pub line_ends : line_fault known l ≡ None → (over_line types l known).ends ≡ Gives (after_line types known l)
+  pub line_ends : line_fault types known l ≡ None → (over_line types l known).ends ≡ Gives (after_line types known l)
   line_ends h = ap (λ (c : Course Assertion). c.ends) (line_allowed h) ∙ allowed_ends types l known
 
   -- what a line gives is known after it, and the line is allowed
-  pub line_gives : (after : Assertion) → (over_line types l known).ends ≡ Gives after → (line_fault known l ≡ None) × (after ≡ after_line types known l)
+  pub line_gives : (after : Assertion) → (over_line types l known).ends ≡ Gives after → (line_fault types known l ≡ None) × (after ≡ after_line types known l)
   line_gives after h =
-      let parts = gives_parts (tested (line_fault known l) known) (over_allowed types l) after h in
-      let test = no_fault (line_fault known l) known parts.0 parts.1 in
+      let parts = gives_parts (tested (line_fault types known l) known) (over_allowed types l) after h in
+      let test = no_fault (line_fault types known l) known parts.0 parts.1 in
       let e : Gives after ≡ Gives (after_line types known l) = sym h ∙ line_ends test.0 in
       (test.0, cc)

@@ -58,7 +58,7 @@ over_allowed types l known =
 
 -- Over an aligned line: one that isn't allowed is refused before anything is added. Beside no line of the source, `%x = udiv i8 1, %y` is.
 abbrev pub over_line : List NamedTy → Line → Assertion → Course Assertion
-over_line types l known = and_then (tested (line_fault known l) known) (over_allowed types l)
+over_line types l known = and_then (tested (line_fault types known l) known) (over_allowed types l)
 
 -- on each side what its phis take away goes
 abbrev pub without_phis : Edge → Assertion → Assertion

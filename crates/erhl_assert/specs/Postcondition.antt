@@ -1,5 +1,5 @@
 -- What is known after an aligned line, from what was known before it.
-use Rattle.std.specs.Prelude.{ℕ, zero, suc, Bool, true, ◌&&◌, cond, not, filter, map, List, [], ◌∷◌, ◌++◌, Option, None, Some}
+use Rattle.std.specs.Prelude.{ℕ, zero, suc, Bool, true, ◌&&◌, ◌||◌, cond, not, nat_lt, filter, map, List, [], ◌∷◌, ◌++◌, Option, None, Some}
 use Rattle.std.specs.List.{flat_map}
 use Rattle.std.specs.Option.{is_none}
 use Rattle.ir_types.specs.declared.names.Name.{Name}
@@ -115,11 +115,11 @@ store_adds t v p align = Ok (expr.Plain p) t align ∷ both_ways (load_through t
 abbrev pub private_if : Bool → Name → List Fact
 private_if one_sided x = cond one_sided (Private (Now x) ∷ []) []
 
--- a slot of at least one integer or pointer may be accessed, and holds undef
+-- A slot of at least one integer or pointer, at an alignment above 0, may be accessed, and holds undef.
 abbrev pub slot_adds : Option Kind → ℕ → Ty → Operand Reg → ℕ → List Fact
 slot_adds None count t p align = []
 slot_adds (Some k) zero t p align = []
-slot_adds (Some k) (suc count) t p align = store_adds t (record { ty = t; atom = atom.Constant Undef }) p align
+slot_adds (Some k) (suc count) t p align = cond (nat_lt 0 align) (store_adds t (record { ty = t; atom = atom.Constant Undef }) p align) []
 
 -- What a line adds, one of one side alone or of both. Of x = e: that they are less defined than each other, where x isn't in e. Of an access: that
 -- it doesn't trap; of a store: what is loaded then. Of an alloca: that its pointer is the only one, and what its slot holds.
@@ -141,6 +141,7 @@ facts_after types one_sided (Some l) fs = with_facts (line_adds types one_sided 
 -- without flags agree so.
 abbrev pub flags_agree : {R S : Type 0} → Expr R → Expr S → Bool
 flags_agree (expr.Binary s) (expr.Binary t) = flags_among t.flags s.flags
+flags_agree (expr.Element s) (expr.Element t) = not t.inbounds || s.inbounds
 flags_agree s t = true
 
 -- Right sides agree: one operator, one type, flags of the target among the source's, and operands that are matched.
@@ -157,13 +158,17 @@ without_reg r rs = filter (λ s. not (same_reg r s)) rs
 abbrev pub with_reg : Reg → List Reg → List Reg
 with_reg r rs = cond (has_reg r rs) rs (rs ++ r ∷ [])
 
--- A register that both lines define leaves the registers that may differ where the lines agree. Every other register that
--- is defined enters them.
+-- A register that both lines define leaves the registers that may differ where the lines agree, as two allocas do. Every other register
+-- that is defined enters them.
 abbrev pub diff_after : Assertion → Option Instr → Option Instr → List Reg
 diff_after known (Some (line.Calm s)) (Some (line.Calm t)) =
     cond (lines_agree known s t) (without_reg (Now s.name) known.diff) (with_reg (Now t.name) (with_reg (Now s.name) known.diff))
 diff_after known (Some (line.Calm s)) None = with_reg (Now s.name) known.diff
 diff_after known None (Some (line.Calm t)) = with_reg (Now t.name) known.diff
+diff_after known (Some (line.Alloca s)) (Some (line.Alloca t)) =
+    cond (same_name s.name t.name) (without_reg (Now s.name) known.diff) (with_reg (Now t.name) (with_reg (Now s.name) known.diff))
+diff_after known (Some (line.Alloca s)) None = with_reg (Now s.name) known.diff
+diff_after known None (Some (line.Alloca t)) = with_reg (Now t.name) known.diff
 diff_after known source target = known.diff
 
 -- After an aligned line that is allowed this is known, beside the types of both modules.

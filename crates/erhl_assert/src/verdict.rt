@@ -26,12 +26,15 @@ impl Drop for Spot {
 pub enum Reason {
     /// The headers, the numbers of blocks or the names of blocks differ, or a block's lines don't give back both bodies.
     AlignmentDiffers,
-    /// The terminators are of two kinds, or lead to other labels, or have other cases; or an aligned line has an alloca, a store or a call.
+    /// The terminators are of two kinds, or lead to other labels, or have other cases; or so do aligned lines: two stores of other types or
+    /// alignments, two allocas of other sizes or alignments, whatever has a call, and lines of two kinds.
     KindsDiffer,
     /// These operands, the source's and the target's, aren't known to be related.
     Unmatched(Operand<Name>, Operand<Name>),
     /// The target's line may have undefined behaviour, and isn't known to have it only where the source's has.
     TargetMayTrap,
+    /// A store of one side alone is through this address, which isn't known to be private.
+    NotPrivate(Operand<Name>),
     /// The book has no rule of that name.
     UnknownRule(Seq<u8>),
     /// The rule of that name doesn't take the step. Of a ghost step and a same step the name is `ghost`.
@@ -51,6 +54,7 @@ impl Drop for Reason {
             Reason::KindsDiffer => {}
             Reason::TargetMayTrap => {}
             Reason::Unmatched(_, _) => {}
+            Reason::NotPrivate(_) => {}
             Reason::UnknownRule(_) => {}
             Reason::RuleUnfit(_) => {}
             Reason::MissingPremise(_) => {}

@@ -8,11 +8,10 @@ ghost use Rattle.erhl_assert.specs.Alignment.{no_facts, same_header};
 ghost use Rattle.erhl_checker.specs.CheckedPair.Agreeing.{terms_agree};
 ghost use Rattle.erhl_checker.specs.Alike.{are_few, blocks_alike, functions_alike, lines_alike, no_phi};
 
-use crate::checked_pair::term_fault;
+use crate::checked_pair::{instrs_agree, term_fault};
 use fact_sets::{IndexedSet, Sides};
 use ir_core::{Block, Function, Instr, Limit, Param, Phi, Term, same_name, same_ty};
 use line_align::{Likeness, all_alike};
-use postcondition::lines_agree;
 use std::alloc::{AllocError, Global};
 
 /// Lines agree where nothing is known.
@@ -34,10 +33,7 @@ impl<'b> Likeness<Instr> for Agreeing<'b> {
     ghost like = { λ _ x y. instrs_agree (Some x) (Some y) };
 
     fn are_alike(&self, x: &Instr, y: &Instr) -> bool {
-        match (x, y) {
-            (Instr::Calm(s), Instr::Calm(t)) => lines_agree(self.nothing, s, t),
-            _ => false,
-        }
+        instrs_agree(self.nothing, Some(x), Some(y))
     }
 }
 

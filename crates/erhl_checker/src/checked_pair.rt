@@ -9,7 +9,7 @@ mod laws;
 mod pair;
 mod terms;
 
-pub use agreeing::block_agrees;
+pub use agreeing::{block_agrees, instrs_agree};
 pub use ends::CheckEnd;
 pub use laws::limits_are_apart;
 pub use pair::Pair;

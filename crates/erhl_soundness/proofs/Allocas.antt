@@ -1,9 +1,9 @@
 -- What one side knows over an alloca.
-use Rattle.std.proofs.Common.{◌≡◌, ◌∙◌, ◌≤◌, ◌<◌, ◌+◌, ◌*◌, ℕ, zero, suc, pos, Bool, true, false, cond, List, [], ◌∷◌, length, replicate, take, Option, None, Some, refl, sym, ap, subst, subst₂, arith}
-use Rattle.std.specs.Prelude.{◌%◌}
+use Rattle.std.proofs.Common.{◌≡◌, ◌∙◌, ◌≤◌, ◌+◌, ◌*◌, ℕ, zero, suc, pos, Bool, true, false, cond, List, [], ◌∷◌, length, replicate, take, Option, None, Some, refl, sym, ap, subst, subst₂, arith}
+use Rattle.std.specs.Prelude.{◌%◌, nat_lt}
 use Rattle.std.specs.List.{AllByRecursion}
 use Rattle.std.proofs.Math.Nat.{mod_self, zero-mod}
-use Rattle.std.proofs.lemmas.Bool.{eq-eqb, false≢true, le-leb, lt-ltb, or_parts}
+use Rattle.std.proofs.lemmas.Bool.{cond_both, eq-eqb, false≢true, le-leb, or_parts}
 use Rattle.std.proofs.lemmas.List.{length-replicate}
 use Rattle.std.proofs.lemmas.List.Elements.{Contains-append_left, Contains-append_right}
 use Rattle.ir_types.specs.declared.names.Name.{Name}
@@ -36,7 +36,7 @@ use Rattle.ir_core.specs.declared.values.Value.TheVariants as value
 use Rattle.ir_core.specs.Expressions.{Expr0, expr_has}
 use Rattle.ir_core.specs.Same.{same_reg}
 use Rattle.ir_core.specs.Types.{is_first_class, is_pointer, is_pointer_at_level, kind_of}
-use Rattle.ir_values.specs.Constants.{Scope, constant_value, is_of_type}
+use Rattle.ir_values.specs.Constants.{Scope, constant_value}
 use Rattle.ir_values.specs.Constants as values
 use Rattle.ir_values.specs.declared.operations.Outcome.{Outcome}
 use Rattle.ir_values.specs.declared.operations.Outcome.TheVariants.{Gives, Trap}
@@ -61,7 +61,8 @@ use Rattle.erhl_assert.specs.Holding.{AreNoAliases, CanAccess, HoldsAlone, IfBlo
 use Rattle.erhl_assert.specs.Kills.{loads_in}
 use Rattle.erhl_assert.specs.Postcondition.{line_kills, load_through, now_at, private_if, slot_adds, store_adds}
 use Rattle.erhl_assert.specs.Sides.{IsFine, SideState, read_reg, worth}
-use Rattle.erhl_soundness.specs.MemoryLaws.{AllocasKeepWhatHolds, HoldsMade, side_made}
+use Rattle.erhl_soundness.specs.MemoryLaws.{AllocasKeepWhatHolds, side_made}
+use Rattle.erhl_soundness.specs.TwoSides.{HoldsMade}
 use Rattle.erhl_soundness.proofs.Facts.{both_ways_hold, if_block}
 use Rattle.erhl_soundness.proofs.Holders.{set_others}
 use Rattle.erhl_soundness.proofs.Kills.{AreLeft, held_at_among, killed_hold, same_name_apart}
@@ -135,7 +136,7 @@ module _ (m : Memory) (b : ℕ) (new : length m ≤ b) where
       (λ c k. all_on (IsByteAmong (IsMade m)) (IsByteAmong (IsNot b)) (byte_more (IsMade m) (IsNot b) made_apart) c.bytes k) memory h
 
 module _ (side : SideState) (a : Alloca) (paired : ℕ → Bool) (fine : IsFine side) (held : HoldsMade side)
-    (stay : (b : ℕ) → IsMade side.world.memory b → paired b ≡ side.paired b) (positive : 0 < align_or side.scope.types a.of a.align) where
+    (stay : (b : ℕ) → IsMade side.world.memory b → paired b ≡ side.paired b) where
   abbrev after : SideState
   after = side_made a paired side
 
@@ -293,7 +294,7 @@ module _ (side : SideState) (a : Alloca) (paired : ℕ → Bool) (fine : IsFine 
       ap (λ o. register_value (read_reg after) o (Now a.name)) (pointer_kind (Ptr a.of) (is_pointer_to a.of))
       ∙ read_set_same side.files.now a.name kind.Ptr pointer
 
-  module _ (k : Kind) (is : kind_of a.of ≡ Some k) (count : ℕ) (counted : count_made a.count ≡ suc count) where
+  module _ (k : Kind) (is : kind_of a.of ≡ Some k) (count : ℕ) (counted : count_made a.count ≡ suc count) (positive : nat_lt 0 align ≡ true) where
     room : byte_count k ≤ size
     room =
         let fits = value_fits side.scope.types a.of k is in
@@ -311,7 +312,7 @@ module _ (side : SideState) (a : Alloca) (paired : ℕ → Bool) (fine : IsFine 
     fits : can_access after.world.memory k pointer align ≡ true
     fits =
         ap (λ c. fits_maybe c (byte_count k) 0 align) there
-        ∙ all_true (lt-ltb 0 align positive)
+        ∙ all_true positive
         (all_true (eq-eqb (align % align) 0 (mod_self align))
         (all_true (eq-eqb (0 % align) 0 (zero-mod align))
         (le-leb (0 + byte_count k) (length (filled size [])) (let l = long in let r = room in omega (arith, l, r)))))
@@ -341,7 +342,9 @@ module _ (side : SideState) (a : Alloca) (paired : ℕ → Bool) (fine : IsFine 
   slots_hold : (o : Option Kind) → kind_of a.of ≡ o → (n : ℕ) → count_made a.count ≡ n → AllByRecursion (Holds after) (slot_adds o n a.of slot align)
   slots_hold None is n counted = tt
   slots_hold (Some k) is zero counted = tt
-  slots_hold (Some k) is (suc n) counted = slot_holds k is n counted
+  slots_hold (Some k) is (suc n) counted =
+      cond_both (nat_lt 0 align) (store_adds a.of (record { ty = a.of; atom = Constant constant.Undef }) slot align) [] (AllByRecursion (Holds after))
+      (λ positive. slot_holds k is n counted positive) (λ none. tt)
 
   -- ---- the side after it
 
@@ -373,18 +376,18 @@ module _ (side : SideState) (a : Alloca) (paired : ℕ → Bool) (fine : IsFine 
       }
 
 pub allocas_keep : AllocasKeepWhatHolds
-allocas_keep side a paired one_sided fine held stay free positive =
+allocas_keep side a paired one_sided fine held stay free =
     let after = side_made a paired side in
     record {
       leads = λ m frame rest scope.
           ap (λ (here : Scope). made_block here a (record frame { registers = side.files.now; own = side.own }) rest side.world) scope;
-      fine = still_fine side a paired fine held stay positive;
-      made = λ h. still_made side a paired fine held stay positive;
-      left = λ known all. killed_hold side fine.named after (line_kills (line.Alloca a)) (leaves side a paired fine held stay positive) known all;
+      fine = still_fine side a paired fine held stay;
+      made = λ h. still_made side a paired fine held stay;
+      left = λ known all. killed_hold side fine.named after (line_kills (line.Alloca a)) (leaves side a paired fine held stay) known all;
       added = (
-        unique_holds side a paired fine held stay positive,
+        unique_holds side a paired fine held stay,
         all_joined (Holds after) (private_if one_sided a.name) (slot_adds (kind_of a.of) (count_made a.count) a.of (now_at (Ptr a.of) a.name) (align_or side.scope.types a.of a.align))
-            (private_holds side a paired fine held stay positive one_sided free)
-            (slots_hold side a paired fine held stay positive (kind_of a.of) refl (count_made a.count) refl),
+            (private_holds side a paired fine held stay one_sided free)
+            (slots_hold side a paired fine held stay (kind_of a.of) refl (count_made a.count) refl),
       );
     }

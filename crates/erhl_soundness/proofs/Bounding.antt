@@ -128,7 +128,7 @@ module _ (n : ℕ) where
 
   line_bounded : (types : List NamedTy) (l : Line) (known : Assertion) → size known ≤ n → IsBounded (over_line types l known)
   line_bounded types l known h =
-      and_then_bounded (tested (line_fault known l) known) (over_allowed types l) (tested_bounded (line_fault known l) known h) (λ known' less. allowed_bounded types l known' less)
+      and_then_bounded (tested (line_fault types known l) known) (over_allowed types l) (tested_bounded (line_fault types known l) known h) (λ known' less. allowed_bounded types l known' less)
 
   concluded_bounded : (o : Option Fact) (step : RuleStep) (known : Assertion) → size known ≤ n → IsBounded (concluded o step known)
   concluded_bounded (Some f) step known h = λ all. tt

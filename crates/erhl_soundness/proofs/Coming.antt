@@ -9,12 +9,12 @@ use Rattle.erhl_assert.proofs.Courses.{line_ends, line_refused}
 use Rattle.erhl_assert.proofs.Edges.{put_in_ends, edge_ends}
 use Rattle.erhl_soundness.specs.Laws.{ComesTo, ALineComesToWhatIsKnown, AnEdgeComesToWhatIsKnown, HintsArePutIn}
 
-comes_to : (types : List NamedTy) (l : Line) (known : Assertion) (o : Option Reason) → line_fault known l ≡ o → ComesTo types o l known
+comes_to : (types : List NamedTy) (l : Line) (known : Assertion) (o : Option Reason) → line_fault types known l ≡ o → ComesTo types o l known
 comes_to types l known None is = line_ends types l known is
 comes_to types l known (Some r) is = line_refused types l known r is
 
 pub line_comes : ALineComesToWhatIsKnown
-line_comes types l known = comes_to types l known (line_fault known l) refl
+line_comes types l known = comes_to types l known (line_fault types known l) refl
 
 pub edge_comes : AnEdgeComesToWhatIsKnown
 edge_comes = edge_ends

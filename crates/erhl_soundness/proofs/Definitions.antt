@@ -8,6 +8,7 @@ use Rattle.ir_types.specs.declared.ty.Ty.{Ty}
 use Rattle.ir_core.specs.declared.values.Value.{Value}
 use Rattle.ir_core.specs.declared.values.Value.TheVariants.{Poison}
 use Rattle.ir_core.specs.declared.values.Kind.{Kind}
+use Rattle.ir_core.specs.declared.values.Kind.TheVariants as kind
 use Rattle.ir_core.specs.declared.functions.Instr.{Instr}
 use Rattle.ir_core.specs.declared.functions.Instr.TheVariants as line
 use Rattle.ir_core.specs.declared.functions.Phi.{Phi}
@@ -122,6 +123,7 @@ all_unmapped P f (x ∷ xs) h = (h.0, all_unmapped P f xs h.1)
 
 abbrev pub IsLineDefined : Function → Instr → Type 0
 IsLineDefined f (line.Calm l) = IsDefined f l.name (kind_of (type_of l.right))
+IsLineDefined f (line.Alloca a) = IsDefined f a.name (kind_of a.to)
 IsLineDefined f i = Unit {0}
 
 abbrev pub AreLinesDefined : Function → List Instr → Type 0
@@ -147,6 +149,7 @@ module _ (f : Function) where
   lines_in : (ls : List Instr) → AllByRecursion P (set_by ls) → AreLinesDefined f ls
   lines_in [] h = tt
   lines_in (line.Calm l ∷ ls) h = (h.0, lines_in ls h.1)
+  lines_in (line.Alloca a ∷ ls) h = (h.0, lines_in ls h.1)
   lines_in (i ∷ ls) h = (tt, lines_in ls (behind (register_of i) (set_by ls) h))
 
   in_blocks : (bs : List Block) → AllByRecursion P (flat_map registers_of bs) → AllByRecursion (IsBlockDefined f) bs

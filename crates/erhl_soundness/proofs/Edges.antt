@@ -1,12 +1,9 @@
--- An edge: old registers are those before it, and phis are set at once from them; then old registers are forgotten where a block begins.
-use Rattle.std.proofs.Common.{◌≡◌, true, false, not, List, [], ◌∷◌, ◌++◌, map, Option, None, Some, refl, sym, ap, subst, subst₂, ◌∙◌, ⊎_elim, nat_eq, ℕ}
-use Rattle.std.specs.Prelude.{filter}
+-- An edge, on one side: old registers are those before it, and phis are set at once from them.
+use Rattle.std.proofs.Common.{◌≡◌, true, false, not, List, [], ◌∷◌, ◌++◌, map, Option, None, Some, refl, sym, ap, subst, subst₂, ◌∙◌, ⊎_elim, ℕ}
 use Rattle.std.specs.List.{AllByRecursion, Contains, cons_option, filter_map, list_any}
-use Rattle.std.proofs.lemmas.Bool.{not-true, or_parts, or_from, false≢true, false_from_ne_true, cases_Bool, not_from_false, cond-true, cond-false}
+use Rattle.std.proofs.lemmas.Bool.{not-true, or_parts, or_from, false≢true, false_from_ne_true, cases_Bool, cond-true, cond-false}
 use Rattle.std.proofs.lemmas.List.Elements.{Contains-append_left, Contains-push}
-use Rattle.std.proofs.lemmas.List.Folds.{list_any-append}
 use Rattle.ir_types.specs.declared.names.Name.{Name}
-use Rattle.ir_types.specs.declared.ty.Ty.{Ty}
 use Rattle.ir_core.specs.declared.values.Kind.{Kind}
 use Rattle.ir_core.specs.declared.expressions.Reg.{Reg}
 use Rattle.ir_core.specs.declared.expressions.Reg.TheVariants.{Now, Old, Ghost}
@@ -15,40 +12,29 @@ use Rattle.ir_core.specs.declared.functions.Entry.{Entry}
 use Rattle.ir_core.specs.declared.functions.Phi.{Phi}
 use Rattle.ir_core.specs.Expressions.{Expr0, map_atom, map_expr, expr_has}
 use Rattle.ir_core.specs.Order.{AreNew}
-use Rattle.ir_types.specs.Same.{same_name, same_ty}
-use Rattle.ir_core.specs.Same.{same_reg}
+use Rattle.ir_types.specs.Same.{same_name}
 use Rattle.ir_core.specs.Types.{kind_of}
-use Rattle.ir_types.specs.NameLaws.{left_true, right_true, same_name_true, same_name_refl}
-use Rattle.ir_types.proofs.SameLaws.{same_ty_true}
+use Rattle.ir_types.specs.NameLaws.{same_name_true, same_name_refl}
 use Rattle.ir_values.specs.declared.operations.Outcome.{Outcome}
 use Rattle.ir_values.specs.declared.operations.Outcome.TheVariants.{Gives, Trap}
-use Rattle.ir_values.specs.Related.{IsRelated}
-use Rattle.ir_values.proofs.RelatedValues.{less_related}
 use Rattle.ir_values.specs.Constants.{Scope}
 use Rattle.ir_values.specs.Operations.{IsOutcomeLessDefined}
-use Rattle.ir_machine.specs.Registers.{Held, Registers, no_registers, read, set, holding, held_at, atom_value}
-use Rattle.ir_machine.specs.State.{World}
+use Rattle.ir_machine.specs.Registers.{Held, Registers, read, set, holding, held_at, atom_value}
 use Rattle.ir_machine.specs.Machine.{with_phis, phi_value, entry_value, entry_from}
 use Rattle.ir_machine.proofs.Keeping.{all_on}
-use Rattle.ir_machine.proofs.InKind.{phis_in_kind, no_registers_in_kind}
 use Rattle.erhl_assert.specs.declared.facts.Fact.{Fact}
 use Rattle.erhl_assert.specs.declared.facts.Fact.TheVariants.{LessDef, Unique, Private, NoAlias, Ok}
-use Rattle.erhl_assert.specs.declared.facts.Assertion.{Assertion}
-use Rattle.erhl_assert.specs.Sides.{SideState, IsFine, read_reg, worth, has_reg, AreRelated, RegisterFiles, no_ghost}
-use Rattle.erhl_assert.specs.Facts.{Holds, AssertionHolds, with_facts, fact_has, without, each_once}
-use Rattle.erhl_assert.specs.Edges.{Edge, is_old, old_of, as_old, without_old, sets, is_of_phi, register_at, entry_kill, phi_fact, phi_facts, phi_kills, past_phis, facts_over, phi_setting, entries_match, phis_match, is_alike, phi_registers, old_too, diff_over, after_edge}
+use Rattle.erhl_assert.specs.Sides.{SideState, read_reg, worth}
+use Rattle.erhl_assert.specs.Facts.{Holds, with_facts, fact_has, without}
+use Rattle.erhl_assert.specs.Edges.{is_old, old_of, as_old, sets, is_of_phi, register_at, entry_kill, phi_fact, phi_facts, phi_kills, past_phis, facts_over, phi_setting}
 use Rattle.erhl_assert.specs.Holding.{AreNoAliases, CanAccess, IsNot}
-use Rattle.erhl_assert.specs.Steps.{Beside, first_missing}
-use Rattle.erhl_soundness.specs.Laws.{AreApart, AreGlobalsNamed, crossed, AnEdgeKeepsWhatHolds}
+use Rattle.erhl_soundness.specs.Laws.{AreApart, crossed}
+use Rattle.erhl_soundness.specs.TwoSides.{AreGlobalsNamed}
 use Rattle.erhl_soundness.proofs.Readings.{outcome_same, outcome_mapped, renamed, atom_mapped, atom_of_none, type_mapped}
-use Rattle.erhl_soundness.proofs.Facts.{IsNotIt, IsStillAlone, all_passing, all_split, holds_kept, stays_so, premises_hold, both_ways_hold, with_facts_hold, without_holds, without_names_none}
-use Rattle.erhl_soundness.proofs.Kills.{AreLeft, IsLeft, all_left_by, not_unique, same_name_apart}
+use Rattle.erhl_soundness.proofs.Facts.{IsNotIt, IsStillAlone, all_passing, all_split, holds_kept, stays_so, both_ways_hold, with_facts_hold, without_holds, without_names_none}
+use Rattle.erhl_soundness.proofs.Kills.{AreLeft, IsLeft, all_left_by, not_unique}
 use Rattle.erhl_soundness.proofs.Holders.{IsNotGiven, constants_apart, phis_among}
-use Rattle.erhl_soundness.proofs.Matched.{atoms_matched_related}
-use Rattle.erhl_soundness.proofs.Related.{held_related}
-use Rattle.erhl_soundness.proofs.Outside.{outside_filter}
-use Rattle.erhl_soundness.proofs.Definitions.{ArePhisDefined, phis_defined, none_defined}
-use Rattle.erhl_soundness.proofs.Standing.{side, Stand, fine_with, register_worth}
+use Rattle.erhl_soundness.proofs.Standing.{register_worth}
 
 -- the state whose old registers are those that it has now
 abbrev renewed : SideState → SideState
@@ -139,7 +125,7 @@ apart_once ps apart = none_again [] ps apart
 
 -- A register that no phi sets is as before; that of a phi, whose name stands once, holds what its entry says of the old registers.
 module _ (scope : Scope) (from : Name) (old : Registers) where
-  abbrev phi_holds : Phi → Option Held
+  abbrev pub phi_holds : Phi → Option Held
   phi_holds p = holding (kind_of p.ty) (phi_value scope old from p)
 
   abbrev phi_sets : Phi → Registers → Registers
@@ -151,7 +137,7 @@ module _ (scope : Scope) (from : Name) (old : Registers) where
   set_other : (p : Phi) (registers : Registers) (x : Name) → same_name p.name x ≡ false → phi_sets p registers x ≡ registers x
   set_other p registers x h = rw h refl
 
-  unset_by_phis : (x : Name) (ps : List Phi) (registers : Registers) → list_any (sets x) ps ≡ false → with_phis scope old from ps registers x ≡ registers x
+  pub unset_by_phis : (x : Name) (ps : List Phi) (registers : Registers) → list_any (sets x) ps ≡ false → with_phis scope old from ps registers x ≡ registers x
   unset_by_phis x [] registers h = refl
   unset_by_phis x (p ∷ ps) registers h =
       let parts = or_parts (same_name p.name x) (list_any (sets x) ps) h in
@@ -170,7 +156,7 @@ module _ (scope : Scope) (from : Name) (old : Registers) where
     all_set ps (phi_sets p registers) apart.1,
   )
 
-  set_by_found : (x : Name) (p : Phi) (ps : List Phi) (registers : Registers) → NoneAgain ps → phi_setting x ps ≡ Some p
+  pub set_by_found : (x : Name) (p : Phi) (ps : List Phi) (registers : Registers) → NoneAgain ps → phi_setting x ps ≡ Some p
       → with_phis scope old from ps registers x ≡ phi_holds p
   set_by_found x p [] registers apart found = absurd (cc)
   set_by_found x p (q ∷ ps) registers apart found = ⊎_elim
@@ -270,158 +256,3 @@ module _ (from : Name) (before : SideState) where
         with_facts_hold behind (phi_facts from ps) (past_phis from ps copied)
         (phi_facts_hold ps ps (all_set before.scope from before.files.now ps before.files.now apart))
         (past_hold copied (copied_hold before fs all))
-
--- ---- registers that may differ
-
-old_mapped : (x : Name) (rs : List Reg) → has_reg (Old x) (map old_of rs) ≡ false → has_reg (Now x) rs ≡ false
-old_mapped x [] h = refl
-old_mapped x (Now y ∷ rs) h =
-    let parts = or_parts (same_name x y) (has_reg (Old x) (map old_of rs)) h in or_from (same_name x y) (has_reg (Now x) rs) parts.0 (old_mapped x rs parts.1)
-old_mapped x (Old y ∷ rs) h = let parts = or_parts (same_name x y) (has_reg (Old x) (map old_of rs)) h in old_mapped x rs parts.1
-old_mapped x (Ghost y ∷ rs) h = old_mapped x rs h
-
-unnamed : (x : Name) (ps : List Phi) → has_reg (Now x) (phi_registers ps) ≡ false → list_any (sets x) ps ≡ false
-unnamed x [] h = refl
-unnamed x (p ∷ ps) h =
-    let parts = or_parts (same_name x p.name) (has_reg (Now x) (phi_registers ps)) h in
-    or_from (same_name p.name x) (list_any (sets x) ps) (same_name_apart x p.name parts.0) (unnamed x ps parts.1)
-
-module _ (known : Assertion) (e : Edge) (source target : SideState) (scopes : source.scope ≡ target.scope) (holds : AssertionHolds nat_eq no_ghost known source target)
-    (source_named : AreGlobalsNamed source) (target_named : AreGlobalsNamed target) (source_apart : NoneAgain e.source) (target_apart : NoneAgain e.target) where
-  abbrev kept : List Reg
-  kept = filter (λ r. not (is_old r)) known.diff
-
-  abbrev of_phis : List Reg
-  of_phis = phi_registers e.source ++ phi_registers e.target
-
-  abbrev all_of : List Reg
-  all_of = old_too known.diff ++ of_phis
-
-  parts_of : (r : Reg) → has_reg r all_of ≡ false
-      → (has_reg r kept ≡ false) × (has_reg r (map old_of kept) ≡ false) × (has_reg r (phi_registers e.source) ≡ false) × (has_reg r (phi_registers e.target) ≡ false)
-  parts_of r h =
-      let two = or_parts (has_reg r (old_too known.diff)) (has_reg r of_phis) (sym (list_any-append (same_reg r) (old_too known.diff) of_phis) ∙ h) in
-      let first = or_parts (has_reg r kept) (has_reg r (map old_of kept)) (sym (list_any-append (same_reg r) kept (map old_of kept)) ∙ two.0) in
-      let second = or_parts (has_reg r (phi_registers e.source)) (has_reg r (phi_registers e.target))
-      (sym (list_any-append (same_reg r) (phi_registers e.source) (phi_registers e.target)) ∙ two.1) in
-      (first.0, first.1, second.0, second.1)
-
-  -- a register that was outside before the edge
-  was_outside : (x : Name) → has_reg (Now x) kept ≡ false → has_reg (Now x) known.diff ≡ false
-  was_outside x h = outside_filter (λ r. not (is_old r)) (Now x) known.diff refl h
-
-  entries_related : (t : Ty) (o p : Option Entry) → entries_match known t o p ≡ true
-      → IsRelated nat_eq (entry_value source.scope source.files.now t o) (entry_value target.scope target.files.now t p)
-  entries_related t None p h = absurd (false≢true h)
-  entries_related t (Some d) None h = absurd (false≢true h)
-  entries_related t (Some d) (Some f) h =
-      less_related (entry_value source.scope source.files.now t (Some d)) (entry_value target.scope target.files.now t (Some f))
-      (atoms_matched_related known source target scopes holds t d.value t f.value h)
-
-  phis_related : (k : Kind) (x : Name) (o u : Option Phi) → phi_setting x e.source ≡ o → phi_setting x e.target ≡ u
-      → phis_match known e.from o u ≡ true
-      → IsRelated nat_eq (read (with_phis source.scope source.files.now e.from e.source source.files.now) k x) (read (with_phis target.scope target.files.now e.from e.target target.files.now) k x)
-  phis_related k x None u is_p is_q h = absurd (false≢true h)
-  phis_related k x (Some p) None is_p is_q h = absurd (false≢true h)
-  phis_related k x (Some p) (Some q) is_p is_q h =
-      let of_p = entry_from e.from p.entries in
-      let of_q = entry_from e.from q.entries in
-      let types : p.ty ≡ q.ty = same_ty_true p.ty q.ty (left_true (same_ty p.ty q.ty) (entries_match known p.ty of_p of_q) h) in
-      let related = entries_related p.ty of_p of_q (right_true (same_ty p.ty q.ty) (entries_match known p.ty of_p of_q) h) in
-      let both : IsRelated nat_eq (held_at k (phi_holds source.scope e.from source.files.now p)) (held_at k (phi_holds target.scope e.from target.files.now q)) =
-      subst (λ t. IsRelated nat_eq (held_at k (phi_holds source.scope e.from source.files.now p)) (held_at k (holding (kind_of t) (entry_value target.scope target.files.now t of_q)))) types
-      (held_related (kind_of p.ty) k (entry_value source.scope source.files.now p.ty of_p) (entry_value target.scope target.files.now p.ty of_q) related) in
-      subst₂ (IsRelated nat_eq) (sym (ap (held_at k) (set_by_found source.scope e.from source.files.now x p e.source source.files.now source_apart is_p)))
-      (sym (ap (held_at k) (set_by_found target.scope e.from target.files.now x q e.target target.files.now target_apart is_q))) both
-
-  related_over : AreRelated nat_eq no_ghost (diff_over e known) (crossed e.from e.source source) (crossed e.from e.target target)
-  related_over = record { outside = outside; ghosts = holds.related.ghosts }
-    where
-      outside : (r : Reg) (k : Kind) → has_reg r (diff_over e known) ≡ false
-          → IsRelated nat_eq (read_reg (crossed e.from e.source source) k r) (read_reg (crossed e.from e.target target) k r)
-      outside (Ghost g) k out = holds.related.ghosts g k refl
-      outside (Old x) k out =
-          let parts = parts_of (Old x) (outside_filter (λ r. not (is_alike known e r)) (Old x) all_of refl out) in
-          holds.related.outside (Now x) k (was_outside x (old_mapped x kept parts.1))
-      outside (Now x) k out = ⊎_elim
-          (λ h. phis_related k x (phi_setting x e.source) (phi_setting x e.target) refl refl h)
-          (λ h.
-          let parts = parts_of (Now x) (outside_filter (λ r. not (is_alike known e r)) (Now x) all_of (not_from_false (is_alike known e (Now x)) h) out) in
-          subst₂ (IsRelated nat_eq)
-          (sym (ap (held_at k) (unset_by_phis source.scope e.from source.files.now x e.source source.files.now (unnamed x e.source parts.2))))
-          (sym (ap (held_at k) (unset_by_phis target.scope e.from target.files.now x e.target target.files.now (unnamed x e.target parts.3))))
-          (holds.related.outside (Now x) k (was_outside x parts.0)))
-          (cases_Bool (is_alike known e (Now x)))
-
-  pub edge_holds : AssertionHolds nat_eq no_ghost (after_edge known e) (crossed e.from e.source source) (crossed e.from e.target target)
-  edge_holds = record {
-    source_facts = facts_over_hold e.from source source_named e.source known.src source_apart holds.source_facts;
-    target_facts = facts_over_hold e.from target target_named e.target known.tgt target_apart holds.target_facts;
-    related = related_over;
-  }
-
--- the law of edges
-pub edge_keeps : AnEdgeKeepsWhatHolds
-edge_keeps known e source target scopes source_named target_named source_apart target_apart holds =
-    edge_holds known e source target scopes holds source_named target_named (apart_once e.source source_apart) (apart_once e.target target_apart)
-
--- ---- the invariant over an edge
-
--- the registers of a side behind phis
-abbrev pub jumped : Scope → Name → List Phi → RegisterFiles → RegisterFiles
-jumped scope from ps a = record { now = with_phis scope a.now from ps a.now; old = a.now; ghost = a.ghost }
-
-jumped_in_kind : (scope : Scope) (own : List ℕ) (world : World) (from : Name) (ps : List Phi) (a : RegisterFiles) → IsFine (side scope own world a)
-    → IsFine (side scope own world (jumped scope from ps a))
-jumped_in_kind scope own world from ps a h = fine_with scope own world a (jumped scope from ps a) h (phis_in_kind scope a.now from ps a.now h.now h.now) h.now h.ghost
-
-pub edge_stands : (w : Beside) (own : List ℕ) (world : World) (known : Assertion) (e : Edge) (a b : RegisterFiles) → Stand w own world known a b
-    → NoneAgain e.source → NoneAgain e.target → ArePhisDefined w.source e.source
-    → Stand w own world (after_edge known e) (jumped w.scope e.from e.source a) (jumped w.scope e.from e.target b)
-edge_stands w own world known e a b stand source_apart target_apart defined = record {
-  source_in_kind = jumped_in_kind w.scope own world e.from e.source a stand.source_in_kind;
-  target_in_kind = jumped_in_kind w.scope own world e.from e.target b stand.target_in_kind;
-  now_defined = phis_defined w.source w.scope e.from e.source a.now a.now defined stand.now_defined;
-  old_defined = stand.now_defined;
-  holds = edge_holds known e (side w.scope own world a) (side w.scope own world b) refl stand.holds stand.source_in_kind.named stand.target_in_kind.named source_apart target_apart;
-}
-
--- where a block begins old registers are forgotten
-abbrev pub forgotten : RegisterFiles → RegisterFiles
-forgotten a = record a { old = no_registers }
-
-module _ (scope : Scope) (own : List ℕ) (world : World) (a : RegisterFiles) where
-  forgets : (k : Kind) (r : Reg) → is_old r ≡ false → read_reg (side scope own world (forgotten a)) k r ≡ read_reg (side scope own world a) k r
-  forgets k (Now x) h = refl
-  forgets k (Old x) h = absurd (false≢true (sym h))
-  forgets k (Ghost x) h = refl
-
-  forgotten_facts : (fs : List Fact) → AllByRecursion (Holds (side scope own world a)) fs → AllByRecursion (Holds (side scope own world (forgotten a))) (without is_old fs)
-  forgotten_facts fs all = without_holds is_old (side scope own world a) (side scope own world (forgotten a)) (stays_so (side scope own world a) (forgotten a)) forgets refl fs all
-
-  forgotten_in_kind : IsFine (side scope own world a) → IsFine (side scope own world (forgotten a))
-  forgotten_in_kind h = fine_with scope own world a (forgotten a) h h.now no_registers_in_kind h.ghost
-
--- What the hint claims at a block's start, where it is known on the edge, and no other registers than it says may differ, but for old ones.
-pub arrives : (w : Beside) (own : List ℕ) (world : World) (known wanted : Assertion) (a b : RegisterFiles) → Stand w own world known a b
-    → first_missing (without_old known).src wanted.src ≡ None → first_missing (without_old known).tgt wanted.tgt ≡ None
-    → ((r : Reg) → is_old r ≡ false → has_reg r wanted.diff ≡ false → has_reg r known.diff ≡ false)
-    → Stand w own world (each_once wanted) (forgotten a) (forgotten b)
-arrives w own world known wanted a b stand in_src in_tgt inside = record {
-  source_in_kind = forgotten_in_kind w.scope own world a stand.source_in_kind;
-  target_in_kind = forgotten_in_kind w.scope own world b stand.target_in_kind;
-  now_defined = stand.now_defined;
-  old_defined = none_defined w.source;
-  holds = record {
-    source_facts = with_facts_hold (side w.scope own world (forgotten a)) wanted.src []
-        (premises_hold (side w.scope own world (forgotten a)) (without is_old known.src) wanted.src (forgotten_facts w.scope own world a known.src stand.holds.source_facts) in_src) tt;
-    target_facts = with_facts_hold (side w.scope own world (forgotten b)) wanted.tgt []
-        (premises_hold (side w.scope own world (forgotten b)) (without is_old known.tgt) wanted.tgt (forgotten_facts w.scope own world b known.tgt stand.holds.target_facts) in_tgt) tt;
-    related = record { outside = outside; ghosts = stand.holds.related.ghosts };
-  };
-}
-  where
-    outside : (r : Reg) (k : Kind) → has_reg r wanted.diff ≡ false → IsRelated nat_eq (read_reg (side w.scope own world (forgotten a)) k r) (read_reg (side w.scope own world (forgotten b)) k r)
-    outside (Now x) k out = stand.holds.related.outside (Now x) k (inside (Now x) refl out)
-    outside (Old x) k out = tt
-    outside (Ghost x) k out = stand.holds.related.ghosts x k refl

@@ -40,7 +40,8 @@ use Rattle.ir_machine.proofs.KeptSteps.{given_among, resolve_among}
 use Rattle.ir_machine.proofs.Passing.{fitting}
 use Rattle.ir_machine.proofs.Setting.{new_apart}
 use Rattle.erhl_assert.specs.Sides.{IsFine, SideState, side_of}
-use Rattle.erhl_soundness.specs.MemoryLaws.{FineSidesAreThere, HoldsMade}
+use Rattle.erhl_soundness.specs.MemoryLaws.{FineSidesAreThere}
+use Rattle.erhl_soundness.specs.TwoSides.{HoldsMade}
 use Rattle.erhl_soundness.proofs.Entering.{entering, entering_in_kind}
 use Rattle.erhl_soundness.proofs.Worlds.{starts_there}
 
@@ -145,7 +146,7 @@ module _ (scope : Scope) (input : Input) where
   IsStart (Waiting p rest here) = Unit {0}
   IsStart Over = Unit {0}
 
-  begins : (f : Function) → misfit scope f.params input ≡ None → IsFine (side_of scope (entering world f.params input.args) [] world)
+  pub begins : (f : Function) → misfit scope f.params input ≡ None → IsFine (side_of scope (entering world f.params input.args) [] world)
       × HoldsMade (side_of scope (entering world f.params input.args) [] world)
   begins f fit =
       let there = starts_there scope input f.params fit in

@@ -37,7 +37,7 @@ use Rattle.ir_machine.proofs.Keeping.{got_all}
 use Rattle.erhl_assert.specs.Holding.{HoldsAlone, IsNot}
 use Rattle.erhl_assert.specs.Postcondition.{copied_in}
 use Rattle.erhl_assert.specs.Sides.{SideState}
-use Rattle.erhl_soundness.specs.Laws.{AreGlobalsNamed}
+use Rattle.erhl_soundness.specs.TwoSides.{AreGlobalsNamed}
 use Rattle.erhl_soundness.proofs.Facts.{IsNotIt}
 use Rattle.erhl_soundness.proofs.Readings.{outcome_same}
 

@@ -62,7 +62,7 @@ module _ (w : Beside) where
   pub record LineIsGood (b : AlignedBlock) (k : ℕ) (l : Line) (ls : List Line) (known : Assertion) : Type 0 where
     pub after : Assertion
     pub steps : (steps_of b k known).ends ≡ Gives after
-    pub allowed : line_fault after l ≡ None
+    pub allowed : line_fault w.scope.types after l ≡ None
     pub rest : IsGood (lines_judged w b (k + 1) ls (after_line w.scope.types after l))
 
   pub line_good : (b : AlignedBlock) (k : ℕ) (l : Line) (ls : List Line) (known : Assertion) → IsGood (lines_judged w b k (l ∷ ls) known) → LineIsGood b k l ls known

@@ -31,7 +31,7 @@ use Rattle.erhl_assert.specs.Facts.{Holds, fact_has, has_fact}
 use Rattle.erhl_assert.specs.Holding.{HoldsAlone, IfBlock, IsNot, IsPrivate, block_given, block_held, block_of}
 use Rattle.erhl_assert.specs.Kills.{all_killed, are_no_aliases, is_now_or_constant, is_other, is_private, is_unique, is_unique_of, killed, loads_of, spares, unique_of}
 use Rattle.erhl_assert.specs.Sides.{SideState, read_reg, worth}
-use Rattle.erhl_soundness.specs.Laws.{AreGlobalsNamed}
+use Rattle.erhl_soundness.specs.TwoSides.{AreGlobalsNamed}
 use Rattle.erhl_soundness.proofs.Facts.{IsNotIt, all_passing, all_split, has_fact_holds}
 use Rattle.erhl_soundness.proofs.Holders.{constants_apart}
 

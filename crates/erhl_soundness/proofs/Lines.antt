@@ -35,7 +35,7 @@ use Rattle.erhl_assert.specs.Holding.{CanAccess, HoldsAlone, IsNot}
 use Rattle.erhl_assert.specs.Kills.{all_killed, unique_of}
 use Rattle.erhl_assert.specs.Matched.{now_operand}
 use Rattle.erhl_assert.specs.Postcondition.{accessed, accessed_by, calm_adds, copied_in, facts_after, left_side, line_kills, right_side, with_align}
-use Rattle.erhl_soundness.specs.Laws.{AreGlobalsNamed}
+use Rattle.erhl_soundness.specs.TwoSides.{AreGlobalsNamed}
 use Rattle.erhl_soundness.proofs.Readings.{outcome_mapped, type_mapped, poison_without_kind}
 use Rattle.erhl_soundness.proofs.Facts.{IsNotIt, IsStillAlone, all_split, both_ways_hold, holds_kept, stays_so, with_facts_hold, worth_kept}
 use Rattle.erhl_soundness.proofs.Kills.{AreLeft, IsLeft, killed_hold, none_unique}

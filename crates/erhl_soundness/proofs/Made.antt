@@ -14,7 +14,7 @@ use Rattle.ir_machine.proofs.HeldConstants.{constant_good}
 use Rattle.ir_machine.proofs.Holding.{registers_more}
 use Rattle.ir_machine.proofs.Keeping.{OfBytes, all_on, got_all, updated_long, written_bytes, written_lives}
 use Rattle.erhl_assert.specs.Sides.{SideState}
-use Rattle.erhl_soundness.specs.Laws.{AreGlobalsNamed}
+use Rattle.erhl_soundness.specs.TwoSides.{AreGlobalsNamed}
 
 -- constants point into blocks that there are, since names do
 pub constants_made : (side : SideState) → AreGlobalsNamed side → AllByRecursion (IsNameAmong (IsMade side.world.memory)) side.world.names

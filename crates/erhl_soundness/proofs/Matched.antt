@@ -1,9 +1,10 @@
 -- What is matched has related values on the source and the target.
-use Rattle.std.proofs.Common.{◌≡◌, Bool, true, false, ◌&&◌, not, List, [], ◌∷◌, Option, None, Some, sym, ap, subst, subst₂, ⊎_elim, nat_eq}
+use Rattle.std.proofs.Common.{◌≡◌, Bool, true, false, ◌&&◌, not, List, [], ◌∷◌, Option, None, Some, sym, ap, subst, subst₂, ⊎_elim}
 use Rattle.std.specs.List.{list_any, AllByRecursion}
 use Rattle.std.proofs.lemmas.Bool.{false≢true, not-true, or_cases}
 use Rattle.ir_types.specs.declared.names.Name.{Name}
 use Rattle.ir_core.specs.declared.values.Value.{Value}
+use Rattle.ir_core.specs.declared.values.Value.TheVariants.{Num, Ptr, Bare, Undef, Poison}
 use Rattle.ir_core.specs.declared.values.Kind.{Kind}
 use Rattle.ir_types.specs.declared.ty.Ty.{Ty}
 use Rattle.ir_core.specs.declared.operands.Atom.{Atom}
@@ -18,7 +19,8 @@ use Rattle.ir_core.specs.Same.{same_const, same_reg, same_expr}
 use Rattle.ir_types.specs.NameLaws.{left_true, right_true}
 use Rattle.ir_types.proofs.SameLaws.{same_ty_true}
 use Rattle.ir_core.proofs.SameLaws.{same_const_true, same_reg_true, same_reg_expr_true}
-use Rattle.ir_values.specs.Values.{IsLessDefined}
+use Rattle.ir_values.specs.Related.{IsRelated, Pairing}
+use Rattle.ir_values.specs.Values.{IsLessDefined, IsNotPoison}
 use Rattle.ir_values.proofs.KindLaws.{same_kind_true}
 use Rattle.ir_core.specs.Types.{kind_of}
 use Rattle.ir_machine.specs.Registers.{read, constant_at, register_value, atom_value, operand_value}
@@ -28,8 +30,9 @@ use Rattle.erhl_assert.specs.declared.facts.Assertion.{Assertion}
 use Rattle.erhl_assert.specs.Sides.{SideState, read_reg, has_reg, AreRelated, no_ghost}
 use Rattle.erhl_assert.specs.Facts.{Holds, AssertionHolds}
 use Rattle.erhl_assert.specs.Matched.{now_operand, from_fact, into_fact, some_from, some_into, is_kind, meet_at, meet, matched_at, matched_reg, matched, atoms_matched}
-use Rattle.ir_values.proofs.OperationLaws.{less_defined_refl, less_defined_trans}
-use Rattle.ir_values.proofs.RelatedValues.{related_less}
+use Rattle.ir_values.proofs.OperationLaws.{less_defined_refl}
+use Rattle.erhl_soundness.specs.TwoSides.{AreCommon}
+use Rattle.erhl_soundness.proofs.Constants.{constant_related}
 use Rattle.erhl_soundness.proofs.Readings.{atom_mapped}
 
 abbrev pub value_on : SideState → Operand Reg → Value
@@ -87,25 +90,60 @@ pub is_kind_true : (o : Option Kind) (k : Kind) → is_kind o k ≡ true → o �
 is_kind_true None k h = absurd (false≢true h)
 is_kind_true (Some j) k h = ap Some (same_kind_true j k h)
 
--- where two sides are of modules with the same types and globals
-module _ (diff : List Reg) (source target : SideState) (scopes : source.scope ≡ target.scope) (related : AreRelated nat_eq no_ghost diff source target) where
+-- ---- less defined on the source, related, less defined on the target
+
+no_poison : (a b : Value) → IsNotPoison a → IsLessDefined a b → IsNotPoison b
+no_poison Poison b p q = absurd p
+no_poison Undef b p q = q
+no_poison (Num n) b p q = rw q tt
+no_poison (Ptr x o) b p q = rw q tt
+no_poison (Bare n) b p q = rw q tt
+
+module _ (ps : Pairing) where
+  no_poison_related : (a b : Value) → IsNotPoison a → IsRelated ps a b → IsNotPoison b
+  no_poison_related Poison b p q = absurd p
+  no_poison_related Undef b p q = q
+  no_poison_related (Num n) b p q = rw q tt
+  no_poison_related (Ptr x o) b p q = rw q.2 tt
+  no_poison_related (Bare n) b p q = rw q tt
+
+  pub less_then_related : (a c b : Value) → IsLessDefined a c → IsRelated ps c b → IsRelated ps a b
+  less_then_related Poison c b p q = tt
+  less_then_related Undef c b p q = no_poison_related c b p q
+  less_then_related (Num n) c b p q = subst (λ v. IsRelated ps v b) p q
+  less_then_related (Ptr x o) c b p q = subst (λ v. IsRelated ps v b) p q
+  less_then_related (Bare n) c b p q = subst (λ v. IsRelated ps v b) p q
+
+  pub related_then_less : (a c b : Value) → IsRelated ps a c → IsLessDefined c b → IsRelated ps a b
+  related_then_less Poison c b p q = tt
+  related_then_less Undef c b p q = no_poison c b p q
+  related_then_less (Num n) c b p q = subst (λ v. IsLessDefined v b) p q
+  related_then_less (Ptr x o) c b p q = (p.0, p.1, subst (λ v. IsLessDefined v b) p.2 q)
+  related_then_less (Bare n) c b p q = subst (λ v. IsLessDefined v b) p q
+
+  between : (a c d b : Value) → IsLessDefined a c → IsRelated ps c d → IsLessDefined d b → IsRelated ps a b
+  between a c d b first middle last = less_then_related a c b first (related_then_less c d b middle last)
+
+-- ---- two sides
+
+module _ (ps : Pairing) (diff : List Reg) (source target : SideState) (common : AreCommon ps source target) (related : AreRelated ps no_ghost diff source target) where
   meet_at_related : (k : Kind) (c d : Operand Reg) (x y : Atom Reg) → kind_of c.ty ≡ Some k → kind_of d.ty ≡ Some k
-      → meet_at diff c d x y ≡ true → IsLessDefined (atom_value source.scope (read_reg source) c.ty x) (atom_value target.scope (read_reg target) d.ty y)
+      → meet_at diff c d x y ≡ true → IsRelated ps (atom_value source.scope (read_reg source) c.ty x) (atom_value target.scope (read_reg target) d.ty y)
   meet_at_related k c d (atom.Constant m) (atom.Constant n) of_c of_d h =
       let types = same_ty_true c.ty d.ty (left_true (same_ty c.ty d.ty) (same_const m n) h) in
       let same = same_const_true m n (right_true (same_ty c.ty d.ty) (same_const m n) h) in
       let value = constant_at source.scope c.ty (kind_of c.ty) m in
-      subst (λ s. IsLessDefined value (constant_at s d.ty (kind_of d.ty) n)) scopes
-      (subst₂ (λ t i. IsLessDefined value (constant_at source.scope t (kind_of t) i)) types same (less_defined_refl value))
+      subst (λ s. IsRelated ps value (constant_at s d.ty (kind_of d.ty) n)) common.scope
+      (subst₂ (λ t i. IsRelated ps value (constant_at source.scope t (kind_of t) i)) types same (constant_related ps source.scope common.globals c.ty (kind_of c.ty) m))
   meet_at_related k c d (atom.Register x) (atom.Register y) of_c of_d h =
       let same = same_reg_true x y (left_true (same_reg x y) (not (has_reg x diff)) h) in
       let free = not-true (has_reg x diff) (right_true (same_reg x y) (not (has_reg x diff)) h) in
-      subst₂ (λ i j. IsLessDefined (register_value (read_reg source) i x) (register_value (read_reg target) j y)) (sym of_c) (sym of_d)
-      (subst (λ r. IsLessDefined (read_reg source k x) (read_reg target k r)) same (related_less (read_reg source k x) (read_reg target k x) (related.outside x k free)))
+      subst₂ (λ i j. IsRelated ps (register_value (read_reg source) i x) (register_value (read_reg target) j y)) (sym of_c) (sym of_d)
+      (subst (λ r. IsRelated ps (read_reg source k x) (read_reg target k r)) same (related.outside x k free))
   meet_at_related k c d (atom.Constant m) (atom.Register y) of_c of_d h = absurd (false≢true h)
   meet_at_related k c d (atom.Register x) (atom.Constant n) of_c of_d h = absurd (false≢true h)
 
-  meet_related : (k : Kind) (c d : Operand Reg) → meet diff k c d ≡ true → IsLessDefined (value_on source c) (value_on target d)
+  meet_related : (k : Kind) (c d : Operand Reg) → meet diff k c d ≡ true → IsRelated ps (value_on source c) (value_on target d)
   meet_related k c d h =
       let at = meet_at diff c d c.atom d.atom in
       let kinds = left_true (is_kind (kind_of c.ty) k && is_kind (kind_of d.ty) k) at h in
@@ -113,36 +151,29 @@ module _ (diff : List Reg) (source target : SideState) (scopes : source.scope �
       let of_d = is_kind_true (kind_of d.ty) k (right_true (is_kind (kind_of c.ty) k) (is_kind (kind_of d.ty) k) kinds) in
       meet_at_related k c d c.atom d.atom of_c of_d (right_true (is_kind (kind_of c.ty) k && is_kind (kind_of d.ty) k) at h)
 
--- less defined on the source, related, less defined on the target
-between : (a c d b : Value) → IsLessDefined a c → IsLessDefined c d → IsLessDefined d b → IsLessDefined a b
-between a c d b first middle last = less_defined_trans a c b first (less_defined_trans c d b middle last)
+module _ (ps : Pairing) (known : Assertion) (source target : SideState) (common : AreCommon ps source target) (holds : AssertionHolds ps no_ghost known source target) where
+  matched_at_related : (o : Option Kind) (a b : Operand Reg) → matched_at known o a b ≡ true → IsRelated ps (value_on source a) (value_on target b)
+  matched_at_related None a b h = absurd (false≢true h)
+  matched_at_related (Some k) a b h =
+      let through = λ (c : Operand Reg). some_into (λ d. meet known.diff k c d) b known.tgt in
+      let found : SomeAbove source through a = some_above source through a known.src h holds.source_facts in
+      let back : SomeBelow target (λ d. meet known.diff k found.0 d) b =
+      some_below target (λ d. meet known.diff k found.0 d) b known.tgt found.1 holds.target_facts in
+      between ps (value_on source a) (value_on source found.0) (value_on target back.0) (value_on target b) found.2
+      (meet_related ps known.diff source target common holds.related k found.0 back.0 back.1) back.2
 
-matched_at_related : (known : Assertion) (source target : SideState) → source.scope ≡ target.scope → AssertionHolds nat_eq no_ghost known source target → (o : Option Kind) (a b : Operand Reg)
-    → matched_at known o a b ≡ true → IsLessDefined (value_on source a) (value_on target b)
-matched_at_related known source target scopes holds None a b h = absurd (false≢true h)
-matched_at_related known source target scopes holds (Some k) a b h =
-    let through = λ (c : Operand Reg). some_into (λ d. meet known.diff k c d) b known.tgt in
-    let found : SomeAbove source through a = some_above source through a known.src h holds.source_facts in
-    let back : SomeBelow target (λ d. meet known.diff k found.0 d) b =
-    some_below target (λ d. meet known.diff k found.0 d) b known.tgt found.1 holds.target_facts in
-    between (value_on source a) (value_on source found.0) (value_on target back.0) (value_on target b) found.2
-    (meet_related known.diff source target scopes holds.related k found.0 back.0 back.1) back.2
+  matched_reg_related : (a b : Operand Reg) → matched_reg known a b ≡ true → IsRelated ps (value_on source a) (value_on target b)
+  matched_reg_related a b h = matched_at_related (kind_of a.ty) a b (right_true (same_ty a.ty b.ty) (matched_at known (kind_of a.ty) a b) h)
 
-pub matched_reg_related : (known : Assertion) (source target : SideState) → source.scope ≡ target.scope → AssertionHolds nat_eq no_ghost known source target → (a b : Operand Reg)
-    → matched_reg known a b ≡ true → IsLessDefined (value_on source a) (value_on target b)
-matched_reg_related known source target scopes holds a b h =
-    matched_at_related known source target scopes holds (kind_of a.ty) a b (right_true (same_ty a.ty b.ty) (matched_at known (kind_of a.ty) a b) h)
-
--- the operands of two functions
-module _ (known : Assertion) (source target : SideState) (scopes : source.scope ≡ target.scope) (holds : AssertionHolds nat_eq no_ghost known source target) where
+  -- the operands of two functions
   pub matched_related : (a b : Operand Name) → matched known a b ≡ true
-      → IsLessDefined (operand_value source.scope (read source.files.now) a) (operand_value target.scope (read target.files.now) b)
+      → IsRelated ps (operand_value source.scope (read source.files.now) a) (operand_value target.scope (read target.files.now) b)
   matched_related a b h =
-      subst₂ IsLessDefined (atom_mapped source.scope Now (read_reg source) a.ty a.atom) (atom_mapped target.scope Now (read_reg target) b.ty b.atom)
-      (matched_reg_related known source target scopes holds (now_operand a) (now_operand b) h)
+      subst₂ (IsRelated ps) (atom_mapped source.scope Now (read_reg source) a.ty a.atom) (atom_mapped target.scope Now (read_reg target) b.ty b.atom)
+      (matched_reg_related (now_operand a) (now_operand b) h)
 
   pub atoms_matched_related : (s : Ty) (a : Atom Name) (t : Ty) (b : Atom Name) → atoms_matched known s a t b ≡ true
-      → IsLessDefined (atom_value source.scope (read source.files.now) s a) (atom_value target.scope (read target.files.now) t b)
+      → IsRelated ps (atom_value source.scope (read source.files.now) s a) (atom_value target.scope (read target.files.now) t b)
   atoms_matched_related s a t b h = matched_related (record { ty = s; atom = a }) (record { ty = t; atom = b }) h
 
 pub matched_type : (known : Assertion) (a b : Operand Name) → matched known a b ≡ true → a.ty ≡ b.ty

@@ -40,9 +40,9 @@ module _ (rules : Rules) (sound : AreSound rules) (scope : Scope) (source target
       let w = beside rules scope r.source r.target r.hint in
       subst (λ n. Moves source target R n s t) (sym r.is_k)
       (subst₂ (Moves source target R (own_lines r.left)) (sym r.is_s) (sym r.is_t)
-      (blocks_move source target w of_source of_target sound r.blocks r.pair_fine r.own r.world r.block r.names r.onward
-      (ends_move source target w of_source of_target sound r.blocks r.pair_fine r.own r.world r.block r.names r.onward)
-      r.left r.place r.known r.source_files r.target_files r.stand r.good r.defined))
+      (blocks_move source target w of_source of_target sound r.blocks r.pair_fine r.block r.names r.onward
+      (ends_move source target w of_source of_target sound r.blocks r.pair_fine r.block r.names r.onward)
+      r.left r.place r.known r.pairs r.source_run r.target_run r.stand r.good r.defined))
   moves k s t (inr over) = inr (λ made follows. absurd (subst (λ z. Follows (asks target z) made) over.1 follows))
 
   -- two functions of a name: none on both sides, or a pair that is accepted under some hint

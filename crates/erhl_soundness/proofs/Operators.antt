@@ -1,6 +1,7 @@
--- Operators on related values have related outcomes.
-use Rattle.std.proofs.Common.{◌≡◌, ℕ, true, cond, not, ◌||◌, nat_eq, Bool, false, List, [], ◌∷◌, Option, None, Some, refl, sym, ap, subst}
+-- Operators on related values, beside related memories, have related outcomes.
+use Rattle.std.proofs.Common.{◌≡◌, ◌∙◌, ◌<◌, ℕ, zero, suc, pos, negsuc, true, cond, not, ◌||◌, Bool, false, List, Option, None, Some, refl, sym, ap, subst, arith}
 use Rattle.std.specs.List.{AllZip}
+use Rattle.std.proofs.lemmas.Slice.Zip.{AllZip-long}
 use Rattle.ir_types.specs.declared.named.NamedTy.{NamedTy}
 use Rattle.ir_types.specs.NameLaws.{all_true}
 use Rattle.ir_core.specs.declared.values.Value.{Value}
@@ -14,100 +15,101 @@ use Rattle.ir_types.specs.declared.ty.Ty.{Ty}
 use Rattle.ir_core.specs.Types.{converts, kind_of}
 use Rattle.ir_core.specs.declared.operands.Flags.{Flags}
 use Rattle.ir_values.specs.declared.operations.Outcome.{Outcome}
-use Rattle.ir_values.specs.Values.{IsLessDefined}
 use Rattle.ir_values.specs.declared.operations.Outcome.TheVariants.{Gives, Trap}
 use Rattle.ir_values.specs.Laws.{flags_among}
-use Rattle.ir_values.specs.Operations.{IsOutcomeLessDefined, traps, binary_value}
-use Rattle.ir_values.specs.Comparisons.{icmp_outcome}
+use Rattle.ir_values.specs.Operations.{traps, binary_value}
 use Rattle.ir_values.specs.Addresses.{GivenIndex, gep_outcome}
 use Rattle.ir_values.specs.PointerLaws.{AreIndicesRelated, IsOneSize}
+use Rattle.ir_values.specs.Related.{AreOutcomesRelated, IsByteRelated, IsRelated, Pairing}
 use Rattle.ir_values.specs.Selections.{select_outcome}
 use Rattle.ir_values.proofs.Compared as compared
+use Rattle.ir_values.proofs.Monotone as operations
 use Rattle.ir_values.proofs.Moved.{gep_related}
-use Rattle.ir_values.proofs.OperationLaws.{less_defined_refl}
-use Rattle.ir_values.proofs.RelatedValues.{less_related, one_memory, outcome_less}
-use Rattle.ir_values.proofs.Monotone.{binary_monotone, cast_monotone, select_monotone}
-use Rattle.block_memory.specs.Memory.{Memory, loaded, loaded_of}
-use Rattle.ir_machine.specs.Registers.{binary_at, size_at, icmp_at, cast_at, selects}
+use Rattle.block_memory.specs.Memory.{Cell, Memory, can_access, cell_at, fits_maybe, loaded, loaded_of, read_at}
+use Rattle.block_memory.specs.Bytes.{byte_count}
+use Rattle.block_memory.specs.Related.{AreMemoriesRelated}
+use Rattle.block_memory.proofs.Accesses.{loads_keep_related}
+use Rattle.ir_machine.specs.Registers.{binary_at, size_at, size_in, icmp_at, cast_at, selects}
 
-pub binary_related : (op : BinOp) (many few : Flags) (k : Option Kind) (a b c d : Value) → flags_among few many ≡ true → IsLessDefined a c → IsLessDefined b d
-    → IsOutcomeLessDefined (binary_at op many k a b) (binary_at op few k c d)
-binary_related op many few None a b c d h p q = tt
-binary_related op many few (Some (kind.Int width)) a b c d h p q = binary_monotone op many few width h a b c d p q
-binary_related op many few (Some kind.Ptr) a b c d h p q = tt
+module _ (ps : Pairing) where
+  pub binary_related : (op : BinOp) (many few : Flags) (k : Option Kind) (a b c d : Value) → flags_among few many ≡ true → IsRelated ps a c → IsRelated ps b d
+      → AreOutcomesRelated ps (binary_at op many k a b) (binary_at op few k c d)
+  binary_related op many few None a b c d h p q = tt
+  binary_related op many few (Some (kind.Int width)) a b c d h p q = operations.binary_related ps op many few width h a b c d p q
+  binary_related op many few (Some kind.Ptr) a b c d h p q = tt
 
--- in one memory related addresses are in blocks of one size
-one_size : (memory : Memory) (a c : Value) → IsLessDefined a c → IsOneSize a (size_at memory a) (size_at memory c)
-one_size memory (Ptr block offset) c p = ap (size_at memory) p
-one_size memory (Num n) c p = tt
-one_size memory (Bare address) c p = tt
-one_size memory Undef c p = tt
-one_size memory Poison c p = tt
+  -- one choice between outcomes that are related
+  pub chosen_related : (b : Bool) (o p : Outcome) → AreOutcomesRelated ps o p → AreOutcomesRelated ps (cond b o (Gives Poison)) (cond b p (Gives Poison))
+  chosen_related true o p h = h
+  chosen_related false o p h = tt
 
-pub icmp_related : (memory : Memory) (pred : Pred) (k : Option Kind) (a b c d : Value) → IsLessDefined a c → IsLessDefined b d
-    → IsOutcomeLessDefined (icmp_at memory pred k a b) (icmp_at memory pred k c d)
-icmp_related memory pred None a b c d p q = tt
-icmp_related memory pred (Some k) a b c d p q =
-    outcome_less (icmp_outcome pred k a b (size_at memory a) (size_at memory b)) (icmp_outcome pred k c d (size_at memory c) (size_at memory d))
-    (compared.icmp_related nat_eq one_memory pred k a b c d (size_at memory a) (size_at memory b) (size_at memory c) (size_at memory d)
-    (less_related a c p) (less_related b d q) (one_size memory a c p) (one_size memory b d q))
+  cast_at_related : (op : CastOp) (j k : Option Kind) (a b : Value) → IsRelated ps a b → AreOutcomesRelated ps (cast_at op j k a) (cast_at op j k b)
+  cast_at_related op None k a b p = tt
+  cast_at_related op (Some j) None a b p = tt
+  cast_at_related op (Some j) (Some k) a b p = operations.cast_related ps op j k a b p
 
-outcome_refl : (o : Outcome) → IsOutcomeLessDefined o o
-outcome_refl Trap = tt
-outcome_refl (Gives v) = less_defined_refl v
+  pub cast_related : (op : CastOp) (from to : Ty) (a b : Value) → IsRelated ps a b
+      → AreOutcomesRelated ps (cond (converts op from to) (cast_at op (kind_of from) (kind_of to) a) (Gives Poison))
+      (cond (converts op from to) (cast_at op (kind_of from) (kind_of to) b) (Gives Poison))
+  cast_related op from to a b p =
+      chosen_related (converts op from to) (cast_at op (kind_of from) (kind_of to) a) (cast_at op (kind_of from) (kind_of to) b)
+      (cast_at_related op (kind_of from) (kind_of to) a b p)
 
--- a load of one memory, at related addresses
-load_at_related : (memory : Memory) (k : Kind) (a c : Value) (align : ℕ) → IsLessDefined a c → IsOutcomeLessDefined (loaded memory k a align) (loaded memory k c align)
-load_at_related memory k (Ptr block offset) c align p =
-    subst (λ v. IsOutcomeLessDefined (loaded memory k (Ptr block offset) align) (loaded memory k v align)) (sym p) (outcome_refl (loaded memory k (Ptr block offset) align))
-load_at_related memory k (Num n) c align p = tt
-load_at_related memory k (Bare address) c align p = tt
-load_at_related memory k Undef c align p = tt
-load_at_related memory k Poison c align p = tt
+  pub select_related : (condition left right : Ty) (a b c d e f : Value) → IsRelated ps a d → IsRelated ps b e → IsRelated ps c f
+      → AreOutcomesRelated ps (cond (selects condition left right) (select_outcome a b c) (Gives Poison))
+      (cond (selects condition left right) (select_outcome d e f) (Gives Poison))
+  select_related condition left right a b c d e f p q o =
+      chosen_related (selects condition left right) (select_outcome a b c) (select_outcome d e f) (operations.select_related ps a d p b c e f q o)
 
-pub load_related : (memory : Memory) (k : Option Kind) (a c : Value) (align : ℕ) → IsLessDefined a c → IsOutcomeLessDefined (loaded_of memory k a align) (loaded_of memory k c align)
-load_related memory None a c align p = tt
-load_related memory (Some k) a c align p = load_at_related memory k a c align p
+  -- what refines to a trap is one
+  pub only_trap : (o : Outcome) → AreOutcomesRelated ps o Trap → o ≡ Trap
+  only_trap Trap h = refl
+  only_trap (Gives v) h = absurd h
 
--- an index that is less defined, of one width
-abbrev pub IsIndexRelated : GivenIndex → GivenIndex → Type 0
-IsIndexRelated i j = (j.0 ≡ i.0) × IsLessDefined i.1 j.1
+-- no access is allowed at the alignment 0
+no_access : (m : Memory) (k : Kind) (a : Value) → can_access m k a 0 ≡ false
+no_access m k (Ptr b (pos o)) = at (cell_at m b)
+  where
+    at : (c : Option Cell) → fits_maybe c (byte_count k) o 0 ≡ false
+    at None = refl
+    at (Some c) = refl
+no_access m k (Ptr b (negsuc o)) = refl
+no_access m k (Num n) = refl
+no_access m k (Bare n) = refl
+no_access m k Undef = refl
+no_access m k Poison = refl
 
-indices_related : (is js : List GivenIndex) → AllZip IsIndexRelated is js → AllZip (AreIndicesRelated nat_eq) is js
-indices_related [] [] h = tt
-indices_related (i ∷ is) (j ∷ js) h = ((h.0.0, less_related i.1 j.1 h.0.1), indices_related is js h.1)
-indices_related [] (j ∷ js) h = h
-indices_related (i ∷ is) [] h = h
+module _ (ps : Pairing) (m n : Memory) (memories : AreMemoriesRelated ps m n) where
+  -- related addresses are in blocks of one size
+  one_size : (a c : Value) → IsRelated ps a c → IsOneSize a (size_at m a) (size_at n c)
+  one_size (Ptr b o) c p =
+      let cells = memories.cells b p.0 p.1 in
+      ap (size_at n) p.2 ∙ ap size_in cells.3 ∙ AllZip-long (IsByteRelated ps) cells.0.bytes cells.1.bytes cells.4.bytes ∙ sym (ap size_in cells.2)
+  one_size (Num i) c p = tt
+  one_size (Bare i) c p = tt
+  one_size Undef c p = tt
+  one_size Poison c p = tt
 
--- the address of a part, from related bases by related indices
-pub element_related : (memory : Memory) (inbounds : Bool) (types : List NamedTy) (of : Ty) (a b : Value) (is js : List GivenIndex) → IsLessDefined a b → AllZip IsIndexRelated is js
-    → IsOutcomeLessDefined (gep_outcome inbounds types of a (size_at memory a) is) (gep_outcome inbounds types of b (size_at memory b) js)
-element_related memory inbounds types of a b is js p q =
-    outcome_less (gep_outcome inbounds types of a (size_at memory a) is) (gep_outcome inbounds types of b (size_at memory b) js)
-    (gep_related nat_eq inbounds inbounds (λ e. e) types of a b (size_at memory a) (size_at memory b) is js (less_related a b p) (one_size memory a b p)
-    (indices_related is js q))
+  pub icmp_related : (pred : Pred) (k : Option Kind) (a b c d : Value) → IsRelated ps a c → IsRelated ps b d
+      → AreOutcomesRelated ps (icmp_at m pred k a b) (icmp_at n pred k c d)
+  icmp_related pred None a b c d p q = tt
+  icmp_related pred (Some k) a b c d p q =
+      compared.icmp_related ps memories.one_to_one pred k a b c d (size_at m a) (size_at m b) (size_at n c) (size_at n d) p q (one_size a c p) (one_size b d q)
 
--- one choice between outcomes that are related
-pub chosen_related : (b : Bool) (o p : Outcome) → IsOutcomeLessDefined o p → IsOutcomeLessDefined (cond b o (Gives Poison)) (cond b p (Gives Poison))
-chosen_related true o p h = h
-chosen_related false o p h = tt
+  load_at_related : (k : Kind) (a c : Value) (align : ℕ) → IsRelated ps a c → AreOutcomesRelated ps (loaded m k a align) (loaded n k c align)
+  load_at_related k a c zero p = subst (λ t. AreOutcomesRelated ps (cond t (Gives (read_at m k a)) Trap) (loaded n k c 0)) (sym (no_access m k a)) tt
+  load_at_related k a c (suc align) p =
+      let positive : 0 < suc align = omega arith in loads_keep_related ps m n memories k (suc align) (suc align) positive (λ i h. h) a c p
 
-cast_at_related : (op : CastOp) (j k : Option Kind) (a b : Value) → IsLessDefined a b → IsOutcomeLessDefined (cast_at op j k a) (cast_at op j k b)
-cast_at_related op None k a b p = tt
-cast_at_related op (Some j) None a b p = tt
-cast_at_related op (Some j) (Some k) a b p = cast_monotone op j k a b p
+  pub load_related : (k : Option Kind) (a c : Value) (align : ℕ) → IsRelated ps a c → AreOutcomesRelated ps (loaded_of m k a align) (loaded_of n k c align)
+  load_related None a c align p = tt
+  load_related (Some k) a c align p = load_at_related k a c align p
 
-pub cast_related : (op : CastOp) (from to : Ty) (a b : Value) → IsLessDefined a b
-    → IsOutcomeLessDefined (cond (converts op from to) (cast_at op (kind_of from) (kind_of to) a) (Gives Poison))
-    (cond (converts op from to) (cast_at op (kind_of from) (kind_of to) b) (Gives Poison))
-cast_related op from to a b p =
-    chosen_related (converts op from to) (cast_at op (kind_of from) (kind_of to) a) (cast_at op (kind_of from) (kind_of to) b)
-    (cast_at_related op (kind_of from) (kind_of to) a b p)
-
-pub select_related : (condition left right : Ty) (a b c d e f : Value) → IsLessDefined a d → IsLessDefined b e → IsLessDefined c f
-    → IsOutcomeLessDefined (cond (selects condition left right) (select_outcome a b c) (Gives Poison)) (cond (selects condition left right) (select_outcome d e f) (Gives Poison))
-select_related condition left right a b c d e f p q o =
-    chosen_related (selects condition left right) (select_outcome a b c) (select_outcome d e f) (select_monotone a d p b c e f q o)
+  -- the address of a part, from related bases by related indices, the second perhaps without `inbounds`
+  pub element_related : (many few : Bool) → (few ≡ true → many ≡ true) → (types : List NamedTy) (of : Ty) (a b : Value) (is js : List GivenIndex)
+      → IsRelated ps a b → AllZip (AreIndicesRelated ps) is js
+      → AreOutcomesRelated ps (gep_outcome many types of a (size_at m a) is) (gep_outcome few types of b (size_at n b) js)
+  element_related many few fewer types of a b is js p q = gep_related ps many few fewer types of a b (size_at m a) (size_at n b) is js p (one_size a b p) q
 
 -- whether an operator traps doesn't rest on its flags
 traps_at : (b : Bool) (v w : Value) → cond b Trap (Gives v) ≡ Trap → cond b Trap (Gives w) ≡ Trap
@@ -118,11 +120,6 @@ pub traps_whatever_flags : (op : BinOp) (f g : Flags) (k : Option Kind) (a b : V
 traps_whatever_flags op f g None a b h = absurd (cc)
 traps_whatever_flags op f g (Some (kind.Int width)) a b h = traps_at (traps op width a b) (binary_value op f width a b) (binary_value op g width a b) h
 traps_whatever_flags op f g (Some kind.Ptr) a b h = absurd (cc)
-
--- an outcome that is less defined than a trap is one
-pub only_trap : (o : Outcome) → IsOutcomeLessDefined o Trap → o ≡ Trap
-only_trap Trap h = refl
-only_trap (Gives v) h = absurd h
 
 -- flags are among themselves
 pub flags_among_themselves : (flags : Flags) → flags_among flags flags ≡ true

@@ -10,19 +10,18 @@ use Rattle.ir_core.specs.Functions.{successors_of}
 use Rattle.ir_types.specs.Same.{same_name}
 use Rattle.ir_types.specs.NameLaws.{same_name_true}
 use Rattle.ir_values.specs.Constants.{Scope}
-use Rattle.ir_machine.specs.Registers.{Registers}
-use Rattle.ir_machine.specs.State.{Frame, World, State, Running, Over}
+use Rattle.ir_values.specs.Related.{Pairing}
+use Rattle.ir_machine.specs.State.{Frame, State, Running, Over}
 use Rattle.ir_machine.specs.Machine.{block_named}
 use Rattle.erhl_assert.specs.declared.facts.Assertion.{Assertion}
 use Rattle.erhl_assert.specs.declared.hints.Hint.{Hint}
-use Rattle.erhl_assert.specs.Sides.{RegisterFiles}
 use Rattle.erhl_assert.specs.Alignment.{Line, AlignedBlock}
 use Rattle.erhl_assert.specs.Course.{IsGood}
 use Rattle.erhl_assert.specs.Steps.{Rules, Beside, beside}
 use Rattle.erhl_assert.specs.Acceptance.{lines_judged, block_judged}
 use Rattle.erhl_soundness.proofs.Definitions.{AreLinesDefined, IsBlockDefined}
-use Rattle.erhl_soundness.proofs.Edges.{NoneAgain}
-use Rattle.erhl_soundness.proofs.Standing.{Stand}
+use Rattle.erhl_soundness.specs.Laws.{AreApart}
+use Rattle.erhl_soundness.proofs.Standing.{Run, Stand}
 
 -- the lines with one before them, or with a no-op
 abbrev pub with_line : Option Instr → List Instr → List Instr
@@ -70,13 +69,13 @@ abbrev pub mark_of : Name → List Marked → Bool
 mark_of to [] = true
 mark_of to (z ∷ zs) = cond (same_name z.1.source.name to) z.0 (mark_of to zs)
 
--- an activation in a block that owns these blocks of memory, with these lines left
-abbrev pub frame_of : Function → Block → List ℕ → List Instr → Registers → Frame
-frame_of f b own lines registers = record { function = f; block = b.name; lines = lines; term = b.term; registers = registers; own = own }
+-- an activation in a block, with these lines left
+abbrev pub frame_of : Function → Block → Run → List Instr → Frame
+frame_of f b r lines = record { function = f; block = b.name; lines = lines; term = b.term; registers = r.files.now; own = r.own }
 
 -- the only activation of a run
-abbrev pub running : Function → Block → List ℕ → World → List Instr → Registers → State
-running f b own world lines registers = Running (frame_of f b own lines registers) [] world
+abbrev pub running : Function → Block → Run → List Instr → State
+running f b r lines = Running (frame_of f b r lines) [] r.world
 
 module _ (w : Beside) (reached : Name → Bool) where
   abbrev pub LeadsOn : Block → Type 0
@@ -87,8 +86,8 @@ module _ (w : Beside) (reached : Name → Bool) where
     pub aligned : IsAligned z.1
     pub onward : z.0 ≡ true → LeadsOn z.1.source
     pub good : z.0 ≡ true → IsGood (block_judged w z.1)
-    pub source_apart : NoneAgain z.1.source.phis
-    pub target_apart : NoneAgain z.1.target.phis
+    pub source_apart : AreApart z.1.source.phis
+    pub target_apart : AreApart z.1.target.phis
     pub defined : IsBlockDefined w.source z.1.source
 
   -- a label leads to one pair of blocks, the first of its name, or to none on both sides
@@ -120,7 +119,7 @@ module _ (w : Beside) (reached : Name → Bool) where
   pub all_fine : (zs : List Marked) → AllByRecursion (λ (z : Marked). IsAligned z.1) zs
       → AllByRecursion (λ (z : Marked). z.0 ≡ true → LeadsOn z.1.source) zs
       → AllByRecursion (λ (z : Marked). z.0 ≡ true → IsGood (block_judged w z.1)) zs
-      → AllByRecursion (λ (b : Block). NoneAgain b.phis) (map source_of zs) → AllByRecursion (λ (b : Block). NoneAgain b.phis) (map target_of zs)
+      → AllByRecursion (λ (b : Block). AreApart b.phis) (map source_of zs) → AllByRecursion (λ (b : Block). AreApart b.phis) (map target_of zs)
       → AllByRecursion (IsBlockDefined w.source) (map source_of zs) → AllByRecursion IsBlockFine zs
   all_fine [] aligned onward good source target defined = tt
   all_fine (z ∷ zs) aligned onward good source target defined = (
@@ -134,9 +133,8 @@ pub record IsPairFine (w : Beside) (blocks : List Marked) : Type 0 where
   pub target_blocks : w.target.blocks ≡ map target_of blocks
 
 module _ (rules : Rules) (scope : Scope) where
-  -- The only activations of two runs stand at one place of two aligned blocks in one world, of which they own the same blocks; all that is
-  -- left is judged good, and the invariant holds of their registers. Each pair of functions has its own hint. No call waits, as no line that
-  -- is allowed calls.
+  -- The only activations of two runs stand at one place of two aligned blocks, each in a world of its own; all that is left is judged good, and by
+  -- some pairs of blocks the invariant holds. Each pair of functions has its own hint. No call waits, as no line that is allowed calls.
   pub record AreRunning (k : ℕ) (s t : State) : Type 0 where
     pub source : Function
     pub target : Function
@@ -147,18 +145,17 @@ module _ (rules : Rules) (scope : Scope) where
     pub place : ℕ
     pub left : List Line
     pub known : Assertion
-    pub own : List ℕ
-    pub world : World
-    pub source_files : RegisterFiles
-    pub target_files : RegisterFiles
-    pub stand : Stand (beside rules scope source target hint) own world known source_files target_files
+    pub pairs : Pairing
+    pub source_run : Run
+    pub target_run : Run
+    pub stand : Stand (beside rules scope source target hint) pairs known source_run target_run
     pub good : IsGood (lines_judged (beside rules scope source target hint) block place left known)
     pub names : block.target.name ≡ block.source.name
     pub onward : LeadsOn (beside rules scope source target hint) (λ to. mark_of to blocks) block.source
     pub defined : AreLinesDefined source (source_lines left)
     pub is_k : k ≡ own_lines left
-    pub is_s : s ≡ running source block.source own world (source_lines left) source_files.now
-    pub is_t : t ≡ running target block.target own world (target_lines left) target_files.now
+    pub is_s : s ≡ running source block.source source_run (source_lines left)
+    pub is_t : t ≡ running target block.target target_run (target_lines left)
 
   -- or both runs are over
   abbrev pub AreStatesRelated : ℕ → State → State → Type 0

@@ -4,22 +4,16 @@ use Rattle.std.specs.List.{AllByRecursion, zip}
 use Rattle.std.specs.Option.{option_map}
 use Rattle.std.proofs.lemmas.Bool.{cond-true, cond-false, cases_Bool}
 use Rattle.ir_types.specs.declared.names.Name.{Name}
-use Rattle.ir_core.specs.declared.values.Value.{Value}
 use Rattle.ir_core.specs.declared.functions.Instr.{Instr}
 use Rattle.ir_core.specs.declared.functions.Block.{Block}
 use Rattle.ir_core.specs.Functions.{successors_of}
 use Rattle.ir_types.specs.Same.{same_list, same_name, same_ty}
 use Rattle.ir_types.specs.NameLaws.{left_true, right_true, same_nat_true, same_name_true}
-use Rattle.ir_values.proofs.OperationLaws.{less_defined_refl}
-use Rattle.ir_values.specs.Related.{IsRelated}
-use Rattle.ir_values.proofs.RelatedValues.{less_related}
 use Rattle.ir_machine.specs.declared.inputs.Input.{Input}
-use Rattle.ir_machine.specs.Registers.{Registers, AreInKind, no_registers}
+use Rattle.ir_machine.specs.Registers.{Registers}
 use Rattle.ir_machine.specs.State.{World, State}
 use Rattle.ir_machine.specs.declared.inputs.InputPath.{InputPath}
 use Rattle.ir_machine.specs.Starting.{misfit, started, started_unless, world_at_start}
-use Rattle.ir_machine.proofs.InKind.{no_registers_in_kind}
-use Rattle.ir_machine.proofs.Passing.{fitting}
 use Rattle.flow_solver.specs.Near.{reached_nodes}
 use Rattle.definedness.specs.Graph.{labels_in, places_in, graph_in, flow_of}
 use Rattle.erhl_assert.specs.declared.facts.Fact.{Fact}
@@ -29,7 +23,7 @@ use Rattle.erhl_assert.specs.declared.hints.Letter.TheVariants.{Both, Source, Ta
 use Rattle.erhl_assert.specs.declared.hints.Hint.{Hint}
 use Rattle.erhl_assert.specs.declared.verdict.Reason.TheVariants.{AlignmentDiffers}
 use Rattle.erhl_assert.specs.declared.verdict.Spot.TheVariants as spot
-use Rattle.erhl_assert.specs.Sides.{IsFine, read_reg, RegisterFiles}
+use Rattle.erhl_assert.specs.Sides.{IsFine, side_of}
 use Rattle.erhl_assert.specs.Facts.{Holds, with_facts, each_once}
 use Rattle.erhl_assert.specs.Alignment.{Line, AlignedBlock, Alignment, Aligned, Differs, after_first, aligned, letters_or_both, block_hint, block_aligned, with_block, blocks_aligned, same_param, same_header, first_block}
 use Rattle.erhl_assert.specs.Course.{tested, IsGood}
@@ -37,13 +31,14 @@ use Rattle.erhl_assert.specs.Steps.{Beside}
 use Rattle.erhl_assert.specs.Acceptance.{first_missing_of, entry_fault, hint_of_block, block_judged, blocks_judged, reached_judged, aligned_judged, Accepts}
 use Rattle.erhl_assert.proofs.Courses.{good_parts, no_fault, bad_is_not_good}
 use Rattle.erhl_soundness.specs.Laws.{AreApart, ArePhisApart}
+use Rattle.erhl_soundness.specs.TwoSides.{HoldsMade}
 use Rattle.erhl_soundness.proofs.Definitions.{AreDefined, AreLinesDefined, IsBlockDefined, blocks_defined, params_defined, none_defined}
-use Rattle.erhl_soundness.proofs.Standing.{side, Stand}
-use Rattle.erhl_soundness.proofs.Edges.{NoneAgain, apart_once}
+use Rattle.erhl_soundness.proofs.Itself.{common_itself, itself, reading_itself}
+use Rattle.erhl_soundness.proofs.Standing.{Run, run_of, side, Stand}
 use Rattle.erhl_soundness.proofs.Judging.{block_good}
 use Rattle.erhl_soundness.proofs.Relation.{source_lines, target_lines, own_lines, IsAligned, Marked, source_of, target_of, mark_of, running, IsBlockFine, all_fine, IsPairFine, AreStartsRelated}
-use Rattle.erhl_soundness.proofs.Entering.{at_entry_is, entering, entering_defined, entering_in_kind, entering_same, entry_at, misfit_same}
-use Rattle.erhl_soundness.proofs.Worlds.{IsThere, starts_there}
+use Rattle.erhl_soundness.proofs.Entering.{at_entry_is, entering, entering_defined, entering_same, entry_at, misfit_same}
+use Rattle.erhl_soundness.proofs.FineSides.{begins}
 use Rattle.erhl_soundness.proofs.Reached.{marked, marked_blocks, all_marked, marked_good, marked_lead_on, first_reached}
 
 -- ---- aligned lines give both bodies back
@@ -219,58 +214,50 @@ module _ (w : Beside) where
             (all_marked graph IsAligned 0 bs parts.back.fine)
             (marked_lead_on graph w bs (ap (λ blocks. graph_in (labels_in blocks) blocks) parts.back.source))
             (blocks_marked_good bs long parts.good)
-            (subst (AllByRecursion (λ (b : Block). NoneAgain b.phis)) is_source (all_once w.source.blocks source_apart))
-            (subst (AllByRecursion (λ (b : Block). NoneAgain b.phis)) is_target (all_once w.target.blocks target_apart))
+            (subst (AllByRecursion (λ (b : Block). AreApart b.phis)) is_source source_apart)
+            (subst (AllByRecursion (λ (b : Block). AreApart b.phis)) is_target target_apart)
             (subst (AllByRecursion (IsBlockDefined w.source)) is_source (blocks_defined w.source));
         source_blocks = is_source;
         target_blocks = is_target;
       }
-    where
-      all_once : (bs : List Block) → AllByRecursion (λ (b : Block). AreApart b.phis) bs → AllByRecursion (λ (b : Block). NoneAgain b.phis) bs
-      all_once [] h = tt
-      all_once (b ∷ bs) h = (apart_once b.phis h.0, all_once bs h.1)
 
   -- ---- the start of a run
 
-  module _ (world : World) (there : IsThere w.scope world) where
-    abbrev begun : Registers → RegisterFiles
-    begun registers = record { now = registers; old = no_registers; ghost = no_registers }
+  module _ (world : World) where
+    abbrev begun : Registers → Run
+    begun registers = run_of (side_of w.scope registers [] world)
 
-    begun_fine : (registers : Registers) → AreInKind registers → IsFine (side w.scope [] world (begun registers))
-    begun_fine registers kind = record {
-      now = kind;
-      old = no_registers_in_kind;
-      ghost = no_registers_in_kind;
-      bytes = there.bytes;
-      globals = there.globals;
-      named = there.named;
-      once = there.once;
-    }
+    abbrev Begins : Registers → Type 0
+    Begins registers = IsFine (side w.scope (begun registers)) × HoldsMade (side w.scope (begun registers))
 
-    facts_none : (registers : Registers) (fs : List Fact) → fs ≡ [] → AllByRecursion (Holds (side w.scope [] world (begun registers))) (with_facts fs [])
-    facts_none registers fs none = subst (λ gs. AllByRecursion (Holds (side w.scope [] world (begun registers))) (with_facts gs [])) (sym none) tt
+    facts_none : (registers : Registers) (fs : List Fact) → fs ≡ [] → AllByRecursion (Holds (side w.scope (begun registers))) (with_facts fs [])
+    facts_none registers fs none = subst (λ gs. AllByRecursion (Holds (side w.scope (begun registers))) (with_facts gs [])) (sym none) tt
 
-    alike : (v : Value) → IsRelated nat_eq v v
-    alike v = less_related v v (less_defined_refl v)
-
-    begun_stand : (lists : Assertion) (registers : Registers) → AreInKind registers → AreDefined w.source registers → lists.src ≡ [] → lists.tgt ≡ []
-        → Stand w [] world (each_once lists) (begun registers) (begun registers)
-    begun_stand lists registers kind defined no_src no_tgt = record {
-      source_in_kind = begun_fine registers kind;
-      target_in_kind = begun_fine registers kind;
-      now_defined = defined;
-      old_defined = none_defined w.source;
-      holds = record {
-        source_facts = facts_none registers lists.src no_src;
-        target_facts = facts_none registers lists.tgt no_tgt;
-        related = record { outside = λ r k out. alike (read_reg (side w.scope [] world (begun registers)) k r); ghosts = λ g k shared. tt };
-      };
-    }
+    -- each block stands for itself
+    begun_stand : (lists : Assertion) (registers : Registers) → Begins registers → AreDefined w.source registers → lists.src ≡ [] → lists.tgt ≡ []
+        → Stand w (itself world.memory) (each_once lists) (begun registers) (begun registers)
+    begun_stand lists registers begins defined no_src no_tgt =
+        let here = side w.scope (begun registers) in record {
+          sides = record {
+            common = common_itself here begins.0 begins.1 (λ b. refl);
+            source_fine = begins.0;
+            target_fine = begins.0;
+            source_made = begins.1;
+            target_made = begins.1;
+          };
+          now_defined = defined;
+          old_defined = none_defined w.source;
+          holds = record {
+            source_facts = facts_none registers lists.src no_src;
+            target_facts = facts_none registers lists.tgt no_tgt;
+            related = record { outside = λ r k out. reading_itself here begins.0 begins.1 k r; ghosts = λ g k shared. tt };
+          };
+        }
 
     abbrev AreStarts : Option State → Option State → Type 0
     AreStarts = AreStartsRelated w.rules w.scope
 
-    module _ (blocks : List Marked) (pair : IsPairFine w blocks) (registers : Registers) (kind : AreInKind registers) (defined : AreDefined w.source registers) where
+    module _ (blocks : List Marked) (pair : IsPairFine w blocks) (registers : Registers) (begins : Begins registers) (defined : AreDefined w.source registers) where
       entries_start : (bs : List AlignedBlock) → AllByRecursion (IsBlockFine w (λ to. mark_of to blocks)) (marks_of bs) → ClaimsNothing w bs
           → AreStarts (entry_at world w.source (map (λ (b : AlignedBlock). b.source) bs) registers) (entry_at world w.target (map (λ (b : AlignedBlock). b.target) bs) registers)
       entries_start [] fine nothing = tt
@@ -288,18 +275,17 @@ module _ (w : Beside) where
               place = 0;
               left = b.lines;
               known = each_once (hint_of_block w b).entry;
-              own = [];
-              world = world;
-              source_files = begun registers;
-              target_files = begun registers;
-              stand = begun_stand (hint_of_block w b).entry registers kind defined nothing.0 nothing.1;
+              pairs = itself world.memory;
+              source_run = begun registers;
+              target_run = begun registers;
+              stand = begun_stand (hint_of_block w b).entry registers begins defined nothing.0 nothing.1;
               good = block_good w b (good.good reached);
               names = good.aligned.names;
               onward = good.onward reached;
               defined = subst (AreLinesDefined w.source) good.aligned.source good.defined.1;
               is_k = refl;
-              is_s = ap (λ ls. running w.source b.source [] world ls registers) good.aligned.source;
-              is_t = ap (λ ls. running w.target b.target [] world ls registers) good.aligned.target;
+              is_s = ap (running w.source b.source (begun registers)) good.aligned.source;
+              is_t = ap (running w.target b.target (begun registers)) good.aligned.target;
             }),
           )
 
@@ -319,15 +305,14 @@ module _ (w : Beside) where
     starts_unless (Some place) misfits = tt
     starts_unless None fit =
         let pair = pair_is_fine parts source_apart target_apart in
-        let fits = fitting w.scope input w.source.params fit in
         let registers = entering world w.source.params input.args in
         subst₂ (AreStartsRelated w.rules w.scope)
         (ap (λ fs. entry_at world w.source fs registers) (sym parts.back.source) ∙ sym (at_entry_is world w.source w.source.blocks input.args))
         (ap (λ gs. entry_at world w.target gs registers) (sym parts.back.target)
         ∙ ap (entry_at world w.target w.target.blocks) (entering_same world w.source.params w.target.params input.args params_alike)
         ∙ sym (at_entry_is world w.target w.target.blocks input.args))
-        (entries_start world (starts_there w.scope input w.source.params fit) (marks_of parts.blocks) pair registers
-        (entering_in_kind world w.source.params input.args fits.arguments) (entering_defined world w.source w.source.params input.args (params_defined w.source))
+        (entries_start world (marks_of parts.blocks) pair registers
+        (begins w.scope input w.source fit) (entering_defined world w.source w.source.params input.args (params_defined w.source))
         parts.blocks pair.fine (entry_claims_nothing w parts.blocks parts.good))
 
     pub accepted_start : AreStartsRelated w.rules w.scope (started w.scope w.source input) (started w.scope w.target input)

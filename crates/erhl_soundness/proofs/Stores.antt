@@ -39,7 +39,8 @@ use Rattle.erhl_assert.specs.Kills.{loads_in, unique_of}
 use Rattle.erhl_assert.specs.Matched.{now_operand}
 use Rattle.erhl_assert.specs.Postcondition.{line_kills, load_through, store_adds}
 use Rattle.erhl_assert.specs.Sides.{IsFine, SideState, read_reg, worth}
-use Rattle.erhl_soundness.specs.MemoryLaws.{HoldsMade, StoresKeepWhatHolds, side_stored}
+use Rattle.erhl_soundness.specs.MemoryLaws.{StoresKeepWhatHolds, side_stored}
+use Rattle.erhl_soundness.specs.TwoSides.{HoldsMade}
 use Rattle.erhl_soundness.proofs.Facts.{IsNotIt, all_split, both_ways_hold, if_block}
 use Rattle.erhl_soundness.proofs.Holders.{atom_among, constants_apart}
 use Rattle.erhl_soundness.proofs.Kills.{AreLeft, IsLeft, IsSpared, killed_hold, none_unique, value_at}
@@ -52,7 +53,7 @@ wide_enough (Int width) h = h.0
 wide_enough Ptr h = tt
 
 -- a store that doesn't trap is of a kind
-of_kind : (memory after : Memory) (o : Option Kind) (v a : Value) (align : ℕ) → stored_of memory o v a align ≡ Some after → (k : Kind) × (o ≡ Some k)
+pub of_kind : (memory after : Memory) (o : Option Kind) (v a : Value) (align : ℕ) → stored_of memory o v a align ≡ Some after → (k : Kind) × (o ≡ Some k)
 of_kind memory after None v a align is = absurd (cc)
 of_kind memory after (Some k) v a align is = (k, refl)
 

@@ -69,7 +69,7 @@ pub cell_behind : (m : Memory) (c : Cell) → cell_at (m ++ c ∷ []) (length m)
 cell_behind [] c = refl
 cell_behind (d ∷ m) c = cell_behind m c
 
-cell_made : (m : Memory) (b : ℕ) (c : Cell) → cell_at m b ≡ Some c → b < length m
+pub cell_made : (m : Memory) (b : ℕ) (c : Cell) → cell_at m b ≡ Some c → b < length m
 cell_made [] b c is = absurd (cc)
 cell_made (d ∷ m) zero c is = omega arith
 cell_made (d ∷ m) (suc b) c is = let more = cell_made m b c is in omega (arith, more)

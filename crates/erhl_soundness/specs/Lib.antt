@@ -4,3 +4,4 @@ pub mod FlowLaws
 pub mod Laws
 pub mod MemoryExamples
 pub mod MemoryLaws
+pub mod TwoSides

@@ -19,10 +19,10 @@ use Rattle.ir_core.specs.Types.{kind_of}
 use Rattle.ir_core.specs.WellFormed.{HasShape}
 use Rattle.ir_values.specs.Constants.{Scope, global_at}
 use Rattle.ir_values.specs.declared.operations.Outcome.TheVariants.{Gives}
-use Rattle.block_memory.specs.Memory.{Cell, Memory, new_cell}
+use Rattle.block_memory.specs.Memory.{Memory, new_cell}
 use Rattle.ir_machine.specs.declared.inputs.Input.{Input}
-use Rattle.ir_machine.specs.Keeps.{AreRegistersAmong, IsByteAmong, IsMade, IsNameAmong}
-use Rattle.ir_machine.specs.Machine.{Does, count_made, line_step, stored_by}
+use Rattle.ir_machine.specs.Keeps.{IsMade}
+use Rattle.ir_machine.specs.Machine.{count_made, stored_by}
 use Rattle.ir_machine.specs.Registers.{align_or, outcome, read, set}
 use Rattle.ir_machine.specs.Starting.{start}
 use Rattle.ir_machine.specs.State.{Frame, Pending, Running, World, scope_of}
@@ -33,22 +33,7 @@ use Rattle.erhl_assert.specs.Kills.{all_killed}
 use Rattle.erhl_assert.specs.Postcondition.{line_adds, line_kills}
 use Rattle.erhl_assert.specs.Sides.{IsFine, SideState, side_of}
 use Rattle.erhl_soundness.specs.Laws.{AreApart, crossed}
-
--- what isn't made nothing holds: no register of now, before the edge or of the proof alone, none of another frame, no byte and no name
-pub record HoldsMade (side : SideState) : Type 0 where
-  pub now : AreRegistersAmong (IsMade side.world.memory) side.files.now
-  pub old : AreRegistersAmong (IsMade side.world.memory) side.files.old
-  pub ghost : AreRegistersAmong (IsMade side.world.memory) side.files.ghost
-  pub others : AllByRecursion (AreRegistersAmong (IsMade side.world.memory)) side.others
-  pub bytes : AllByRecursion (λ (c : Cell). AllByRecursion (IsByteAmong (IsMade side.world.memory)) c.bytes) side.world.memory
-  pub names : AllByRecursion (IsNameAmong (IsMade side.world.memory)) side.world.names
-
--- the line leads every frame with the side's registers and own blocks from its world to those of the other side, in whichever module of its types
--- and globals
-abbrev pub LeadsTo : SideState → Instr → SideState → Type 0
-LeadsTo side i after = (m : Module) (frame : Frame) (rest : List Pending) → scope_of m ≡ side.scope
-    → line_step m i (record frame { registers = side.files.now; own = side.own }) rest side.world
-    ≡ Does [] (Running (record frame { registers = after.files.now; own = after.own }) rest after.world)
+use Rattle.erhl_soundness.specs.TwoSides.{HoldsMade, LeadsTo}
 
 -- The line leads to that side, which is fine again, and holds what is made alone where the one before did. Of what is known before it, all that its
 -- kills leave holds there, and so does all that it adds.
@@ -80,11 +65,11 @@ side_made a paired side =
       paired = paired;
     }
 
--- An alloca at an alignment above 0, whose block may be in a pair, unless the line is of one side alone; all others are in pairs as before.
+-- An alloca whose block may be in a pair, unless the line is of one side alone; all others are in pairs as before.
 abbrev pub AllocasKeepWhatHolds : Type 0
 AllocasKeepWhatHolds = (side : SideState) (a : Alloca) (paired : ℕ → Bool) (one_sided : Bool) → IsFine side → HoldsMade side
     → ((b : ℕ) → IsMade side.world.memory b → paired b ≡ side.paired b) → (one_sided ≡ true → paired (length side.world.memory) ≡ false)
-    → 0 < align_or side.scope.types a.of a.align → LineKeeps side (side_made a paired side) (line.Alloca a) one_sided
+    → LineKeeps side (side_made a paired side) (line.Alloca a) one_sided
 
 abbrev pub side_stored : Memory → SideState → SideState
 side_stored memory side = record side { world = record side.world { memory = memory } }

@@ -65,26 +65,25 @@ pub fn lines_are_judged()
 
 /// Empty on purpose: its contract is the law.
 ///
-/// Two sides in one world, in which the blocks of globals have their names, and of which an assertion holds, come, by an aligned line that is
-/// allowed, to two sides in that world of which holds what the postcondition gives, unless the source's line is undefined behaviour; whatever their
-/// old and ghost registers are. So the target's line is undefined behaviour only where the source's is.
+/// Two sides, each in a world of its own, of which an assertion holds by pairs of their blocks, come, by an aligned line that is allowed, to two
+/// sides of which holds what the postcondition gives, by those pairs and perhaps others of new blocks, unless the source's line is undefined
+/// behaviour; whatever their old and ghost registers are. So the target's line is undefined behaviour only where the source's is.
 pub fn a_line_keeps_what_holds()
     ensures { ALineKeepsWhatHolds }
 {}
 
 /// Empty on purpose: its contract is the law.
 ///
-/// Two sides of which an assertion holds, of modules with the same types and globals, whose blocks have their names, come, behind the phis of an edge
-/// that are apart, to two sides of which holds what the postcondition gives; their old registers are those before the edge, and their ghost
-/// registers stay.
+/// Two sides of which an assertion holds by pairs of their blocks come, behind the phis of an edge that are apart, to two sides of which holds what
+/// the postcondition gives, by the same pairs, in the same worlds; their old registers are those before the edge, and their ghost registers stay.
 pub fn an_edge_keeps_what_holds()
     ensures { AnEdgeKeepsWhatHolds }
 {}
 
 /// Empty on purpose: its contract is the law.
 ///
-/// Where an assertion holds of two sides, of modules with the same types and globals, and two operands are matched, the source's value and the
-/// target's are related.
+/// Where an assertion holds of two sides by pairs of their blocks, and two operands are matched, the source's value and the target's are related by
+/// those pairs.
 pub fn matched_operands_are_related()
     ensures { MatchedOperandsAreRelated }
 {}

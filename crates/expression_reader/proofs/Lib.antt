@@ -15,6 +15,7 @@ pub mod ToldTypes
 pub mod TypeCases
 pub mod TypeCut
 pub mod TypeFound
+pub mod TypeJudged
 pub mod TypeLexed
 pub mod TypeOwn
 pub mod TypeRead

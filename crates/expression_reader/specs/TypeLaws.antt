@@ -1,5 +1,5 @@
 -- The laws of what texts of one type spell and of what is at fault in them.
-use Rattle.std.specs.Prelude.{◌≡◌, ℕ, List}
+use Rattle.std.specs.Prelude.{◌≡◌, ◌⊎◌, ℕ, List}
 use Rattle.ir_types.specs.declared.ty.Ty.{Ty}
 use Rattle.module_texts.specs.Texts.{IsShort}
 use Rattle.ir_lexer.specs.declared.fault.TextFault.{TextFault}
@@ -21,3 +21,8 @@ FaultsExclude = (bytes : List ℕ) (f : TextFault) (t : Ty) → IsShort bytes �
 -- two faults that are told of a text are one: of one kind, at one place and, where a word is left out, of one length
 abbrev pub TypeFaultsAreOne : Type 0
 TypeFaultsAreOne = (bytes : List ℕ) (f g : TextFault) → IsToldFault bytes f → IsToldFault bytes g → f ≡ g
+
+-- each text is short and spells a type, or something is first at fault in it that isn't want of memory
+abbrev pub EachTypeIsJudged : Type 0
+EachTypeIsJudged =
+    (bytes : List ℕ) → ((t : Ty) × IsShort bytes × SpellsType bytes t) ⊎ ((f : TextFault) × IsToldFault bytes f)

@@ -1,6 +1,6 @@
 ghost use Rattle.expression_reader.specs.Laws.{EachExpressionIsJudged, ExpressionFaultsAreOne, ExpressionsAreOne, FaultsExclude};
 ghost use Rattle.expression_reader.specs.NameLaws.{EachNameIsJudged, FaultsExclude as NameFaultsExclude, NameFaultsAreOne, NamesAreOne};
-ghost use Rattle.expression_reader.specs.TypeLaws.{FaultsExclude as TypeFaultsExclude, TypeFaultsAreOne, TypesAreOne};
+ghost use Rattle.expression_reader.specs.TypeLaws.{EachTypeIsJudged, FaultsExclude as TypeFaultsExclude, TypeFaultsAreOne, TypesAreOne};
 
 use module_grammar::written_once;
 
@@ -63,6 +63,13 @@ pub fn type_faults_are_one()
 /// Each text of at most 2 to the 24 bytes spells an expression, or has a first fault; a longer one has the fault that it is too long.
 pub fn each_expression_is_judged()
     ensures { EachExpressionIsJudged }
+{}
+
+/// Empty on purpose: its contract is the law.
+///
+/// Each text of at most 2 to the 24 bytes spells a type, or has a first fault; a longer one has the fault that it is too long.
+pub fn each_type_is_judged()
+    ensures { EachTypeIsJudged }
 {}
 
 /// Empty on purpose: its contract is the law.

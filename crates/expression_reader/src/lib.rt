@@ -9,7 +9,7 @@ mod readers;
 mod texts;
 
 pub use laws::{
-    each_expression_is_judged, each_name_is_judged, expression_faults_are_one,
+    each_expression_is_judged, each_name_is_judged, each_type_is_judged, expression_faults_are_one,
     faults_and_expressions_exclude, faults_and_names_exclude, faults_and_types_exclude,
     name_faults_are_one, texts_spell_one_expression, texts_spell_one_name, texts_spell_one_type,
     type_faults_are_one,

@@ -5,6 +5,8 @@ use Rattle.ir_core.specs.declared.expressions.Expr.TheVariants.{Plain, Load}
 use Rattle.ir_core.specs.Expressions.{Expr0}
 use Rattle.erhl_assert.specs.declared.facts.Fact.{Fact}
 use Rattle.erhl_assert.specs.declared.facts.Fact.TheVariants.{LessDef, Unique, Private, NoAlias, Ok}
+use Rattle.fact_sets.specs.declared.fact_key.FactKey.{FactKey}
+use Rattle.fact_sets.specs.declared.fact_key.FactKey.TheVariants as key
 
 -- A fact without loads of which a kill asks whether it is known.
 abbrev pub shields : Fact → Bool
@@ -14,6 +16,12 @@ shields (NoAlias (Plain p) (Plain q)) = true
 shields (NoAlias a b) = false
 shields (LessDef a b) = false
 shields (Ok e t align) = false
+
+-- the fact that a key stands for
+abbrev pub fact_of : FactKey → Fact
+fact_of (key.Unique r) = Unique r.now
+fact_of (key.Private r) = Private r.now
+fact_of (key.NoAlias p q) = NoAlias (Plain p.now) (Plain q.now)
 
 abbrev pub is_load : Expr0 → Bool
 is_load (Load l) = true

@@ -8,4 +8,4 @@ mod naming;
 pub use adding::add_equal;
 pub use ends::{AddEnd, LineEnd};
 pub use laws::limits_are_apart;
-pub use naming::{left_side, names, now_expr, old_atom, old_fact, old_register};
+pub use naming::{left_side, names, now_expr, now_operand, old_atom, old_fact, old_register};

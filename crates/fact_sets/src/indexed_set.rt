@@ -3,9 +3,10 @@ ghost use Rattle.erhl_assert.specs.declared.fact_set.Kill.TheVariants as kill;
 ghost use Rattle.erhl_assert.specs.Kills.{killed, with_loads};
 ghost use Rattle.fact_sets.specs.Shields.{shields};
 
+use crate::fact_key::is_unique_of;
 use crate::naming::add_named;
 use crate::shields::{
-    Call, Change, Store, add_shield, has_unique, is_unique_of, keep_left, may_load_with, shields,
+    Call, Change, Store, add_shield, has_unique, keep_left, may_load_with, shields,
 };
 use erhl_assert::{Fact, FactSet, Kill, bare_name, fact_names};
 use indexmap::IndexSet;
@@ -18,8 +19,8 @@ pub struct IndexedSet {
     facts: IndexSet<Fact>,
     /// The name of each register that a fact names, and maybe others.
     named: IndexSet<Name>,
-    /// Those of the facts that a kill asks for.
-    shields: Vec<Fact>,
+    /// Those of the facts that a kill asks for, found by hash too.
+    shields: IndexSet<Fact>,
     /// Whether a fact may have a load.
     may_load: bool,
 }
@@ -41,7 +42,7 @@ impl Model for IndexedSet {
     ghost view = { λ it. it.facts.keys };
 
     ghost invariant = { λ it. IsIndexed fact_names it.named.keys it.facts.keys
-        × AreShields it.shields.items it.may_load it.facts.keys };
+        × AreShields it.shields.keys it.may_load it.facts.keys };
 }
 
 impl Drop for IndexedSet {
@@ -66,7 +67,7 @@ impl IndexedSet {
         Ok(IndexedSet {
             facts,
             named,
-            shields: Vec::new(alloc),
+            shields: IndexSet::new(alloc),
             may_load: false,
         })
     }
@@ -85,7 +86,7 @@ impl IndexedSet {
     fn share(&mut self, register: &Reg)
         ensures { self.new ≡ killed (kill.Unique register.now) self.old }
     {
-        if has_unique(register, self.shields.as_slice()) {
+        if has_unique(register, &self.shields) {
             self.facts.retain(|fact| !is_unique_of(register, fact));
             self.shields.retain(|fact| !is_unique_of(register, fact));
         }
@@ -97,7 +98,7 @@ impl IndexedSet {
         ensures { self.new ≡ with_loads (C.leaves change.now (filter shields self.old)) self.old }
     {
         if self.may_load {
-            keep_left(change, self.shields.as_slice(), &mut self.facts);
+            keep_left(change, &self.shields, &mut self.facts);
         }
     }
 }
@@ -110,7 +111,7 @@ impl FactSet for IndexedSet {
         IndexedSet {
             facts: IndexSet::new(alloc),
             named: IndexSet::new(alloc),
-            shields: Vec::new(alloc),
+            shields: IndexSet::new(alloc),
             may_load: false,
         }
     }

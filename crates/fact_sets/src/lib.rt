@@ -7,6 +7,7 @@
 mod added_facts;
 mod added_registers;
 mod erhl_sides;
+mod fact_key;
 mod indexed_set;
 mod laws;
 mod left_registers;
@@ -17,8 +18,8 @@ mod register_set;
 mod shields;
 
 pub use added_facts::{
-    AddEnd, LineEnd, add_equal, left_side, limits_are_apart, names, now_expr, old_atom, old_fact,
-    old_register,
+    AddEnd, LineEnd, add_equal, left_side, limits_are_apart, names, now_expr, now_operand,
+    old_atom, old_fact, old_register,
 };
 pub use erhl_sides::{Joined, Sides, Sort, fact_has, names_old, sides_of};
 pub use indexed_set::IndexedSet;

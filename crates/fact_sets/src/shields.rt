@@ -3,14 +3,15 @@ ghost use Rattle.std.specs.Prelude.{◌≡◌, ◌++◌, ◌||◌, filter, true,
 ghost use Rattle.std.specs.List.{list_all};
 ghost use Rattle.ir_core.specs.declared.expressions.Expr.TheVariants.{Plain};
 ghost use Rattle.erhl_assert.specs.declared.facts.Fact.TheVariants.{Unique, Private, NoAlias};
-ghost use Rattle.erhl_assert.specs.Facts.{has_fact, same_fact, with_fact};
+ghost use Rattle.erhl_assert.specs.Facts.{has_fact, with_fact};
 ghost use Rattle.erhl_assert.specs.Kills as kills;
 ghost use Rattle.fact_sets.specs.Shields as spec;
 
+use crate::fact_key::FactKey;
 use contents::Exact;
 use erhl_assert::Fact;
 use indexmap::IndexSet;
-use ir_core::{Atom, Expr, Expr0, Operand, Reg, same_const, same_reg, same_reg_operand};
+use ir_core::{Atom, Expr, Expr0, Operand, Reg, same_const, same_reg};
 use std::alloc::{AllocError, Global};
 
 /// Whether a kill asks of the fact whether it is known.
@@ -48,60 +49,27 @@ pub(crate) fn may_load_with(may_load: bool, fact: &Fact) -> bool
     may_load || has_load(fact)
 }
 
-/// Whether the fact is that the register is unique.
-pub(crate) fn is_unique_of(register: &Reg, fact: &Fact) -> bool
-    ensures same { result ≡ same_fact (Unique register.now) fact.now }
-    ensures of { result ≡ kills.is_unique_of register.now fact.now }
-{
-    match fact {
-        Fact::Unique(other) => same_reg(register, other),
-        _ => false,
-    }
-}
-
-/// Whether the fact is that the register is private.
-fn is_private_of(register: &Reg, fact: &Fact) -> bool
-    ensures { result ≡ same_fact (Private register.now) fact.now }
-{
-    match fact {
-        Fact::Private(other) => same_reg(register, other),
-        _ => false,
-    }
-}
-
-/// Whether the fact is that the first isn't an alias of the second.
-fn is_no_alias_of(p: &Operand<Reg>, q: &Operand<Reg>, fact: &Fact) -> bool
-    ensures { result ≡ same_fact (NoAlias (Plain p.now) (Plain q.now)) fact.now }
-{
-    match fact {
-        Fact::NoAlias(Expr::Plain(a), Expr::Plain(b)) => {
-            same_reg_operand(p, a) && same_reg_operand(q, b)
-        }
-        _ => false,
-    }
-}
-
 /// Whether it is known that the register is unique.
-pub(crate) fn has_unique(register: &Reg, shields: &[Fact]) -> bool
-    ensures { result ≡ has_fact (Unique register.now) shields.now }
+pub(crate) fn has_unique(register: &Reg, shields: &IndexSet<Fact>) -> bool
+    ensures { result ≡ has_fact (Unique register.now) shields.now.keys }
 {
-    shields.iter().any(|fact| is_unique_of(register, fact))
+    shields.contains(FactKey::Unique(register))
 }
 
-fn has_private(register: &Reg, shields: &[Fact]) -> bool
-    ensures { result ≡ has_fact (Private register.now) shields.now }
+fn has_private(register: &Reg, shields: &IndexSet<Fact>) -> bool
+    ensures { result ≡ has_fact (Private register.now) shields.now.keys }
 {
-    shields.iter().any(|fact| is_private_of(register, fact))
+    shields.contains(FactKey::Private(register))
 }
 
-fn has_no_alias(p: &Operand<Reg>, q: &Operand<Reg>, shields: &[Fact]) -> bool
-    ensures { result ≡ has_fact (NoAlias (Plain p.now) (Plain q.now)) shields.now }
+fn has_no_alias(p: &Operand<Reg>, q: &Operand<Reg>, shields: &IndexSet<Fact>) -> bool
+    ensures { result ≡ has_fact (NoAlias (Plain p.now) (Plain q.now)) shields.now.keys }
 {
-    shields.iter().any(|fact| is_no_alias_of(p, q, fact))
+    shields.contains(FactKey::NoAlias(p, q))
 }
 
-fn is_unique(atom: &Atom<Reg>, shields: &[Fact]) -> bool
-    ensures { result ≡ kills.is_unique shields.now atom.now }
+fn is_unique(atom: &Atom<Reg>, shields: &IndexSet<Fact>) -> bool
+    ensures { result ≡ kills.is_unique shields.now.keys atom.now }
 {
     match atom {
         Atom::Constant(_) => false,
@@ -109,8 +77,8 @@ fn is_unique(atom: &Atom<Reg>, shields: &[Fact]) -> bool
     }
 }
 
-fn is_private(atom: &Atom<Reg>, shields: &[Fact]) -> bool
-    ensures { result ≡ kills.is_private shields.now atom.now }
+fn is_private(atom: &Atom<Reg>, shields: &IndexSet<Fact>) -> bool
+    ensures { result ≡ kills.is_private shields.now.keys atom.now }
 {
     match atom {
         Atom::Constant(_) => false,
@@ -140,8 +108,8 @@ fn is_other(a: &Atom<Reg>, b: &Atom<Reg>) -> bool
 }
 
 /// Whether a store through q leaves what is loaded from p.
-fn spares(shields: &[Fact], q: &Operand<Reg>, p: &Operand<Reg>) -> bool
-    ensures { result ≡ kills.spares shields.now q.now p.now }
+fn spares(shields: &IndexSet<Fact>, q: &Operand<Reg>, p: &Operand<Reg>) -> bool
+    ensures { result ≡ kills.spares shields.now.keys q.now p.now }
 {
     is_other(&q.atom, &p.atom)
         && (has_no_alias(p, q, shields)
@@ -160,8 +128,8 @@ pub(crate) trait Change {
     ghost leaves: { Self → List Fact → Operand Reg → Bool };
 
     /// Whether it leaves what is loaded from the pointer.
-    fn leaves(&self, shields: &[Fact], pointer: &Operand<Reg>) -> bool
-        ensures { result ≡ leaves self.now shields.now pointer.now };
+    fn leaves(&self, shields: &IndexSet<Fact>, pointer: &Operand<Reg>) -> bool
+        ensures { result ≡ leaves self.now shields.now.keys pointer.now };
 }
 
 /// A store through the address.
@@ -173,7 +141,7 @@ pub(crate) struct Store<'a> {
 impl<'a> Change for Store<'a> {
     ghost leaves = { λ store fs p. kills.spares fs store.address.now p };
 
-    fn leaves(&self, shields: &[Fact], pointer: &Operand<Reg>) -> bool {
+    fn leaves(&self, shields: &IndexSet<Fact>, pointer: &Operand<Reg>) -> bool {
         spares(shields, self.address, pointer)
     }
 }
@@ -185,13 +153,13 @@ pub(crate) struct Call;
 impl Change for Call {
     ghost leaves = { λ _ fs p. kills.is_private fs p.atom };
 
-    fn leaves(&self, shields: &[Fact], pointer: &Operand<Reg>) -> bool {
+    fn leaves(&self, shields: &IndexSet<Fact>, pointer: &Operand<Reg>) -> bool {
         is_private(&pointer.atom, shields)
     }
 }
 
-fn leaves_expr<C: Change>(change: &C, shields: &[Fact], expr: &Expr0) -> bool
-    ensures { result ≡ list_all (C.leaves change.now shields.now) (kills.loads_in expr.now) }
+fn leaves_expr<C: Change>(change: &C, shields: &IndexSet<Fact>, expr: &Expr0) -> bool
+    ensures { result ≡ list_all (C.leaves change.now shields.now.keys) (kills.loads_in expr.now) }
 {
     match expr {
         Expr::Load(load) => change.leaves(shields, &load.pointer),
@@ -200,15 +168,15 @@ fn leaves_expr<C: Change>(change: &C, shields: &[Fact], expr: &Expr0) -> bool
 }
 
 #[tactic(auto, using(crate::proofs::Shielding::all_of_two))]
-fn leaves_both<C: Change>(change: &C, shields: &[Fact], a: &Expr0, b: &Expr0) -> bool
-    ensures { result ≡ list_all (C.leaves change.now shields.now) (kills.loads_in a.now ++ kills.loads_in b.now) }
+fn leaves_both<C: Change>(change: &C, shields: &IndexSet<Fact>, a: &Expr0, b: &Expr0) -> bool
+    ensures { result ≡ list_all (C.leaves change.now shields.now.keys) (kills.loads_in a.now ++ kills.loads_in b.now) }
 {
     leaves_expr(change, shields, a) && leaves_expr(change, shields, b)
 }
 
 /// Whether the change leaves each load of the fact.
-fn leaves_fact<C: Change>(change: &C, shields: &[Fact], fact: &Fact) -> bool
-    ensures { result ≡ list_all (C.leaves change.now shields.now) (kills.loads_of fact.now) }
+fn leaves_fact<C: Change>(change: &C, shields: &IndexSet<Fact>, fact: &Fact) -> bool
+    ensures { result ≡ list_all (C.leaves change.now shields.now.keys) (kills.loads_of fact.now) }
 {
     match fact {
         Fact::LessDef(a, b) | Fact::NoAlias(a, b) => leaves_both(change, shields, a, b),
@@ -218,33 +186,32 @@ fn leaves_fact<C: Change>(change: &C, shields: &[Fact], fact: &Fact) -> bool
 }
 
 /// Takes out the facts of which the change doesn't leave each load.
-pub(crate) fn keep_left<C: Change>(change: &C, shields: &[Fact], facts: &mut IndexSet<Fact>)
-    ensures { facts.new.keys ≡ kills.with_loads (C.leaves change.now shields.now) facts.old.keys }
+pub(crate) fn keep_left<C: Change>(change: &C, shields: &IndexSet<Fact>, facts: &mut IndexSet<Fact>)
+    ensures { facts.new.keys ≡ kills.with_loads (C.leaves change.now shields.now.keys) facts.old.keys }
 {
     facts.retain(|fact| leaves_fact(change, shields, fact));
 }
 
 /// Puts a fact that shields at the end of both, where it isn't there yet.
+#[tactic(auto, using(crate::proofs::ErhlSides::Once::left_with))]
 pub(crate) fn add_shield(
     alloc: Global,
     fact: Fact,
     facts: &mut IndexSet<Fact>,
-    some: &mut Vec<Fact>,
+    some: &mut IndexSet<Fact>,
 ) -> Result<(), AllocError>
     requires shields { spec.shields fact ≡ true }
-    requires before { some.old.items ≡ filter spec.shields facts.old.keys }
+    requires before { some.old.keys ≡ filter spec.shields facts.old.keys }
     ensures ok { OnOk result (facts.new.keys ≡ with_fact fact facts.old.keys) }
     ensures err { OnErr result (facts.new.keys ≡ facts.old.keys) }
-    ensures all { some.new.items ≡ filter spec.shields facts.new.keys }
+    ensures all { some.new.keys ≡ filter spec.shields facts.new.keys }
 {
     if facts.contains(&fact) {
         return Ok(());
     }
-    let count = some.len();
-    some.push(fact.copy(alloc)?)?;
-    if facts.insert(fact).is_err() {
-        some.truncate(count);
-        return Err(AllocError);
-    }
+    let shield = fact.copy(alloc)?;
+    some.reserve(1)?;
+    facts.insert(fact)?;
+    some.insert(shield)?;
     Ok(())
 }

@@ -7,17 +7,22 @@ use Rattle.ir_core.specs.declared.limits.Limit.{Limit}
 use Rattle.ir_core.specs.declared.limits.Limit.TheVariants as limit
 use Rattle.ir_types.specs.declared.names.Name.{Name}
 use Rattle.ir_types.specs.declared.names.Sigil.{Sigil}
+use Rattle.ir_types.specs.declared.ty.Ty.{Ty}
 use Rattle.ir_core.specs.Expressions.{Expr0}
 use Rattle.ir_printer.specs.ExpressionPrinter.Printed.{printed_name}
 use Rattle.ir_lexer.specs.declared.fault.TextFault.{TextFault}
 use Rattle.ir_lexer.specs.declared.fault.TextFault.TheVariants as text_fault
 use Rattle.expression_reader.specs.Expressions.{IsExpressionFault, SpellsExpression}
 use Rattle.expression_reader.specs.Names.{IsNameFault, SpellsName}
+use Rattle.expression_reader.specs.Types.{IsTypeFault, SpellsType}
 use Rattle.module_texts.specs.Texts.{IsShort}
-use Rattle.module_grammar.proofs.OneTree.{expressions as expressions_once}
+use Rattle.module_grammar.proofs.OneTree.{expressions as expressions_once, types as types_once}
 use Rattle.expression_reader.proofs.Found.{faults_are_one}
 use Rattle.expression_reader.proofs.Judged.{judged_expression}
 use Rattle.expression_reader.proofs.NameTexts.{judged_name, name_faults_are_one, names_are_one, names_exclude}
+use Rattle.expression_reader.proofs.TypeFound.{faults_are_one as type_faults_are_one}
+use Rattle.expression_reader.proofs.TypeJudged.{judged_type}
+use Rattle.expression_reader.proofs.TypeWhole.{exclude as types_exclude, spell_one as spell_one_type}
 use Rattle.expression_reader.proofs.Whole.{exclude, spell_one}
 use Rattle.erhl_assert.specs.declared.hints.Hints.{Hints}
 use Rattle.json_forms.specs.declared.failure.Fault.{Fault}
@@ -30,11 +35,11 @@ use Rattle.json_forms.specs.Forms.{Reading, read_then}
 use Rattle.json_forms.proofs.Readings.{reading_once}
 use Rattle.hint_format.specs.declared.fault.HintFault.TheVariants as hint_fault
 use Rattle.hint_format.specs.Faults.{told_fault, fault_of_failure}
-use Rattle.hint_format.specs.Form.{IsNameText, IsTextReading, Leaves, AreLeaves, PassesAsExpression, PassesAsName, hints_form, IsHintReading, HintsOf, IsHintFault}
-use Rattle.hint_format.specs.Reading.{expression_reading, failure_of, fault_reading, if_printed, name_reading, read_leaves, reading_of}
+use Rattle.hint_format.specs.Form.{IsNameText, IsTextReading, Leaves, AreLeaves, PassesAsExpression, PassesAsName, PassesAsType, hints_form, IsHintReading, HintsOf, IsHintFault}
+use Rattle.hint_format.specs.Reading.{expression_reading, failure_of, fault_reading, if_printed, name_reading, read_leaves, reading_of, type_reading}
 use Rattle.hint_format.specs.Laws.{TextsAreRead, LeavesAreOne, ReadingsAreOne}
 
--- ---- expressions and names
+-- ---- expressions, types and names
 
 -- no text means two things; one that is first at fault means nothing, and is so in one way
 record AreTexts {X : Type 0} (Means : List ℕ → X → Type 0) (Has : List ℕ → TextFault → Type 0) : Type 0 where
@@ -47,6 +52,13 @@ expressions = record {
   once = spell_one expressions_once;
   exclude = exclude expressions_once;
   one = faults_are_one expressions_once;
+}
+
+types : AreTexts SpellsType IsTypeFault
+types = record {
+  once = spell_one_type types_once;
+  exclude = types_exclude types_once;
+  one = type_faults_are_one types_once;
 }
 
 names : (sigil : Sigil) → AreTexts (SpellsName sigil) (IsNameFault sigil)
@@ -151,6 +163,24 @@ measured_expression text (text_fault.Twice place size) is some = absurd is
 measured_expression text (text_fault.WrongNumber place due) is some = absurd is
 measured_expression text text_fault.Memory is some = absurd (some refl)
 
+measured_type : (text : List ℕ) → IsMeasured IsTypeFault text
+measured_type text (text_fault.Limit limit.Text) is some = inr refl
+measured_type text (text_fault.Limit limit.Depth) is some = inl is.1.0
+measured_type text (text_fault.Limit limit.Lines) is some = absurd is
+measured_type text (text_fault.Limit limit.Block) is some = absurd is
+measured_type text (text_fault.Limit limit.Json) is some = absurd is
+measured_type text (text_fault.Limit limit.Facts) is some = absurd is
+measured_type text (text_fault.BadByte place) is some = inl is.0
+measured_type text (text_fault.BadString place) is some = inl is.0
+measured_type text (text_fault.BadNumber place) is some = inl is.0
+measured_type text (text_fault.Expected place) is some = inl is.1.0
+measured_type text (text_fault.LeftOut place size) is some = inl is.1.0
+measured_type text (text_fault.WrongType place) (f, is, at) some = inl is.1.0
+measured_type text (text_fault.Unknown place size) is some = absurd is
+measured_type text (text_fault.Twice place size) is some = absurd is
+measured_type text (text_fault.WrongNumber place due) is some = absurd is
+measured_type text text_fault.Memory is some = absurd (some refl)
+
 measured_name : (sigil : Sigil) (text : List ℕ) → IsMeasured (IsNameFault sigil) text
 measured_name sigil text (text_fault.Limit limit.Text) is some = inr refl
 measured_name sigil text (text_fault.Limit limit.Depth) is some = absurd is
@@ -187,6 +217,12 @@ expression_due text = once_due SpellsExpression IsExpressionFault expressions te
 pub expression_fails : (text : List ℕ) (f : TextFault) → IsExpressionFault text f → Fails (failure_of f) (expression_reading text)
 expression_fails text = fault_due SpellsExpression IsExpressionFault expressions text (judged_expression text)
 
+pub type_due : (text : List ℕ) (t : Ty) → IsShort text → SpellsType text t → ((other : Ty) → SpellsType text other → other ≡ t) → type_reading text ≡ Ok t
+type_due text = once_due SpellsType IsTypeFault types text (judged_type text)
+
+pub type_fails : (text : List ℕ) (f : TextFault) → IsTypeFault text f → Fails (failure_of f) (type_reading text)
+type_fails text = fault_due SpellsType IsTypeFault types text (judged_type text)
+
 pub name_due : (sigil : Sigil) (text : List ℕ) (name : Name) → IsShort text → SpellsName sigil text name
     → ((other : Name) → SpellsName sigil text other → other ≡ name) → name_reading sigil text ≡ Ok name
 name_due sigil text = once_due (SpellsName sigil) (IsNameFault sigil) (names sigil) text (judged_name sigil text)
@@ -218,6 +254,7 @@ texts_are_read = (
   λ text. judged_read SpellsExpression IsExpressionFault expressions text (measured_expression text) (judged_expression text),
   λ sigil text. name_text sigil text (name_reading sigil text)
       (judged_read (SpellsName sigil) (IsNameFault sigil) (names sigil) text (measured_name sigil text) (judged_name sigil text)),
+  λ text. judged_read SpellsType IsTypeFault types text (measured_type text) (judged_type text),
 )
 
 -- ---- it doesn't depend on who reads
@@ -242,20 +279,29 @@ expression_alike =
     (λ text l a short passes. expressions.exclude text (text_fault.Limit l) a short (passes, limit_told l))
     (λ text l m s t. limit_is l m (expressions.one text (text_fault.Limit l) (text_fault.Limit m) (s, limit_told l) (t, limit_told m)))
 
+type_alike : (text : List ℕ) (p q : Reading Ty) → IsTextReading SpellsType PassesAsType text p → IsTextReading SpellsType PassesAsType text q → p ≡ q
+type_alike =
+    alike SpellsType PassesAsType types.once
+    (λ text l a short passes. types.exclude text (text_fault.Limit l) a short (passes, limit_told l))
+    (λ text l m s t. limit_is l m (types.one text (text_fault.Limit l) (text_fault.Limit m) (s, limit_told l) (t, limit_told m)))
+
 name_alike : (sigil : Sigil) (text : List ℕ) (p q : Reading Name) → IsTextReading (IsNameText sigil) (PassesAsName sigil) text p → IsTextReading (IsNameText sigil) (PassesAsName sigil) text q → p ≡ q
 name_alike sigil =
     alike (IsNameText sigil) (PassesAsName sigil) (λ text a b s t. names_are_one sigil text a b s.0 t.0)
     (λ text l a short passes means. names_exclude sigil text (text_fault.Limit l) a short (passes, limit_told l) means.0)
     (λ text l m s t. limit_is l m (name_faults_are_one sigil text (text_fault.Limit l) (text_fault.Limit m) (s, limit_told l) (t, limit_told m)))
 
-leaves_same : (a b : Leaves) → a.expression ≡ b.expression → a.name ≡ b.name → a ≡ b
-leaves_same a b p q = ap (λ e. record { expression = e; name = a.name }) p ∙ ap (λ n. record { expression = b.expression; name = n }) q
+leaves_same : (a b : Leaves) → a.expression ≡ b.expression → a.name ≡ b.name → a.ty ≡ b.ty → a ≡ b
+leaves_same a b p q r =
+    ap (λ e. record { expression = e; name = a.name; ty = a.ty }) p ∙ ap (λ n. record { expression = b.expression; name = n; ty = a.ty }) q
+    ∙ ap (λ t. record { expression = b.expression; name = b.name; ty = t }) r
 
 pub leaves_are_one : LeavesAreOne
 leaves_are_one a b are too =
     leaves_same a b
     (fun_ext (λ text. expression_alike text (a.expression text) (b.expression text) (are.0 text) (too.0 text)))
     (fun_ext (λ sigil. fun_ext (λ text. name_alike sigil text (a.name sigil text) (b.name sigil text) (are.1 sigil text) (too.1 sigil text))))
+    (fun_ext (λ text. type_alike text (a.ty text) (b.ty text) (are.2 text) (too.2 text)))
 
 pub readings_are_one : ReadingsAreOne
 readings_are_one bytes a b (l, are, s) (m, too, t) =
@@ -264,6 +310,9 @@ readings_are_one bytes a b (l, are, s) (m, too, t) =
 -- a short text is read as what it means
 pub expression_read : (leaves : Leaves) → AreLeaves leaves → (text : List ℕ) (e : Expr0) → IsShort text → SpellsExpression text e → leaves.expression text ≡ Ok e
 expression_read leaves are text e short means = expression_alike text (leaves.expression text) (Ok e) (are.0 text) (short, means)
+
+pub type_read : (leaves : Leaves) → AreLeaves leaves → (text : List ℕ) (t : Ty) → IsShort text → SpellsType text t → leaves.ty text ≡ Ok t
+type_read leaves are text t short means = type_alike text (leaves.ty text) (Ok t) (are.2 text) (short, means)
 
 pub name_read : (leaves : Leaves) → AreLeaves leaves → (sigil : Sigil) (text : List ℕ) (name : Name) → IsShort text → IsNameText sigil text name → leaves.name sigil text ≡ Ok name
 name_read leaves are sigil text name short means =

@@ -1,6 +1,7 @@
 -- The form of a hint file, as far as it is read, as one function of the file's JSON value: it answers the hints, or what is first at
 -- fault. A value is judged before what it holds, and members in the order of their bytes.
-use Rattle.std.specs.Prelude.{◌≡◌, ◌⊎◌, ℕ, ◌==◌, ◌||◌, not, Bool, true, false, List, [], ◌∷◌, ◌++◌, length, map, drop, take, codes, if◌then◌else◌, Option, Some, None, option_and_then, Ok, Err}
+use Rattle.std.specs.Prelude.{◌≡◌, ◌⊎◌, ℕ, ◌^◌, ◌==◌, ◌&&◌, ◌||◌, nat_le, not, Bool, true, false, List, [], ◌∷◌, ◌++◌, length, map, drop, take, codes, if◌then◌else◌, Option, Some, None, option_and_then, is_some, Ok, Err}
+use Rattle.std.specs.Int.{is_power_of_two}
 use Rattle.std.specs.List.{list_any}
 use Rattle.std.specs.Str.{bytes_eq}
 use Rattle.serde_json.specs.Data.{Data, string, number, unsigned, array, no_items, item}
@@ -14,10 +15,12 @@ use Rattle.ir_types.specs.declared.ty.Ty.{Ty}
 use Rattle.ir_core.specs.declared.expressions.Reg.{Reg}
 use Rattle.ir_core.specs.declared.expressions.Reg.TheVariants.{Now, Old, Ghost}
 use Rattle.ir_core.specs.Expressions.{Expr0, expr_has}
+use Rattle.ir_core.specs.Types.{kind_of}
 use Rattle.ir_types.specs.Same.{same_name}
 use Rattle.ir_lexer.specs.declared.fault.TextFault.TheVariants as text_fault
 use Rattle.expression_reader.specs.Expressions.{IsExpressionFault, SpellsExpression}
 use Rattle.expression_reader.specs.Names.{IsNameFault, SpellsName}
+use Rattle.expression_reader.specs.Types.{IsTypeFault, SpellsType}
 use Rattle.module_texts.specs.Texts.{IsShort}
 use Rattle.ir_printer.specs.ExpressionPrinter.Printed.{printed_name, printed_expr, printed_register, printed_type}
 use Rattle.erhl_assert.specs.declared.facts.Fact.{Fact}
@@ -35,6 +38,8 @@ use Rattle.erhl_assert.specs.declared.hints.HintBlock.{HintBlock}
 use Rattle.erhl_assert.specs.declared.hints.FunctionHint.{FunctionHint}
 use Rattle.erhl_assert.specs.declared.hints.Hints.{Hints}
 use Rattle.erhl_assert.specs.Edges.{is_old}
+use Rattle.hint_format.specs.declared.facts.FactKind.{FactKind}
+use Rattle.hint_format.specs.declared.facts.FactKind.TheVariants.{Ge, Unique, Private, NoAlias, Access}
 use Rattle.hint_format.specs.declared.steps.StepKind.{StepKind}
 use Rattle.hint_format.specs.declared.steps.StepKind.TheVariants.{ByRule, ByGhost, BySame}
 use Rattle.json_forms.specs.declared.failure.Fault.{Fault}
@@ -49,9 +54,12 @@ use Rattle.json_forms.specs.Forms.{Reading, read_then, or_unfit, has_members, me
 abbrev pub IsNameText : Sigil → List ℕ → Name → Type 0
 IsNameText sigil text name = SpellsName sigil text name × (text ≡ printed_name sigil name)
 
--- that a text of an expression, or of a name, passes a limit is first at fault in it
+-- that a text of an expression, of a type or of a name passes a limit is first at fault in it
 abbrev pub PassesAsExpression : List ℕ → Limit → Type 0
 PassesAsExpression text l = IsExpressionFault text (text_fault.Limit l)
+
+abbrev pub PassesAsType : List ℕ → Limit → Type 0
+PassesAsType text l = IsTypeFault text (text_fault.Limit l)
 
 abbrev pub PassesAsName : Sigil → List ℕ → Limit → Type 0
 PassesAsName sigil text l = IsNameFault sigil text (text_fault.Limit l)
@@ -62,15 +70,17 @@ IsTextReading Means Passes text (Ok a) = IsShort text × Means text a
 IsTextReading {A} Means Passes text (Err fault) =
     ((l : Limit) × Passes text l × (fault ≡ Past l)) ⊎ (((l : Limit) → Passes text l → ⊥) × ((a : A) → Means text a → ⊥) × (fault ≡ here))
 
--- what expressions and names are read as
+-- what expressions, names and types are read as
 pub record Leaves : Type 0 where
   pub expression : List ℕ → Reading Expr0
   pub name : Sigil → List ℕ → Reading Name
+  pub ty : List ℕ → Reading Ty
 
--- they go by the spelling of the logic's expressions and of names, and by nothing else
+-- they go by the spelling of the logic's expressions, of names and of types, and by nothing else
 abbrev pub AreLeaves : Leaves → Type 0
 AreLeaves leaves = ((text : List ℕ) → IsTextReading SpellsExpression PassesAsExpression text (leaves.expression text))
     × ((sigil : Sigil) (text : List ℕ) → IsTextReading (IsNameText sigil) (PassesAsName sigil) text (leaves.name sigil text))
+    × ((text : List ℕ) → IsTextReading SpellsType PassesAsType text (leaves.ty text))
 
 -- ---- registers and expressions
 
@@ -98,19 +108,66 @@ old_or_other leaves may_be_old text None = ghost_or_now leaves text (behind (cod
 abbrev pub register_of_text : Leaves → Bool → List ℕ → Reading Reg
 register_of_text leaves may_be_old text = old_or_other leaves may_be_old text (behind (codes "old ") text)
 
+-- a register as it is now, `%x`, and no other
+abbrev pub now_of_text : Leaves → List ℕ → Reading Reg
+now_of_text leaves text = read_then (leaves.name Local text) (λ name. Ok (Now name))
+
+-- ---- types and alignments
+
+-- an integer of 1 to 64 bits, or a pointer
+abbrev pub type_of_text : Leaves → List ℕ → Reading Ty
+type_of_text leaves text = read_then (leaves.ty text) (λ t. if is_some (kind_of t) then Ok t else Err here)
+
+-- a power of two, 2 to the 29 at most
+abbrev pub is_align : ℕ → Bool
+is_align n = is_power_of_two n && nat_le n (2 ^ 29)
+
+abbrev pub align_form : Data → Reading ℕ
+align_form d = read_then (u64_of d) (λ n. if is_align n then Ok n else Err here)
+
 -- ---- facts and steps
 
--- the one kind of fact
-abbrev pub ge_of_text : List ℕ → Reading (Unit {0})
-ge_of_text word = if bytes_eq word (codes "ge") then Ok tt else Err here
+-- the word with which a fact of each kind begins
+abbrev pub kind_of_text : List ℕ → Reading FactKind
+kind_of_text word = if bytes_eq word (codes "ge") then Ok Ge
+    else (if bytes_eq word (codes "unique") then Ok Unique
+    else (if bytes_eq word (codes "private") then Ok Private
+    else (if bytes_eq word (codes "noalias") then Ok NoAlias
+    else (if bytes_eq word (codes "ok") then Ok Access else Err here))))
 
--- `["ge", E, E]`. Another length is the fault of the array, also where it begins with `"ge"`; another first entry is at fault itself.
+-- how many entries it has
+abbrev pub size_of : FactKind → ℕ
+size_of Ge = 3
+size_of Unique = 2
+size_of Private = 2
+size_of NoAlias = 3
+size_of Access = 4
+
+abbrev pub expression_at : ℕ → Leaves → Bool → Data → Reading Expr0
+expression_at i leaves may_be_old d = item_of i (λ e. text_of (expression_of_text leaves may_be_old) e) d
+
+abbrev pub register_at : ℕ → Leaves → Data → Reading Reg
+register_at i leaves d = item_of i (λ e. text_of (now_of_text leaves) e) d
+
+abbrev pub fact_as : FactKind → Leaves → Bool → Data → Reading Fact
+fact_as Ge leaves may_be_old d =
+    read_then (expression_at 1 leaves may_be_old d) (λ a. read_then (expression_at 2 leaves may_be_old d) (λ b. Ok (LessDef a b)))
+fact_as Unique leaves may_be_old d = read_then (register_at 1 leaves d) (λ r. Ok (fact.Unique r))
+fact_as Private leaves may_be_old d = read_then (register_at 1 leaves d) (λ r. Ok (fact.Private r))
+fact_as NoAlias leaves may_be_old d =
+    read_then (expression_at 1 leaves may_be_old d) (λ a. read_then (expression_at 2 leaves may_be_old d) (λ b. Ok (fact.NoAlias a b)))
+fact_as Access leaves may_be_old d =
+    read_then (expression_at 1 leaves may_be_old d) (λ a.
+    read_then (item_of 2 (λ e. text_of (type_of_text leaves) e) d) (λ t.
+    read_then (item_of 3 align_form d) (λ align.
+    Ok (fact.Ok a t align))))
+
+-- `["ge", E, E]`, `["unique", R]`, `["private", R]`, `["noalias", E, E]` or `["ok", E, TYPE, ALIGN]`. A length that no fact has is the fault of
+-- the array, and so is one that isn't that of its kind; a first entry that begins no fact is at fault itself.
 abbrev pub fact_form : Leaves → Bool → Data → Reading Fact
-fact_form leaves may_be_old d = if count_of d == 3
-    then read_then (item_of 0 (λ e. text_of ge_of_text e) d) (λ _.
-    read_then (item_of 1 (λ e. text_of (expression_of_text leaves may_be_old) e) d) (λ a.
-    read_then (item_of 2 (λ e. text_of (expression_of_text leaves may_be_old) e) d) (λ b.
-    Ok (LessDef a b))))
+fact_form leaves may_be_old d = if (count_of d == 2) || ((count_of d == 3) || (count_of d == 4))
+    then read_then (item_of 0 (λ e. text_of kind_of_text e) d) (λ kind.
+    if count_of d == size_of kind then fact_as kind leaves may_be_old d else Err here)
     else Err here
 
 -- any text, since only the checker knows which rules there are

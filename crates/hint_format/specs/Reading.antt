@@ -4,12 +4,14 @@ use Rattle.std.proofs.Common.{inl, inr}
 use Rattle.std.specs.Str.{bytes_eq}
 use Rattle.ir_types.specs.declared.names.Name.{Name}
 use Rattle.ir_types.specs.declared.names.Sigil.{Sigil}
+use Rattle.ir_types.specs.declared.ty.Ty.{Ty}
 use Rattle.ir_core.specs.Expressions.{Expr0}
 use Rattle.ir_printer.specs.ExpressionPrinter.Printed.{printed_name}
 use Rattle.ir_lexer.specs.declared.fault.TextFault.{TextFault}
 use Rattle.ir_lexer.specs.declared.fault.TextFault.TheVariants as text_fault
 use Rattle.expression_reader.proofs.Judged.{judged_expression}
 use Rattle.expression_reader.proofs.NameTexts.{judged_name}
+use Rattle.expression_reader.proofs.TypeJudged.{judged_type}
 use Rattle.json_forms.specs.declared.failure.Failure.{Failure}
 use Rattle.json_forms.specs.declared.failure.Failure.TheVariants.{Form, Memory}
 use Rattle.json_forms.specs.declared.failure.Fault.{Fault}
@@ -39,6 +41,9 @@ expression_reading text = reading_of (judged_expression text)
 abbrev pub name_reading : Sigil → List ℕ → Reading Name
 name_reading sigil text = reading_of (judged_name sigil text)
 
+abbrev pub type_reading : List ℕ → Reading Ty
+type_reading text = reading_of (judged_type text)
+
 -- the name itself, if it is printed as the text
 abbrev pub if_printed : Sigil → List ℕ → Name → Reading Name
 if_printed sigil text name = if bytes_eq (printed_name sigil name) text then Ok name else Err here
@@ -47,4 +52,5 @@ abbrev pub read_leaves : Leaves
 read_leaves = record {
   expression = expression_reading;
   name = λ sigil text. read_then (name_reading sigil text) (if_printed sigil text);
+  ty = type_reading;
 }

@@ -1,4 +1,4 @@
-//! The texts of a hint file: expressions and names.
+//! The texts of a hint file: expressions, types and names.
 ghost use Rattle.std.specs.Prelude.{◌≡◌, codes, IfOk, Ok};
 ghost use Rattle.std.specs.List.{list_any};
 ghost use Rattle.std.specs.Option.{option_copied};
@@ -12,11 +12,11 @@ ghost use Rattle.ir_core.specs.declared.operands.Operand.{Operand};
 ghost use Rattle.ir_types.specs.declared.names.Sigil.TheVariants.{Local};
 ghost use Rattle.ir_core.specs.Expressions.{atom_has, expr_has};
 ghost use Rattle.erhl_assert.specs.Edges.{is_old};
-ghost use Rattle.hint_format.specs.Form.{behind, expression_of_text, ghost_or_now, old_register, register_of_text};
-ghost use Rattle.hint_format.specs.Reading.{expression_reading, failure_of, name_reading, read_leaves};
+ghost use Rattle.hint_format.specs.Form.{behind, expression_of_text, ghost_or_now, now_of_text, old_register, register_of_text, type_of_text};
+ghost use Rattle.hint_format.specs.Reading.{expression_reading, failure_of, name_reading, read_leaves, type_reading};
 
-use expression_reader::{read_expr, read_name};
-use ir_core::{Atom, Expr, Expr0, Name, Operand, Reg, Sigil};
+use expression_reader::{read_expr, read_name, read_type};
+use ir_core::{Atom, Expr, Expr0, Name, Operand, Reg, Sigil, Ty, kind_of};
 use ir_lexer::TextFault;
 use ir_printer::print_name;
 use json_forms::{Failure, Fault, TextForm, unfit};
@@ -101,6 +101,34 @@ fn expression(alloc: Global, text: &str) -> Result<Expr0, Failure>
     }
 }
 
+/// A type of values: an integer or a pointer.
+#[derive(Drop)]
+pub(crate) struct TypeText;
+
+impl TextForm for TypeText {
+    type Value = Ty;
+
+    ghost text_form = { λ _. type_of_text read_leaves };
+
+    fn read_text(&self, alloc: Global, text: &str) -> Result<Ty, Failure> {
+        let ty = spelled_type(alloc, text)?;
+        if kind_of(&ty).is_some() {
+            Ok(ty)
+        } else {
+            Err(unfit(alloc))
+        }
+    }
+}
+
+fn spelled_type(alloc: Global, text: &str) -> Result<Ty, Failure>
+    ensures { Answers result (type_reading text.now) }
+{
+    match read_type(alloc, text.as_bytes()) {
+        Ok(ty) => Ok(ty),
+        Err(fault) => Err(failure_of(alloc, fault)),
+    }
+}
+
 /// A register of the logic: `%x`, `old %x` or `ghost %x`.
 #[derive(Drop)]
 pub(crate) struct RegisterText {
@@ -162,6 +190,20 @@ fn register(alloc: Global, may_be_old: bool, text: &[u8]) -> Result<Reg, Failure
     match behind(b"old ", text) {
         Some(rest) => old_register(alloc, may_be_old, rest),
         None => ghost_or_now(alloc, text),
+    }
+}
+
+/// A register as it is now: `%x`.
+#[derive(Drop)]
+pub(crate) struct NowText;
+
+impl TextForm for NowText {
+    type Value = Reg;
+
+    ghost text_form = { λ _. now_of_text read_leaves };
+
+    fn read_text(&self, alloc: Global, text: &str) -> Result<Reg, Failure> {
+        now_register(alloc, text.as_bytes())
     }
 }
 

@@ -1,5 +1,5 @@
--- Modules in range that are over integers alone: what is asked of both together, part by part, and that such modules pass no limit of depth or size.
-use Rattle.std.proofs.Common.{◌≡◌, ℕ, Bool, true, false, not, List, [], ◌∷◌, length, refl, ap}
+-- Modules of integers alone, as the examples are: what is asked of one part by part, and that it is in range.
+use Rattle.std.proofs.Common.{◌≡◌, ℕ, Bool, true, List, [], ◌∷◌, length, ap}
 use Rattle.std.specs.List.{AllByRecursion, flat_map}
 use Rattle.ir_core.specs.declared.expressions.Expr.{Expr}
 use Rattle.ir_core.specs.declared.expressions.Expr.TheVariants as expr
@@ -10,25 +10,21 @@ use Rattle.ir_core.specs.declared.functions.Function.{Function}
 use Rattle.ir_core.specs.declared.functions.Instr.{Instr}
 use Rattle.ir_core.specs.declared.functions.Instr.TheVariants as instr
 use Rattle.ir_core.specs.declared.modules.Declaration.{Declaration}
-use Rattle.ir_core.specs.declared.modules.GlobalVar.{GlobalVar}
 use Rattle.ir_core.specs.declared.modules.Linkage.TheVariants as linkage
 use Rattle.ir_core.specs.declared.modules.Module.{Module}
 use Rattle.ir_types.specs.declared.named.NamedTy.{NamedTy}
 use Rattle.ir_types.specs.declared.names.Name.{Name}
 use Rattle.ir_core.specs.declared.operands.Atom.{Atom}
 use Rattle.ir_core.specs.declared.operands.Atom.TheVariants.{Constant, Register}
-use Rattle.ir_core.specs.declared.operands.Const.{Const}
 use Rattle.ir_core.specs.declared.operands.Const.TheVariants as constant
 use Rattle.ir_core.specs.declared.operands.Operand.{Operand}
 use Rattle.ir_types.specs.declared.ty.Ty.{Ty}
 use Rattle.ir_types.specs.declared.ty.Ty.TheVariants as ty
 use Rattle.ir_types.specs.Named.{fields_or_none}
-use Rattle.ir_core.specs.Expressions.{type_of}
-use Rattle.ir_core.specs.Functions.{cases_of, names_of, operands_in_block, set_by, typed_of}
-use Rattle.ir_core.specs.Integers.{AreFieldsIntegers, IsIntegerFunction, IsIntegerOperand, IsIntegerResult, IsOverIntegers, is_integer_line, is_of_memory, is_integer_atom}
+use Rattle.ir_core.specs.Functions.{cases_of, names_of, operands_in_block, typed_of}
 use Rattle.ir_core.specs.Modules.{extensions_of, not_extended}
 use Rattle.ir_core.specs.Ranges.{IsAtomInRange, IsCaseInRange, IsDeclarationInRange, IsFunctionInRange, IsGlobalInRange, IsInRange, IsLineInRange, IsNameInRange, IsNamedTypeInRange, IsOperandInRange, IsResultInRange, IsRightInRange, IsTypeInRange, StandBehind, constant_at_level, may_have}
-use Rattle.ir_core.specs.Types.{constant_fits, is_integer, is_width}
+use Rattle.ir_core.specs.Types.{constant_fits, is_width}
 use Rattle.ir_core.proofs.Constants as constants
 
 -- ---- what is asked
@@ -88,90 +84,7 @@ pub all_so : {A : Type 0} (P Q : A → Type 0) → ((a : A) → P a → Q a) →
 all_so P Q so [] all = tt
 all_so P Q so (x ∷ xs) all = (so x all.0, all_so P Q so xs all.1)
 
-all_and : {A : Type 0} (P Q R : A → Type 0) → ((a : A) → P a → Q a → R a) → (xs : List A) → AllByRecursion P xs → AllByRecursion Q xs → AllByRecursion R xs
-all_and P Q R so [] all also = tt
-all_and P Q R so (x ∷ xs) all also = (so x all.0 also.0, all_and P Q R so xs all.1 also.1)
-
--- ---- of both together
-
-narrow_type : (t : Ty) → IsTypeInRange t → is_integer t ≡ true → IsNarrowType t
-narrow_type (ty.Int width) range integer = range
-narrow_type t range integer = absurd cc
-
-narrow_result : (t : Ty) → IsResultInRange t → IsIntegerResult t → IsNarrowResult t
-narrow_result ty.Void range integer = tt
-narrow_result (ty.Int width) range integer = range
-narrow_result t range integer = absurd cc
-
-narrow_atom : {R : Type 0} (t : Ty) (a : Atom R) → is_integer t ≡ true → IsAtomInRange t a → is_integer_atom a ≡ true → IsNarrowAtom t a
-narrow_atom t (Constant (constant.Number n)) integer range plain = range
-narrow_atom (ty.Int width) (Constant constant.Undef) integer range plain = refl
-narrow_atom t (Constant constant.Undef) integer range plain = absurd cc
-narrow_atom t (Constant c) integer range plain = absurd cc
-narrow_atom t (Register r) integer range plain = tt
-
-narrow_operand : {R : Type 0} (o : Operand R) → IsOperandInRange o → IsIntegerOperand o → IsNarrowOperand o
-narrow_operand o range integer = (narrow_type o.ty range.0 integer.0, narrow_atom o.ty o.atom integer.0 range.1 integer.1)
-
-pub narrow_flags : {R : Type 0} (e : Expr R) → IsRightInRange e → not (is_of_memory e) ≡ true → AreNarrowFlags e
-narrow_flags (expr.Plain o) range calm = tt
-narrow_flags (expr.Binary b) range calm = range
-narrow_flags (expr.Icmp c) range calm = tt
-narrow_flags (expr.Cast c) range calm = tt
-narrow_flags (expr.Select s) range calm = tt
-narrow_flags (expr.Element e) range calm = absurd cc
-narrow_flags (expr.Load l) range calm = absurd cc
-
-narrow_line : (line : Instr) → IsLineInRange line → is_integer_line line ≡ true → IsNarrowLine line
-narrow_line (instr.Calm c) range calm = narrow_flags c.right range calm
-narrow_line (instr.Alloca a) range calm = absurd cc
-narrow_line (instr.Store s) range calm = absurd cc
-narrow_line (instr.Call c) range calm = absurd cc
-
--- a case is a number of an integer type
-narrow_case_type : (t : Ty) (n : ℕ) → IsTypeInRange t → constant_fits t (constant.Number n) ≡ true → IsNarrowType t
-narrow_case_type (ty.Int width) n range fits = range
-narrow_case_type t n range fits = absurd cc
-
-narrow_case : (c : Case) → IsCaseInRange c → IsNarrowCase c
-narrow_case c range = (narrow_case_type c.ty c.number range.0 range.1, range.1)
-
-pub narrow_function : (f : Function) → IsFunctionInRange f → IsIntegerFunction f → IsNarrowFunction f
-narrow_function f range integer = record {
-  name = range.name;
-  names = range.names;
-  result = narrow_result f.result range.result integer.result;
-  registers =
-      all_and (λ (r : Name × Ty). IsTypeInRange r.1) (λ (r : Name × Ty). is_integer r.1 ≡ true) (λ (r : Name × Ty). IsNarrowType r.1)
-      (λ r is also. narrow_type r.1 is also) (typed_of f) range.registers integer.registers;
-  operands =
-      all_and IsOperandInRange IsIntegerOperand IsNarrowOperand (λ o is also. narrow_operand o is also) (flat_map operands_in_block f.blocks)
-      range.operands integer.operands;
-  flags =
-      all_and IsLineInRange (λ (line : Instr). is_integer_line line ≡ true) IsNarrowLine narrow_line (flat_map (λ (b : Block). b.body) f.blocks)
-      range.lines integer.lines;
-  cases = all_so IsCaseInRange IsNarrowCase narrow_case (flat_map (λ (b : Block). cases_of b.term) f.blocks) range.cases;
-  linkage = integer.linkage;
-  extensions = integer.extensions;
-}
-
-narrow_named : (t : NamedTy) → IsNamedTypeInRange t → AreFieldsIntegers t → IsNarrowNamedType t
-narrow_named t range integer = record {
-  name = range.name;
-  fields = all_and IsTypeInRange (λ (field : Ty). is_integer field ≡ true) IsNarrowType narrow_type (fields_or_none t.fields) range.fields integer;
-}
-
-pub narrow : (m : Module) → IsInRange m → IsOverIntegers m → IsNarrow m
-narrow m range integers = record {
-  types =
-      all_and IsNamedTypeInRange AreFieldsIntegers IsNarrowNamedType
-      narrow_named m.types range.types integers.types;
-  globals = integers.globals;
-  functions = all_and IsFunctionInRange IsIntegerFunction IsNarrowFunction narrow_function m.functions range.functions integers.functions;
-  declarations = integers.declarations;
-}
-
--- ---- and each apart
+-- ---- each is in range
 
 wide_type : (t : Ty) → IsNarrowType t → IsTypeInRange t
 wide_type (ty.Int width) is = is
@@ -239,61 +152,4 @@ wide m is = record {
   functions = all_so IsNarrowFunction IsFunctionInRange wide_function m.functions is.functions;
   declarations = none_of IsDeclarationInRange m.declarations is.declarations;
   order = none_behind 0 (length m.functions) m.declarations is.declarations;
-}
-
-integer_type : (t : Ty) → IsNarrowType t → is_integer t ≡ true
-integer_type (ty.Int width) is = refl
-integer_type t is = absurd is
-
-integer_result : (t : Ty) → IsNarrowResult t → IsIntegerResult t
-integer_result ty.Void is = tt
-integer_result (ty.Int width) is = refl
-integer_result t is = absurd is
-
-integer_atom : {R : Type 0} (t : Ty) (a : Atom R) → IsNarrowAtom t a → is_integer_atom a ≡ true
-integer_atom t (Constant (constant.Number n)) is = refl
-integer_atom t (Constant constant.Undef) is = refl
-integer_atom (ty.Int width) (Constant c) is = absurd cc
-integer_atom t (Constant c) is = absurd cc
-integer_atom t (Register r) is = refl
-
-integer_operand : {R : Type 0} (o : Operand R) → IsNarrowOperand o → IsIntegerOperand o
-integer_operand o is = (integer_type o.ty is.0, integer_atom o.ty o.atom is.1)
-
-calm_flags : {R : Type 0} (e : Expr R) → AreNarrowFlags e → not (is_of_memory e) ≡ true
-calm_flags (expr.Plain o) is = refl
-calm_flags (expr.Binary b) is = refl
-calm_flags (expr.Icmp c) is = refl
-calm_flags (expr.Cast c) is = refl
-calm_flags (expr.Select s) is = refl
-calm_flags (expr.Element e) is = absurd is
-calm_flags (expr.Load l) is = absurd is
-
-pub integer_line : (line : Instr) → IsNarrowLine line → is_integer_line line ≡ true
-integer_line (instr.Calm c) is = calm_flags c.right is
-integer_line (instr.Alloca a) is = absurd is
-integer_line (instr.Store s) is = absurd is
-integer_line (instr.Call c) is = absurd is
-
-pub integer_function : (f : Function) → IsNarrowFunction f → IsIntegerFunction f
-integer_function f is = record {
-  result = integer_result f.result is.result;
-  registers = all_so (λ (r : Name × Ty). IsNarrowType r.1) (λ (r : Name × Ty). is_integer r.1 ≡ true) (λ r narrow. integer_type r.1 narrow) (typed_of f) is.registers;
-  operands = all_so IsNarrowOperand IsIntegerOperand (λ o narrow. integer_operand o narrow) (flat_map operands_in_block f.blocks) is.operands;
-  lines = all_so IsNarrowLine (λ (line : Instr). is_integer_line line ≡ true) integer_line (flat_map (λ (b : Block). b.body) f.blocks) is.flags;
-  linkage = is.linkage;
-  extensions = is.extensions;
-}
-
-integer_named : (t : NamedTy) → IsNarrowNamedType t → AreFieldsIntegers t
-integer_named t is = all_so IsNarrowType (λ (field : Ty). is_integer field ≡ true) integer_type (fields_or_none t.fields) is.fields
-
-pub integers : (m : Module) → IsNarrow m → IsOverIntegers m
-integers m is = record {
-  types =
-      all_so IsNarrowNamedType AreFieldsIntegers integer_named
-      m.types is.types;
-  globals = is.globals;
-  functions = all_so IsNarrowFunction IsIntegerFunction integer_function m.functions is.functions;
-  declarations = is.declarations;
 }

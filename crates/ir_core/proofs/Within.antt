@@ -1,4 +1,4 @@
--- A module in range that is over integers alone passes no limit: none of them is deep, and it wants no memory.
+-- Such a module passes no limit: none of its parts is deep, and it wants no memory.
 use Rattle.std.proofs.Common.{◌≡◌, ◌≤◌, ◌++◌, ℕ, true, List, [], ◌∷◌, map, Option, None, Some, Err, refl, sym, ap, subst, arith}
 use Rattle.std.specs.List.{AllByRecursion, flat_map}
 use Rattle.ir_types.specs.declared.named.NamedTy.{NamedTy}
@@ -26,10 +26,8 @@ use Rattle.ir_core.specs.declared.operands.Operand.{Operand}
 use Rattle.ir_core.specs.Depths.{AreShallow, IsShallow, deepest, depth_at_level, depth_at_part, depth_of, depth_of_atom, depth_of_constant, depth_of_operand, depths_at_line, depths_at_phi, depths_in_block, depths_in_declaration, depths_in_fields, depths_in_function, depths_in_global, depths_in_named}
 use Rattle.ir_core.specs.Expressions.{operands_in, type_of}
 use Rattle.ir_core.specs.Functions.{cases_of, line_count, operands_at_end, operands_in_block, operands_of, operands_of_phi, params_of, phi_registers, registers_of, set_by}
-use Rattle.ir_core.specs.Integers.{IsOverIntegers}
 use Rattle.ir_core.specs.Limits.{depth_limit, line_limit}
-use Rattle.ir_core.proofs.Narrow.{AreNarrowFlags, IsNarrowAtom, IsNarrowCase, IsNarrowFunction, IsNarrow, IsNarrowLine, IsNarrowNamedType, IsNarrowOperand, IsNarrowResult, IsNarrowType, narrow, wide}
-use Rattle.ir_core.specs.Ranges.{IsInRange}
+use Rattle.ir_core.proofs.Narrow.{AreNarrowFlags, IsNarrowAtom, IsNarrowCase, IsNarrowFunction, IsNarrow, IsNarrowLine, IsNarrowNamedType, IsNarrowOperand, IsNarrowResult, IsNarrowType, wide}
 use Rattle.ir_core.specs.Sizes.{AreSmall, Blocks, IsSmall, Wanted, wanted_apart, wanted_at_level, wanted_by_atom, wanted_by_constant, wanted_by_global, wanted_by_line, wanted_by_operands, wanted_in_block, wanted_in_function}
 use Rattle.ir_core.specs.StatedTypes.{stated_apart}
 use Rattle.ir_core.specs.Types.{constant_fits}
@@ -328,6 +326,3 @@ well_formed m shape defined narrow lines = record {
   lines = lines;
   blocks = small m narrow;
 }
-
-pub lies_within : (m : Module) → IsInRange m → IsOverIntegers m → IsShallow m × IsSmall m
-lies_within m range integers = let both = narrow m range integers in (shallow m both, small m both)

@@ -14,7 +14,6 @@ pub mod Sizes
 pub mod Placed
 pub mod Order
 pub mod Ranges
-pub mod Integers
 pub mod WellFormed
 pub mod Examples
 pub mod Laws

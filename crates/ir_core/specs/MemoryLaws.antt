@@ -1,4 +1,4 @@
--- Of lines and constants of memory: how they are read, and that no module over integers alone has them.
+-- Of lines of memory: how they are read.
 use Rattle.std.specs.Prelude.{◌≡◌, false, true, [], ◌∷◌, Option, None, Some}
 use Rattle.ir_types.specs.declared.names.Name.{Name}
 use Rattle.ir_types.specs.declared.ty.Ty.{Ty, Int, Ptr, Void}
@@ -10,17 +10,12 @@ use Rattle.ir_core.specs.declared.expressions.Load.{Load}
 use Rattle.ir_core.specs.declared.functions.Alloca.{Alloca}
 use Rattle.ir_core.specs.declared.functions.Call.{Call}
 use Rattle.ir_core.specs.declared.functions.Extensions.{Extensions}
-use Rattle.ir_core.specs.declared.functions.Function.{Function}
 use Rattle.ir_core.specs.declared.functions.Instr.{Instr}
 use Rattle.ir_core.specs.declared.functions.Instr.TheVariants as line
 use Rattle.ir_core.specs.declared.functions.Store.{Store}
-use Rattle.ir_core.specs.declared.operands.Atom.TheVariants.{Constant}
-use Rattle.ir_core.specs.declared.operands.Const.{Const, Number, Null, Global}
-use Rattle.ir_core.specs.declared.operands.Const as constant
-use Rattle.ir_core.specs.Examples.{alone, block, f, function, held, number, of_line, passing, x, y}
+use Rattle.ir_core.specs.Examples.{f, held, x, y}
 use Rattle.ir_core.specs.Expressions.{expr_has, operands_in, type_of}
 use Rattle.ir_core.specs.Functions.{operands_of, register_of}
-use Rattle.ir_core.specs.Integers.{IsOverIntegers}
 
 -- getelementptr inbounds i8, i8* %x, i8 %y
 abbrev pub addressing : Expr Name
@@ -68,27 +63,3 @@ pub record MemoryLinesAreRead : Type 0 where
   pub call : register_of (calling (Some x) (Int 8)) ≡ Some (x, Int 8)
   pub nameless : register_of (calling None Void) ≡ None
   pub arguments : operands_of (calling None Void) ≡ held (Int 8) x ∷ held (Int 8) y ∷ []
-
--- define i32 @f() { f: instr  ret i32 0 }
-abbrev pub of_instr : Instr → Function
-of_instr instr = function (Int 32) f (block f (instr ∷ []) (Int 32) (number 0) ∷ [])
-
--- define i8 @f(i8 %x) { y: ret i8 constant }
-abbrev pub returning_constant : Const → Function
-returning_constant c = passing (Int 8) (Int 8) (Int 8) (Constant c)
-
-abbrev pub IsNotOfIntegers : Function → Type 0
-IsNotOfIntegers g = IsOverIntegers (alone g) → ⊥
-
--- no function over integers alone has a constant of these, an element, a load, an alloca, a store or a call, or a pointer for a parameter
-pub record IntegersHaveNoMemory : Type 0 where
-  pub null : IsNotOfIntegers (returning_constant Null)
-  pub global : IsNotOfIntegers (returning_constant (Global x))
-  pub constant_element : IsNotOfIntegers (returning_constant (constant.Element (false, Int 8, (Ptr (Int 8), Global x) ∷ (Int 8, Number 0) ∷ [])))
-  pub constant_cast : IsNotOfIntegers (returning_constant (constant.Cast (Int 8, (Int 8, Number 0) ∷ [])))
-  pub element : (e : Element Name) → IsNotOfIntegers (of_line (expr.Element e))
-  pub load : (l : Load Name) → IsNotOfIntegers (of_line (expr.Load l))
-  pub alloca : (a : Alloca) → IsNotOfIntegers (of_instr (line.Alloca a))
-  pub store : (s : Store) → IsNotOfIntegers (of_instr (line.Store s))
-  pub call : (c : Call) → IsNotOfIntegers (of_instr (line.Call c))
-  pub pointer : IsNotOfIntegers (passing (Int 8) (Ptr (Int 8)) (Int 8) (number 0))

@@ -4,7 +4,7 @@ ghost use Rattle.ir_core.specs.Laws.{LinesWithoutOperatorsAreNot, PhisOfNoEdgeAr
 ghost use Rattle.ir_core.specs.Laws.{FunctionsOfOneNameAreNot, NamesSetTwiceAreNot, DebugNamesAreNot, FunctionsWithoutBlocksAreNot};
 ghost use Rattle.ir_core.specs.Laws.{ConversionsChangeWidths, SelectionsHaveOneType, ComparisonsGiveBits, FlagsHaveOperators, OperatorsOfFlags, VoidReturns, ExpressionsAreRead, ExpressionsAreMapped};
 ghost use Rattle.ir_core.specs.TypeLaws.{TypesHaveKinds, NamedTypesAreInRange, NamedTypesAreKnown, OtherTypesAreNot};
-ghost use Rattle.ir_core.specs.MemoryLaws.{AddressesAreRead, IntegersHaveNoMemory, MemoryLinesAreRead};
+ghost use Rattle.ir_core.specs.MemoryLaws.{AddressesAreRead, MemoryLinesAreRead};
 ghost use Rattle.ir_core.specs.Placed.{PlacesAreKept};
 ghost use Rattle.ir_core.specs.RangeLaws.{AlignmentsAndCountsHaveRanges, ConstantsHaveRanges, DeclarationsHaveRanges, DeclarationsStandInOrder, GlobalsHaveRanges, LinesHaveRanges, TypesHaveRanges};
 ghost use Rattle.ir_core.specs.FlowLaws.{JumpsGoToBlocks, PhisFollowEdges, CasesAreApart, PathsDefine, SuccessorsInOrder};
@@ -110,13 +110,11 @@ pub fn examples_of_control_flow()
 
 /// Empty on purpose: its contract is the law.
 ///
-/// The registers, types and operands of lines of memory are those of the text. No function over integers alone has `null`, a global, a
-/// constant of constants, a `getelementptr`, `load`, `alloca`, `store` or `call`.
-#[tactic(auto, using(crate::proofs::MemoryExamples::addresses_are_read, crate::proofs::MemoryExamples::memory_lines_are_read, crate::proofs::MemoryExamples::integers_have_no_memory))]
+/// The registers, types and operands of lines of memory are those of the text.
+#[tactic(auto, using(crate::proofs::MemoryExamples::addresses_are_read, crate::proofs::MemoryExamples::memory_lines_are_read))]
 pub fn examples_of_memory()
     ensures expressions { AddressesAreRead }
     ensures lines { MemoryLinesAreRead }
-    ensures integers { IntegersHaveNoMemory }
 {}
 
 /// Empty on purpose: its contract is the law.

@@ -6,6 +6,7 @@ pub mod Order
 pub mod Outside
 pub mod Stated
 pub mod Entries
+pub mod Few
 pub mod Showings
 pub mod Acts
 pub mod InKind

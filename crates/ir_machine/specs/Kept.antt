@@ -1,5 +1,6 @@
 -- Registers as the code keeps them.
-use Rattle.std.specs.Prelude.{ℤ, List, Option, None, Some}
+use Rattle.std.specs.Prelude.{ℕ, suc, ℤ, cond, List, [], ◌∷◌, Option, None, Some}
+use Rattle.std.specs.Option.{option_map}
 use Rattle.std.specs.Coded.{Unit-prop, le_prop}
 use Rattle.std.specs.Map.{lookup}
 use mathlib.Core.HLevel.{⊥_prop, Π_prop}
@@ -24,6 +25,11 @@ entry_held (Some held) = held_of held
 -- each register holds what its entry says
 abbrev pub kept_registers : List (Name × Option (Kind × Value)) → Registers
 kept_registers es = λ x. entry_held (lookup (same_name x) es)
+
+-- where the first entry of a name stands
+abbrev pub place_in : Name → List (Name × Option (Kind × Value)) → Option ℕ
+place_in x [] = None
+place_in x (e ∷ es) = cond (same_name x e.0) (Some 0) (option_map suc (place_in x es))
 
 IsOffset-prop : (z : ℤ) → IsProp (IsOffset z)
 IsOffset-prop z x y = λ i. record { sfits = le_prop x.sfits y.sfits i }

@@ -1,5 +1,5 @@
 -- The state of a run, of which the code keeps the place in the module.
-use Rattle.std.specs.Prelude.{◌+◌, ℕ, zero, suc, Bool, true, false, List, [], ◌∷◌, Option, None, Some, slice_get, drop}
+use Rattle.std.specs.Prelude.{◌+◌, ◌++◌, ℕ, zero, suc, Bool, true, false, List, [], ◌∷◌, Option, None, Some, slice_get, drop}
 use Rattle.std.specs.Option.{option_and_then, option_map}
 use Rattle.ir_core.specs.declared.functions.Block.{Block}
 use Rattle.ir_core.specs.declared.functions.Call.{Call}
@@ -32,7 +32,7 @@ abbrev pub start_of : ℕ → Place
 start_of function = record { function = function; block = 0; line = 0 }
 
 abbrev pub registers_in : RegisterFile → Registers
-registers_in file = kept_registers file.held.entries
+registers_in file = kept_registers (file.few.items ++ file.held.entries)
 
 abbrev pub world_in : KeptWorld → World
 world_in kept = record { memory = kept.blocks; names = kept.names }

@@ -41,6 +41,7 @@ pub use laws::{
     one_block_runs_end, refined_runs_are_shown, returns_are_told_apart, runs_are_steps,
     runs_reach_what_they_lead_to, well_formed_runs_go_on,
 };
+pub use lines::{align_or, count_made};
 pub use machine::{KeptFrame, KeptWorld, Place, Progress, RunState, StartEnd, StepEnd, Stepped};
 pub use refinement::{answers_are_steps, no_run_is_stuck, refinement_is_a_preorder};
 pub use registers::RegisterFile;

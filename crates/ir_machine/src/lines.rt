@@ -63,7 +63,7 @@ pub(crate) fn next_line(place: Place) -> Place
 }
 
 /// The alignment of an access or of a block: its type's, where none is stated.
-pub(crate) fn align_or(types: &NamedTypes, ty: &Ty, stated: Option<u32>) -> u64
+pub fn align_or(types: &NamedTypes, ty: &Ty, stated: Option<u32>) -> u64
     ensures { result ≡ registers.align_or types.now ty.now stated }
 {
     match stated {
@@ -78,7 +78,8 @@ pub(crate) fn align_or(types: &NamedTypes, ty: &Ty, stated: Option<u32>) -> u64
     }
 }
 
-fn count_made(line: &Alloca) -> u64
+/// How many an alloca makes: one, where no count is stated.
+pub fn count_made(line: &Alloca) -> u64
     ensures { result ≡ machine.count_made line.now.count }
 {
     match &line.count {

@@ -3,6 +3,5 @@ pub mod Short
 pub mod Within
 pub mod Small
 pub mod Decided
-pub mod Ranges
 pub mod Clear
 pub mod Firsts

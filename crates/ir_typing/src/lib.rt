@@ -10,9 +10,7 @@ mod operand_laws;
 mod operand_tests;
 mod shape_kinds;
 
-pub use module_limits::{
-    Judged, first_limit, first_limit_of_function, limits_are_one, ranges_lie_within,
-};
+pub use module_limits::{Judged, first_limit, first_limit_of_function, limits_are_one};
 pub use operand_laws::{
     examples_of_depths, examples_of_parts, examples_of_sizes, examples_of_wrong_calls,
     examples_of_wrong_constants, examples_of_wrong_globals,

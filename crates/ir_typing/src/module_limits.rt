@@ -9,5 +9,5 @@ mod lines;
 mod sizes;
 
 pub use judged::Judged;
-pub use laws::{limits_are_one, ranges_lie_within};
+pub use laws::limits_are_one;
 pub use limits::{first_limit, first_limit_of_function};

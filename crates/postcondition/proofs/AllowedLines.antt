@@ -2,3 +2,4 @@ pub mod Agreeing
 pub mod Atoms
 pub mod Divisors
 pub mod Leading
+pub mod Trapping

@@ -1,18 +1,24 @@
 -- What a line adds to a side, and how an aligned line goes on, within the limit on facts.
-use Rattle.std.proofs.Common.{◌≡◌, ◌∙◌, Bool, true, false, ◌||◌, cond, not, List, [], ◌∷◌, ◌++◌, map, Option, None, Some, refl, sym, ap, ap₂}
+use Rattle.std.proofs.Common.{◌≡◌, ◌∙◌, ℕ, zero, suc, Bool, true, false, ◌&&◌, ◌||◌, arith, nat_eq, nat_lt, cond, not, List, [], ◌∷◌, ◌++◌, map, Option, None, Some, refl, sym, ap, ap₂}
+use Rattle.std.proofs.lemmas.Bool.Decides.{nat_tests}
 use Rattle.std.specs.List.{list_any, flat_map}
+use Rattle.std.specs.Option.{is_none}
 use Rattle.ir_types.specs.declared.names.Name.{Name}
 use Rattle.ir_types.specs.declared.named.NamedTy.{NamedTy}
 use Rattle.ir_core.specs.declared.operands.Atom.{Atom}
 use Rattle.ir_core.specs.declared.operands.Atom.TheVariants as atom
 use Rattle.ir_core.specs.declared.operands.Operand.{Operand}
+use Rattle.ir_core.specs.declared.functions.Argument.{Argument}
 use Rattle.ir_core.specs.declared.functions.Calm.{Calm}
 use Rattle.ir_core.specs.declared.functions.Instr.{Instr}
 use Rattle.ir_core.specs.declared.functions.Instr.TheVariants as line
 use Rattle.ir_core.specs.declared.values.Kind.{Kind}
 use Rattle.ir_core.specs.declared.expressions.Expr.{Expr}
 use Rattle.ir_core.specs.declared.expressions.Load.{Load as LoadOf}
+use Rattle.ir_core.specs.declared.operands.Const.TheVariants.{Undef}
+use Rattle.ir_core.specs.Functions.{name_set}
 use Rattle.ir_core.specs.Types.{kind_of}
+use Rattle.ir_types.specs.declared.ty.Ty.{Ty}
 use Rattle.ir_machine.specs.Registers.{align_or}
 use Rattle.erhl_assert.specs.Matched.{now_operand}
 use Rattle.ir_core.specs.declared.expressions.Expr.TheVariants as expr
@@ -32,10 +38,10 @@ use Rattle.erhl_assert.specs.Alignment.{Line}
 use Rattle.erhl_assert.specs.Course.{Course, Ends, Gives, gives, and_then, are_too_many, within}
 use Rattle.erhl_assert.specs.Allowed.{line_fault}
 use Rattle.erhl_assert.specs.Growth.{adds, adds_all, facts_of, over_side, over_allowed, over_line}
-use Rattle.erhl_assert.specs.Postcondition.{accessed, accessed_by, calm_adds, copied_in, line_kills, with_align, right_side, left_side, diff_after, lines_agree, without_reg, with_reg, after_line}
+use Rattle.erhl_assert.specs.Postcondition.{accessed, accessed_by, calm_adds, changing, copied_by, line_adds, line_kills, naming, slot_adds, store_adds, with_align, right_side, left_side, diff_after, after_line}
 use Rattle.erhl_assert.proofs.Courses.{going_on, within_more, within_none, side_keeps_diff, allowed_ends, line_allowed}
 use Rattle.fact_sets.specs.ErhlSides.Joining.{says_unique}
-use Rattle.postcondition.specs.LineCourses.{access_at, access_in, over_calm}
+use Rattle.postcondition.specs.LineCourses.{access_at, access_in, are_agreed, diff_by, is_slot}
 use Rattle.postcondition.proofs.EdgeCrossing.Copying.{all_two}
 
 -- ---- what goes
@@ -118,16 +124,24 @@ pub none_shared : (side : Side) (xs : List (Atom Name)) (known : Assertion) → 
 none_shared Src xs known h = ap (λ fs. record known { src = fs }) (sym (all_kept xs known.src h))
 none_shared Tgt xs known h = ap (λ fs. record known { tgt = fs }) (sym (all_kept xs known.tgt h))
 
-pub line_killed : (side : Side) (l : Calm) (known after last : Assertion)
-    → after ≡ on_side side (killed (kill.Naming (Now l.name))) known → last ≡ on_side side (all_killed (flat_map unique_of (copied_in l.right))) after
-    → last ≡ on_side side (all_killed (line_kills (line.Calm l))) known
-line_killed side l known after last first then =
-    killed_more side (kill.Naming (Now l.name) ∷ []) (flat_map unique_of (copied_in l.right) ++ []) known after last (one side first)
-    (then ∙ ap (λ ks. on_side side (all_killed ks) after) (sym (none_more (flat_map unique_of (copied_in l.right)))))
-  where
-    one : (side : Side) → after ≡ on_side side (killed (kill.Naming (Now l.name))) known → after ≡ on_side side (all_killed (kill.Naming (Now l.name) ∷ [])) known
-    one Src h = h
-    one Tgt h = h
+pub line_killed : (side : Side) (l : Instr) (known after more last : Assertion)
+    → after ≡ on_side side (all_killed (naming (name_set l))) known → more ≡ on_side side (all_killed (flat_map unique_of (copied_by l))) after
+    → last ≡ on_side side (all_killed (changing l)) more → last ≡ on_side side (all_killed (line_kills l)) known
+line_killed side l known after more last first second third =
+    killed_more side (naming (name_set l)) (flat_map unique_of (copied_by l) ++ changing l) known after last first
+    (killed_more side (flat_map unique_of (copied_by l)) (changing l) after more last second third)
+
+-- a walk over arguments
+abbrev passed : List Argument → List (Atom Name)
+passed xs = map (λ (a : Argument). a.operand.atom) xs
+
+abbrev pub shared_passed : Side → List Argument → Assertion → Assertion
+shared_passed side xs known = on_side side (all_killed (flat_map unique_of (passed xs))) known
+
+pub passed_on : (side : Side) (a : Argument) (xs : List Argument) (known after all : Assertion)
+    → after ≡ on_side side (all_killed (flat_map unique_of (a.operand.atom ∷ []))) known → shared_passed side (a ∷ xs) known ≡ all → shared_passed side xs after ≡ all
+passed_on side a xs known after all first so_far =
+    shared_more side a.operand.atom (passed xs) known after (shared_passed side xs after) first refl ∙ so_far
 
 -- ---- what comes
 module _ (side : Side) (f : Fact) (known after : Assertion) (few : Bool) where
@@ -148,6 +162,19 @@ module _ (side : Side) (fs gs : List Fact) (known : Assertion) where
   pub second_over : (half : Assertion) → within (adds_all side fs known) ≡ Some (Gives half) → within (adds_all side gs half) ≡ None
       → within (adds_all side (fs ++ gs) known) ≡ None
   second_over half first then = all_two side fs gs known ∙ ap (λ o. going_on o (λ a. within (adds_all side gs a))) first ∙ then
+
+-- a fact, and then others
+module _ (side : Side) (f : Fact) (gs : List Fact) (known : Assertion) where
+  pub then_added : (half after : Assertion) → within (adds_all side (f ∷ []) known) ≡ Some (Gives half) → within (adds_all side gs half) ≡ Some (Gives after)
+      → within (adds_all side (f ∷ gs) known) ≡ Some (Gives after)
+  then_added half after first then = all_added side (f ∷ []) gs known half after first then
+
+  pub fact_over : within (adds_all side (f ∷ []) known) ≡ None → within (adds_all side (f ∷ gs) known) ≡ None
+  fact_over first = first_over side (f ∷ []) gs known first
+
+  pub then_over : (half : Assertion) → within (adds_all side (f ∷ []) known) ≡ Some (Gives half) → within (adds_all side gs half) ≡ None
+      → within (adds_all side (f ∷ gs) known) ≡ None
+  then_over half first then = second_over side (f ∷ []) gs known half first then
 
 -- a load that gets its alignment names what it named
 named_as : (types : List NamedTy) (r : Reg) (e : Expr0) → expr_names r (with_align types e) ≡ expr_names r e
@@ -191,64 +218,71 @@ module _ (types : List NamedTy) (l : Calm) where
   comes b h = ap₂ (λ (xs ys : List Fact). xs ++ ys) (ap (λ c. cond c [] equation) (named_as types (Now l.name) (map_expr Now l.right) ∙ h)) (access_of b l.right h)
 
   module _ (side : Side) (known : Assertion) where
-    pub line_added : (kept : Assertion) → kept ≡ on_side side (all_killed (line_kills (line.Calm l))) known → is_own ≡ false
-        → over_calm types side l known ≡ adds_all side (equation ++ access_in types l.right) kept
-    line_added kept at h = ap₂ (λ (fs : List Fact) (k : Assertion). adds_all side fs k) (comes false h) (sym at)
+    pub line_added : is_own ≡ false → adds_all side (calm_adds types l) known ≡ adds_all side (equation ++ access_in types l.right) known
+    line_added h = ap (λ (fs : List Fact). adds_all side fs known) (comes false h)
 
-    pub line_not_added : (kept : Assertion) → kept ≡ on_side side (all_killed (line_kills (line.Calm l))) known → is_own ≡ true
-        → within (over_calm types side l known) ≡ Some (Gives kept)
-    line_not_added kept at h = ap₂ (λ (fs : List Fact) (k : Assertion). within (adds_all side fs k)) (comes true h) (sym at)
+    pub line_not_added : is_own ≡ true → within (adds_all side (calm_adds types l) known) ≡ Some (Gives known)
+    line_not_added h = ap (λ (fs : List Fact). within (adds_all side fs known)) (comes true h)
+
+-- a slot, and what is none
+pub slots : (o : Option Kind) (count : ℕ) (t : Ty) (p : Operand Reg) (align : ℕ)
+    → slot_adds o count t p align ≡ cond (is_slot o count align) (store_adds t (record { ty = t; atom = atom.Constant Undef }) p align) []
+slots None count t p align = refl
+slots (Some k) zero t p align = refl
+slots (Some k) (suc count) t p align = ap (λ b. cond b (store_adds t (record { ty = t; atom = atom.Constant Undef }) p align) []) (tested count align)
+  where
+    tested : (count align : ℕ) → nat_lt 0 align ≡ (not (nat_eq (suc count) 0) && not (nat_eq align 0))
+    tested count align = grind (arith, nat_tests)
+
+pub killed_and_added : (types : List NamedTy) (one_sided : Bool) (side : Side) (l : Instr) (known kept : Assertion) → kept ≡ on_side side (all_killed (line_kills l)) known
+    → over_side types one_sided side (Some l) known ≡ adds_all side (line_adds types one_sided l) kept
+killed_and_added types one_sided side l known kept at = ap (adds_all side (line_adds types one_sided l)) (sym at)
 
 -- ---- an aligned line
-module _ (types : List NamedTy) (known : Assertion) where
-  pub both_done : (s t : Calm) (half after : Assertion)
-      → within (over_calm types Src s known) ≡ Some (Gives half) → within (over_calm types Tgt t half) ≡ Some (Gives after)
-      → within (over_allowed types (record { source = Some (line.Calm s); target = Some (line.Calm t) }) known)
-      ≡ Some (Gives (record after { diff = diff_after known (Some (line.Calm s)) (Some (line.Calm t)) }))
-  both_done s t half after first second =
-      let last : Assertion → Course Assertion = λ after. gives (record after { diff = diff_after known (Some (line.Calm s)) (Some (line.Calm t)) }) in
-      within_more (over_calm types Src s known) (λ half. and_then (over_calm types Tgt t half) last) half first
-      ∙ within_more (over_calm types Tgt t half) last after second
+diff_is : (known : Assertion) (s t : Option Instr) → diff_after known s t ≡ diff_by (are_agreed known s t) s t known.diff
+diff_is known None None = refl
+diff_is known None (Some (line.Calm t)) = refl
+diff_is known None (Some (line.Alloca t)) = refl
+diff_is known None (Some (line.Store t)) = refl
+diff_is known None (Some (line.Call t)) = refl
+diff_is known (Some (line.Calm s)) None = refl
+diff_is known (Some (line.Calm s)) (Some (line.Calm t)) = refl
+diff_is known (Some (line.Calm s)) (Some (line.Alloca t)) = refl
+diff_is known (Some (line.Calm s)) (Some (line.Store t)) = refl
+diff_is known (Some (line.Calm s)) (Some (line.Call t)) = refl
+diff_is known (Some (line.Alloca s)) None = refl
+diff_is known (Some (line.Alloca s)) (Some (line.Calm t)) = refl
+diff_is known (Some (line.Alloca s)) (Some (line.Alloca t)) = refl
+diff_is known (Some (line.Alloca s)) (Some (line.Store t)) = refl
+diff_is known (Some (line.Alloca s)) (Some (line.Call t)) = refl
+diff_is known (Some (line.Store s)) t = refl
+diff_is known (Some (line.Call s)) t = refl
 
-  pub both_end : (s t : Calm) (half after last : Assertion) (agreed : Bool) → agreed ≡ lines_agree known s t
-      → within (over_calm types Src s known) ≡ Some (Gives half) → within (over_calm types Tgt t half) ≡ Some (Gives after)
-      → last ≡ record after { diff = cond agreed (without_reg (Now s.name) after.diff) (with_reg (Now t.name) (with_reg (Now s.name) after.diff)) }
-      → within (over_allowed types (record { source = Some (line.Calm s); target = Some (line.Calm t) }) known) ≡ Some (Gives last)
-  both_end s t half after last agreed is first second at =
-      both_done s t half after first second
+module _ (types : List NamedTy) (known : Assertion) (s t : Option Instr) where
+  abbrev last_of : Assertion → Course Assertion
+  last_of after = gives (record after { diff = diff_after known s t })
+
+  pub all_done : (half after last : Assertion) (agreed : Bool) → agreed ≡ are_agreed known s t
+      → within (over_side types (is_none t) Src s known) ≡ Some (Gives half) → within (over_side types (is_none s) Tgt t half) ≡ Some (Gives after)
+      → last ≡ record after { diff = diff_by agreed s t after.diff }
+      → within (over_allowed types (record { source = s; target = t }) known) ≡ Some (Gives last)
+  all_done half after last agreed is first second at =
+      within_more (over_side types (is_none t) Src s known) (λ half. and_then (over_side types (is_none s) Tgt t half) last_of) half first
+      ∙ within_more (over_side types (is_none s) Tgt t half) last_of after second
+      ∙ ap (λ d. Some (Gives (record after { diff = d }))) (diff_is known s t)
       ∙ ap (λ a. Some (Gives a)) (sym (at
-      ∙ ap (λ d. record after { diff = cond agreed (without_reg (Now s.name) d) (with_reg (Now t.name) (with_reg (Now s.name) d)) })
-      (side_keeps_diff types false Tgt (Some (line.Calm t)) half after second ∙ side_keeps_diff types false Src (Some (line.Calm s)) known half first)
-      ∙ ap (λ b. record after { diff = cond b (without_reg (Now s.name) known.diff) (with_reg (Now t.name) (with_reg (Now s.name) known.diff)) }) is))
+      ∙ ap (λ d. record after { diff = diff_by agreed s t d })
+      (side_keeps_diff types (is_none s) Tgt t half after second ∙ side_keeps_diff types (is_none t) Src s known half first)
+      ∙ ap (λ b. record after { diff = diff_by b s t known.diff }) is))
 
-  pub source_over : (s : Calm) (t : Option Instr) → within (over_calm types Src s known) ≡ None → within (over_allowed types (record { source = Some (line.Calm s); target = t }) known) ≡ None
-  source_over s t h =
-      let last : Assertion → Course Assertion = λ after. gives (record after { diff = diff_after known (Some (line.Calm s)) t }) in
-      within_none (over_calm types Src s known) (λ half. and_then (over_side types false Tgt t half) last) h
+  pub source_over : within (over_side types (is_none t) Src s known) ≡ None → within (over_allowed types (record { source = s; target = t }) known) ≡ None
+  source_over h = within_none (over_side types (is_none t) Src s known) (λ half. and_then (over_side types (is_none s) Tgt t half) last_of) h
 
-  pub target_over : (s t : Calm) (half : Assertion) → within (over_calm types Src s known) ≡ Some (Gives half) → within (over_calm types Tgt t half) ≡ None
-      → within (over_allowed types (record { source = Some (line.Calm s); target = Some (line.Calm t) }) known) ≡ None
-  target_over s t half first h =
-      let last : Assertion → Course Assertion = λ after. gives (record after { diff = diff_after known (Some (line.Calm s)) (Some (line.Calm t)) }) in
-      within_more (over_calm types Src s known) (λ half. and_then (over_calm types Tgt t half) last) half first
-      ∙ within_none (over_calm types Tgt t half) last h
-
-  pub source_done : (s : Calm) (after : Assertion) → within (over_calm types Src s known) ≡ Some (Gives after)
-      → within (over_allowed types (record { source = Some (line.Calm s); target = None }) known) ≡ Some (Gives (record after { diff = with_reg (Now s.name) known.diff }))
-  source_done s after h =
-      let last : Assertion → Course Assertion = λ after. gives (record after { diff = with_reg (Now s.name) known.diff }) in
-      within_more (over_calm types Src s known) (λ half. and_then (gives half) last) after h
-
-  pub target_done : (t : Calm) (after : Assertion) → within (over_calm types Tgt t known) ≡ Some (Gives after)
-      → within (over_allowed types (record { source = None; target = Some (line.Calm t) }) known) ≡ Some (Gives (record after { diff = with_reg (Now t.name) known.diff }))
-  target_done t after h =
-      let last : Assertion → Course Assertion = λ after. gives (record after { diff = with_reg (Now t.name) known.diff }) in
-      within_more (over_calm types Tgt t known) last after h
-
-  pub target_alone_over : (t : Calm) → within (over_calm types Tgt t known) ≡ None → within (over_allowed types (record { source = None; target = Some (line.Calm t) }) known) ≡ None
-  target_alone_over t h =
-      let last : Assertion → Course Assertion = λ after. gives (record after { diff = with_reg (Now t.name) known.diff }) in
-      within_none (over_calm types Tgt t known) last h
+  pub target_over : (half : Assertion) → within (over_side types (is_none t) Src s known) ≡ Some (Gives half) → within (over_side types (is_none s) Tgt t half) ≡ None
+      → within (over_allowed types (record { source = s; target = t }) known) ≡ None
+  target_over half first h =
+      within_more (over_side types (is_none t) Src s known) (λ half. and_then (over_side types (is_none s) Tgt t half) last_of) half first
+      ∙ within_none (over_side types (is_none s) Tgt t half) last_of h
 
 -- what is within the limit, and what isn't
 parts_at : (b : Bool) (e : Ends Assertion) (known : Assertion) → cond b None (Some e) ≡ Some (Gives known) → (b ≡ false) × (e ≡ Gives known)
@@ -265,15 +299,15 @@ known_after types l known after h =
     sym (parts_at (are_too_many (over_allowed types l known).sizes) (over_allowed types l known).ends after h).1 ∙ allowed_ends types l known in
     cc
 
-sizes_same : (types : List NamedTy) (l : Line) (known : Assertion) (b : Bool) → line_fault known l ≡ None → are_too_many (over_allowed types l known).sizes ≡ b
+sizes_same : (types : List NamedTy) (l : Line) (known : Assertion) (b : Bool) → line_fault types known l ≡ None → are_too_many (over_allowed types l known).sizes ≡ b
     → are_too_many (over_line types l known).sizes ≡ b
 sizes_same types l known b allowed h = ap (λ (c : Course Assertion). are_too_many c.sizes) (line_allowed types l known allowed) ∙ h
 
-pub few_after : (types : List NamedTy) (l : Line) (known after : Assertion) → line_fault known l ≡ None → within (over_allowed types l known) ≡ Some (Gives after)
+pub few_after : (types : List NamedTy) (l : Line) (known after : Assertion) → line_fault types known l ≡ None → within (over_allowed types l known) ≡ Some (Gives after)
     → are_too_many (over_line types l known).sizes ≡ false
 few_after types l known after allowed h =
     sizes_same types l known false allowed (parts_at (are_too_many (over_allowed types l known).sizes) (over_allowed types l known).ends after h).0
 
-pub too_many_after : (types : List NamedTy) (l : Line) (known : Assertion) → line_fault known l ≡ None → within (over_allowed types l known) ≡ None
+pub too_many_after : (types : List NamedTy) (l : Line) (known : Assertion) → line_fault types known l ≡ None → within (over_allowed types l known) ≡ None
     → are_too_many (over_line types l known).sizes ≡ true
 too_many_after types l known allowed h = sizes_same types l known true allowed (passed_at (are_too_many (over_allowed types l known).sizes) (over_allowed types l known).ends h)

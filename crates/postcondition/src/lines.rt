@@ -1,37 +1,40 @@
 //! What is known after an aligned line.
-ghost use Rattle.std.specs.Prelude.{◌≡◌, [], ◌∷◌, ◌++◌, map, IfErr, IfOk, OnOk, None, Some, cond, true, false};
+ghost use Rattle.std.specs.Prelude.{◌≡◌, [], ◌∷◌, ◌++◌, map, IfErr, IfOk, OnOk, None, Some, true, false};
 ghost use Rattle.std.specs.List.{flat_map};
-ghost use Rattle.std.specs.Option.{option_copied};
+ghost use Rattle.std.specs.Option.{is_none, option_copied};
 ghost use Rattle.ir_types.specs.declared.names.Name.{Name};
 ghost use Rattle.ir_core.specs.declared.operands.Operand.{Operand};
 ghost use Rattle.ir_core.specs.declared.expressions.Reg.TheVariants.{Now};
+ghost use Rattle.ir_core.specs.declared.functions.Argument.{Argument};
 ghost use Rattle.ir_core.specs.declared.functions.Instr.TheVariants as instr;
+ghost use Rattle.ir_machine.specs.Machine as machine;
+ghost use Rattle.ir_machine.specs.Registers as registers;
+ghost use Rattle.ir_types.specs.declared.ty.Ty.{Ptr};
 ghost use Rattle.ir_core.specs.declared.limits.Limit.{Limit};
 ghost use Rattle.ir_core.specs.declared.limits.Limit.TheVariants.{Facts};
-ghost use Rattle.ir_machine.specs.Registers as registers;
-ghost use Rattle.ir_core.specs.declared.expressions.Expr.TheVariants as expr;
 ghost use Rattle.erhl_assert.specs.declared.verdict.Reason.{Reason};
 ghost use Rattle.erhl_assert.specs.Facts.{both_ways, on_side};
 ghost use Rattle.erhl_assert.specs.Kills.{all_killed, unique_of};
 ghost use Rattle.ir_core.specs.Types.{kind_of};
-ghost use Rattle.erhl_assert.specs.declared.facts.Fact.TheVariants.{Ok};
-ghost use Rattle.erhl_assert.specs.Matched.{now_operand};
 ghost use Rattle.erhl_assert.specs.Allowed.{line_fault_of};
 ghost use Rattle.erhl_assert.specs.Course.{are_too_many};
-ghost use Rattle.erhl_assert.specs.Growth.{adds_all, over_allowed, over_line};
-ghost use Rattle.erhl_assert.specs.Postcondition.{copied_in, line_kills, with_align, right_side, left_side, without_reg, with_reg, after_line};
+ghost use Rattle.erhl_assert.specs.Growth.{adds_all, over_allowed, over_line, over_side};
+ghost use Rattle.erhl_assert.specs.Matched.{now_operand};
+ghost use Rattle.erhl_assert.specs.Postcondition.{calm_adds, changing, copied_by, copied_in, line_adds, line_kills, naming, now_at, private_if, slot_adds, store_adds, with_align, right_side, left_side, without_reg, with_reg, after_line};
 ghost use Rattle.fact_sets.specs.declared.added_facts.ends.LineEnd.TheVariants as line_end;
 ghost use Rattle.fact_sets.specs.AddedFacts.Ends.{Follows};
-ghost use Rattle.postcondition.specs.LineCourses.{access_at, access_in, over_calm};
+ghost use Rattle.postcondition.specs.LineCourses.{access_at, access_in, are_agreed, diff_by, is_slot, with_both};
 
-use crate::allowed_lines::{line_fault, lines_agree};
+use crate::allowed_lines::{access, line_fault, lines_agree};
 use contents::Exact;
 use erhl_assert::{Fact, FactSet, Kill, Side};
-use fact_sets::{AddEnd, LineEnd, Sides, add_equal, left_side, names, now_expr};
+use fact_sets::{AddEnd, LineEnd, Sides, add_equal, left_side, names, now_expr, now_operand};
 use ir_core::{
-    Atom, Calm, Expr, Expr0, Instr, Limit, Load, Module, Name, Operand, Reg, Ty, kind_of,
+    Alloca, Argument, Atom, Calm, Const, Expr, Expr0, Instr, Limit, Load, Module, Name, Operand,
+    Reg, Shared, Store, Ty, kind_of, same_name,
 };
-use ir_types::{NamedTypes, align_of, is_sized};
+use ir_machine::{align_or, count_made};
+use ir_types::NamedTypes;
 use std::alloc::{AllocError, Global};
 
 // ---- what goes
@@ -86,9 +89,9 @@ fn share_operands<S: FactSet>(
     Ok(())
 }
 
-/// That what is copied is unique goes. Mostly nothing is, and then no operand is looked at.
-#[tactic(auto, using(crate::proofs::LineFacts::nothing_killed, crate::proofs::LineFacts::none_shared, crate::proofs::LineFacts::shared_three, crate::proofs::LineFacts::shared_more))]
-fn share_copied<S: FactSet>(
+/// That what a right side copies is unique goes.
+#[tactic(auto, using(crate::proofs::LineFacts::nothing_killed, crate::proofs::LineFacts::shared_three, crate::proofs::LineFacts::shared_more))]
+fn share_right<S: FactSet>(
     alloc: Global,
     side: Side,
     right: &Expr<Name>,
@@ -97,9 +100,6 @@ fn share_copied<S: FactSet>(
     ensures { OnOk result
         (sides.new ≡ on_side side (all_killed (flat_map unique_of (copied_in right.now))) sides.old) }
 {
-    if !sides.joined(side).may_be_unique() {
-        return Ok(());
-    }
     match right {
         Expr::Plain(operand) => share(alloc, side, &operand.atom, sides),
         Expr::Binary(binary) => share_two(alloc, side, &binary.left, &binary.right, sides),
@@ -118,37 +118,98 @@ fn share_copied<S: FactSet>(
     }
 }
 
+#[tactic(auto, using(crate::proofs::LineFacts::passed_on, crate::proofs::LineFacts::nothing_killed))]
+fn share_arguments<S: FactSet>(
+    alloc: Global,
+    side: Side,
+    arguments: &[Argument],
+    sides: &mut Sides<S>,
+) -> Result<(), AllocError>
+    ensures { OnOk result
+        (sides.new ≡ on_side side (all_killed (flat_map unique_of (map (λ (a : Argument). a.operand.atom) arguments.now))) sides.old) }
+{
+    for argument in arguments {
+        share(alloc, side, &argument.operand.atom, sides)?;
+    }
+    Ok(())
+}
+
+/// That what a line copies is unique goes. Mostly nothing is, and then no operand is looked at.
+#[tactic(auto, using(crate::proofs::LineFacts::nothing_killed, crate::proofs::LineFacts::none_shared))]
+fn share_copied<S: FactSet>(
+    alloc: Global,
+    side: Side,
+    line: &Instr,
+    sides: &mut Sides<S>,
+) -> Result<(), AllocError>
+    ensures { OnOk result
+        (sides.new ≡ on_side side (all_killed (flat_map unique_of (copied_by line.now))) sides.old) }
+{
+    if !sides.joined(side).may_be_unique() {
+        return Ok(());
+    }
+    match line {
+        Instr::Calm(calm) => share_right(alloc, side, &calm.right, sides),
+        Instr::Alloca(_) => Ok(()),
+        Instr::Store(store) => share(alloc, side, &store.value.atom, sides),
+        Instr::Call(call) => share_arguments(alloc, side, call.get().arguments.as_slice(), sides),
+    }
+}
+
+/// What names the register goes.
+#[tactic(auto, using(crate::proofs::LineFacts::nothing_killed))]
+fn forget_named<S: FactSet>(
+    alloc: Global,
+    side: Side,
+    name: Option<&Name>,
+    sides: &mut Sides<S>,
+) -> Result<(), AllocError>
+    ensures { OnOk result
+        (sides.new ≡ on_side side (all_killed (naming (option_copied name.entry))) sides.old) }
+{
+    if let Some(name) = name {
+        sides.kill(side, &Kill::Naming(Reg::Now(name.copy(alloc)?)));
+    }
+    Ok(())
+}
+
+/// What is known of loads goes, where a store or a call may change it.
+#[tactic(auto, using(crate::proofs::LineFacts::nothing_killed))]
+fn forget_changed<S: FactSet>(
+    alloc: Global,
+    side: Side,
+    line: &Instr,
+    sides: &mut Sides<S>,
+) -> Result<(), AllocError>
+    ensures { OnOk result (sides.new ≡ on_side side (all_killed (changing line.now)) sides.old) }
+{
+    match line {
+        Instr::Store(store) => {
+            let address = now_operand(alloc, &store.pointer)?;
+            sides.kill(side, &Kill::Stored(address, store.value.ty.copy(alloc)?));
+        }
+        Instr::Call(_) => sides.kill(side, &Kill::Called),
+        Instr::Calm(_) | Instr::Alloca(_) => {}
+    }
+    Ok(())
+}
+
 /// What the line takes away of a side goes.
 #[tactic(auto, using(crate::proofs::LineFacts::line_killed))]
 fn forget<S: FactSet>(
     alloc: Global,
     side: Side,
-    line: &Calm,
+    line: &Instr,
     sides: &mut Sides<S>,
 ) -> Result<(), AllocError>
-    ensures { OnOk result (sides.new ≡ on_side side (all_killed (line_kills (instr.Calm line.now))) sides.old) }
+    ensures { OnOk result (sides.new ≡ on_side side (all_killed (line_kills line.now)) sides.old) }
 {
-    sides.kill(side, &Kill::Naming(Reg::Now(line.name.copy(alloc)?)));
-    share_copied(alloc, side, &line.right, sides)
+    forget_named(alloc, side, line.name(), sides)?;
+    share_copied(alloc, side, line, sides)?;
+    forget_changed(alloc, side, line, sides)
 }
 
 // ---- what comes
-
-/// The alignment of an access: its type's, where none is stated.
-fn align_or(types: &NamedTypes, ty: &Ty, stated: Option<u32>) -> u64
-    ensures { result ≡ registers.align_or types.now ty.now stated }
-{
-    match stated {
-        Some(align) => u64::from(align),
-        None => {
-            if is_sized(types, ty) {
-                align_of(types, ty)
-            } else {
-                1
-            }
-        }
-    }
-}
 
 /// The alignment as a load states it. That of each type is below 2^32; one that isn't is answered as where no memory is left.
 fn stated(align: u64) -> Result<u32, AllocError>
@@ -171,8 +232,21 @@ fn state_align(types: &NamedTypes, expr: &mut Expr0) -> Result<(), AllocError>
     Ok(())
 }
 
-/// Adds that the register of the line and its right side are less defined than each other.
+/// Adds that the two are less defined than each other.
 #[tactic(auto, using(crate::proofs::EdgeCrossing::Copying::both_added))]
+fn add_both<S: FactSet>(
+    alloc: Global,
+    side: Side,
+    a: Expr0,
+    b: Expr0,
+    sides: &mut Sides<S>,
+) -> Result<(), AddEnd>
+    ensures { Follows result sides.new (adds_all side (both_ways a b) sides.old) }
+{
+    add_equal(alloc, side, a, b, sides)
+}
+
+/// Adds that the register of the line and its right side are less defined than each other.
 fn add_equation<S: FactSet>(
     alloc: Global,
     types: &NamedTypes,
@@ -186,19 +260,7 @@ fn add_equation<S: FactSet>(
     let register = left_side(alloc, line)?;
     let mut right = now_expr(alloc, &line.right)?;
     state_align(types, &mut right)?;
-    add_equal(alloc, side, register, right, sides)
-}
-
-/// That another access doesn't trap.
-fn access(alloc: Global, types: &NamedTypes, load: &Load<Name>) -> Result<Fact, AllocError>
-    ensures { IfOk result
-        (λ fact. fact
-        ≡ Ok (expr.Plain (now_operand load.now.pointer)) load.now.of
-        (registers.align_or types.now load.now.of load.now.align)) }
-{
-    let align = align_or(types, &load.of, load.align);
-    let address = now_expr(alloc, &Expr::Plain(load.pointer.copy(alloc)?))?;
-    Ok(Fact::Ok(address, load.of.copy(alloc)?, align))
+    add_both(alloc, side, register, right, sides)
 }
 
 /// Adds the fact to the side's.
@@ -226,7 +288,7 @@ fn add_load<S: FactSet>(
     match kind_of(&load.of) {
         None => Ok(()),
         Some(_) => {
-            let fact = access(alloc, types, load)?;
+            let fact = access(alloc, types, &load.pointer, &load.of, load.align)?;
             add_one(side, fact, sides)
         }
     }
@@ -266,22 +328,217 @@ fn add_line<S: FactSet>(
     add_access(alloc, types, side, &line.right, sides)
 }
 
-/// What is known of a side after its line.
+/// Adds what a calm line adds.
 #[tactic(auto, using(crate::proofs::LineFacts::line_added, crate::proofs::LineFacts::line_not_added))]
-fn facts_after<S: FactSet>(
+fn add_calm<S: FactSet>(
     alloc: Global,
     types: &NamedTypes,
     side: Side,
     line: &Calm,
     sides: &mut Sides<S>,
 ) -> Result<(), AddEnd>
-    ensures { Follows result sides.new (over_calm types.now side line.now sides.old) }
+    ensures { Follows result sides.new (adds_all side (calm_adds types.now line.now) sides.old) }
 {
-    forget(alloc, side, line, sides)?;
     if names(&line.name, &line.right) {
         Ok(())
     } else {
         add_line(alloc, types, side, line, sides)
+    }
+}
+
+/// Adds a fact, and that two expressions are less defined than each other.
+#[tactic(auto, using(crate::proofs::LineFacts::then_added, crate::proofs::LineFacts::fact_over, crate::proofs::LineFacts::then_over))]
+fn add_with_both<S: FactSet>(
+    alloc: Global,
+    side: Side,
+    fact: Fact,
+    a: Expr0,
+    b: Expr0,
+    sides: &mut Sides<S>,
+) -> Result<(), AddEnd>
+    ensures { Follows result sides.new (adds_all side (fact ∷ both_ways a b) sides.old) }
+{
+    add_one(side, fact, sides)?;
+    add_both(alloc, side, a, b, sides)
+}
+
+/// Adds that an access of the type through the pointer doesn't trap, and what is loaded there.
+fn add_stored<S: FactSet>(
+    alloc: Global,
+    side: Side,
+    value: Operand<Reg>,
+    pointer: Operand<Reg>,
+    align: u64,
+    sides: &mut Sides<S>,
+) -> Result<(), AddEnd>
+    ensures { Follows result sides.new (adds_all side (store_adds value.ty value pointer align) sides.old) }
+{
+    let address = Expr::Plain(pointer.copy(alloc)?);
+    let fact = Fact::Ok(address, value.ty.copy(alloc)?, align);
+    let load = Expr::Load(Load {
+        of: value.ty.copy(alloc)?,
+        pointer,
+        align: Some(stated(align)?),
+    });
+    add_with_both(alloc, side, fact, load, Expr::Plain(value), sides)
+}
+
+fn add_store<S: FactSet>(
+    alloc: Global,
+    types: &NamedTypes,
+    side: Side,
+    store: &Store,
+    sides: &mut Sides<S>,
+) -> Result<(), AddEnd>
+    ensures { Follows result sides.new
+        (adds_all side
+        (store_adds store.now.value.ty (now_operand store.now.value) (now_operand store.now.pointer) (registers.align_or types.now store.now.value.ty store.now.align))
+        sides.old) }
+{
+    let value = now_operand(alloc, &store.value)?;
+    let pointer = now_operand(alloc, &store.pointer)?;
+    let align = align_or(types, &store.value.ty, store.align);
+    add_stored(alloc, side, value, pointer, align, sides)
+}
+
+/// Adds that the block of the register is private, where the line is of one side alone.
+fn add_private<S: FactSet>(
+    alloc: Global,
+    one_sided: bool,
+    side: Side,
+    name: &Name,
+    sides: &mut Sides<S>,
+) -> Result<(), AddEnd>
+    ensures { Follows result sides.new (adds_all side (private_if one_sided name.now) sides.old) }
+{
+    if !one_sided {
+        return Ok(());
+    }
+    add_one(side, Fact::Private(Reg::Now(name.copy(alloc)?)), sides)
+}
+
+/// Whether an alloca makes a slot of at least one value, at an alignment above 0.
+fn is_slot(types: &NamedTypes, line: &Alloca) -> bool
+    ensures { result
+        ≡ is_slot (kind_of line.now.of) (machine.count_made line.now.count) (registers.align_or types.now line.now.of line.now.align) }
+{
+    match kind_of(&line.of) {
+        None => false,
+        Some(_) => count_made(line) != 0 && align_or(types, &line.of, line.align) != 0,
+    }
+}
+
+/// Adds what is known of the slot that an alloca makes.
+#[tactic(auto, using(crate::proofs::LineFacts::slots))]
+fn add_slot<S: FactSet>(
+    alloc: Global,
+    types: &NamedTypes,
+    side: Side,
+    line: &Alloca,
+    sides: &mut Sides<S>,
+) -> Result<(), AddEnd>
+    ensures { Follows result sides.new
+        (adds_all side
+        (slot_adds (kind_of line.now.of) (machine.count_made line.now.count) line.now.of (now_at (Ptr line.now.of) line.now.name) (registers.align_or types.now line.now.of line.now.align))
+        sides.old) }
+{
+    if !is_slot(types, line) {
+        return Ok(());
+    }
+    let undef = Operand {
+        ty: line.of.copy(alloc)?,
+        atom: Atom::Constant(Const::Undef),
+    };
+    let pointer = Operand {
+        ty: Ty::Ptr(Shared::new(alloc, line.of.copy(alloc)?)?),
+        atom: Atom::Register(Reg::Now(line.name.copy(alloc)?)),
+    };
+    let align = align_or(types, &line.of, line.align);
+    add_stored(alloc, side, undef, pointer, align, sides)
+}
+
+/// Adds that the block of an alloca is private, where the line is of one side alone, and what is known of its slot.
+#[tactic(auto, using(crate::proofs::LineFacts::all_added, crate::proofs::LineFacts::first_over, crate::proofs::LineFacts::second_over))]
+fn add_block<S: FactSet>(
+    alloc: Global,
+    types: &NamedTypes,
+    one_sided: bool,
+    side: Side,
+    line: &Alloca,
+    sides: &mut Sides<S>,
+) -> Result<(), AddEnd>
+    ensures { Follows result sides.new
+        (adds_all side
+        (private_if one_sided line.now.name
+        ++ slot_adds (kind_of line.now.of) (machine.count_made line.now.count) line.now.of (now_at (Ptr line.now.of) line.now.name) (registers.align_or types.now line.now.of line.now.align))
+        sides.old) }
+{
+    add_private(alloc, one_sided, side, &line.name, sides)?;
+    add_slot(alloc, types, side, line, sides)
+}
+
+/// Adds what an alloca adds.
+#[tactic(auto, using(crate::proofs::LineFacts::then_added, crate::proofs::LineFacts::fact_over, crate::proofs::LineFacts::then_over))]
+fn add_alloca<S: FactSet>(
+    alloc: Global,
+    types: &NamedTypes,
+    one_sided: bool,
+    side: Side,
+    line: &Alloca,
+    sides: &mut Sides<S>,
+) -> Result<(), AddEnd>
+    ensures { Follows result sides.new
+        (adds_all side (line_adds types.now one_sided (instr.Alloca line.now)) sides.old) }
+{
+    add_one(side, Fact::Unique(Reg::Now(line.name.copy(alloc)?)), sides)?;
+    add_block(alloc, types, one_sided, side, line, sides)
+}
+
+/// What is known of a side after its line, which is of this side alone or of both.
+#[tactic(auto, using(crate::proofs::LineFacts::killed_and_added))]
+fn facts_after<S: FactSet>(
+    alloc: Global,
+    types: &NamedTypes,
+    one_sided: bool,
+    side: Side,
+    line: &Instr,
+    sides: &mut Sides<S>,
+) -> Result<(), AddEnd>
+    ensures { Follows result sides.new (over_side types.now one_sided side (Some line.now) sides.old) }
+{
+    forget(alloc, side, line, sides)?;
+    match line {
+        Instr::Calm(calm) => add_calm(alloc, types, side, calm, sides),
+        Instr::Alloca(alloca) => add_alloca(alloc, types, one_sided, side, alloca, sides),
+        Instr::Store(store) => add_store(alloc, types, side, store, sides),
+        Instr::Call(_) => Ok(()),
+    }
+}
+
+fn is_absent(line: Option<&Instr>) -> bool
+    ensures { result ≡ is_none (option_copied line.entry) }
+{
+    match line {
+        Some(_) => false,
+        None => true,
+    }
+}
+
+/// What is known of a side after its line, if it has one, beside the line of the other side.
+fn side_after<S: FactSet>(
+    alloc: Global,
+    types: &NamedTypes,
+    side: Side,
+    line: Option<&Instr>,
+    other: Option<&Instr>,
+    sides: &mut Sides<S>,
+) -> Result<(), AddEnd>
+    ensures { Follows result sides.new
+        (over_side types.now (is_none (option_copied other.entry)) side (option_copied line.entry) sides.old) }
+{
+    match line {
+        Some(line) => facts_after(alloc, types, is_absent(other), side, line, sides),
+        None => Ok(()),
     }
 }
 
@@ -302,7 +559,18 @@ fn agree<S: FactSet>(alloc: Global, name: &Name, sides: &mut Sides<S>) -> Result
     Ok(())
 }
 
-/// The registers that may differ after a line of both sides.
+/// Whether both lines set one register, which may not differ then.
+fn are_agreed<S: FactSet>(known: &Sides<S>, s: Option<&Instr>, t: Option<&Instr>) -> bool
+    ensures { result ≡ are_agreed known.now (option_copied s.entry) (option_copied t.entry) }
+{
+    match (s, t) {
+        (Some(Instr::Calm(s)), Some(Instr::Calm(t))) => lines_agree(known, s, t),
+        (Some(Instr::Alloca(s)), Some(Instr::Alloca(t))) => same_name(&s.name, &t.name),
+        _ => false,
+    }
+}
+
+/// The registers that may differ after two lines that set registers.
 fn diff_after_both<S: FactSet>(
     alloc: Global,
     agreed: bool,
@@ -310,11 +578,7 @@ fn diff_after_both<S: FactSet>(
     t: &Name,
     sides: &mut Sides<S>,
 ) -> Result<(), AllocError>
-    ensures { OnOk result
-        (sides.new
-        ≡ record sides.old {
-          diff = cond agreed (without_reg (Now s.now) sides.old.diff) (with_reg (Now t.now) (with_reg (Now s.now) sides.old.diff));
-        }) }
+    ensures { OnOk result (sides.new ≡ record sides.old { diff = with_both agreed s.now t.now sides.old.diff }) }
 {
     if agreed {
         agree(alloc, s, sides)
@@ -324,52 +588,32 @@ fn diff_after_both<S: FactSet>(
     }
 }
 
-#[tactic(auto, using(crate::proofs::LineFacts::both_end, crate::proofs::LineFacts::source_over, crate::proofs::LineFacts::target_over))]
-fn after_both<S: FactSet>(
+/// The registers that may differ after an aligned line.
+fn diff_after<S: FactSet>(
     alloc: Global,
-    types: &NamedTypes,
-    s: &Calm,
-    t: &Calm,
+    agreed: bool,
+    s: Option<&Instr>,
+    t: Option<&Instr>,
     sides: &mut Sides<S>,
-) -> Result<(), AddEnd>
-    ensures { Follows result sides.new
-        (over_allowed types.now (record { source = Some (instr.Calm s.now); target = Some (instr.Calm t.now) }) sides.old) }
+) -> Result<(), AllocError>
+    ensures { OnOk result
+        (sides.new ≡ record sides.old { diff = diff_by agreed (option_copied s.entry) (option_copied t.entry) sides.old.diff }) }
 {
-    let agreed = lines_agree(sides, s, t);
-    facts_after(alloc, types, Side::Src, s, sides)?;
-    facts_after(alloc, types, Side::Tgt, t, sides)?;
-    diff_after_both(alloc, agreed, &s.name, &t.name, sides)?;
-    Ok(())
-}
-
-#[tactic(auto, using(crate::proofs::LineFacts::source_done, crate::proofs::LineFacts::source_over))]
-fn after_source<S: FactSet>(
-    alloc: Global,
-    types: &NamedTypes,
-    s: &Calm,
-    sides: &mut Sides<S>,
-) -> Result<(), AddEnd>
-    ensures { Follows result sides.new
-        (over_allowed types.now (record { source = Some (instr.Calm s.now); target = None }) sides.old) }
-{
-    facts_after(alloc, types, Side::Src, s, sides)?;
-    differ(alloc, &s.name, sides)?;
-    Ok(())
-}
-
-#[tactic(auto, using(crate::proofs::LineFacts::target_done, crate::proofs::LineFacts::target_alone_over))]
-fn after_target<S: FactSet>(
-    alloc: Global,
-    types: &NamedTypes,
-    t: &Calm,
-    sides: &mut Sides<S>,
-) -> Result<(), AddEnd>
-    ensures { Follows result sides.new
-        (over_allowed types.now (record { source = None; target = Some (instr.Calm t.now) }) sides.old) }
-{
-    facts_after(alloc, types, Side::Tgt, t, sides)?;
-    differ(alloc, &t.name, sides)?;
-    Ok(())
+    match (s, t) {
+        (Some(Instr::Calm(s)), Some(Instr::Calm(t))) => {
+            diff_after_both(alloc, agreed, &s.name, &t.name, sides)
+        }
+        (Some(Instr::Alloca(s)), Some(Instr::Alloca(t))) => {
+            diff_after_both(alloc, agreed, &s.name, &t.name, sides)
+        }
+        (Some(Instr::Calm(l)), None) | (None, Some(Instr::Calm(l))) => differ(
+            alloc, &l.name, sides,
+        ),
+        (Some(Instr::Alloca(l)), None) | (None, Some(Instr::Alloca(l))) => {
+            differ(alloc, &l.name, sides)
+        }
+        _ => Ok(()),
+    }
 }
 
 /// A line of the source and a line of the target, of which one may be absent.
@@ -379,6 +623,8 @@ pub struct Line<'a> {
     pub target: Option<&'a Instr>,
 }
 
+/// What is known after an aligned line that is allowed: first the source's facts come, then the target's.
+#[tactic(auto, using(crate::proofs::LineFacts::all_done, crate::proofs::LineFacts::source_over, crate::proofs::LineFacts::target_over))]
 fn past<S: FactSet>(
     alloc: Global,
     types: &NamedTypes,
@@ -386,18 +632,14 @@ fn past<S: FactSet>(
     source: Option<&Instr>,
     target: Option<&Instr>,
 ) -> Result<(), AddEnd>
-    requires { line_fault_of sides.old (option_copied source) (option_copied target) ≡ None }
     ensures { Follows result sides.new
         (over_allowed types.now (record { source = option_copied source.entry; target = option_copied target.entry }) sides.old) }
 {
-    match (source, target) {
-        (None, None) => Ok(()),
-        (Some(Instr::Calm(s)), None) => after_source(alloc, types, s, sides),
-        (None, Some(Instr::Calm(t))) => after_target(alloc, types, t, sides),
-        (Some(Instr::Calm(s)), Some(Instr::Calm(t))) => after_both(alloc, types, s, t, sides),
-        // No other line is allowed.
-        _ => unreachable!(),
-    }
+    let agreed = are_agreed(sides, source, target);
+    side_after(alloc, types, Side::Src, source, target, sides)?;
+    side_after(alloc, types, Side::Tgt, target, source, sides)?;
+    diff_after(alloc, agreed, source, target, sides)?;
+    Ok(())
 }
 
 /// What is known after a line of modules with these types, of what was known before it, where the line is allowed. After an error nothing is
@@ -417,7 +659,7 @@ pub fn after_line<S: FactSet>(
         })) }
     // The line is allowed.
     ensures allowed { OnOk result
-        (line_fault_of sides.old (option_copied line.now.source) (option_copied line.now.target) ≡ None) }
+        (line_fault_of «module».now.types sides.old (option_copied line.now.source) (option_copied line.now.target) ≡ None) }
     // Where each fact of the line is added, no more are known than the limit allows.
     ensures few { OnOk result
         (are_too_many
@@ -426,7 +668,7 @@ pub fn after_line<S: FactSet>(
     // The line isn't allowed, for the reason that is told.
     ensures refused { IfErr result
         (λ fault. (r : Reason) → fault ≡ line_end.Refused r
-        → line_fault_of sides.old (option_copied line.now.source) (option_copied line.now.target) ≡ Some r) }
+        → line_fault_of «module».now.types sides.old (option_copied line.now.source) (option_copied line.now.target) ≡ Some r) }
     // The line is allowed, and somewhere on it more facts would be known.
     ensures limit { IfErr result
         (λ fault. (l : Limit) → fault ≡ line_end.Limit l
@@ -435,7 +677,7 @@ pub fn after_line<S: FactSet>(
         (over_line «module».now.types (record { source = option_copied line.now.source; target = option_copied line.now.target }) sides.old).sizes
         ≡ true)) }
 {
-    if let Some(reason) = line_fault(alloc, sides, line.source, line.target)? {
+    if let Some(reason) = line_fault(alloc, &module.types, sides, line.source, line.target)? {
         return Err(LineEnd::Refused(reason));
     }
     match past(alloc, &module.types, sides, line.source, line.target) {

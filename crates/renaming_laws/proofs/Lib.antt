@@ -9,6 +9,7 @@ pub mod PrintedExpressions
 pub mod PrintedFacts
 pub mod PrintedNames
 pub mod PrintedOperands
+pub mod PrintedTypes
 pub mod Ranges
 pub mod Texts
 pub mod Uses

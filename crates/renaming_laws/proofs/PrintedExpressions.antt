@@ -351,7 +351,7 @@ none_passes b [] all k passes = omega (arith, passes)
 none_passes b (n ∷ ns) all zero passes = let here = all.0 in omega (arith, here, passes)
 none_passes b (n ∷ ns) all (suc k) passes = none_passes b ns all.1 k passes
 
-are_within : (f : Forest) → AreUpTo depth_limit (depths 0 f) → AllByRecursion (λ (n : ℕ). n ≤ line_limit) (lines_at 0 f) → IsWithin f
+pub are_within : (f : Forest) → AreUpTo depth_limit (depths 0 f) → AllByRecursion (λ (n : ℕ). n ≤ line_limit) (lines_at 0 f) → IsWithin f
 are_within f deep few k limit.Depth passes = none_passes depth_limit (depths 0 f) deep k passes
 are_within f deep few k limit.Lines passes = none_passes line_limit (lines_at 0 f) few k passes
 are_within f deep few k l passes = absurd passes

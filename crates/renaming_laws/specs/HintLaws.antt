@@ -1,5 +1,5 @@
 -- The laws that tie printing to reading.
-use Rattle.std.specs.Prelude.{◌≡◌, ◌≤◌, ℕ, Bool, true, length, Some, Ok}
+use Rattle.std.specs.Prelude.{◌≡◌, ◌≤◌, ℕ, Bool, true, length, Some, is_some, Ok}
 use Rattle.std.specs.List.{AllByRecursion}
 use Rattle.serde_json.specs.Data.{Data}
 use Rattle.serde_json.specs.Read.{read}
@@ -12,6 +12,7 @@ use Rattle.ir_core.specs.declared.operands.Atom.{Atom}
 use Rattle.ir_core.specs.declared.operands.Atom.TheVariants.{Constant, Register}
 use Rattle.ir_types.specs.declared.names.Name.{Name}
 use Rattle.ir_types.specs.declared.names.Sigil.{Sigil}
+use Rattle.ir_types.specs.declared.names.Sigil.TheVariants.{Local}
 use Rattle.ir_core.specs.declared.operands.Operand.{Operand}
 use Rattle.ir_types.specs.declared.ty.Ty.{Ty}
 use Rattle.ir_core.specs.Depths.{depth_of, depth_of_constant}
@@ -19,19 +20,21 @@ use Rattle.ir_core.specs.Expressions.{Expr0, operands_in}
 use Rattle.ir_core.specs.Limits.{depth_limit, text_limit}
 use Rattle.ir_core.specs.Ranges.{IsNameInRange, IsRightInRange, constant_written, is_written}
 use Rattle.ir_core.specs.StatedTypes.{stated_in}
-use Rattle.ir_core.specs.TypeNames.{type_names}
-use Rattle.ir_core.specs.Types.{is_first_class}
+use Rattle.ir_core.specs.TypeNames.{names_in_type, type_names}
+use Rattle.ir_core.specs.Types.{is_first_class, kind_of}
 use Rattle.ir_core.specs.Typing.{is_constant_of}
 use Rattle.ir_core.specs.WellFormed.{IsTypeKnown}
 use Rattle.module_walk.specs.LogicExpressions.{pointed}
 use Rattle.expression_reader.specs.Expressions.{SpellsExpression}
 use Rattle.expression_reader.specs.Names.{SpellsName}
-use Rattle.ir_printer.specs.ExpressionPrinter.Printed.{printed_name, printed_register, printed_expr}
+use Rattle.expression_reader.specs.Types.{SpellsType}
+use Rattle.ir_printer.specs.ExpressionPrinter.Printed.{printed_name, printed_register, printed_expr, printed_type}
 use Rattle.erhl_assert.specs.declared.facts.Fact.{Fact}
 use Rattle.erhl_assert.specs.declared.facts.Fact.TheVariants.{LessDef}
+use Rattle.erhl_assert.specs.declared.facts.Fact.TheVariants as fact
 use Rattle.erhl_assert.specs.Edges.{is_old}
 use Rattle.erhl_assert.specs.Facts.{fact_has}
-use Rattle.hint_format.specs.Form.{Leaves, AreLeaves, fact_form, printed_fact}
+use Rattle.hint_format.specs.Form.{Leaves, AreLeaves, fact_form, is_align, printed_fact}
 
 -- A printed name spells that name, and nothing else.
 abbrev pub PrintedNamesAreRead : Type 0
@@ -95,16 +98,37 @@ PrintedExpressionsAreRead = (e : Expr0) → IsWritableExpression e → SpellsExp
 abbrev pub PrintedExpressionsAreApart : Type 0
 PrintedExpressionsAreApart = (a b : Expr0) → IsWritableExpression a → IsWritableExpression b → printed_expr printed_register a ≡ printed_expr printed_register b → a ≡ b
 
+-- ---- types
+
+-- widths, counts and names in range, within the limit on depths
+abbrev pub IsTypeInRange : Ty → Type 0
+IsTypeInRange t = (is_written t ≡ true) × AllByRecursion IsNameInRange (names_in_type t) × (depth_of t ≤ depth_limit)
+
+-- A printed type spells that type.
+abbrev pub PrintedTypesAreRead : Type 0
+PrintedTypesAreRead = (t : Ty) → IsTypeInRange t → SpellsType (printed_type t) t
+
 -- ---- facts
 
 -- such an expression, printed within the limit of a text
 abbrev pub IsShortExpression : Expr0 → Type 0
 IsShortExpression e = IsWritableExpression e × (length (printed_expr printed_register e) ≤ text_limit)
 
--- Facts of memory are printed, and no text of them is read.
+-- a register as it is now, of such a name, printed within that limit
+abbrev pub IsShortRegister : Reg → Type 0
+IsShortRegister (Now name) = IsNameInRange name × (length (printed_name Local name) ≤ text_limit)
+IsShortRegister r = ⊥
+
+-- such an integer type or pointer type
+abbrev pub IsShortType : Ty → Type 0
+IsShortType t = IsTypeInRange t × (is_some (kind_of t) ≡ true) × (length (printed_type t) ≤ text_limit)
+
 abbrev pub IsWritableFact : Fact → Type 0
 IsWritableFact (LessDef a b) = IsShortExpression a × IsShortExpression b
-IsWritableFact f = ⊥
+IsWritableFact (fact.Unique r) = IsShortRegister r
+IsWritableFact (fact.Private r) = IsShortRegister r
+IsWritableFact (fact.NoAlias a b) = IsShortExpression a × IsShortExpression b
+IsWritableFact (fact.Ok e t align) = IsShortExpression e × IsShortType t × (is_align align ≡ true)
 
 -- A printed fact is JSON, which is read as that fact where old registers may stand; and elsewhere too, if it names none.
 abbrev pub PrintedFactsAreRead : Type 0

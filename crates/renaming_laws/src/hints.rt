@@ -1,4 +1,4 @@
-ghost use Rattle.renaming_laws.specs.HintLaws.{PrintedNamesAreRead, PrintedNamesAreApart, PrintedNamesAreKeys, PrintedExpressionsAreRead, PrintedExpressionsAreApart, PrintedFactsAreRead};
+ghost use Rattle.renaming_laws.specs.HintLaws.{PrintedNamesAreRead, PrintedNamesAreApart, PrintedNamesAreKeys, PrintedExpressionsAreRead, PrintedExpressionsAreApart, PrintedTypesAreRead, PrintedFactsAreRead};
 
 /// Empty on purpose: its contract is the law.
 ///
@@ -19,7 +19,14 @@ pub fn printed_expressions_are_read()
 
 /// Empty on purpose: its contract is the law.
 ///
-/// A printed fact over such expressions is read as that fact.
+/// A printed type is read as that type.
+pub fn printed_types_are_read()
+    ensures { PrintedTypesAreRead }
+{}
+
+/// Empty on purpose: its contract is the law.
+///
+/// A printed fact over such expressions, registers of now, types and alignments is read as that fact.
 pub fn printed_facts_are_read()
     ensures { PrintedFactsAreRead }
 {}

@@ -7,7 +7,7 @@ use Rattle.ir_types.specs.declared.names.Name.{Name}
 use Rattle.ir_printer.specs.ExpressionPrinter.Printed.{printed_name, printed_register, printed_value}
 use Rattle.hint_format.specs.Form.{printed_fact}
 use Rattle.erhl_assert.specs.declared.verdict.Reason.{Reason}
-use Rattle.erhl_assert.specs.declared.verdict.Reason.TheVariants.{AlignmentDiffers, KindsDiffer, Unmatched, TargetMayTrap, UnknownRule, RuleUnfit, MissingPremise, MissingFact, DiffLeft}
+use Rattle.erhl_assert.specs.declared.verdict.Reason.TheVariants.{AlignmentDiffers, KindsDiffer, NotPrivate, Unmatched, TargetMayTrap, UnknownRule, RuleUnfit, MissingPremise, MissingFact, DiffLeft}
 use Rattle.erhl_assert.specs.declared.verdict.Spot.{Spot}
 use Rattle.erhl_assert.specs.declared.verdict.Spot.TheVariants.{Start, Line, Edge}
 use Rattle.erhl_assert.specs.declared.verdict.Difference.{Difference}
@@ -31,6 +31,7 @@ reason_text AlignmentDiffers = codes "alignment differs"
 reason_text KindsDiffer = codes "kinds differ"
 reason_text (Unmatched a b) = codes "unmatched " ++ (operand_text a ++ (32 ∷ operand_text b))
 reason_text TargetMayTrap = codes "target may trap"
+reason_text (NotPrivate address) = codes "not private " ++ operand_text address
 reason_text (UnknownRule rule) = codes "unknown rule " ++ rule
 reason_text (RuleUnfit rule) = codes "rule unfit " ++ rule
 reason_text (MissingPremise f) = codes "missing premise " ++ printed_fact f

@@ -150,6 +150,10 @@ fn push_reason(alloc: Global, text: &mut Vec<u8>, reason: &Reason) -> Result<(),
             text.push(b' ')?;
             push_operand(alloc, text, target)
         }
+        Reason::NotPrivate(address) => {
+            text.extend_from_slice(b"not private ")?;
+            push_operand(alloc, text, address)
+        }
         Reason::UnknownRule(rule) => push_both(text, b"unknown rule ", rule.as_slice()),
         Reason::RuleUnfit(rule) => push_both(text, b"rule unfit ", rule.as_slice()),
         Reason::MissingPremise(fact) => push_fact(alloc, text, b"missing premise ", fact),

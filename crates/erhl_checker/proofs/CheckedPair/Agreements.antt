@@ -44,7 +44,7 @@ use Rattle.erhl_assert.specs.declared.verdict.Spot.TheVariants as spot
 use Rattle.erhl_assert.specs.Facts.{both_ways, has_fact, expr_names, fact_has, on_side, without}
 use Rattle.erhl_assert.specs.Kills.{all_killed, killed}
 use Rattle.erhl_assert.specs.Alignment.{Line, AlignedBlock, no_facts, block_hint}
-use Rattle.erhl_assert.specs.Allowed.{can_trap, same_operator, first_unmatched, right_fault, line_fault}
+use Rattle.erhl_assert.specs.Allowed.{may_trap, keeps_alignment, same_operator, first_unmatched, right_fault, line_fault}
 use Rattle.erhl_assert.specs.Matched.{now_operand, from_fact, into_fact, some_into, meet, matched_at, matched, are_matched}
 use Rattle.erhl_assert.specs.Postcondition.{accessed_by, calm_adds, line_kills, right_side, left_side, flags_agree, rights_agree, lines_agree, without_reg, with_reg, diff_after, after_line}
 use Rattle.erhl_assert.specs.Edges.{Edge, edge_between, phis_at, is_old, as_old, without_old, is_of_phi, past_phis, phi_kills, sets, phi_fact, phi_facts, phi_setting, entries_match, phis_match, is_alike, phi_registers, old_too, diff_over, after_edge}
@@ -57,7 +57,7 @@ use Rattle.erhl_assert.proofs.Judging.{edge_within}
 use Rattle.fact_sets.proofs.ErhlSides.Once.{kept_by, killed_is}
 use Rattle.line_align.specs.Cursor.{on_source, on_target, left}
 use Rattle.line_align.specs.Lent.{lines_under}
-use Rattle.erhl_checker.specs.CheckedPair.Agreeing.{instrs_agree, line_agrees, all_agree, terms_agree, are_few, phi_agrees, phis_agree, no_fact, claims_nothing, edge_agrees, edges_agree, block_agrees}
+use Rattle.erhl_checker.specs.CheckedPair.Agreeing.{is_load, instrs_agree, line_agrees, all_agree, terms_agree, are_few, phi_agrees, phis_agree, no_fact, claims_nothing, edge_agrees, edges_agree, block_agrees}
 use Rattle.erhl_checker.specs.CheckedPair.Empty.{AreParts, IsEmpty}
 use Rattle.erhl_checker.specs.CheckedPair.Progress.{past_line, lines_answer, end_answer}
 use Rattle.erhl_checker.proofs.CheckedPair.Progressing.{line_within, arrived, edge_crossed, edge_valid, edges_more, end_passed, lines_one, lines_none, begun}
@@ -72,6 +72,16 @@ lines_counted (l ∷ ls) xs ys = ap suc (lines_counted ls (left (on_source l) xs
 or_false : (b : Bool) → (b || false) ≡ true → b ≡ true
 or_false true h = refl
 or_false false h = h
+
+-- what isn't a load has no alignment
+aligned : (types : List NamedTy) (s t : Expr Name) → is_load s ≡ false → keeps_alignment types s t ≡ true
+aligned types (expr.Load a) t h = absurd (false≢true (sym h))
+aligned types (expr.Plain a) t h = refl
+aligned types (expr.Binary a) t h = refl
+aligned types (expr.Icmp a) t h = refl
+aligned types (expr.Cast a) t h = refl
+aligned types (expr.Select a) t h = refl
+aligned types (expr.Element a) t h = refl
 
 module _ (known : Assertion) (same : known.diff ≡ []) where
   matched_at_more : (k : Option Kind) (a b : Operand Reg) → matched_at no_facts k a b ≡ true → matched_at known k a b ≡ true
@@ -117,18 +127,20 @@ module _ (known : Assertion) (same : known.diff ≡ []) where
       ap (λ m. cond m (first_unmatched known xs ys) (Some (Unmatched a b))) (left_true (matched known a b) (are_matched known xs ys) h)
       ∙ first_unmatched_none xs ys (right_true (matched known a b) (are_matched known xs ys) h)
 
-  right_allowed : (s t : Expr Name) → rights_agree known s t ≡ true → right_fault known s t ≡ None
-  right_allowed s t h =
-      let one = same_operator s t in
-      let flags = flags_agree s t in
-      let operands = are_matched known (operands_in s) (operands_in t) in
-      ap (λ b. cond (can_trap t) (cond b (first_unmatched known (operands_in s) (operands_in t)) (Some TargetMayTrap)) None) (left_true one flags (left_true (one && flags) operands h))
-      ∙ ap (λ (o : Option Reason). cond (can_trap t) o None) (first_unmatched_none (operands_in s) (operands_in t) (right_true (one && flags) operands h))
-      ∙ (elim (can_trap t) as (λ b. cond {A = Option Reason} b None None ≡ None) [ true ↦ refl | false ↦ refl ])
+  module _ (types : List NamedTy) where
+    right_allowed : (s t : Expr Name) → is_load s ≡ false → rights_agree known s t ≡ true → right_fault types known s t ≡ None
+    right_allowed s t calm h =
+        let one = same_operator s t in
+        let flags = flags_agree s t in
+        let operands = are_matched known (operands_in s) (operands_in t) in
+        ap (λ b. cond (may_trap types known t) (cond b (first_unmatched known (operands_in s) (operands_in t)) (Some TargetMayTrap)) None)
+        (all_true (left_true one flags (left_true (one && flags) operands h)) (aligned types s t calm))
+        ∙ ap (λ (o : Option Reason). cond (may_trap types known t) o None) (first_unmatched_none (operands_in s) (operands_in t) (right_true (one && flags) operands h))
+        ∙ (elim (may_trap types known t) as (λ b. cond {A = Option Reason} b None None ≡ None) [ true ↦ refl | false ↦ refl ])
 
-  line_allowed_so : (s t : Calm) → lines_agree no_facts s t ≡ true → right_fault known s.right t.right ≡ None
-  line_allowed_so s t h =
-      right_allowed s.right t.right (right_true (same_name s.name t.name) (rights_agree known s.right t.right) (lines_agree_more s t h))
+    line_allowed_so : (s t : Calm) → is_load s.right ≡ false → lines_agree no_facts s t ≡ true → right_fault types known s.right t.right ≡ None
+    line_allowed_so s t calm h =
+        right_allowed s.right t.right calm (right_true (same_name s.name t.name) (rights_agree known s.right t.right) (lines_agree_more s t h))
 
   none_differ : (s t : Calm) → lines_agree no_facts s t ≡ true → diff_after known (Some (line.Calm s)) (Some (line.Calm t)) ≡ []
   none_differ s t h =
@@ -215,31 +227,31 @@ adds_all_reaches side (f ∷ fs) n known h =
     and_then_reaches (n + 1) (n + suc (length fs)) (adds side f known) (adds_all side fs) (omega arith) (adds_reaches n side f known h)
     (λ half less. let e : n + 1 + length fs ≡ n + suc (length fs) = omega arith in subst (λ m. Reaches m (adds_all side fs half)) e (adds_all_reaches side fs (n + 1) half less))
 
--- lines that agree are no accesses
+-- beside what isn't a load, what agrees is no access
 module _ (types : List NamedTy) (l : Calm) where
-  source_no_access : (s t : Expr Name) → same_operator s t ≡ true → accessed_by types l s ≡ []
-  source_no_access (expr.Load a) t h = absurd (false≢true h)
-  source_no_access (expr.Plain a) t h = refl
-  source_no_access (expr.Binary a) t h = refl
-  source_no_access (expr.Icmp a) t h = refl
-  source_no_access (expr.Cast a) t h = refl
-  source_no_access (expr.Select a) t h = refl
-  source_no_access (expr.Element a) t h = refl
+  source_no_access : (s : Expr Name) → is_load s ≡ false → accessed_by types l s ≡ []
+  source_no_access (expr.Load a) h = absurd (false≢true (sym h))
+  source_no_access (expr.Plain a) h = refl
+  source_no_access (expr.Binary a) h = refl
+  source_no_access (expr.Icmp a) h = refl
+  source_no_access (expr.Cast a) h = refl
+  source_no_access (expr.Select a) h = refl
+  source_no_access (expr.Element a) h = refl
 
-  target_no_access : (s t : Expr Name) → same_operator s t ≡ true → accessed_by types l t ≡ []
-  target_no_access (expr.Plain a) (expr.Load b) h = absurd (false≢true h)
-  target_no_access (expr.Binary a) (expr.Load b) h = absurd (false≢true h)
-  target_no_access (expr.Icmp a) (expr.Load b) h = absurd (false≢true h)
-  target_no_access (expr.Cast a) (expr.Load b) h = absurd (false≢true h)
-  target_no_access (expr.Select a) (expr.Load b) h = absurd (false≢true h)
-  target_no_access (expr.Element a) (expr.Load b) h = absurd (false≢true h)
-  target_no_access (expr.Load a) (expr.Load b) h = absurd (false≢true h)
-  target_no_access s (expr.Plain a) h = refl
-  target_no_access s (expr.Binary a) h = refl
-  target_no_access s (expr.Icmp a) h = refl
-  target_no_access s (expr.Cast a) h = refl
-  target_no_access s (expr.Select a) h = refl
-  target_no_access s (expr.Element a) h = refl
+  target_no_access : (s t : Expr Name) → is_load s ≡ false → same_operator s t ≡ true → accessed_by types l t ≡ []
+  target_no_access (expr.Load a) (expr.Load b) calm h = absurd (false≢true (sym calm))
+  target_no_access (expr.Plain a) (expr.Load b) calm h = absurd (false≢true h)
+  target_no_access (expr.Binary a) (expr.Load b) calm h = absurd (false≢true h)
+  target_no_access (expr.Icmp a) (expr.Load b) calm h = absurd (false≢true h)
+  target_no_access (expr.Cast a) (expr.Load b) calm h = absurd (false≢true h)
+  target_no_access (expr.Select a) (expr.Load b) calm h = absurd (false≢true h)
+  target_no_access (expr.Element a) (expr.Load b) calm h = absurd (false≢true h)
+  target_no_access s (expr.Plain a) calm h = refl
+  target_no_access s (expr.Binary a) calm h = refl
+  target_no_access s (expr.Icmp a) calm h = refl
+  target_no_access s (expr.Cast a) calm h = refl
+  target_no_access s (expr.Select a) calm h = refl
+  target_no_access s (expr.Element a) calm h = refl
 
   calm_few : accessed_by types l l.right ≡ [] → length (calm_adds types l) ≤ 2
   calm_few none =
@@ -263,14 +275,14 @@ module _ (types : List NamedTy) (l : Calm) where
       )
 
 -- of a line of both sides
-both_reach : (types : List NamedTy) (n : ℕ) (s t : Calm) (known : Assertion) → same_operator s.right t.right ≡ true → size known ≤ n
+both_reach : (types : List NamedTy) (n : ℕ) (s t : Calm) (known : Assertion) → is_load s.right ≡ false → same_operator s.right t.right ≡ true → size known ≤ n
     → Reaches (n + 1 + 1 + 1 + 1) (over_allowed types (record { source = Some (line.Calm s); target = Some (line.Calm t) }) known)
-both_reach types n s t known one h =
+both_reach types n s t known calm one h =
     let last : Assertion → Course Assertion = λ after. gives (record after { diff = diff_after known (Some (line.Calm s)) (Some (line.Calm t)) }) in
     and_then_reaches (n + 1 + 1) (n + 1 + 1 + 1 + 1) (over_side types false Src (Some (line.Calm s)) known) (λ half. and_then (over_side types false Tgt (Some (line.Calm t)) half) last) (omega arith)
-    (calm_reaches types s n Src known (source_no_access types s s.right t.right one) h)
+    (calm_reaches types s n Src known (source_no_access types s s.right calm) h)
     (λ half less. and_then_reaches (n + 1 + 1 + 1 + 1) (n + 1 + 1 + 1 + 1) (over_side types false Tgt (Some (line.Calm t)) half) last (omega arith)
-    (calm_reaches types t (n + 1 + 1) Tgt half (target_no_access types t s.right t.right one) less)
+    (calm_reaches types t (n + 1 + 1) Tgt half (target_no_access types t s.right t.right calm one) less)
     (λ after less'. (tt, less')))
 
 not_too_many : (n : ℕ) (sizes : List ℕ) → n ≤ fact_limit → AtMost n sizes → are_too_many sizes ≡ false
@@ -280,7 +292,7 @@ not_too_many n (s ∷ ss) le all =
     ap (λ b. b || are_too_many ss) here ∙ not_too_many n ss le all.1
 
 -- ---- a line that agrees, of what is known where no register may differ
-module _ (types : List NamedTy) (s t : Calm) (known : Assertion) (n : ℕ) (same : known.diff ≡ []) (agree : lines_agree no_facts s t ≡ true)
+module _ (types : List NamedTy) (s t : Calm) (known : Assertion) (n : ℕ) (same : known.diff ≡ []) (calm : is_load s.right ≡ false) (agree : lines_agree no_facts s t ≡ true)
     (before : size known ≤ n) (few : n + 1 + 1 + 1 + 1 ≤ fact_limit) where
   abbrev both : Line
   both = record { source = Some (line.Calm s); target = Some (line.Calm t) }
@@ -291,17 +303,21 @@ module _ (types : List NamedTy) (s t : Calm) (known : Assertion) (n : ℕ) (same
       let flags = flags_agree s.right t.right in
       left_true one flags (left_true (one && flags) (are_matched no_facts (operands_in s.right) (operands_in t.right)) (right_true (same_name s.name t.name) (rights_agree no_facts s.right t.right) agree))
 
-  allowed : line_fault known both ≡ None
-  allowed = line_allowed_so known same s t agree
+  allowed : line_fault types known both ≡ None
+  allowed = line_allowed_so known same types s t calm agree
 
   line_goes_on : within (over_line types both known) ≡ Some (Gives (after_line types known both))
   line_goes_on =
       line_within types both known allowed
       (ap (λ (c : Course Assertion). are_too_many c.sizes) (line_allowed types both known allowed)
-      ∙ not_too_many (n + 1 + 1 + 1 + 1) (over_allowed types both known).sizes few (both_reach types n s t known one_operator before).0)
+      ∙ not_too_many (n + 1 + 1 + 1 + 1) (over_allowed types both known).sizes few (both_reach types n s t known calm one_operator before).0)
 
   line_adds : size (after_line types known both) ≤ n + 1 + 1 + 1 + 1
-  line_adds = subst (EndAtMost (n + 1 + 1 + 1 + 1)) (allowed_ends types both known) (both_reach types n s t known one_operator before).1
+  line_adds = subst (EndAtMost (n + 1 + 1 + 1 + 1)) (allowed_ends types both known) (both_reach types n s t known calm one_operator before).1
+
+not_so : (b : Bool) → not b ≡ true → b ≡ false
+not_so true h = absurd (false≢true h)
+not_so false h = refl
 
 -- over a line that agrees a check goes on, no register may differ after it, and it adds at most four facts
 abbrev GoesOn : List NamedTy → Line → Assertion → ℕ → Type 0
@@ -309,8 +325,10 @@ GoesOn types l known n = (within (over_line types l known) ≡ Some (Gives (afte
 
 line_steps : (types : List NamedTy) (x y : Option Instr) (known : Assertion) (n : ℕ) → known.diff ≡ [] → instrs_agree x y ≡ true → size known ≤ n → n + 1 + 1 + 1 + 1 ≤ fact_limit
     → GoesOn types (record { source = x; target = y }) known n
-line_steps types (Some (line.Calm s)) (Some (line.Calm t)) known n same agree before few =
-    (line_goes_on types s t known n same agree before few, none_differ known same s t agree, line_adds types s t known n same agree before few)
+line_steps types (Some (line.Calm s)) (Some (line.Calm t)) known n same both before few =
+    let agree = right_true (not (is_load s.right)) (lines_agree no_facts s t) both in
+    let calm = not_so (is_load s.right) (left_true (not (is_load s.right)) (lines_agree no_facts s t) both) in
+    (line_goes_on types s t known n same calm agree before few, none_differ known same s t agree, line_adds types s t known n same calm agree before few)
 line_steps types x y known n same agree before few = absurd (false≢true agree)
 
 -- ---- terminators

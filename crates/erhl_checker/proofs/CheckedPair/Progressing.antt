@@ -38,11 +38,11 @@ answers_so same ended is = subst (Answers ended) same is
 -- ---- lines
 
 module _ (types : List NamedTy) (l : Line) (known : Assertion) where
-  pub line_within : line_fault known l ≡ None → are_too_many (over_line types l known).sizes ≡ false → within (over_line types l known) ≡ Some (Gives (after_line types known l))
+  pub line_within : line_fault types known l ≡ None → are_too_many (over_line types l known).sizes ≡ false → within (over_line types l known) ≡ Some (Gives (after_line types known l))
   line_within allowed few =
       ap (λ b. cond b None (Some (over_line types l known).ends)) few ∙ ap (λ e. Some e) (line_ends types l known allowed)
 
-  pub line_refuses_so : (r : Reason) → line_fault known l ≡ Some r → within (over_line types l known) ≡ Some (Refuses r)
+  pub line_refuses_so : (r : Reason) → line_fault types known l ≡ Some r → within (over_line types l known) ≡ Some (Refuses r)
   line_refuses_so r fault = ap (λ (c : Course Assertion). within c) (line_refused types l known r fault)
 
   pub line_over : are_too_many (over_line types l known).sizes ≡ true → within (over_line types l known) ≡ None

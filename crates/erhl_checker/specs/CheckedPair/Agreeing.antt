@@ -3,6 +3,8 @@ use Rattle.std.specs.Prelude.{ℕ, ◌+◌, ◌*◌, Bool, true, false, ◌&&◌
 use Rattle.ir_core.specs.Limits.{fact_limit}
 use Rattle.ir_types.specs.Same.{same_list, same_name}
 use Rattle.ir_types.specs.declared.names.Name.{Name}
+use Rattle.ir_core.specs.declared.expressions.Expr.{Expr}
+use Rattle.ir_core.specs.declared.expressions.Expr.TheVariants as expr
 use Rattle.ir_core.specs.declared.functions.Instr.{Instr}
 use Rattle.ir_core.specs.declared.functions.Instr.TheVariants as line
 use Rattle.ir_core.specs.declared.functions.Phi.{Phi}
@@ -15,8 +17,13 @@ use Rattle.erhl_assert.specs.Edges.{phis_at, phis_match}
 use Rattle.erhl_assert.specs.Steps.{Beside}
 use Rattle.erhl_assert.specs.Acceptance.{term_fault}
 
+abbrev pub is_load : Expr Name → Bool
+is_load (expr.Load a) = true
+is_load e = false
+
+-- a load isn't judged so: it may add three facts a side
 abbrev pub instrs_agree : Option Instr → Option Instr → Bool
-instrs_agree (Some (line.Calm s)) (Some (line.Calm t)) = lines_agree no_facts s t
+instrs_agree (Some (line.Calm s)) (Some (line.Calm t)) = not (is_load s.right) && lines_agree no_facts s t
 instrs_agree source target = false
 
 -- an aligned line of both sides that agree

@@ -7,7 +7,7 @@ ghost use Rattle.ir_core.specs.Limits.{fact_limit};
 ghost use Rattle.erhl_assert.specs.Alignment.{no_facts};
 ghost use Rattle.line_align.specs.Cursor.{aligned_line};
 ghost use Rattle.line_align.specs.Lent.{lent_block, lines_under};
-ghost use Rattle.erhl_checker.specs.CheckedPair.Agreeing.{instrs_agree, line_agrees, all_agree, terms_agree, are_few, block_agrees, phi_agrees, phis_agree, claims_nothing, edge_agrees, edges_agree};
+ghost use Rattle.erhl_checker.specs.CheckedPair.Agreeing.{is_load, instrs_agree, line_agrees, all_agree, terms_agree, are_few, block_agrees, phi_agrees, phis_agree, claims_nothing, edge_agrees, edges_agree};
 ghost use Rattle.erhl_checker.specs.CheckedPair.Asked.{asked};
 ghost use Rattle.erhl_checker.specs.CheckedPair.Progress.{names_lent};
 
@@ -15,17 +15,30 @@ use crate::checked_pair::Pair;
 use crate::checked_pair::terms::term_fault;
 use erhl_assert::{HintBlock, Letter};
 use fact_sets::{IndexedSet, Sides};
-use ir_core::{Instr, Limit, Name, Term, same_name};
+use ir_core::{Expr, Instr, Limit, Name, Term, same_name};
 use line_align::{AlignedBlock, Likeness, all_alike, left, on_source, on_target, taken};
 use postcondition::{IndexedPhi, lines_agree, phis_match};
 use std::alloc::{AllocError, Global};
 
-fn instrs_agree(nothing: &Sides<IndexedSet>, source: Option<&Instr>, target: Option<&Instr>) -> bool
+fn is_load(right: &Expr<Name>) -> bool
+    ensures { result ≡ is_load right.now }
+{
+    matches!(right, Expr::Load(_))
+}
+
+/// Whether two lines agree where nothing is known.
+pub fn instrs_agree(
+    nothing: &Sides<IndexedSet>,
+    source: Option<&Instr>,
+    target: Option<&Instr>,
+) -> bool
     requires { nothing.now ≡ no_facts }
     ensures { result ≡ instrs_agree (option_copied source.entry) (option_copied target.entry) }
 {
     match (source, target) {
-        (Some(Instr::Calm(s)), Some(Instr::Calm(t))) => lines_agree(nothing, s, t),
+        (Some(Instr::Calm(s)), Some(Instr::Calm(t))) => {
+            !is_load(&s.right) && lines_agree(nothing, s, t)
+        }
         _ => false,
     }
 }

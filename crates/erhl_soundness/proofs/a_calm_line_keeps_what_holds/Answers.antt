@@ -1,4 +1,4 @@
-use Rattle.erhl_soundness.proofs.OneSide.{calm_lines_keep}
+use Rattle.erhl_soundness.proofs.CalmLines.{calm_lines_keep}
 use Rattle.erhl_soundness.proofs.a_calm_line_keeps_what_holds.Goals as goal
 
 pub returns : goal.returns

@@ -175,6 +175,13 @@ pub fn now_expr(alloc: Global, expr: &Expr<Name>) -> Result<Expr0, AllocError>
     named_expr(alloc, expr)
 }
 
+/// An operand of a function, as the logic names its register.
+pub fn now_operand(alloc: Global, operand: &Operand<Name>) -> Result<Operand<Reg>, AllocError>
+    ensures { IfOk result (λ named. named ≡ map_operand Now operand.now) }
+{
+    named_operand(alloc, operand)
+}
+
 /// The register as it was before the edge.
 pub fn old_register(alloc: Global, register: &Reg) -> Result<Reg, AllocError>
     ensures { IfOk result (λ old. old ≡ old_of register.now) }

@@ -1,11 +1,4 @@
-ghost use Rattle.ir_typing.specs.ModuleLimits.Laws.{LimitsAreOne, LimitsOfFunctionsAreOne, RangesLieWithin};
-
-/// Empty on purpose: its contract is the law.
-///
-/// A module in range that is over integers alone passes neither the limit on depths nor that on blocks.
-pub fn ranges_lie_within()
-    ensures { RangesLieWithin }
-{}
+ghost use Rattle.ir_typing.specs.ModuleLimits.Laws.{LimitsAreOne, LimitsOfFunctionsAreOne};
 
 /// Empty on purpose: its contract is the law.
 ///

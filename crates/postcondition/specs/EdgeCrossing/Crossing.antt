@@ -1,5 +1,5 @@
 -- Words of private functions. What becomes of facts over an edge.
-use Rattle.std.specs.Prelude.{ℕ, Bool, false, ◌&&◌, ◌||◌, not, slice_get, List, Option, None, Some}
+use Rattle.std.specs.Prelude.{ℕ, Bool, false, ◌&&◌, ◌||◌, ◌≡◌, not, slice_get, List, Option, None, Some, is_some}
 use Rattle.std.specs.List.{filter_map, list_any}
 use Rattle.std.specs.Option.{option_to_list}
 use Rattle.ir_types.specs.declared.names.Name.{Name}
@@ -9,8 +9,11 @@ use Rattle.ir_core.specs.declared.functions.Entry.{Entry}
 use Rattle.ir_core.specs.declared.functions.Phi.{Phi}
 use Rattle.ir_core.specs.declared.expressions.Reg.{Reg}
 use Rattle.ir_core.specs.declared.expressions.Reg.TheVariants.{Now}
+use Rattle.ir_core.specs.declared.name_index.places.PlaceIndex.{PlaceIndex}
+use Rattle.ir_core.specs.NameIndexes.Places.{place_in}
 use Rattle.ir_machine.specs.Machine.{entry_from}
 use Rattle.erhl_assert.specs.declared.facts.Fact.{Fact}
+use Rattle.erhl_assert.specs.declared.facts.Fact.TheVariants.{Unique}
 use Rattle.erhl_assert.specs.declared.facts.Assertion.{Assertion}
 use Rattle.erhl_assert.specs.declared.facts.Side.TheVariants.{Src, Tgt}
 use Rattle.erhl_assert.specs.Facts.{fact_has, without}
@@ -33,6 +36,14 @@ is_of_entry f (Some e) = is_of_atom f e.value
 -- the fact is that what a phi is given is unique
 abbrev pub is_shared : Name → List Phi → Fact → Bool
 is_shared from ps f = list_any (λ (p : Phi). is_of_entry f (entry_from from p.entries)) ps
+
+-- the register is one of those that are kept
+abbrev pub has_given : PlaceIndex → Name → Bool
+has_given given x = is_some (place_in given x)
+
+-- those registers are kept that the phis are given, and no others
+unfoldable pub AreGiven : PlaceIndex → Name → List Phi → Type 0
+AreGiven given from ps = (x : Name) → has_given given x ≡ is_shared from ps (Unique (Now x))
 
 -- it names a register of a phi, or is that what a phi is given is unique
 abbrev pub is_taken : Name → List Phi → Fact → Bool

@@ -1,24 +1,25 @@
 //! What is known on an edge, behind the phis of the block that it enters.
-ghost use Rattle.std.specs.Prelude.{◌≡◌, ◌++◌, ◌+◌, [], ◌∷◌, None, Some, false, true, not, filter, length, IfOk, IfErr, OnOk};
+ghost use Rattle.std.specs.Prelude.{◌≡◌, ◌++◌, ◌+◌, ◌||◌, [], ◌∷◌, None, Some, false, true, not, filter, length, IfOk, IfErr, OnOk};
 ghost use Rattle.ir_core.specs.declared.limits.Limit.{Limit};
 ghost use Rattle.ir_core.specs.declared.limits.Limit.TheVariants.{Facts};
 ghost use Rattle.ir_core.specs.declared.expressions.Reg.TheVariants.{Now};
 ghost use Rattle.ir_core.specs.declared.expressions.Reg.TheVariants.{Old};
+ghost use Rattle.ir_types.specs.declared.names.Name.{Name};
 ghost use Rattle.ir_core.specs.declared.expressions.Expr.TheVariants as expr;
 ghost use Rattle.ir_core.specs.Expressions.{map_atom};
 ghost use Rattle.std.specs.Option.{option_to_list};
 ghost use Rattle.erhl_assert.specs.declared.facts.Fact.TheVariants.{Unique};
 ghost use Rattle.erhl_assert.specs.declared.verdict.Reason.{Reason};
-ghost use Rattle.erhl_assert.specs.Facts.{with_facts, on_side};
+ghost use Rattle.erhl_assert.specs.Facts.{fact_has, with_facts, on_side};
 ghost use Rattle.erhl_assert.specs.Course.{Gives, and_then, are_too_many, within};
 ghost use Rattle.erhl_assert.specs.Growth.{adds_all, over_edge};
-ghost use Rattle.erhl_assert.specs.Edges.{register_at, phi_fact, phi_facts, phi_registers, is_alike, as_old, diff_over, after_edge};
+ghost use Rattle.erhl_assert.specs.Edges.{register_at, phi_fact, phi_facts, phi_registers, is_alike, is_of_phi, as_old, diff_over, after_edge};
 ghost use Rattle.ir_machine.specs.Machine.{entry_from};
 ghost use Rattle.fact_sets.specs.ErhlSides.Beside.{adds_all_beside};
 ghost use Rattle.fact_sets.specs.declared.added_facts.ends.AddEnd.TheVariants as add_end;
 ghost use Rattle.fact_sets.specs.declared.added_facts.ends.LineEnd.TheVariants as line_end;
 ghost use Rattle.fact_sets.specs.AddedFacts.Ends.{Follows};
-ghost use Rattle.postcondition.specs.EdgeCrossing.Crossing.{at_place, copies, goes, is_of_atom, is_of_entry, is_shared, is_taken, stays, stays_apart, over_staying};
+ghost use Rattle.postcondition.specs.EdgeCrossing.Crossing.{at_place, copies, goes, has_given, is_of_entry, is_shared, is_taken, stays, stays_apart, over_staying, AreGiven};
 
 use crate::block_phis::{IndexedPhi, Phis, sets_alike};
 use contents::Exact;
@@ -26,8 +27,9 @@ use erhl_assert::{Fact, FactSet, Side};
 use fact_sets::{
     AddEnd, LineEnd, RegisterSet, Sides, add_equal, fact_has, names_old, old_atom, old_fact,
 };
-use ir_core::{Atom, Entry, Expr, Expr0, Limit, Name, Operand, Reg, same_name};
+use ir_core::{Atom, Entry, Expr, Expr0, Limit, Name, Operand, PlaceIndex, Reg};
 use std::alloc::{AllocError, Global};
+use std::marker::Model;
 
 /// An edge: the block that it leaves, and on both sides the phis of the block that it enters.
 #[derive(Drop, Clone, Copy)]
@@ -39,76 +41,152 @@ pub struct Edge<'b, 'a> {
 
 // ---- what stays
 
-/// Whether the register is the atom.
-fn is_atom(register: &Reg, atom: &Atom<Name>) -> bool
-    ensures { result ≡ is_of_atom (Unique register.now) atom.now }
-{
-    match (register, atom) {
-        (Reg::Now(name), Atom::Register(other)) => same_name(other, name),
-        _ => false,
+/// The phis of a block, seen from a block before it.
+struct PhisFrom<'b, 'a> {
+    from: &'b Name,
+    phis: &'b Phis<'a>,
+    /// The registers that they are given from there, each found without a walk.
+    given: PlaceIndex<'a>,
+}
+
+impl<'b, 'a> Model for PhisFrom<'b, 'a> {
+    ghost use Rattle.ir_types.specs.declared.names.Name.{Name};
+    ghost use Rattle.ir_core.specs.declared.functions.Phi.{Phi};
+    ghost use Rattle.postcondition.specs.EdgeCrossing.Crossing.{AreGiven};
+    ghost use Rattle.std.specs.Prelude.{List};
+    ghost use Rattle.std.specs.Coded.{codes};
+    ghost use Rattle.ir_types.specs.contracts.ty.Ty as ty;
+    ghost use Rattle.ir_core.specs.contracts.operands.Const as constant;
+
+    ghost Value = { Name × List Phi };
+
+    ghost coded = { Prim.hlevel (codes, ty.the_row.coded, constant.the_row.coded) };
+
+    ghost view = { λ it. (it.from.now, it.phis.now) };
+
+    ghost invariant = { λ it. AreGiven it.given it.from.now it.phis.now };
+}
+
+impl<'b, 'a> Drop for PhisFrom<'b, 'a> {
+    fn drop(self) {
+        let PhisFrom {
+            from: _,
+            phis: _,
+            given: _,
+        } = self;
     }
 }
 
-/// Whether the phi is given the register.
-#[tactic(auto, using(crate::proofs::EdgeCrossing::Sharing::of_entry_found))]
-fn is_given(from: &Name, phi: &IndexedPhi<'_>, register: &Reg) -> bool
-    ensures { result ≡ is_of_entry (Unique register.now) (entry_from from.now phi.now.entries) }
+/// Keeps the register that the phi is given.
+#[tactic(auto, using(crate::proofs::EdgeCrossing::Sharing::one_given, crate::proofs::EdgeCrossing::Sharing::constant_given, crate::proofs::EdgeCrossing::Sharing::nothing_given))]
+fn add_given<'a>(
+    from: &Name,
+    phi: &IndexedPhi<'a>,
+    given: &mut PlaceIndex<'a>,
+) -> Result<(), AllocError>
+    ensures { OnOk result
+        ((x : Name) → has_given given.new x ≡ (has_given given.old x || is_of_entry (Unique (Now x)) (entry_from from.now phi.now.entries))) }
 {
     match phi.entry_from(from) {
-        None => false,
-        Some(entry) => is_atom(register, &entry.value),
+        None => Ok(()),
+        Some(entry) => match &entry.value {
+            Atom::Constant(_) => Ok(()),
+            Atom::Register(name) => given.put(name, 0),
+        },
+    }
+}
+
+/// The registers that the phis are given from the block.
+fn given_from<'a>(
+    alloc: Global,
+    from: &Name,
+    phis: &[IndexedPhi<'a>],
+) -> Result<PlaceIndex<'a>, AllocError>
+    ensures { IfOk result (λ given. AreGiven given from.now phis.now) }
+{
+    let mut given = PlaceIndex::with_room(alloc, phis.len())?;
+    for phi in phis {
+        add_given(from, phi, &mut given)?;
+    }
+    Ok(given)
+}
+
+impl<'b, 'a> PhisFrom<'b, 'a> {
+    fn of(alloc: Global, from: &'b Name, phis: &'b Phis<'a>) -> Result<PhisFrom<'b, 'a>, AllocError>
+        ensures { IfOk result (λ it. it ≡ (from.now, phis.now)) }
+    {
+        let given = given_from(alloc, from, phis.all())?;
+        Ok(PhisFrom { from, phis, given })
+    }
+
+    /// Whether the fact names a register of theirs.
+    fn are_named_by(&self, fact: &Fact) -> bool
+        ensures { result ≡ fact_has (is_of_phi self.now.1) fact.now }
+    {
+        fact_has(self.phis, fact)
+    }
+
+    /// Whether one of them is given the register.
+    #[tactic(auto, using(crate::proofs::EdgeCrossing::Sharing::found_given, crate::proofs::EdgeCrossing::Sharing::not_found_given))]
+    fn are_given(&self, name: &Name) -> bool
+        ensures { result ≡ is_shared self.now.0 self.now.1 (Unique (Now name.now)) }
+    {
+        match self.given.position(name) {
+            Some(_) => true,
+            None => false,
+        }
     }
 }
 
 /// Whether the fact is that what a phi is given is unique.
-#[tactic(auto, using(crate::proofs::EdgeCrossing::Sharing::not_shared))]
-fn is_shared(from: &Name, phis: &Phis<'_>, fact: &Fact) -> bool
-    ensures { result ≡ is_shared from.now phis.now fact.now }
+#[tactic(auto, using(crate::proofs::EdgeCrossing::Sharing::not_shared, crate::proofs::EdgeCrossing::Sharing::old_not_shared, crate::proofs::EdgeCrossing::Sharing::ghost_not_shared))]
+fn is_shared(phis: &PhisFrom<'_, '_>, fact: &Fact) -> bool
+    ensures { result ≡ is_shared phis.now.0 phis.now.1 fact.now }
 {
     match fact {
-        Fact::Unique(register) => phis.all().iter().any(|phi| is_given(from, phi, register)),
+        Fact::Unique(Reg::Now(name)) => phis.are_given(name),
         _ => false,
     }
 }
 
 /// Whether the phis take the fact away.
-fn is_taken(from: &Name, phis: &Phis<'_>, fact: &Fact) -> bool
-    ensures { result ≡ is_taken from.now phis.now fact.now }
+fn is_taken(phis: &PhisFrom<'_, '_>, fact: &Fact) -> bool
+    ensures { result ≡ is_taken phis.now.0 phis.now.1 fact.now }
 {
-    fact_has(phis, fact) || is_shared(from, phis, fact)
+    phis.are_named_by(fact) || is_shared(phis, fact)
 }
 
-fn goes(from: &Name, phis: &Phis<'_>, fact: &Fact) -> bool
-    ensures { result ≡ goes from.now phis.now fact.now }
+fn goes(phis: &PhisFrom<'_, '_>, fact: &Fact) -> bool
+    ensures { result ≡ goes phis.now.0 phis.now.1 fact.now }
 {
-    !names_old(fact) && is_taken(from, phis, fact)
+    !names_old(fact) && is_taken(phis, fact)
 }
 
-fn stays(from: &Name, phis: &Phis<'_>, fact: &Fact) -> bool
-    ensures { result ≡ stays from.now phis.now fact.now }
+fn stays(phis: &PhisFrom<'_, '_>, fact: &Fact) -> bool
+    ensures { result ≡ stays phis.now.0 phis.now.1 fact.now }
 {
-    !names_old(fact) && !is_taken(from, phis, fact)
+    !names_old(fact) && !is_taken(phis, fact)
 }
 
 /// 1 where the fact of that number goes, else 0.
 #[tactic(auto, using(crate::proofs::EdgeCrossing::Staying::gone_here, crate::proofs::EdgeCrossing::Staying::not_gone_here, crate::proofs::EdgeCrossing::Staying::none_here))]
-fn gone_at<S: FactSet>(facts: &S, k: usize, from: &Name, phis: &Phis<'_>) -> usize
-    ensures { result ≡ length (filter (goes from.now phis.now) (at_place k (S.contents facts.now))) }
+fn gone_at<S: FactSet>(facts: &S, k: usize, phis: &PhisFrom<'_, '_>) -> usize
+    ensures { result ≡ length (filter (goes phis.now.0 phis.now.1) (at_place k (S.contents facts.now))) }
 {
     match facts.at(k) {
         None => 0,
-        Some(fact) => { if goes(from, phis, fact) { 1 } else { 0 } }
+        Some(fact) => { if goes(phis, fact) { 1 } else { 0 } }
     }
 }
 
 /// How many of the facts the phis take away.
 #[tactic(auto, using(crate::proofs::EdgeCrossing::Staying::gone_on))]
-fn count_gone<S: FactSet>(facts: &S, from: &Name, phis: &Phis<'_>) -> usize
-    ensures { result ≡ length (filter (goes from.now phis.now) (S.contents facts.now)) }
+fn count_gone<S: FactSet>(facts: &S, phis: &PhisFrom<'_, '_>) -> usize
+    ensures { result ≡ length (filter (goes phis.now.0 phis.now.1) (S.contents facts.now)) }
 {
     let mut gone = 0;
     for k in 0..facts.len() {
-        gone += gone_at(facts, k, from, phis);
+        gone += gone_at(facts, k, phis);
     }
     gone
 }
@@ -120,17 +198,16 @@ fn put_at<S: FactSet>(
     side: Side,
     facts: &S,
     k: usize,
-    from: &Name,
-    phis: &Phis<'_>,
+    phis: &PhisFrom<'_, '_>,
     after: &mut Sides<S>,
 ) -> Result<(), AllocError>
     ensures { OnOk result
-        (after.new ≡ on_side side (with_facts (filter (stays from.now phis.now) (at_place k (S.contents facts.now)))) after.old) }
+        (after.new ≡ on_side side (with_facts (filter (stays phis.now.0 phis.now.1) (at_place k (S.contents facts.now)))) after.old) }
 {
     match facts.at(k) {
         None => Ok(()),
         Some(fact) => {
-            if stays(from, phis, fact) {
+            if stays(phis, fact) {
                 after.add_fact(side, fact.copy(alloc)?)
             } else {
                 Ok(())
@@ -145,15 +222,14 @@ fn put_staying<S: FactSet>(
     alloc: Global,
     side: Side,
     facts: &S,
-    from: &Name,
-    phis: &Phis<'_>,
+    phis: &PhisFrom<'_, '_>,
     after: &mut Sides<S>,
 ) -> Result<(), AllocError>
     ensures { OnOk result
-        (after.new ≡ on_side side (with_facts (filter (stays from.now phis.now) (S.contents facts.now))) after.old) }
+        (after.new ≡ on_side side (with_facts (filter (stays phis.now.0 phis.now.1) (S.contents facts.now))) after.old) }
 {
     for k in 0..facts.len() {
-        put_at(alloc, side, facts, k, from, phis, after)?;
+        put_at(alloc, side, facts, k, phis, after)?;
     }
     Ok(())
 }
@@ -444,42 +520,26 @@ fn diff_over<'l, 'a, S: FactSet>(
 fn staying<'l, 'a, S: FactSet>(
     alloc: Global,
     known: &Sides<'l, 'a, S>,
-    from: &Name,
-    source: &Phis<'_>,
-    target: &Phis<'_>,
+    source: &PhisFrom<'_, '_>,
+    target: &PhisFrom<'_, '_>,
 ) -> Result<Sides<'l, 'a, S>, AllocError>
     requires source_once { with_facts known.now.src [] ≡ known.now.src }
     requires target_once { with_facts known.now.tgt [] ≡ known.now.tgt }
     ensures { IfOk result
         (λ after. after
         ≡ record {
-          src = filter (stays from.now source.now) known.now.src;
-          tgt = filter (stays from.now target.now) known.now.tgt;
+          src = filter (stays source.now.0 source.now.1) known.now.src;
+          tgt = filter (stays target.now.0 target.now.1) known.now.tgt;
           diff = [];
         }) }
 {
     let mut after = Sides::empty(alloc)?;
-    put_staying(
-        alloc,
-        Side::Src,
-        known.facts(Side::Src),
-        from,
-        source,
-        &mut after,
-    )?;
-    put_staying(
-        alloc,
-        Side::Tgt,
-        known.facts(Side::Tgt),
-        from,
-        target,
-        &mut after,
-    )?;
+    put_staying(alloc, Side::Src, known.facts(Side::Src), source, &mut after)?;
+    put_staying(alloc, Side::Tgt, known.facts(Side::Tgt), target, &mut after)?;
     Ok(after)
 }
 
 /// What is known behind the phis, with the registers that may differ, of sides in which each fact stands once.
-#[tactic(auto, using(crate::proofs::EdgeCrossing::Crossing::not_crossed))]
 fn over<'l, 'a, S: FactSet>(
     alloc: Global,
     known: &Sides<'l, 'a, S>,
@@ -498,14 +558,13 @@ fn over<'l, 'a, S: FactSet>(
         (over_edge (record { from = edge.now.from.now; source = edge.now.source.now; target = edge.now.target.now }) known.now)
         ≡ None)) }
 {
-    let from = edge.from;
-    let source = edge.source;
-    let target = edge.target;
-    let gone_source = count_gone(known.facts(Side::Src), from, source) as u128;
-    let gone_target = count_gone(known.facts(Side::Tgt), from, target) as u128;
-    let mut after = staying(alloc, known, from, source, target)?;
+    let source = PhisFrom::of(alloc, edge.from, edge.source)?;
+    let target = PhisFrom::of(alloc, edge.from, edge.target)?;
+    let gone_source = count_gone(known.facts(Side::Src), &source) as u128;
+    let gone_target = count_gone(known.facts(Side::Tgt), &target) as u128;
+    let mut after = staying(alloc, known, &source, &target)?;
     add_over(alloc, gone_source + gone_target, known, edge, &mut after)?;
-    let diff = diff_over(alloc, known, from, source, target)?;
+    let diff = diff_over(alloc, known, edge.from, edge.source, edge.target)?;
     after.set_differing(diff);
     Ok(after)
 }

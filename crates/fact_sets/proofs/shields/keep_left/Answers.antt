@@ -7,5 +7,5 @@ use Rattle.fact_sets.proofs.shields.keep_left.Goals as goal
 
 pub returns : goal.returns
 returns g c =
-    let test = λ (f : Fact). list_all (g.C.Change.leaves c.args.change.now c.args.shields.now) (loads_of f) in
+    let test = λ (f : Fact). list_all (g.C.Change.leaves c.args.change.now c.args.shields.now.keys) (loads_of f) in
     filter_same _ test _ (λ x b f k. search rules) _ _ c.retain.ensures.filtered

@@ -17,7 +17,7 @@ invariant_of-self-then-shields c =
     let before = c.self.inside.facts.keys in
     let after = c.add_shield.new.facts.keys in (
       one_indexed c.self.inside.named.keys c.add_named.new.names.keys c.args.fact before after c.self.invariant.0 c.in_ok-add_named.ensures.ok c.in_ok-add_shield.ensures.ok,
-      with_shield c.self.inside.shields.items c.add_shield.new.some.items c.self.inside.may_load c.may_load_with-self-inside.result c.args.fact before after c.self.invariant.1
+      with_shield c.self.inside.shields.keys c.add_shield.new.some.keys c.self.inside.may_load c.may_load_with-self-inside.result c.args.fact before after c.self.invariant.1
           c.may_load_with-self-inside.ensures c.in_ok-add_shield.ensures.all c.in_ok-add_shield.ensures.ok,
     )
 
@@ -27,6 +27,6 @@ invariant_of-self-2 c =
     let after = c.insert.new.self.keys in
     let other : shields c.args.fact ≡ false = search rules in (
       one_indexed c.self.inside.named.keys c.add_named.new.names.keys c.args.fact before after c.self.invariant.0 c.in_ok-add_named.ensures.ok c.in_ok-insert.ensures.keys,
-      with_other c.self.inside.shields.items c.self.inside.may_load c.may_load_with-self-inside.result c.args.fact before after c.self.invariant.1
+      with_other c.self.inside.shields.keys c.self.inside.may_load c.may_load_with-self-inside.result c.args.fact before after c.self.invariant.1
           c.may_load_with-self-inside.ensures other c.in_ok-insert.ensures.keys,
     )

@@ -4,4 +4,4 @@ use Rattle.postcondition.proofs.edge_crossing.edges.count_gone.Given as goal
 
 abbrev pub invariant-loop-k : goal.invariant-loop-k
 invariant-loop-k g l =
-    l.gone + length (filter (goes l.from l.phis) (drop l.k (g.S.FactSet.contents l.facts))) ≡ length (filter (goes l.from l.phis) (g.S.FactSet.contents l.facts))
+    l.gone + length (filter (goes l.phis.0 l.phis.1) (drop l.k (g.S.FactSet.contents l.facts))) ≡ length (filter (goes l.phis.0 l.phis.1) (g.S.FactSet.contents l.facts))
