@@ -19,6 +19,8 @@ OPERATORS = ("add", "xor", "and", "sub")
 def bytes_of(ty, value):
     if value in (UNDEF, POISON):
         return [value] * SIZES[ty]
+    if isinstance(value, tuple) and value[0] == "bare":
+        value = value[1]
     if isinstance(value, tuple):
         return [("part", value[1], value[2], place) for place in range(SIZES[ty])]
     return [(value >> (8 * place)) & 255 for place in range(SIZES[ty])]
