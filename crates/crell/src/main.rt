@@ -11,6 +11,7 @@ use crell_program::{WANT_OF_MEMORY, crell};
 use rule_base::{InferRule, Rule, RuleBook};
 use rules_arith::ArithRule;
 use rules_cast_cmp::CastCmpRule;
+use rules_memory::MemoryRule;
 use std::alloc::{AllocError, Global};
 use std::env::{self, Env};
 use std::io::ErrorKind;
@@ -36,6 +37,14 @@ fn main(rt: HostRuntime) -> ExitCode {
         }
     }
     for rule in CastCmpRule::ALL {
+        let Ok(boxed) = Box::new(rt.alloc(), rule) else {
+            return ExitCode::from(WANT_OF_MEMORY);
+        };
+        if rules.push(boxed).is_err() {
+            return ExitCode::from(WANT_OF_MEMORY);
+        }
+    }
+    for rule in MemoryRule::ALL {
         let Ok(boxed) = Box::new(rt.alloc(), rule) else {
             return ExitCode::from(WANT_OF_MEMORY);
         };

@@ -6,7 +6,7 @@ use Rattle.erhl_assert.specs.declared.hints.Hints.{Hints}
 use Rattle.erhl_assert.specs.declared.verdict.ModuleVerdict.{ModuleVerdict}
 use Rattle.erhl_assert.specs.declared.verdict.ModuleVerdict.TheVariants as modules
 use Rattle.erhl_assert.specs.Steps.{Rules}
-use Rattle.erhl_assert.specs.Acceptance.{module_answer}
+use Rattle.crell_program.specs.PairAnswer.{pair_answer}
 use Rattle.ir_lexer.specs.declared.fault.TextFault.{TextFault}
 use Rattle.ir_lexer.specs.declared.fault.TextFault.TheVariants as text
 use Rattle.ir_reader.specs.declared.fault.ModuleFault.{ModuleFault}
@@ -174,12 +174,12 @@ module _ (rules : Rules) (shelf : ShelfSeen) (out err : SinkSeen) (names : Check
         ),
       )))
   says_check answer (inr (s, sp, inr (t, tp, inr (h, hp, e)))) =
-      along checks answer (checked (module_answer rules s t h) names.source) e
-      (says_checked rules shelf out err (Check names) tt (module_answer rules s t h) names.source
+      along checks answer (checked (pair_answer rules s t h) names.source) e
+      (says_checked rules shelf out err (Check names) tt (pair_answer rules s t h) names.source
       (answered IsInvalid s sp t tp h hp) (answered HasNoVerdict s sp t tp h hp))
     where
       answered : (P : Option ModuleVerdict → Type 0) (s : Module) → SpellsOnly source s → (t : Module) → SpellsOnly target t → (h : Hints) → IsReadOnlyAs hints (Ok h)
-          → P (module_answer rules s t h) → IsAnswer P rules shelf.told (Some (Check names))
+          → P (pair_answer rules s t h) → IsAnswer P rules shelf.told (Some (Check names))
       answered P s sp t tp h hp p = (
         reads,
         present,

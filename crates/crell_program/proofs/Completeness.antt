@@ -11,7 +11,7 @@ use Rattle.erhl_assert.specs.declared.hints.Hints.{Hints}
 use Rattle.erhl_assert.specs.declared.verdict.ModuleVerdict.{ModuleVerdict}
 use Rattle.erhl_assert.specs.declared.verdict.ModuleVerdict.TheVariants as modules
 use Rattle.erhl_assert.specs.Steps.{Rules}
-use Rattle.erhl_assert.specs.Acceptance.{module_answer}
+use Rattle.crell_program.specs.PairAnswer.{pair_answer}
 use Rattle.crell_io.specs.Count.{HasRisen}
 use Rattle.crell_io.specs.Shelf.{Told, IfTold}
 use Rattle.crell_io.specs.Shelf.Told.{NoSuch, Bytes}
@@ -66,7 +66,7 @@ AreWithin (file ∷ files) [] = ⊥
 answer_of_texts : FaultsExcludeModules → (rules : Rules) (names : CheckFiles) (answer : Answer) (source target hints : List ℕ) (s t : Module) (h : Hints)
     → length source ≤ text_limit → length target ≤ text_limit
     → SpellsWellFormed source s → SpellsWellFormed target t → HintsOf hints h → DueOfCheck rules names answer source target hints
-    → answer ≡ checked (module_answer rules s t h) names.source
+    → answer ≡ checked (pair_answer rules s t h) names.source
 answer_of_texts excludes rules names answer source target hints s t h short also sp tp hp (inl (f, is, e)) = absurd (excludes source f s short is sp)
 answer_of_texts excludes rules names answer source target hints s t h short also sp tp hp (inr (s2, sq, inl (f, is, e))) =
     absurd (excludes target f t also is tp)
@@ -76,8 +76,8 @@ answer_of_texts excludes rules names answer source target hints s t h short also
     let es : s2 ≡ s = sym (sq.1 s sp.0) in
     let et : t2 ≡ t = sym (tq.1 t tp.0) in
     let eh : h2 ≡ h = sym (hints_same h h2 (hq.1 (Ok h) hp)) in
-    e ∙ (ap (λ (x : Module). checked (module_answer rules x t2 h2) names.source) es
-    ∙ (ap (λ (x : Module). checked (module_answer rules s x h2) names.source) et ∙ ap (λ (x : Hints). checked (module_answer rules s t x) names.source) eh))
+    e ∙ (ap (λ (x : Module). checked (pair_answer rules x t2 h2) names.source) es
+    ∙ (ap (λ (x : Module). checked (pair_answer rules s x h2) names.source) et ∙ ap (λ (x : Hints). checked (pair_answer rules s t x) names.source) eh))
 
 -- no sink counts a fault
 abbrev pub SinksAreFine : SinkSeen → SinkSeen → Type 0
@@ -132,7 +132,7 @@ pub judged_as : FaultsExcludeModules → (rules : Rules) (P : Option ModuleVerdi
     → DueOfTexts rules command answer texts → Q answer
 judged_as excludes rules P Q leads (Check names) answer (source ∷ target ∷ hints ∷ []) within (s, t, h, sp, tp, hp, p) due =
     subst Q (sym (answer_of_texts excludes rules names answer source target hints s t h within.0 within.1.0 sp tp hp due))
-    (leads (module_answer rules s t h) names.source p)
+    (leads (pair_answer rules s t h) names.source p)
 judged_as excludes rules P Q leads (Check names) answer [] within judged due = absurd due
 judged_as excludes rules P Q leads (Check names) answer (source ∷ []) within judged due = absurd due
 judged_as excludes rules P Q leads (Check names) answer (source ∷ target ∷ []) within judged due = absurd due

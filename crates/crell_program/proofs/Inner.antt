@@ -7,7 +7,7 @@ use Rattle.ir_reader.specs.declared.fault.ModuleFault.{ModuleFault}
 use Rattle.ir_reader.specs.declared.fault.ModuleFault.TheVariants as faults
 use Rattle.erhl_assert.specs.declared.hints.Hints.{Hints}
 use Rattle.erhl_assert.specs.Steps.{Rules}
-use Rattle.erhl_assert.specs.Acceptance.{module_answer}
+use Rattle.crell_program.specs.PairAnswer.{pair_answer}
 use Rattle.json_forms.specs.declared.failure.Fault.{Fault}
 use Rattle.hint_format.specs.Form.{HintsOf, IsHintFault, IsHintReading}
 use Rattle.hint_format.proofs.Readings.{readings_are_one}
@@ -82,7 +82,7 @@ module _ {E : Type 0} (rules : Rules) (names : CheckFiles) (source target hints 
       unfit_hints fault is (Ok answer) e = inr (s, sp, inr (t, tp, inl (fault, read_only hints (Err fault) is, e)))
       unfit_hints fault is (Err end) e = e
 
-      pub texts_judged : (h : Hints) → HintsOf hints h → (r : Result Answer E) → IfOk r (λ a. a ≡ checked (module_answer rules s t h) names.source)
+      pub texts_judged : (h : Hints) → HintsOf hints h → (r : Result Answer E) → IfOk r (λ a. a ≡ checked (pair_answer rules s t h) names.source)
           → IfOk r (λ answer. DueOfCheck rules names answer source target hints)
       texts_judged h hp (Ok answer) e = inr (s, sp, inr (t, tp, inr (h, read_only hints (Ok h) hp, e)))
       texts_judged h hp (Err end) e = e

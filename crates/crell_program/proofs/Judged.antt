@@ -11,7 +11,7 @@ use Rattle.hint_format.specs.Form.{HintsOf}
 use Rattle.erhl_assert.specs.declared.hints.Hints.{Hints}
 use Rattle.erhl_assert.specs.declared.verdict.ModuleVerdict.{ModuleVerdict}
 use Rattle.erhl_assert.specs.declared.verdict.ModuleVerdict.TheVariants as modules
-use Rattle.erhl_assert.specs.Acceptance.{module_answer}
+use Rattle.crell_program.specs.PairAnswer.{pair_answer}
 use Rattle.erhl_assert.specs.Steps.{Rules}
 use Rattle.crell_io.specs.Count.{HasRisen}
 use Rattle.crell_io.specs.Shelf.{Told, IsBytesAnd}
@@ -105,7 +105,7 @@ module _ (rules : Rules) (told : List ℕ → Told) where
     unfit fault is first = inr (inr (inl (module_status fault, is, holds told (files_of (Check names)) texts (FirstIsUnfit (module_status fault) (files_of (Check names))) are first)))
 
     verdict : (s t : Module) (h : Hints) → SpellsWellFormed source s → SpellsWellFormed target t → HintsOf hints h
-        → (said : Option ModuleVerdict) → module_answer rules s t h ≡ said → MeetsOne rules told (Some (Check names))
+        → (said : Option ModuleVerdict) → pair_answer rules s t h ≡ said → MeetsOne rules told (Some (Check names))
     verdict s t h sp tp hp None e =
         inr (inr (inr (inr (inr (inr (inr (holds told (files_of (Check names)) texts (AreJudged rules HasNoVerdict (Check names)) are (s, t, h, sp, tp, hp, e))))))))
     verdict s t h sp tp hp (Some modules.Valid) e =
@@ -120,7 +120,7 @@ module _ (rules : Rules) (told : List ℕ → Told) where
         (s, t, h, sp, tp, hp, (modules.Refused function block spot reason, e, λ same. cc)))))))))
 
     of_hints : (s t : Module) → SpellsWellFormed source s → SpellsWellFormed target t → IsJudged HintFile hints → MeetsOne rules told (Some (Check names))
-    of_hints s t sp tp (inl (h, hp)) = verdict s t h sp tp hp (module_answer rules s t h) refl
+    of_hints s t sp tp (inl (h, hp)) = verdict s t h sp tp hp (pair_answer rules s t h) refl
     of_hints s t sp tp (inr (fault, is)) =
         inr (inr (inr (inl (
           fault,

@@ -8,7 +8,7 @@ use Rattle.ir_reader.specs.declared.fault.ModuleFault.{ModuleFault}
 use Rattle.json_forms.specs.declared.failure.Fault.{Fault}
 use Rattle.erhl_assert.specs.declared.hints.Hints.{Hints}
 use Rattle.erhl_assert.specs.Steps.{Rules}
-use Rattle.erhl_assert.specs.Acceptance.{module_answer}
+use Rattle.crell_program.specs.PairAnswer.{pair_answer}
 use Rattle.crell_io.specs.Count.{HasRisen}
 use Rattle.crell_io.specs.Shelf.{Told, IfTold}
 use Rattle.crell_io.specs.Shelf.Told.{Untold, NoSuch, Bytes}
@@ -90,7 +90,7 @@ module _ (faults_are_one : ModuleFaultsAreOne) (excludes : FaultsExcludeModules)
 
   module _ (names : CheckFiles) (target hints : List ℕ) where
     abbrev ByHints : Answer → Module → Module → Hints → Type 0
-    ByHints answer s t h = answer ≡ checked (module_answer rules s t h) names.source
+    ByHints answer s t h = answer ≡ checked (pair_answer rules s t h) names.source
 
     abbrev ByTarget : Answer → Module → Module → Type 0
     ByTarget answer s t = DueOfHints names.hints hints answer (ByHints answer s t)

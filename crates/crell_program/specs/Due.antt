@@ -9,7 +9,7 @@ use Rattle.json_forms.specs.Forms.{Reading}
 use Rattle.hint_format.specs.Form.{IsHintReading}
 use Rattle.erhl_assert.specs.declared.hints.Hints.{Hints}
 use Rattle.erhl_assert.specs.Steps.{Rules}
-use Rattle.erhl_assert.specs.Acceptance.{module_answer}
+use Rattle.crell_program.specs.PairAnswer.{pair_answer}
 use Rattle.erhl_assert.specs.declared.verdict.ModuleVerdict.{ModuleVerdict}
 use Rattle.crell_io.specs.Count.{HasRisen, HasRisenAbove}
 use Rattle.crell_io.specs.Shelf.{Told, IfTold}
@@ -97,7 +97,7 @@ abbrev pub DueOfCheck : Rules → CheckFiles → Answer → List ℕ → List �
 DueOfCheck rules names answer source target hints =
     DueOfModule names.source source answer (λ s.
     DueOfModule names.target target answer (λ t.
-    DueOfHints names.hints hints answer (λ h. answer ≡ checked (module_answer rules s t h) names.source)))
+    DueOfHints names.hints hints answer (λ h. answer ≡ checked (pair_answer rules s t h) names.source)))
 
 -- The text is what is listed of the module: for each block of its functions what is defined at its start; or the module itself, or with
 -- texts for its numbers.

@@ -9,6 +9,7 @@ pub mod Judged
 pub mod MemoryRuns
 pub mod Modules
 pub mod OneAnswer
+pub mod PairAnswer
 pub mod Rows
 pub mod Statuses
 pub mod CommandLine

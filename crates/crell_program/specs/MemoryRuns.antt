@@ -6,7 +6,7 @@ use Rattle.ir_core.specs.Limits.{limit_number, text_limit}
 use Rattle.hint_format.specs.Form.{HintsOf}
 use Rattle.erhl_assert.specs.declared.hints.Hints.{Hints}
 use Rattle.erhl_assert.specs.declared.verdict.ModuleVerdict.{ModuleVerdict}
-use Rattle.erhl_assert.specs.Acceptance.{module_answer}
+use Rattle.crell_program.specs.PairAnswer.{pair_answer}
 use Rattle.erhl_assert.specs.Steps.{Rules}
 use Rattle.crell_io.specs.MemShelf.{ShelfState}
 use Rattle.crell_io.specs.MemSink.{SinkState}
@@ -46,7 +46,7 @@ PairsAreAnswered =
     (rules : Rules) (source target hints : List ℕ) (s t : Module) (proof : Hints) (v : ModuleVerdict) (room status : ℕ) (shelf : ShelfState) (out err : SinkState)
     → let run = memory_run rules (Some checking) (three_files source target hints) room shelf out err in
     length source ≤ text_limit → length target ≤ text_limit → length hints ≤ limit_number limit.Json
-    → SpellsWellFormed source s → SpellsWellFormed target t → HintsOf hints proof → module_answer rules s t proof ≡ Some v
+    → SpellsWellFormed source s → SpellsWellFormed target t → HintsOf hints proof → pair_answer rules s t proof ≡ Some v
     → length (verdict_answer v).out ≤ room → EndsWell run status → EndsWith run status (verdict_status v)
 
 -- To words that are no command's a text of any length is due, so no room is sure to be enough, and the premise of `no_fault` isn't met.

@@ -15,7 +15,7 @@ use Rattle.erhl_assert.specs.declared.hints.Hints.{Hints}
 use Rattle.erhl_assert.specs.declared.verdict.ModuleVerdict.{ModuleVerdict}
 use Rattle.erhl_assert.specs.declared.verdict.ModuleVerdict.TheVariants as modules
 use Rattle.erhl_assert.specs.Steps.{Rules}
-use Rattle.erhl_assert.specs.Acceptance.{module_answer}
+use Rattle.crell_program.specs.PairAnswer.{pair_answer}
 use Rattle.crell_io.specs.Shelf.{Told, IfTold, IsBytesAnd}
 use Rattle.crell_io.specs.Shelf.Told.{NoSuch}
 use Rattle.crell_program.specs.declared.command.Form.{Form}
@@ -146,7 +146,7 @@ fault_status (Past limit) = 9
 -- The texts are of their forms, and what the checker answers on them is such.
 abbrev pub AreJudged : Rules → (Option ModuleVerdict → Type 0) → Command → List (List ℕ) → Type 0
 AreJudged rules P (Check names) (source ∷ target ∷ hints ∷ []) =
-    (s : Module) × (t : Module) × (h : Hints) × SpellsWellFormed source s × SpellsWellFormed target t × HintsOf hints h × P (module_answer rules s t h)
+    (s : Module) × (t : Module) × (h : Hints) × SpellsWellFormed source s × SpellsWellFormed target t × HintsOf hints h × P (pair_answer rules s t h)
 AreJudged rules P (Check names) [] = ⊥
 AreJudged rules P (Check names) (source ∷ []) = ⊥
 AreJudged rules P (Check names) (source ∷ target ∷ []) = ⊥

@@ -2,6 +2,7 @@ ghost use Rattle.std.specs.Prelude.{◌≡◌, IfOk};
 ghost use Rattle.ir_core.specs.WellFormed.{HasShape};
 ghost use Rattle.ir_machine.specs.Refinement.{Refines};
 ghost use Rattle.erhl_assert.specs.Acceptance.{module_answer};
+ghost use Rattle.crell_program.specs.PairAnswer.{pair_answer};
 ghost use Rattle.rule_base.specs.Book.{meanings_of, rules_of};
 ghost use Rattle.crell_program.specs.CommandLine.Words.{shown_names};
 ghost use Rattle.crell_program.specs.Due.{checked, DueOfCheck};
@@ -12,7 +13,7 @@ use crate::crell_answers::{Answer, module_fault, past_limit, unfit, verdict_answ
 use erhl_assert::Hints;
 use erhl_checker::{CheckEnd, check_module};
 use erhl_soundness::shapes_keep_phis_apart;
-use hint_format::{HintFault, read_hints};
+use hint_format::{HintFault, read_hints, settled_hints};
 use ir_core::Module;
 use ir_reader::read_well_formed;
 use rule_base::{InferRule, RuleBook};
@@ -67,8 +68,29 @@ pub fn judge_pair(
     )
 }
 
-/// The checker's verdict on two modules, the first of which stands in that file.
+/// The checker's verdict on two modules, the first of which stands in that file, where addresses in the hints point to what their indices
+/// lead to.
 fn judge(
+    alloc: Global,
+    file: &str,
+    source: &Module,
+    target: &Module,
+    hints: &Hints,
+    rules: &RuleBook,
+) -> Result<Answer, AllocError>
+    requires source { HasShape source.now }
+    requires target { HasShape target.now }
+    ensures verdict { IfOk result
+        (λ answer. answer ≡ checked
+        (pair_answer (rules_of called takes rules.now) source.now target.now hints.now) file.now) }
+    ensures refines { IfOk result (λ answer. answer.status ≡ 0 → Refines source.now target.now) }
+{
+    let settled = settled_hints(alloc, &source.types, hints)?;
+    judge_settled(alloc, file, source, target, &settled, rules)
+}
+
+/// The same where the hints are settled beside the source.
+fn judge_settled(
     alloc: Global,
     file: &str,
     source: &Module,

@@ -105,13 +105,13 @@ abbrev pub ghost_word : List ℕ
 ghost_word = codes "ghost"
 
 -- A ghost register may be worth an expression that has a type, can't trap and doesn't name it.
-abbrev pub may_be : Reg → Expr0 → Bool
-may_be (Ghost g) e = has_type e && not (can_trap e) && not (expr_names (Ghost g) e)
-may_be (Now x) e = false
-may_be (Old x) e = false
+abbrev pub may_be : Scope → Reg → Expr0 → Bool
+may_be scope (Ghost g) e = has_type scope e && not (can_trap e) && not (expr_names (Ghost g) e)
+may_be scope (Now x) e = false
+may_be scope (Old x) e = false
 
-abbrev pub ghost_fault : Assertion → Reg → Expr0 → Option Reason
-ghost_fault known g e = first_fault (cond (may_be g e) None (Some (RuleUnfit ghost_word)) ∷ differing_fault known e ∷ [])
+abbrev pub ghost_fault : Scope → Assertion → Reg → Expr0 → Option Reason
+ghost_fault scope known g e = first_fault (cond (may_be scope g e) None (Some (RuleUnfit ghost_word)) ∷ differing_fault known e ∷ [])
 
 -- that the ghost register and the expression are worth the same
 abbrev pub choice : Reg → Expr0 → List Fact
@@ -126,8 +126,8 @@ abbrev pub chosen : Reg → Expr0 → Assertion → Course Assertion
 chosen g e known = and_then (adds_all Src (choice g e) (as_new g known)) (adds_all Tgt (choice g e))
 
 -- `ghost %g is e`
-abbrev pub after_ghost : GhostStep → Assertion → Course Assertion
-after_ghost step known = and_then (tested (ghost_fault known step.register step.value) known) (chosen step.register step.value)
+abbrev pub after_ghost : Scope → GhostStep → Assertion → Course Assertion
+after_ghost scope step known = and_then (tested (ghost_fault scope known step.register step.value) known) (chosen step.register step.value)
 
 -- the function defines a register of that name at another kind than the expression's
 abbrev pub is_other : Name → Expr0 → Name × Ty → Bool
@@ -144,7 +144,7 @@ premise_fault f x e fs wanted = cond (has_fact wanted fs && not (has_other_kind 
 
 abbrev pub same_fault : Beside → Assertion → Reg → Expr0 → Option Reason
 same_fault w known x e = first_fault (
-    cond (has_type e) None (Some (RuleUnfit ghost_word))
+    cond (has_type w.scope e) None (Some (RuleUnfit ghost_word))
     ∷ premise_fault w.source x e known.src (LessDef (register_at (type_of e) x) e)
     ∷ premise_fault w.target x e known.tgt (LessDef e (register_at (type_of e) x))
     ∷ differing_fault known e
@@ -160,7 +160,7 @@ after_same w step known = tested (same_fault w known step.register step.by) (rec
 
 abbrev pub after_step : Beside → HintStep → Assertion → Course Assertion
 after_step w (Rule step) known = after_rule (rule_named w.rules step.rule) w.scope step known
-after_step w (GhostOf step) known = after_ghost step known
+after_step w (GhostOf step) known = after_ghost w.scope step known
 after_step w (SameAs step) known = after_same w step known
 
 -- the steps in their order

@@ -189,8 +189,8 @@ module _ (n : ℕ) where
   step_bounded : (w : Beside) (step : HintStep) (known : Assertion) → size known ≤ n → IsBounded (after_step w step known)
   step_bounded w (Rule step) known h = rule_bounded w (rule_named w.rules step.rule) step known h
   step_bounded w (GhostOf step) known h =
-      and_then_bounded (tested (ghost_fault known step.register step.value) known) (chosen step.register step.value)
-      (tested_bounded (ghost_fault known step.register step.value) known h) (λ known' less. chosen_bounded step.register step.value known' less)
+      and_then_bounded (tested (ghost_fault w.scope known step.register step.value) known) (chosen step.register step.value)
+      (tested_bounded (ghost_fault w.scope known step.register step.value) known h) (λ known' less. chosen_bounded step.register step.value known' less)
   step_bounded w (SameAs step) known h =
       tested_bounded (same_fault w known step.register step.by) (record known { diff = without_reg step.register known.diff }) h
 

@@ -1,15 +1,18 @@
 -- The steps of a hint add only what holds, where the rules are sound.
 use Rattle.std.proofs.Common.{◌≡◌, ℕ, Bool, true, false, ◌&&◌, not, cond, List, [], ◌∷◌, Option, None, Some, refl, sym, ap, ◌∙◌, subst, subst₂, ⊎_elim}
-use Rattle.std.specs.Prelude.{find}
+use Rattle.std.specs.Prelude.{find, map}
 use Rattle.std.specs.Option.{option_or, option_map}
-use Rattle.std.specs.List.{AllByRecursion, list_any}
+use Rattle.std.specs.List.{AllByRecursion, list_all, list_any}
 use Rattle.std.proofs.lemmas.Bool.{cond_both, cases_Bool, not-true, false≢true}
 use Rattle.ir_types.specs.declared.names.Name.{Name}
-use Rattle.ir_types.specs.declared.ty.Ty.{Ty}
+use Rattle.ir_types.specs.declared.named.NamedTy.{NamedTy}
+use Rattle.ir_types.specs.declared.ty.Ty.{Ty, Ptr}
 use Rattle.ir_types.specs.declared.ty.Ty.TheVariants as ty
 use Rattle.ir_core.specs.declared.values.Value.{Value}
 use Rattle.ir_core.specs.declared.values.Kind.{Kind}
 use Rattle.ir_core.specs.declared.values.Kind.TheVariants as kind
+use Rattle.ir_core.specs.declared.operands.Operand.{Operand}
+use Rattle.ir_core.specs.declared.expressions.Element.{Element as ElementOf}
 use Rattle.ir_core.specs.declared.expressions.Reg.{Reg}
 use Rattle.ir_core.specs.declared.expressions.Reg.TheVariants.{Now, Old, Ghost}
 use Rattle.ir_core.specs.declared.expressions.Expr.{Expr}
@@ -17,20 +20,24 @@ use Rattle.ir_core.specs.declared.expressions.Expr.TheVariants.{Plain, Binary, I
 use Rattle.ir_core.specs.Expressions.{Expr0, type_of, expr_has}
 use Rattle.ir_core.specs.Functions.{typed_of}
 use Rattle.ir_core.specs.Ranges as ranges
-use Rattle.ir_types.specs.Same.{same_name}
+use Rattle.ir_types.specs.Same.{same_name, same_ty}
 use Rattle.ir_core.specs.Same.{same_reg}
-use Rattle.ir_core.specs.Types.{kind_of, converts}
+use Rattle.ir_core.specs.Sizes.{stepped}
+use Rattle.ir_core.specs.Types.{kind_of, is_pointer, converts}
+use Rattle.ir_core.specs.Typing.{element_type, index_of, is_due}
 use Rattle.ir_types.specs.NameLaws.{left_true, right_true}
 use Rattle.ir_core.proofs.SameLaws.{same_reg_true}
 use Rattle.ir_values.specs.declared.operations.Outcome.{Outcome}
 use Rattle.ir_values.specs.Related.{AreOutcomesRelated, IsRelated, Pairing}
 use Rattle.ir_values.specs.declared.operations.Outcome.TheVariants.{Gives, Trap}
+use Rattle.ir_values.specs.Addresses.{is_small}
 use Rattle.ir_values.specs.Constants.{Scope}
 use Rattle.ir_values.specs.Operations.{IsOutcomeLessDefined, GivesInKind}
 use Rattle.ir_values.specs.Values.{same_kind}
+use Rattle.ir_values.proofs.ConstantValues.{element_pointer, pointer_kind}
 use Rattle.ir_values.proofs.KindLaws.{same_kind_true}
 use Rattle.block_memory.specs.Memory.{Memory}
-use Rattle.ir_machine.specs.Registers.{Registers, read, set, register_value, selects, outcome}
+use Rattle.ir_machine.specs.Registers.{Registers, read, set, is_stated, register_value, selects, outcome}
 use Rattle.ir_machine.specs.Keeps.{IsMade}
 use Rattle.ir_machine.proofs.Holding.{set_among}
 use Rattle.ir_machine.proofs.InKind.{outcome_in_kind}
@@ -49,7 +56,7 @@ use Rattle.erhl_assert.specs.declared.verdict.Reason.{Reason}
 use Rattle.erhl_assert.specs.declared.verdict.Reason.TheVariants.{RuleUnfit, MissingPremise, DiffLeft}
 use Rattle.erhl_assert.specs.Sides.{SideState, IsFine, read_reg, worth, has_reg, AreRelated, no_ghost}
 use Rattle.erhl_assert.specs.Facts.{Holds, IsSound, kind_of_expr, has_fact, with_facts, expr_names, without_naming}
-use Rattle.erhl_assert.specs.Typed.{has_values, has_type}
+use Rattle.erhl_assert.specs.Typed.{has_numbers, has_type, has_values, is_addressed, is_known, may_stand}
 use Rattle.erhl_assert.specs.Allowed.{can_trap}
 use Rattle.erhl_assert.specs.Postcondition.{without_reg}
 use Rattle.erhl_assert.specs.Edges.{register_at}
@@ -106,18 +113,37 @@ gives_value scope reading memory e h = value_of (outcome scope reading memory e)
 
 type_has_kind : (t : Ty) → has_values t ≡ true → (k : Kind) × (kind_of t ≡ Some k)
 type_has_kind (ty.Int width) h = (kind.Int width, ap (λ b. cond b (Some (kind.Int width)) None) h)
-type_has_kind t h = absurd (false≢true h)
+type_has_kind t h = (kind.Ptr, pointer_kind t h)
 
-expr_has_kind : (e : Expr0) → has_type e ≡ true → (k : Kind) × (kind_of_expr e ≡ Some k)
-expr_has_kind (Plain o) h = type_has_kind o.ty h
-expr_has_kind (Binary b) h = type_has_kind b.ty (left_true (has_values b.ty) (ranges.may_have b.op b.flags) h)
-expr_has_kind (Icmp c) h = (kind.Int 1, refl)
-expr_has_kind (Cast c) h =
-    type_has_kind c.to (right_true (has_values c.operand.ty) (has_values c.to)
-    (left_true (has_values c.operand.ty && has_values c.to) (converts c.op c.operand.ty c.to) h))
-expr_has_kind (Select s) h = type_has_kind s.left.ty (left_true (has_values s.left.ty) (selects s.condition.ty s.left.ty s.right.ty) h)
-expr_has_kind (Element e) h = absurd (cc)
-expr_has_kind (Load l) h = absurd (cc)
+number_has_kind : (t : Ty) → has_numbers t ≡ true → (k : Kind) × (kind_of t ≡ Some k)
+number_has_kind (ty.Int width) h = (kind.Int width, ap (λ b. cond b (Some (kind.Int width)) None) h)
+number_has_kind t h = absurd (false≢true h)
+
+standing_has_kind : (types : List NamedTy) (t : Ty) → may_stand types t ≡ true → (k : Kind) × (kind_of t ≡ Some k)
+standing_has_kind types t h = type_has_kind t (left_true (has_values t) (is_known types t) h)
+
+address_pointer : (types : List NamedTy) (e : ElementOf Reg) → is_addressed types e ≡ true → is_pointer e.to ≡ true
+address_pointer types e h =
+    let stated = is_stated types e in
+    let known = is_known types e.of in
+    let small = list_all (is_small types) (stepped types e.of (map index_of e.indices)) in
+    let first : stated ≡ true =
+    left_true stated known (left_true (stated && known) small (left_true (stated && known && small) (list_all (λ (i : Operand Reg). has_values i.ty) e.indices) h)) in
+    element_pointer types e.of (map index_of e.indices) e.to
+    (right_true (same_ty e.base.ty (Ptr e.of)) (is_due (element_type types e.of (map index_of e.indices)) e.to) first)
+
+expr_has_kind : (scope : Scope) (e : Expr0) → has_type scope e ≡ true → (k : Kind) × (kind_of_expr e ≡ Some k)
+expr_has_kind scope (Plain o) h = type_has_kind o.ty h
+expr_has_kind scope (Binary b) h = number_has_kind b.ty (left_true (has_numbers b.ty) (ranges.may_have b.op b.flags) h)
+expr_has_kind scope (Icmp c) h = (kind.Int 1, refl)
+expr_has_kind scope (Cast c) h =
+    let from = may_stand scope.types c.operand.ty in
+    let to = may_stand scope.types c.to in
+    standing_has_kind scope.types c.to (right_true from to (left_true (from && to) (converts c.op c.operand.ty c.to) h))
+expr_has_kind scope (Select s) h =
+    standing_has_kind scope.types s.left.ty (left_true (may_stand scope.types s.left.ty) (selects s.condition.ty s.left.ty s.right.ty) h)
+expr_has_kind scope (Element e) h = (kind.Ptr, pointer_kind e.to (address_pointer scope.types e h))
+expr_has_kind scope (Load l) h = standing_has_kind scope.types l.of (right_true (same_ty l.pointer.ty (Ptr l.of)) (may_stand scope.types l.of) h)
 
 -- ---- less defined, related, and less defined again, is related
 
@@ -270,11 +296,11 @@ module _ (w : Beside) (sound : AreSound w.rules) (ps : Pairing) (a b : Run) wher
           let in_source = premise_fault w.source x e known.src (LessDef r e) in
           let in_target = premise_fault w.target x e known.tgt (LessDef e r) in
           let differing = differing_fault known e in
-          let typed = no_first (cond (has_type e) None (Some (RuleUnfit ghost_word))) (first_fault (in_source ∷ in_target ∷ differing ∷ [])) h in
+          let typed = no_first (cond (has_type w.scope e) None (Some (RuleUnfit ghost_word))) (first_fault (in_source ∷ in_target ∷ differing ∷ [])) h in
           let first = no_first in_source (first_fault (in_target ∷ differing ∷ [])) typed.1 in
           let second = no_first in_target (first_fault (differing ∷ [])) first.1 in
           let free = no_first differing None second.1 in
-          let k = expr_has_kind e (passed (has_type e) (RuleUnfit ghost_word) typed.0) in
+          let k = expr_has_kind w.scope e (passed (has_type w.scope e) (RuleUnfit ghost_word) typed.0) in
           let above = passed (has_fact (LessDef r e) known.src && not (has_other_kind w.source x e)) (MissingPremise (LessDef r e)) first.0 in
           let below = passed (has_fact (LessDef e r) known.tgt && not (has_other_kind w.target x e)) (MissingPremise (LessDef e r)) second.0 in (
             a.files.ghost,
@@ -342,23 +368,23 @@ module _ (w : Beside) (sound : AreSound w.rules) (ps : Pairing) (a b : Run) wher
         },
       )
 
-  may_be_stands : (r : Reg) (e : Expr0) (known : Assertion) → Stand w ps known a b → may_be r e ≡ true → differing_fault known e ≡ None
+  may_be_stands : (r : Reg) (e : Expr0) (known : Assertion) → Stand w ps known a b → may_be w.scope r e ≡ true → differing_fault known e ≡ None
       → EndsStand w ps a b (chosen r e known).ends
   may_be_stands (Now x) e known stand may free = absurd (false≢true may)
   may_be_stands (Old x) e known stand may free = absurd (false≢true may)
   may_be_stands (Ghost g) e known stand may free =
-      let two = has_type e && not (can_trap e) in
+      let two = has_type w.scope e && not (can_trap e) in
       let apart = not-true (expr_names (Ghost g) e) (right_true two (not (expr_names (Ghost g) e)) may) in
-      let calm = not-true (can_trap e) (right_true (has_type e) (not (can_trap e)) (left_true two (not (expr_names (Ghost g) e)) may)) in
+      let calm = not-true (can_trap e) (right_true (has_type w.scope e) (not (can_trap e)) (left_true two (not (expr_names (Ghost g) e)) may)) in
       choice_stands g e known stand calm apart free
 
-  ghost_stands : (step : GhostStep) (known : Assertion) → Stand w ps known a b → EndsStand w ps a b (after_ghost step known).ends
+  ghost_stands : (step : GhostStep) (known : Assertion) → Stand w ps known a b → EndsStand w ps a b (after_ghost w.scope step known).ends
   ghost_stands step known stand =
-      tested_stands (ghost_fault known step.register step.value) known (chosen step.register step.value) (λ h.
+      tested_stands (ghost_fault w.scope known step.register step.value) known (chosen step.register step.value) (λ h.
       let g = step.register in
       let e = step.value in
-      let may = no_first (cond (may_be g e) None (Some (RuleUnfit ghost_word))) (first_fault (differing_fault known e ∷ [])) h in
-      may_be_stands g e known stand (passed (may_be g e) (RuleUnfit ghost_word) may.0) (no_first (differing_fault known e) None may.1).0)
+      let may = no_first (cond (may_be w.scope g e) None (Some (RuleUnfit ghost_word))) (first_fault (differing_fault known e ∷ [])) h in
+      may_be_stands g e known stand (passed (may_be w.scope g e) (RuleUnfit ghost_word) may.0) (no_first (differing_fault known e) None may.1).0)
 
   step_stands : (s : HintStep) (known : Assertion) → Stand w ps known a b → EndsStand w ps a b (after_step w s known).ends
   step_stands (Rule step) known stand = rule_stands step known stand (rule_named w.rules step.rule) (sound step.rule w.scope step.schema)

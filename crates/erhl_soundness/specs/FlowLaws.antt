@@ -4,7 +4,7 @@ use Rattle.ir_types.specs.declared.names.Name.TheVariants.{Number}
 use Rattle.ir_core.specs.declared.expressions.Reg.TheVariants.{Now, Old, Ghost}
 use Rattle.ir_core.specs.declared.modules.Module.{Module}
 use Rattle.ir_core.specs.Modules.{definitions_of}
-use Rattle.ir_machine.specs.State.{scope_of}
+use Rattle.ir_machine.specs.State.{no_scope, scope_of}
 use Rattle.ir_machine.specs.Refinement.{Refines}
 use Rattle.erhl_assert.specs.declared.facts.Fact.TheVariants.{LessDef}
 use Rattle.erhl_assert.specs.declared.verdict.Reason.TheVariants.{DiffLeft}
@@ -38,7 +38,7 @@ pub record ControlFlowIsJudged : Type 0 where
   pub not_as_it_is : Holds (crossed (Number 11) swapping one_and_two) (LessDef (now 3) (now 4)) → ⊥
   -- A ghost register that is chosen again keeps no fact of what it was.
   pub chosen_again :
-      (after_ghost (record { register = Ghost (Number 7); value = numeral 2 })
+      (after_ghost no_scope (record { register = Ghost (Number 7); value = numeral 2 })
       (record { src = LessDef (ghost 7) (numeral 1) ∷ []; tgt = LessDef (ghost 7) (numeral 1) ∷ []; diff = Ghost (Number 7) ∷ [] })).ends
       ≡ Gives (record {
         src = LessDef (numeral 2) (ghost 7) ∷ LessDef (ghost 7) (numeral 2) ∷ [];

@@ -5,7 +5,6 @@ ghost use Rattle.ir_core.specs.declared.expressions.Expr.TheVariants.{Plain};
 ghost use Rattle.erhl_assert.specs.declared.facts.Fact.TheVariants.{Unique, Private, NoAlias};
 ghost use Rattle.erhl_assert.specs.Facts.{same_fact};
 ghost use Rattle.erhl_assert.specs.Hashed.{hashed_atom};
-ghost use Rattle.erhl_assert.specs.Kills as kills;
 
 use erhl_assert::{Fact, bare_name};
 use indexmap::Equivalent;
@@ -22,9 +21,8 @@ pub(crate) enum FactKey<'a> {
 }
 
 /// Whether the fact is that the register is unique.
-pub(crate) fn is_unique_of(register: &Reg, fact: &Fact) -> bool
-    ensures same { result ≡ same_fact (Unique register.now) fact.now }
-    ensures of { result ≡ kills.is_unique_of register.now fact.now }
+fn is_unique_of(register: &Reg, fact: &Fact) -> bool
+    ensures { result ≡ same_fact (Unique register.now) fact.now }
 {
     match fact {
         Fact::Unique(other) => same_reg(register, other),

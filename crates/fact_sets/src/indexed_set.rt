@@ -1,16 +1,17 @@
 ghost use Rattle.std.specs.Prelude.{◌≡◌, [], IfOk, filter};
 ghost use Rattle.erhl_assert.specs.declared.fact_set.Kill.TheVariants as kill;
-ghost use Rattle.erhl_assert.specs.Kills.{killed, with_loads};
+ghost use Rattle.erhl_assert.specs.Kills.{killed, spares, with_loads};
 ghost use Rattle.fact_sets.specs.Shields.{shields};
 
-use crate::fact_key::is_unique_of;
+use crate::fact_key::FactKey;
 use crate::naming::add_named;
 use crate::shields::{
-    Call, Change, Store, add_shield, has_unique, keep_left, may_load_with, shields,
+    Call, Change, Store, add_shield, has_unique, is_now_or_constant, is_unique, keep_left,
+    may_load_with, may_part_with, shields,
 };
 use erhl_assert::{Fact, FactSet, Kill, bare_name, fact_names};
 use indexmap::IndexSet;
-use ir_core::{Name, Reg};
+use ir_core::{Name, Operand, Reg};
 use std::alloc::{AllocError, Global};
 use std::marker::Model;
 
@@ -23,6 +24,8 @@ pub struct IndexedSet {
     shields: IndexSet<Fact>,
     /// Whether a fact may have a load.
     may_load: bool,
+    /// Whether a fact may be that two operands aren't both pointers into one block.
+    may_part: bool,
 }
 
 impl Model for IndexedSet {
@@ -42,7 +45,7 @@ impl Model for IndexedSet {
     ghost view = { λ it. it.facts.keys };
 
     ghost invariant = { λ it. IsIndexed fact_names it.named.keys it.facts.keys
-        × AreShields it.shields.keys it.may_load it.facts.keys };
+        × AreShields it.shields.keys it.may_load it.may_part it.facts.keys };
 }
 
 impl Drop for IndexedSet {
@@ -52,6 +55,7 @@ impl Drop for IndexedSet {
             named: _,
             shields: _,
             may_load: _,
+            may_part: _,
         } = self;
     }
 }
@@ -69,6 +73,7 @@ impl IndexedSet {
             named,
             shields: IndexSet::new(alloc),
             may_load: false,
+            may_part: false,
         })
     }
 
@@ -82,13 +87,13 @@ impl IndexedSet {
         }
     }
 
-    /// Takes out that the register is unique. No walk over the facts, where it isn't known.
+    /// Takes out that the register is unique, which is one fact at most. No fact is moved, where it isn't known.
     fn share(&mut self, register: &Reg)
         ensures { self.new ≡ killed (kill.Unique register.now) self.old }
     {
         if has_unique(register, &self.shields) {
-            self.facts.retain(|fact| !is_unique_of(register, fact));
-            self.shields.retain(|fact| !is_unique_of(register, fact));
+            self.facts.shift_remove(FactKey::Unique(register));
+            self.shields.shift_remove(FactKey::Unique(register));
         }
     }
 
@@ -100,6 +105,19 @@ impl IndexedSet {
         if self.may_load {
             keep_left(change, &self.shields, &mut self.facts);
         }
+    }
+
+    /// Takes out the facts of loads that a store through the address may change.
+    fn store(&mut self, address: &Operand<Reg>)
+        ensures { self.new ≡ with_loads (spares self.old address.now) self.old }
+    {
+        let store = Store {
+            address,
+            is_unique: is_unique(&address.atom, &self.shields),
+            is_now_or_constant: is_now_or_constant(&address.atom),
+            may_part: self.may_part,
+        };
+        self.change(&store);
     }
 }
 
@@ -113,6 +131,7 @@ impl FactSet for IndexedSet {
             named: IndexSet::new(alloc),
             shields: IndexSet::new(alloc),
             may_load: false,
+            may_part: false,
         }
     }
 
@@ -128,11 +147,12 @@ impl FactSet for IndexedSet {
         self.facts.contains(fact)
     }
 
-    #[tactic(auto, using(crate::proofs::RegisterNames::fact_indexed, crate::proofs::RegisterNames::indexed_kept, crate::proofs::Shielding::more_load, crate::proofs::Shielding::with_other, crate::proofs::Shielding::with_shield))]
+    #[tactic(auto, using(crate::proofs::RegisterNames::fact_indexed, crate::proofs::RegisterNames::indexed_kept, crate::proofs::Shielding::more_known, crate::proofs::Shielding::with_other, crate::proofs::Shielding::with_shield))]
     fn add(&mut self, fact: Fact) -> Result<(), AllocError> {
         let alloc = *self.facts.allocator();
         add_named(alloc, &fact, &mut self.named)?;
         self.may_load = may_load_with(self.may_load, &fact);
+        self.may_part = may_part_with(self.may_part, &fact);
         if shields(&fact) {
             add_shield(alloc, fact, &mut self.facts, &mut self.shields)?;
             return Ok(());
@@ -141,12 +161,11 @@ impl FactSet for IndexedSet {
         Ok(())
     }
 
-    #[tactic(auto, using(crate::proofs::Shielding::stored_asks, crate::proofs::Shielding::called_asks))]
     fn kill(&mut self, kill: &Kill) {
         match kill {
             Kill::Naming(register) => self.forget(register),
             Kill::Unique(register) => self.share(register),
-            Kill::Stored(address, _) => self.change(&Store { address }),
+            Kill::Stored(address, _) => self.store(address),
             Kill::Called => self.change(&Call),
         }
     }

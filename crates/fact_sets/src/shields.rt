@@ -2,6 +2,7 @@
 ghost use Rattle.std.specs.Prelude.{◌≡◌, ◌++◌, ◌||◌, filter, true, OnOk, OnErr};
 ghost use Rattle.std.specs.List.{list_all};
 ghost use Rattle.ir_core.specs.declared.expressions.Expr.TheVariants.{Plain};
+ghost use Rattle.erhl_assert.specs.declared.facts.Fact.{Fact};
 ghost use Rattle.erhl_assert.specs.declared.facts.Fact.TheVariants.{Unique, Private, NoAlias};
 ghost use Rattle.erhl_assert.specs.Facts.{has_fact, with_fact};
 ghost use Rattle.erhl_assert.specs.Kills as kills;
@@ -49,6 +50,20 @@ pub(crate) fn may_load_with(may_load: bool, fact: &Fact) -> bool
     may_load || has_load(fact)
 }
 
+/// Whether the fact is that two operands aren't both pointers into one block.
+fn parts(fact: &Fact) -> bool
+    ensures { result ≡ spec.parts fact.now }
+{
+    matches!(fact, Fact::NoAlias(Expr::Plain(_), Expr::Plain(_)))
+}
+
+/// Whether some facts and this one may part two operands.
+pub(crate) fn may_part_with(may_part: bool, fact: &Fact) -> bool
+    ensures { result ≡ (may_part || spec.parts fact.now) }
+{
+    may_part || parts(fact)
+}
+
 /// Whether it is known that the register is unique.
 pub(crate) fn has_unique(register: &Reg, shields: &IndexSet<Fact>) -> bool
     ensures { result ≡ has_fact (Unique register.now) shields.now.keys }
@@ -68,7 +83,15 @@ fn has_no_alias(p: &Operand<Reg>, q: &Operand<Reg>, shields: &IndexSet<Fact>) ->
     shields.contains(FactKey::NoAlias(p, q))
 }
 
-fn is_unique(atom: &Atom<Reg>, shields: &IndexSet<Fact>) -> bool
+/// Whether it is known, in either order, that the two aren't both pointers into one block.
+fn are_no_aliases(p: &Operand<Reg>, q: &Operand<Reg>, shields: &IndexSet<Fact>) -> bool
+    ensures { result ≡ kills.are_no_aliases shields.now.keys p.now q.now }
+{
+    has_no_alias(p, q, shields) || has_no_alias(q, p, shields)
+}
+
+/// Whether it is known that the atom is a unique register.
+pub(crate) fn is_unique(atom: &Atom<Reg>, shields: &IndexSet<Fact>) -> bool
     ensures { result ≡ kills.is_unique shields.now.keys atom.now }
 {
     match atom {
@@ -87,7 +110,7 @@ fn is_private(atom: &Atom<Reg>, shields: &IndexSet<Fact>) -> bool
 }
 
 /// Whether the atom is a register of now, or a constant.
-fn is_now_or_constant(atom: &Atom<Reg>) -> bool
+pub(crate) fn is_now_or_constant(atom: &Atom<Reg>) -> bool
     ensures { result ≡ kills.is_now_or_constant atom.now }
 {
     match atom {
@@ -107,17 +130,6 @@ fn is_other(a: &Atom<Reg>, b: &Atom<Reg>) -> bool
     }
 }
 
-/// Whether a store through q leaves what is loaded from p.
-fn spares(shields: &IndexSet<Fact>, q: &Operand<Reg>, p: &Operand<Reg>) -> bool
-    ensures { result ≡ kills.spares shields.now.keys q.now p.now }
-{
-    is_other(&q.atom, &p.atom)
-        && (has_no_alias(p, q, shields)
-            || has_no_alias(q, p, shields)
-            || (is_unique(&p.atom, shields) && is_now_or_constant(&q.atom))
-            || (is_unique(&q.atom, shields) && is_now_or_constant(&p.atom)))
-}
-
 /// What leaves loads: a store through an address, or a call.
 pub(crate) trait Change {
     ghost use Rattle.std.specs.Prelude.{Bool, List};
@@ -132,17 +144,26 @@ pub(crate) trait Change {
         ensures { result ≡ leaves self.now shields.now.keys pointer.now };
 }
 
-/// A store through the address.
+/// A store through the address, with what is known of that before any load is looked at.
 #[derive(Drop, Clone, Copy)]
 pub(crate) struct Store<'a> {
     pub(crate) address: &'a Operand<Reg>,
+    /// Whether it is known that the address is a unique register.
+    pub(crate) is_unique: bool,
+    /// Whether the address is a register of now, or a constant.
+    pub(crate) is_now_or_constant: bool,
+    /// Whether a fact may part two operands.
+    pub(crate) may_part: bool,
 }
 
 impl<'a> Change for Store<'a> {
-    ghost leaves = { λ store fs p. kills.spares fs store.address.now p };
+    ghost leaves = { λ store fs p. spec.spares_by store.is_unique store.is_now_or_constant store.may_part fs store.address.now p };
 
     fn leaves(&self, shields: &IndexSet<Fact>, pointer: &Operand<Reg>) -> bool {
-        spares(shields, self.address, pointer)
+        is_other(&self.address.atom, &pointer.atom)
+            && ((self.is_unique && is_now_or_constant(&pointer.atom))
+                || (self.is_now_or_constant && is_unique(&pointer.atom, shields))
+                || (self.may_part && are_no_aliases(pointer, self.address, shields)))
     }
 }
 
@@ -185,11 +206,20 @@ fn leaves_fact<C: Change>(change: &C, shields: &IndexSet<Fact>, fact: &Fact) -> 
     }
 }
 
-/// Takes out the facts of which the change doesn't leave each load.
+/// Whether the change leaves each load of each fact.
+fn leaves_all<C: Change>(change: &C, shields: &IndexSet<Fact>, facts: &[Fact]) -> bool
+    ensures { result ≡ list_all (λ (f : Fact). list_all (C.leaves change.now shields.now.keys) (kills.loads_of f)) facts.now }
+{
+    facts.iter().all(|fact| leaves_fact(change, shields, fact))
+}
+
+/// Takes out the facts of which the change doesn't leave each load. None is moved, where it leaves all.
 pub(crate) fn keep_left<C: Change>(change: &C, shields: &IndexSet<Fact>, facts: &mut IndexSet<Fact>)
     ensures { facts.new.keys ≡ kills.with_loads (C.leaves change.now shields.now.keys) facts.old.keys }
 {
-    facts.retain(|fact| leaves_fact(change, shields, fact));
+    if !leaves_all(change, shields, facts.as_slice()) {
+        facts.retain(|fact| leaves_fact(change, shields, fact));
+    }
 }
 
 /// Puts a fact that shields at the end of both, where it isn't there yet.

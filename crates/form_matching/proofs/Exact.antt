@@ -7,7 +7,7 @@ use Rattle.ir_core.specs.declared.expressions.Reg.{Reg}
 use Rattle.ir_core.specs.Expressions.{Expr0}
 use Rattle.ir_core.specs.Same.{same_reg, same_expr}
 use Rattle.ir_core.proofs.SameLaws.{same_reg_expr_refl, same_reg_expr_true}
-use Rattle.rule_base.specs.Rows.{have_one_type}
+use Rattle.form_matching.specs.Typed.{have_one_type}
 use Rattle.erhl_assert.specs.declared.facts.Fact.{Fact}
 use Rattle.erhl_assert.specs.declared.facts.Fact.TheVariants.{LessDef}
 use Rattle.rule_forms.specs.declared.forms.Place.TheVariants as place

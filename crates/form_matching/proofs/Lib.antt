@@ -1,3 +1,4 @@
+pub mod OneType
 pub mod Literals
 pub mod Lifting
 pub mod Exact

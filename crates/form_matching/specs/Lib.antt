@@ -1,3 +1,4 @@
+pub mod Typed
 pub mod Exactness
 pub mod Examples
 pub mod Instances

@@ -4,6 +4,7 @@
 mod laws;
 mod letters;
 mod matching;
+mod typed;
 
 pub use laws::{examples_of_forms, forms_are_matched_exactly, lawful_forms_are_sound};
 pub use letters::{Letters, read, unread, within};

@@ -11,11 +11,11 @@ ghost use Rattle.rule_forms.specs.Conditions as conditions;
 ghost use Rattle.form_matching.specs.Instances.{atom_of, ty_of, instance, asks, at_type};
 
 use crate::letters::{Letters, read};
+use crate::typed::have_one_type;
 use contents::Exact;
 use erhl_assert::Fact;
 use ir_core::{Atom, Const, Expr, Expr0, Flags, Reg, Ty, is_width};
 use ir_values::width_of;
-use rule_base::have_one_type;
 use rule_forms::{Condition, FlagPlace, Form, Pattern, Place, TypePlace};
 
 /// Whether the atom is that number.

@@ -2,3 +2,4 @@ pub mod Faults
 pub mod Form
 pub mod Laws
 pub mod Reading
+pub mod Settled

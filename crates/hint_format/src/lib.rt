@@ -9,6 +9,7 @@ mod fault;
 mod hints;
 mod laws;
 mod print;
+mod settling;
 mod steps;
 mod texts;
 
@@ -16,3 +17,4 @@ pub use fault::HintFault;
 pub use hints::read_hints;
 pub use laws::hint_files_are_read;
 pub use print::print_fact;
+pub use settling::settled_hints;

@@ -1,14 +1,14 @@
 -- What is kept beside the names, name by name and round by round.
 use Rattle.std.proofs.Common.{◌≡◌, ◌∙◌, ◌<◌, ◌≤◌, ◌+◌, ◌-◌, ◌⊎◌, ℕ, zero, suc, Bool, true, false, cond, List, [], ◌∷◌, length, take, drop, get_or, map, ◌++◌, ◌||◌, Option, None, Some, refl, sym, ap, subst, inl, inr, arith}
 use Rattle.std.proofs.lemmas.List.{drop_more, take_more}
-use Rattle.std.specs.Option.{option_map, option_and_then}
+use Rattle.std.specs.Option.{is_some, option_map, option_and_then}
 use Rattle.ir_types.specs.declared.layout.Layout.{Layout}
 use Rattle.ir_types.specs.declared.named.NamedTy.{NamedTy}
 use Rattle.ir_types.specs.declared.names.Name.{Name}
 use Rattle.ir_types.specs.declared.ty.Ty.{Ty, Struct}
 use Rattle.ir_types.specs.Kept.{capped, capped_by, capped_fields, and_value, flattened, struct_kept, ArePartlyKept, AreKept, AlignsArePositive, IsOneMore, IsClosed, AreClosed, one_where_none, missing_of}
 use Rattle.ir_types.specs.Layout.{layout_by, of_struct, all_of}
-use Rattle.ir_types.specs.Named.{fields_of, layout_of_name, found_in}
+use Rattle.ir_types.specs.Named.{fields_of, knows_type, layout_of_name, found_in}
 use Rattle.ir_types.specs.NameLaws.{same_name_true, same_name_refl}
 use Rattle.ir_types.specs.Same.{same_name}
 use Rattle.ir_types.proofs.Capping.{is_kept, kept_struct}
@@ -47,6 +47,24 @@ fields_put types left at named key value old new within is some there keys field
     ∙ ap (λ b. cond b named.fields (flattened (old x))) (turned x named.name)
     ∙ ap (cond (same_name named.name x) named.fields) (before x)
     ∙ sym (ap (λ ts. fields_of ts x) parts)
+
+some_and : (b : Bool) (value : Option (List Ty)) (rest : Option (Option (List Ty))) → is_some (cond b (Some value) rest) ≡ (b || is_some rest)
+some_and true value rest = refl
+some_and false value rest = refl
+
+pub name_put : (types : List NamedTy) (left at : ℕ) (named : NamedTy) (key : Name) (value : Option (List Ty)) (old new : Name → Option (Option (List Ty))) →
+    left ≤ length types → at ≡ left - 1 → 0 < left → named ≡ get_or types at named → key ≡ named.name →
+    ((x : Name) → is_some (old x) ≡ knows_type (drop left types) x) → ((x : Name) → new x ≡ and_value key value old x) →
+    (x : Name) → is_some (new x) ≡ knows_type (drop at types) x
+name_put types left at named key value old new within is some there keys before put x =
+    let next : at + 1 ≡ left = omega arith in
+    let parts : drop at types ≡ named ∷ drop left types =
+    drop_more types at named (omega arith) ∙ ap (λ t. t ∷ drop (at + 1) types) (sym there) ∙ ap (λ n. named ∷ drop n types) next in
+    ap is_some (put x) ∙ some_and (same_name x key) value (old x)
+    ∙ ap (λ k. same_name x k || is_some (old x)) keys
+    ∙ ap (λ b. b || is_some (old x)) (turned x named.name)
+    ∙ ap (λ b. same_name named.name x || b) (before x)
+    ∙ sym (ap (λ ts. knows_type ts x) parts)
 
 -- ---- what is kept of a struct
 

@@ -1,7 +1,7 @@
 -- Layouts as the code keeps them: a size above 2^31 is kept as 2^31 + 1.
 use Rattle.std.specs.Prelude.{◌≡◌, ◌<◌, ◌+◌, ℕ, zero, suc, min, cond, List, [], ◌∷◌, map, Option, None, Some}
 use Rattle.std.specs.List.{AllByRecursion}
-use Rattle.std.specs.Option.{option_map, option_and_then}
+use Rattle.std.specs.Option.{is_some, option_map, option_and_then}
 use Rattle.std.specs.HashMap.{get_by}
 use Rattle.ir_types.specs.declared.layout.Layout.{Layout}
 use Rattle.ir_types.specs.declared.name_map.NameMap.{NameMap}
@@ -11,7 +11,7 @@ use Rattle.ir_types.specs.declared.ty.Ty.{Ty, fold-Ty}
 use Rattle.ir_types.specs.declared.ty.Ty.TheOpen.{Ty-F}
 use Rattle.ir_types.specs.declared.ty.Ty.TheOpen as ty
 use Rattle.ir_types.specs.Layout.{of_struct, all_of, round_up, layout_level}
-use Rattle.ir_types.specs.Named.{fields_of, layout_of_name, found_in}
+use Rattle.ir_types.specs.Named.{fields_of, knows_type, layout_of_name, found_in}
 use Rattle.ir_types.specs.Same.{same_name}
 
 abbrev pub capped_size : ℕ → ℕ
@@ -56,6 +56,10 @@ fields_at map name = flattened (value_of map name)
 abbrev pub AreIndexed : List NamedTy → NameMap (Option (List Ty)) → Type 0
 AreIndexed types map = (name : Name) → fields_at map name ≡ fields_of types name
 
+-- a name has fields kept for it, or that it has none, where it is known
+abbrev pub AreListed : List NamedTy → NameMap (Option (List Ty)) → Type 0
+AreListed types map = (name : Name) → is_some (value_of map name) ≡ knows_type types name
+
 -- what is kept of the layout of a name's struct
 abbrev pub struct_kept : (Name → Option (List Ty)) → (Name → Option Layout) → Name → Option Layout
 struct_kept fields of_name name = option_and_then (capped_fields of_name) (fields name)
@@ -94,7 +98,8 @@ missing_of of_name (t ∷ types) = one_where_none (of_name t.name) + missing_of 
 
 -- what is kept beside the types: the fields of each name, and of each layout of a name what is kept of it
 abbrev pub AreBeside : List NamedTy → NameMap (Option (List Ty)) → NameMap Layout → Type 0
-AreBeside types fields layouts = AreIndexed types fields × AreKept types (value_of layouts) × AlignsArePositive (value_of layouts)
+AreBeside types fields layouts =
+    AreIndexed types fields × AreListed types fields × AreKept types (value_of layouts) × AlignsArePositive (value_of layouts)
 
 -- ---- fields
 

@@ -3,6 +3,7 @@
 -- A type has a layout where those of the names in it, outside of pointers, can be found one after the other, each from those
 -- before it. So a type has none that holds itself without a pointer, nor one that holds an opaque type or `void`.
 use Rattle.std.specs.Prelude.{◌≡◌, ◌*◌, ℕ, zero, suc, Bool, cond, nat_le, List, [], ◌∷◌, map, length, Option, None, Some, Result, Ok, Err}
+use Rattle.std.specs.List.{list_any}
 use Rattle.std.specs.Option.{option_and_then, is_some}
 use Rattle.ir_types.specs.declared.layout.Layout.{Layout}
 use Rattle.ir_types.specs.declared.named.NamedTy.{NamedTy}
@@ -19,6 +20,10 @@ use Rattle.ir_types.specs.Layout.{all_of, layout_by, offset_from}
 abbrev pub fields_of : List NamedTy → Name → Option (List Ty)
 fields_of [] x = None
 fields_of (t ∷ types) x = cond (same_name t.name x) t.fields (fields_of types x)
+
+-- the module names the type, opaque or not
+abbrev pub knows_type : List NamedTy → Name → Bool
+knows_type types x = list_any (λ (t : NamedTy). same_name t.name x) types
 
 -- names with their layouts
 abbrev pub Found : Type 0

@@ -13,7 +13,8 @@ use std::alloc::{AllocError, Global};
 
 /// The fields of each name: those of the first type of that name.
 pub(crate) fn index_fields(alloc: Global, types: &[NamedTy]) -> Result<NameMap<Fields>, AllocError>
-    ensures { IfOk result (λ fields. kept.AreIndexed types.now fields) }
+    ensures indexed { IfOk result (λ fields. kept.AreIndexed types.now fields) }
+    ensures listed { IfOk result (λ fields. kept.AreListed types.now fields) }
 {
     let mut fields = NameMap::with_room(alloc, types.len())?;
     let mut left = types.len();

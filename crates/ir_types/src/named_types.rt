@@ -45,7 +45,7 @@ impl NamedTypes {
     ghost use Rattle.std.specs.Prelude.{◌≡◌, ◌<◌, [], true, length, map, IfOk, IfSome};
     ghost use Rattle.std.specs.Option.{option_copied, option_map, is_some};
     ghost use Rattle.ir_types.specs.Kept as kept;
-    ghost use Rattle.ir_types.specs.Named.{fields_of, layout_of, offset_in};
+    ghost use Rattle.ir_types.specs.Named.{fields_of, knows_type, layout_of, offset_in};
     ghost use Rattle.ir_types.specs.Layout.{all_of};
 
     pub fn new(alloc: Global, types: Seq<NamedTy>) -> Result<NamedTypes, AllocError>
@@ -85,6 +85,13 @@ impl NamedTypes {
             Some(Some(fields)) => Some(fields.get()),
             _ => None,
         }
+    }
+
+    /// Whether the module names the type, opaque or not. Takes no walk.
+    pub fn knows(&self, name: &Name) -> bool
+        ensures { result ≡ knows_type self.now name.now }
+    {
+        self.fields.get(name).is_some()
     }
 
     pub(crate) fn layout(&self, ty: &Ty) -> Option<Layout>

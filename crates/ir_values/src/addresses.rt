@@ -79,7 +79,7 @@ fn are_numbers<I: Indices>(indices: &I) -> bool
 }
 
 /// Whether the type has a size, within the limit on blocks.
-pub(crate) fn is_small(types: &NamedTypes, ty: &Ty) -> bool
+pub fn is_small(types: &NamedTypes, ty: &Ty) -> bool
     ensures { result ≡ meaning.is_small types.now ty.now }
 {
     fits_block(types, ty, 1).is_ok()

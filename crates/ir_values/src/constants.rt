@@ -61,7 +61,7 @@ fn number_value(number: u64, ty: &Ty) -> Value
 /// Whether the constant is one of the type.
 #[cycle(types)]
 #[tactic(auto, using(crate::proofs::ConstantWalks::of_number, crate::proofs::ConstantWalks::of_undef, crate::proofs::ConstantWalks::of_null, crate::proofs::ConstantWalks::of_global, ir_typing::proofs::OperandTests::Measures::in_element, ir_typing::proofs::OperandTests::Measures::in_cast))]
-fn is_of_type(module: &Module, ty: &Ty, constant: &Const) -> bool
+pub fn is_of_type(module: &Module, ty: &Ty, constant: &Const) -> bool
     ensures { result ≡ meaning.is_of_type (meaning.scope_of «module».now) ty.now constant.now }
 {
     match constant {

@@ -17,9 +17,9 @@ mod pointer_laws;
 mod results;
 mod selections;
 
-pub use addresses::{address_of, eval_gep};
+pub use addresses::{address_of, eval_gep, is_small};
 pub use comparisons::eval_icmp;
-pub use constants::{constant_value, width_of};
+pub use constants::{constant_value, is_of_type, width_of};
 pub use conversions::eval_cast;
 pub use indices::Indices;
 pub use kinds_kept::{

@@ -22,7 +22,7 @@ undef_const_takes_these = record {
   of_undef_alone = refl;
   no_integer_is_null = refl;
   null_is_simple = refl;
-  global_is_not = refl;
+  global_is_too = refl;
   element_is_not = refl;
   conversion_is_not = refl;
 }

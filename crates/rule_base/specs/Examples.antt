@@ -16,6 +16,7 @@ use Rattle.ir_core.specs.declared.expressions.Reg.{Reg}
 use Rattle.ir_core.specs.declared.expressions.Reg.TheVariants.{Now, Old}
 use Rattle.ir_core.specs.declared.expressions.Expr.TheVariants as expr
 use Rattle.ir_core.specs.Expressions.{Expr0}
+use Rattle.ir_machine.specs.State.{no_scope}
 use Rattle.erhl_assert.specs.declared.facts.Fact.TheVariants.{LessDef}
 use Rattle.rule_base.specs.Rows.{is_refl, is_simple, is_undef_const, is_subst, is_drop_flags, is_fold, stand_apart}
 
@@ -65,20 +66,20 @@ exactly = record { nuw = false; nsw = false; exact = true }
 
 -- whether `refl` takes nothing to `e >= f`, and so of `undef_const`, `drop_flags` and `fold`
 abbrev pub refl : Expr0 → Expr0 → Bool
-refl e f = is_refl [] (LessDef e f)
+refl e f = is_refl no_scope [] (LessDef e f)
 
 abbrev pub undef_const : Expr0 → Expr0 → Bool
-undef_const e f = is_undef_const [] (LessDef e f)
+undef_const e f = is_undef_const no_scope [] (LessDef e f)
 
 abbrev pub drop_flags : Expr0 → Expr0 → Bool
-drop_flags e f = is_drop_flags [] (LessDef e f)
+drop_flags e f = is_drop_flags no_scope [] (LessDef e f)
 
 abbrev pub fold : Expr0 → Expr0 → Bool
-fold e f = is_fold [] (LessDef e f)
+fold e f = is_fold no_scope [] (LessDef e f)
 
 -- whether `subst` takes `i8 %x >= i8 5` to `e >= f`
 abbrev pub subst : Expr0 → Expr0 → Bool
-subst e f = is_subst (LessDef (plain 8 x) (plain 8 (number 5)) ∷ []) (LessDef e f)
+subst e f = is_subst no_scope (LessDef (plain 8 x) (plain 8 (number 5)) ∷ []) (LessDef e f)
 
 -- ---- the examples
 
@@ -99,7 +100,7 @@ pub record UndefConstTakesThese : Type 0 where
   pub of_undef_alone : undef_const (plain 8 (number 7)) (plain 8 (number 7)) ≡ false
   pub no_integer_is_null : undef_const (plain 8 undef) (plain 8 (Constant constant.Null)) ≡ false
   pub null_is_simple : is_simple (Constant constant.Null) ≡ true
-  pub global_is_not : is_simple (Constant (constant.Global (Text (codes "g")))) ≡ false
+  pub global_is_too : is_simple (Constant (constant.Global (Text (codes "g")))) ≡ true
   pub element_is_not : is_simple (Constant (constant.Element (true, Int 8, []))) ≡ false
   pub conversion_is_not : is_simple (Constant (constant.Cast (Int 8, []))) ≡ false
 

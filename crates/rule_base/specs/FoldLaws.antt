@@ -1,5 +1,5 @@
 -- What an expression over numbers comes to is the same in every state, and what it may be made is more defined.
-use Rattle.std.proofs.Common.{◌≡◌, ℕ, Bool, true, false, ◌&&◌, cond, List, [], Option, None, Some, refl, sym, ap, ◌∙◌, subst}
+use Rattle.std.proofs.Common.{◌≡◌, ℕ, Bool, true, false, ◌&&◌, ◌||◌, cond, List, [], Option, None, Some, refl, sym, ap, ◌∙◌, subst}
 use Rattle.std.specs.List.{list_all}
 use Rattle.std.proofs.lemmas.Bool.{eqb-true}
 use Rattle.ir_core.specs.declared.values.Value.{Value}
@@ -30,8 +30,9 @@ use Rattle.erhl_assert.specs.declared.facts.Fact.TheVariants.{LessDef}
 use Rattle.erhl_assert.specs.Sides.{SideState, read_reg, worth}
 use Rattle.erhl_assert.specs.Facts.{Holds}
 use Rattle.erhl_assert.specs.Typed.{atom_fits, has_values}
-use Rattle.rule_base.specs.Rows.{folded, have_one_type, is_fold, is_number, is_over_numbers, is_simple, may_become, number_of_kind}
+use Rattle.rule_base.specs.Rows.{folded, have_one_type, is_fold, is_number, is_over_numbers, is_undef, may_become, number_of_kind}
 use Rattle.rule_base.specs.OneType.{OneType, one_type}
+use Rattle.rule_base.specs.SimpleLaws.{undef_below}
 use Rattle.rule_base.specs.NumberLaws as constants
 use Rattle.rule_base.specs.NumberLaws.{atom_is_worth, no_element, number_is_worth}
 
@@ -119,22 +120,22 @@ module _ (side : SideState) where
       rw (number_worth l.pointer.ty l.pointer.atom through)
       (one_load side.world.memory [] (kind_of l.of) _ _ _ (number_no_address l.pointer.ty l.pointer.atom through))
 
-  undef_less : (t : Ty) (c : Atom Reg) → is_simple c ≡ true → has_values t ≡ true → atom_fits t c ≡ true
+  -- undef is less defined than a number of its type, and than undef
+  undef_less : (t : Ty) (c : Atom Reg) → (is_number c || is_undef c) ≡ true → has_values t ≡ true → atom_fits side.scope t c ≡ true
       → IsLessDefined Undef (atom_value side.scope (read_reg side) t c)
-  undef_less (ty.Int w) (atom.Constant (constant.Number n)) p v r = rw (v, constants.number_worth side.scope w n, r) tt
-  undef_less (ty.Int w) (atom.Constant constant.Undef) p v r = rw (v, constants.undef_worth side.scope w) tt
-  undef_less (ty.Int w) (atom.Constant c) p v r = absurd (cc)
-  undef_less (ty.Int w) (atom.Register s) p v r = absurd (cc)
-  undef_less t c p v r = absurd (cc)
+  undef_less t (atom.Constant (constant.Number n)) p v r = undef_below side.scope (read_reg side) t (atom.Constant (constant.Number n)) refl v r
+  undef_less t (atom.Constant constant.Undef) p v r = undef_below side.scope (read_reg side) t (atom.Constant constant.Undef) refl v r
+  undef_less t (atom.Constant c) p v r = absurd (cc)
+  undef_less t (atom.Register s) p v r = absurd (cc)
 
-  number_less : (m : ℕ) (t : Ty) (c : Atom Reg) → may_become (Gives (Num m)) c ≡ true → has_values t ≡ true → atom_fits t c ≡ true
+  number_less : (m : ℕ) (t : Ty) (c : Atom Reg) → may_become (Gives (Num m)) c ≡ true → has_values t ≡ true → atom_fits side.scope t c ≡ true
       → IsLessDefined (Num m) (atom_value side.scope (read_reg side) t c)
   number_less m (ty.Int w) (atom.Constant (constant.Number n)) p v r = rw (v, constants.number_worth side.scope w n, r) (ap Num (sym (eqb-true m n p)))
-  number_less m (ty.Int w) (atom.Constant c) p v r = absurd (cc)
-  number_less m (ty.Int w) (atom.Register s) p v r = absurd (cc)
-  number_less m t c p v r = absurd (cc)
+  number_less m t (atom.Constant (constant.Number n)) p v r = absurd (cc)
+  number_less m t (atom.Constant c) p v r = absurd (cc)
+  number_less m t (atom.Register s) p v r = absurd (cc)
 
-  become_less : (o : Outcome) (t : Ty) (c : Atom Reg) → may_become o c ≡ true → has_values t ≡ true → atom_fits t c ≡ true
+  become_less : (o : Outcome) (t : Ty) (c : Atom Reg) → may_become o c ≡ true → has_values t ≡ true → atom_fits side.scope t c ≡ true
       → IsOutcomeLessDefined o (Gives (atom_value side.scope (read_reg side) t c))
   become_less Trap t c p v r = tt
   become_less (Gives Poison) t c p v r = tt
@@ -143,13 +144,13 @@ module _ (side : SideState) where
   become_less (Gives (Ptr block offset)) t c p v r = absurd (cc)
   become_less (Gives (Bare address)) t c p v r = absurd (cc)
 
-  pub fold_is_sound : (from : List Fact) (to : Fact) → is_fold from to ≡ true → Holds side to
+  pub fold_is_sound : (from : List Fact) (to : Fact) → is_fold side.scope from to ≡ true → Holds side to
   fold_is_sound [] (LessDef e (Plain c)) h =
-      let both = have_one_type e (Plain c) in
+      let both = have_one_type side.scope e (Plain c) in
       let numbers = is_over_numbers e in
       let becomes = may_become (folded e) c.atom in
       let h1 : (both && numbers) ≡ true = left_true (both && numbers) becomes h in
-      let one : OneType e (Plain c) = one_type e (Plain c) (left_true both numbers h1) in (
+      let one : OneType side.scope e (Plain c) = one_type side.scope e (Plain c) (left_true both numbers h1) in (
         ap kind_of one.type,
         rw (folded_worth e (right_true both numbers h1)) (become_less (folded e) c.ty c.atom (right_true (both && numbers) becomes h) one.target one.right),
       )

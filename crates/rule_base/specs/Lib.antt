@@ -2,6 +2,7 @@ pub mod Book
 pub mod Rows
 pub mod OneType
 pub mod NumberLaws
+pub mod SimpleLaws
 pub mod OperandLaws
 pub mod FoldLaws
 pub mod RowLaws

@@ -7,23 +7,23 @@ ghost use Rattle.ir_core.specs.declared.expressions.Expr.TheVariants as expr;
 ghost use Rattle.ir_core.specs.declared.values.Value.TheVariants.{Poison};
 ghost use Rattle.ir_core.specs.Types.{kind_of};
 ghost use Rattle.ir_machine.specs.Registers as meaning;
-ghost use Rattle.ir_machine.specs.State.{no_scope};
+ghost use Rattle.ir_machine.specs.State.{no_scope, scope_of};
 ghost use Rattle.ir_core.specs.declared.values.Value.TheVariants.{Num};
 ghost use Rattle.ir_values.specs.declared.operations.Outcome.TheVariants.{Gives};
 ghost use Rattle.ir_values.specs.Values.{IsInKindOf};
 ghost use Rattle.rule_base.specs.Rows.{is_fold, is_number, is_over_numbers, folded, may_become, number_of_kind};
 
-use crate::shipped::is_simple;
+use crate::shipped::is_undef;
 use crate::typed::{have_one_type, selects};
 use erhl_assert::Fact;
 use ir_core::{
-    Atom, Binary, Cast, Const, Expr, Expr0, Icmp, Kind, Load, Operand, Reg, Select, Ty, Value,
-    converts, fits, kind_of,
+    Atom, Binary, Cast, Const, Expr, Expr0, Icmp, Kind, Load, Module, Operand, Reg, Select, Ty,
+    Value, converts, fits, kind_of,
 };
 use ir_values::{Outcome, eval_binary, eval_cast, eval_icmp, eval_select};
 
-pub(crate) fn is_fold(from: &[Fact], to: &Fact) -> bool
-    ensures { result ≡ is_fold from.now to.now }
+pub(crate) fn is_fold(module: &Module, from: &[Fact], to: &Fact) -> bool
+    ensures { result ≡ is_fold (scope_of «module».now) from.now to.now }
 {
     if !from.is_empty() {
         return false;
@@ -33,7 +33,9 @@ pub(crate) fn is_fold(from: &[Fact], to: &Fact) -> bool
     };
     match f {
         Expr::Plain(constant) => {
-            have_one_type(e, f) && is_over_numbers(e) && may_become(&folded(e), &constant.atom)
+            have_one_type(module, e, f)
+                && is_over_numbers(e)
+                && may_become(&folded(e), &constant.atom)
         }
         _ => false,
     }
@@ -81,7 +83,7 @@ fn may_become(outcome: &Outcome, atom: &Atom<Reg>) -> bool
         Outcome::Gives(Value::Num(given)) => is_that_number(*given, atom),
         Outcome::Gives(Value::Ptr(_, _)) => false,
         Outcome::Gives(Value::Bare(_)) => false,
-        _ => is_simple(atom),
+        _ => is_number(atom) || is_undef(atom),
     }
 }
 

@@ -16,4 +16,4 @@ pub use laws::examples_of_rules;
 pub use passes::Pass;
 pub use rule_book::{Fitness, RuleBook, book_is_sound};
 pub use shipped::{Rule, rules_stand_in_the_table};
-pub use typed::{has_type, have_one_type};
+pub use typed::{has_type, have_one_type, is_typed, operand_fits};

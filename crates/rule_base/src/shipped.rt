@@ -1,14 +1,18 @@
 ghost use Rattle.std.specs.Prelude.{◌≡◌, true, [], ◌∷◌, map, Contains};
 ghost use Rattle.rule_base.specs.declared.shipped.Rule.{Rule};
 ghost use Rattle.ir_values.specs.Laws.{flags_among};
-ghost use Rattle.rule_base.specs.Rows.{rule_name, stand_apart, is_refl, is_trans, is_undef_const, drops_flags, is_drop_flags, is_undef, is_simple};
+ghost use Rattle.ir_machine.specs.State.{scope_of};
+ghost use Rattle.rule_base.specs.Rows.{rule_name, stand_apart, is_refl, is_trans, is_undef_const, drops, drops_flags, drops_inbounds, is_drop_flags, is_undef, is_simple};
 
 use crate::InferRule;
 use crate::folding::is_fold;
-use crate::substitution::is_subst;
+use crate::substitution::{is_subst, same_operands};
 use crate::typed::have_one_type;
 use erhl_assert::{Fact, Schema};
-use ir_core::{Atom, Binary, Const, Expr, Flags, Module, Reg, same_expr, same_op, same_reg_atom};
+use ir_core::{
+    Atom, Binary, Const, Element, Expr, Expr0, Flags, Module, Reg, same_expr, same_op,
+    same_reg_atom, same_reg_operand, same_ty,
+};
 
 /// The rules that are shipped.
 #[derive(Drop, Clone, Copy)]
@@ -17,11 +21,11 @@ pub enum Rule {
     Refl,
     /// `a >= b, b >= c` to `a >= c`.
     Trans,
-    /// `undef >= C`, C a number, null or undef.
+    /// `undef >= C`, C a number, null, undef or a global.
     UndefConst,
     /// `a >= b` to `e >= e'`, a and b operands, e' being e with one operand that is a made b.
     Subst,
-    /// `op F x y >= op G x y`, the flags G among F.
+    /// `op F x y >= op G x y`, the flags G among F, and so of `getelementptr`.
     DropFlags,
     /// `e >= C`, e over numbers, C a constant that its outcome may become.
     Fold,
@@ -59,15 +63,15 @@ impl InferRule for Rule {
         }
     }
 
-    fn fits(&self, _module: &Module, schema: &Schema) -> bool {
+    fn fits(&self, module: &Module, schema: &Schema) -> bool {
         let (from, to) = (schema.from.as_slice(), &schema.to);
         match self {
-            Rule::Refl => is_refl(from, to),
-            Rule::Trans => is_trans(from, to),
-            Rule::UndefConst => is_undef_const(from, to),
-            Rule::Subst => is_subst(from, to),
-            Rule::DropFlags => is_drop_flags(from, to),
-            Rule::Fold => is_fold(from, to),
+            Rule::Refl => is_refl(module, from, to),
+            Rule::Trans => is_trans(module, from, to),
+            Rule::UndefConst => is_undef_const(module, from, to),
+            Rule::Subst => is_subst(module, from, to),
+            Rule::DropFlags => is_drop_flags(module, from, to),
+            Rule::Fold => is_fold(module, from, to),
         }
     }
 }
@@ -81,8 +85,8 @@ pub fn rules_stand_in_the_table()
     ensures named_apart { stand_apart (map rule_name Rule.ALL) ≡ true }
 {}
 
-fn is_refl(from: &[Fact], to: &Fact) -> bool
-    ensures { result ≡ is_refl from.now to.now }
+fn is_refl(module: &Module, from: &[Fact], to: &Fact) -> bool
+    ensures { result ≡ is_refl (scope_of «module».now) from.now to.now }
 {
     if !from.is_empty() {
         return false;
@@ -90,11 +94,11 @@ fn is_refl(from: &[Fact], to: &Fact) -> bool
     let Fact::LessDef(a, b) = to else {
         return false;
     };
-    have_one_type(a, b) && same_expr(a, b)
+    have_one_type(module, a, b) && same_expr(a, b)
 }
 
-fn is_trans(from: &[Fact], to: &Fact) -> bool
-    ensures { result ≡ is_trans from.now to.now }
+fn is_trans(module: &Module, from: &[Fact], to: &Fact) -> bool
+    ensures { result ≡ is_trans (scope_of «module».now) from.now to.now }
 {
     let [Fact::LessDef(a, b), Fact::LessDef(c, d)] = from else {
         return false;
@@ -102,31 +106,31 @@ fn is_trans(from: &[Fact], to: &Fact) -> bool
     let Fact::LessDef(e, f) = to else {
         return false;
     };
-    have_one_type(a, b)
-        && have_one_type(c, d)
+    have_one_type(module, a, b)
+        && have_one_type(module, c, d)
         && same_expr(b, c)
         && same_expr(e, a)
         && same_expr(f, d)
 }
 
-fn is_undef(atom: &Atom<Reg>) -> bool
+pub(crate) fn is_undef(atom: &Atom<Reg>) -> bool
     ensures { result ≡ is_undef atom.now }
 {
     matches!(atom, Atom::Constant(Const::Undef))
 }
 
 /// Whether the atom is a constant that isn't poison where it is one of its type.
-pub(crate) fn is_simple(atom: &Atom<Reg>) -> bool
+fn is_simple(atom: &Atom<Reg>) -> bool
     ensures { result ≡ is_simple atom.now }
 {
     matches!(
         atom,
-        Atom::Constant(Const::Number(_) | Const::Undef | Const::Null)
+        Atom::Constant(Const::Number(_) | Const::Undef | Const::Null | Const::Global(_))
     )
 }
 
-fn is_undef_const(from: &[Fact], to: &Fact) -> bool
-    ensures { result ≡ is_undef_const from.now to.now }
+fn is_undef_const(module: &Module, from: &[Fact], to: &Fact) -> bool
+    ensures { result ≡ is_undef_const (scope_of «module».now) from.now to.now }
 {
     if !from.is_empty() {
         return false;
@@ -136,7 +140,7 @@ fn is_undef_const(from: &[Fact], to: &Fact) -> bool
     };
     match (a, b) {
         (Expr::Plain(undef), Expr::Plain(other)) => {
-            have_one_type(a, b) && is_undef(&undef.atom) && is_simple(&other.atom)
+            have_one_type(module, a, b) && is_undef(&undef.atom) && is_simple(&other.atom)
         }
         _ => false,
     }
@@ -159,8 +163,28 @@ fn drops_flags(a: &Binary<Reg>, b: &Binary<Reg>) -> bool
         && flags_among(b.flags, a.flags)
 }
 
-fn is_drop_flags(from: &[Fact], to: &Fact) -> bool
-    ensures { result ≡ is_drop_flags from.now to.now }
+/// Whether the second is the first with or without its `inbounds`.
+fn drops_inbounds(a: &Element<Reg>, b: &Element<Reg>) -> bool
+    ensures { result ≡ drops_inbounds a.now b.now }
+{
+    same_ty(&a.of, &b.of)
+        && same_reg_operand(&a.base, &b.base)
+        && same_operands(a.indices.as_slice(), b.indices.as_slice())
+        && (!b.inbounds || a.inbounds)
+}
+
+fn drops(a: &Expr0, b: &Expr0) -> bool
+    ensures { result ≡ drops a.now b.now }
+{
+    match (a, b) {
+        (Expr::Binary(many), Expr::Binary(few)) => drops_flags(many, few),
+        (Expr::Element(many), Expr::Element(few)) => drops_inbounds(many.get(), few.get()),
+        _ => false,
+    }
+}
+
+fn is_drop_flags(module: &Module, from: &[Fact], to: &Fact) -> bool
+    ensures { result ≡ is_drop_flags (scope_of «module».now) from.now to.now }
 {
     if !from.is_empty() {
         return false;
@@ -168,8 +192,5 @@ fn is_drop_flags(from: &[Fact], to: &Fact) -> bool
     let Fact::LessDef(a, b) = to else {
         return false;
     };
-    match (a, b) {
-        (Expr::Binary(many), Expr::Binary(few)) => have_one_type(a, b) && drops_flags(many, few),
-        _ => false,
-    }
+    have_one_type(module, a, b) && drops(a, b)
 }

@@ -6,6 +6,7 @@ use crate::rows::wrong::{DIFFERING, NO_TABLES, UNLIKE};
 use rule_base::{InferRule, Rule, RuleBook};
 use rules_arith::ArithRule;
 use rules_cast_cmp::CastCmpRule;
+use rules_memory::MemoryRule;
 use std::alloc::{AllocError, Global};
 use std::test::*;
 use test_support::{Fault, Table};
@@ -19,6 +20,9 @@ fn shipped(alloc: Global) -> Result<RuleBook, AllocError> {
         rules.push(Box::new(alloc, rule)?)?;
     }
     for rule in CastCmpRule::ALL {
+        rules.push(Box::new(alloc, rule)?)?;
+    }
+    for rule in MemoryRule::ALL {
         rules.push(Box::new(alloc, rule)?)?;
     }
     Ok(RuleBook::new(rules))

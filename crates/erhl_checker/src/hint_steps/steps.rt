@@ -1,6 +1,7 @@
 //! The steps of a hint. Each call changes what is known in place, and says why it refuses, if it does.
 ghost use Rattle.std.specs.Prelude.{◌≡◌, map, IfOk};
 ghost use Rattle.ir_core.specs.Expressions.{type_of};
+ghost use Rattle.ir_machine.specs.State.{scope_of};
 ghost use Rattle.erhl_assert.specs.declared.facts.Fact.TheVariants.{LessDef};
 ghost use Rattle.erhl_assert.specs.Course.{and_then, within};
 ghost use Rattle.erhl_assert.specs.Edges as edges;
@@ -14,7 +15,7 @@ use crate::function_lookup::FunctionIndex;
 use contents::{Exact, Seq};
 use erhl_assert::{Fact, GhostStep, HintStep, Reason, RuleStep, SameStep, Side, expr_names};
 use fact_sets::{IndexedSet, Sides};
-use ir_core::{Atom, BitType, Expr, Expr0, Limit, Operand, Reg};
+use ir_core::{Atom, BitType, Expr, Expr0, Limit, Module, Operand, Reg};
 use postcondition::can_trap;
 use rule_base::{Fitness, has_type};
 use std::alloc::{AllocError, Global};
@@ -132,24 +133,27 @@ fn differing_fault(
 }
 
 /// Whether the ghost register may be worth the expression.
-fn may_be(register: &Reg, expr: &Expr0) -> bool
-    ensures { result ≡ logic.may_be register.now expr.now }
+fn may_be(module: &Module, register: &Reg, expr: &Expr0) -> bool
+    ensures { result ≡ logic.may_be (scope_of «module».now) register.now expr.now }
 {
     match register {
-        Reg::Ghost(_) => has_type(expr) && !can_trap(expr) && !expr_names(register, expr),
+        Reg::Ghost(_) => {
+            has_type(module, expr) && !can_trap(expr) && !expr_names(register, expr)
+        }
         Reg::Now(_) | Reg::Old(_) => false,
     }
 }
 
 fn ghost_fault(
     alloc: Global,
+    module: &Module,
     known: &Sides<IndexedSet>,
     register: &Reg,
     value: &Expr0,
 ) -> Result<Option<Reason>, AllocError>
-    ensures { IfOk result (λ fault. fault ≡ logic.ghost_fault known.now register.now value.now) }
+    ensures { IfOk result (λ fault. fault ≡ logic.ghost_fault (scope_of «module».now) known.now register.now value.now) }
 {
-    if !may_be(register, value) {
+    if !may_be(module, register, value) {
         return Ok(Some(unfit(alloc)?));
     }
     differing_fault(alloc, known, value)
@@ -215,12 +219,13 @@ fn choose_tested(
 #[tactic(auto, using(crate::proofs::HintSteps::Stepping::test_passed, crate::proofs::HintSteps::Stepping::test_failed))]
 fn after_ghost(
     alloc: Global,
+    module: &Module,
     step: &GhostStep,
     known: &mut Sides<IndexedSet>,
 ) -> Result<Option<Reason>, CheckEnd>
-    ensures { CameOf result known.new (within (logic.after_ghost step.now known.old)) }
+    ensures { CameOf result known.new (within (logic.after_ghost (scope_of «module».now) step.now known.old)) }
 {
-    match ghost_fault(alloc, known, &step.register, &step.value)? {
+    match ghost_fault(alloc, module, known, &step.register, &step.value)? {
         Some(reason) => Ok(Some(reason)),
         None => choose_tested(alloc, step, known),
     }
@@ -292,7 +297,7 @@ fn same_fault(
 ) -> Result<Option<Reason>, AllocError>
     ensures { IfOk result (λ fault. fault ≡ logic.same_fault (asked called takes pair.now) known.now register.now expr.now) }
 {
-    if !has_type(expr) {
+    if !has_type(pair.enclosing_module(), expr) {
         return Ok(Some(unfit(alloc)?));
     }
     if let Some(reason) = source_fault(alloc, pair.source(), register, expr, known)? {
@@ -334,7 +339,7 @@ fn after_step(
 {
     match step {
         HintStep::Rule(step) => after_rule(alloc, pair, step, known),
-        HintStep::Ghost(step) => after_ghost(alloc, step, known),
+        HintStep::Ghost(step) => after_ghost(alloc, pair.enclosing_module(), step, known),
         HintStep::Same(step) => after_same(alloc, pair, step, known),
     }
 }

@@ -15,7 +15,7 @@ invariant_of-self g c =
     let kept = c.keep_left.ensures in (
       subst (λ facts. IsIndexed fact_names c.self.inside.named.keys facts) (sym kept)
           (left_indexed fact_names c.self.inside.named.keys (λ (f : Fact). list_all test (loads_of f)) c.self.inside.facts.keys c.self.invariant.0),
-      shields_stay test c.self.inside.shields.keys c.self.inside.may_load c.self.inside.facts.keys c.keep_left.new.facts.keys c.self.invariant.1 kept,
+      shields_stay test c.self.inside.shields.keys c.self.inside.may_load c.self.inside.may_part c.self.inside.facts.keys c.keep_left.new.facts.keys c.self.invariant.1 kept,
     )
 
 pub returns-else-self : goal.returns-else-self
@@ -23,4 +23,4 @@ returns-else-self g c =
     let test = g.C.Change.leaves c.args.change.now (filter shields c.args.self.now) in
     let facts = c.self.view_is in
     sym (sym (ap (with_loads test) facts)
-    ∙ (none_leaves test c.self.inside.shields.keys c.self.inside.may_load c.self.inside.facts.keys c.self.invariant.1 c.if-self.false ∙ facts))
+    ∙ (none_leaves test c.self.inside.shields.keys c.self.inside.may_load c.self.inside.may_part c.self.inside.facts.keys c.self.invariant.1 c.if-self.false ∙ facts))

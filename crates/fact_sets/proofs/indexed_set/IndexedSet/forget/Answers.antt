@@ -13,7 +13,7 @@ invariant_of-self c =
     let kept = filter_same _ test _ (λ x b f k. search rules) _ _ c.retain.ensures.filtered in
     let shields = filter_same _ test _ (λ x b f k. search rules) _ _ c.retain-then-contains.ensures.filtered in (
       subst (λ facts. IsIndexed fact_names c.self.inside.named.keys facts) (sym kept) (left_indexed fact_names _ test _ c.self.invariant.0),
-      shields_left test _ _ _ _ _ c.self.invariant.1 shields kept,
+      shields_left test _ _ _ _ _ _ c.self.invariant.1 shields kept,
     )
 
 pub returns-then-contains : goal.returns-then-contains

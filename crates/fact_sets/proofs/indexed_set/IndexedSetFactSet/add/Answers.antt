@@ -17,8 +17,8 @@ invariant_of-self-then-shields c =
     let before = c.self.inside.facts.keys in
     let after = c.add_shield.new.facts.keys in (
       one_indexed c.self.inside.named.keys c.add_named.new.names.keys c.args.fact before after c.self.invariant.0 c.in_ok-add_named.ensures.ok c.in_ok-add_shield.ensures.ok,
-      with_shield c.self.inside.shields.keys c.add_shield.new.some.keys c.self.inside.may_load c.may_load_with-self-inside.result c.args.fact before after c.self.invariant.1
-          c.may_load_with-self-inside.ensures c.in_ok-add_shield.ensures.all c.in_ok-add_shield.ensures.ok,
+      with_shield c.self.inside.shields.keys c.self.inside.may_load c.may_load_with-self-inside.result c.self.inside.may_part c.may_part_with-self-inside.result c.args.fact before after
+          c.self.invariant.1 c.may_load_with-self-inside.ensures c.may_part_with-self-inside.ensures c.add_shield.new.some.keys c.in_ok-add_shield.ensures.all c.in_ok-add_shield.ensures.ok,
     )
 
 pub invariant_of-self-2 : goal.invariant_of-self-2
@@ -27,6 +27,6 @@ invariant_of-self-2 c =
     let after = c.insert.new.self.keys in
     let other : shields c.args.fact ≡ false = search rules in (
       one_indexed c.self.inside.named.keys c.add_named.new.names.keys c.args.fact before after c.self.invariant.0 c.in_ok-add_named.ensures.ok c.in_ok-insert.ensures.keys,
-      with_other c.self.inside.shields.keys c.self.inside.may_load c.may_load_with-self-inside.result c.args.fact before after c.self.invariant.1
-          c.may_load_with-self-inside.ensures other c.in_ok-insert.ensures.keys,
+      with_other c.self.inside.shields.keys c.self.inside.may_load c.may_load_with-self-inside.result c.self.inside.may_part c.may_part_with-self-inside.result c.args.fact before after
+          c.self.invariant.1 c.may_load_with-self-inside.ensures c.may_part_with-self-inside.ensures other c.in_ok-insert.ensures.keys,
     )

@@ -8,5 +8,5 @@ use Rattle.ir_types.proofs.named_types.NamedTypes.layout.Goals as goal
 pub returns-clause-value : goal.returns-clause-value
 returns-clause-value c =
     c.kept_layout.ensures.value
-    ∙ is_kept (value_of c.self.inside.layouts) (layout_of_name (found_in c.self.inside.types)) c.self.invariant.1 c.args.ty.now
+    ∙ is_kept (value_of c.self.inside.layouts) (layout_of_name (found_in c.self.inside.types)) c.self.invariant.2 c.args.ty.now
     ∙ ap (λ types. option_map capped (layout_of types c.args.ty.now)) c.self.view_is

@@ -1,5 +1,5 @@
 use Rattle.crell_program.proofs.Inner.{judged_refined, limit_is_checked, limit_isnt_zero, verdict_is_checked}
-use Rattle.crell_program.proofs.judging.judge.Goals as goal
+use Rattle.crell_program.proofs.judging.judge_settled.Goals as goal
 
 pub returns-in-Ok-clause-refines : goal.returns-in-Ok-clause-refines
 returns-in-Ok-clause-refines g c =
